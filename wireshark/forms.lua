@@ -10,26 +10,6 @@ local SORTS = {u8 = "uint8", u16 = "uint16", u32 = "uint32", u64 = "uint64", s8 
   be32 = "uint32", be64 = "uint64", mac = "ether", ipv4 = "ipv4", ipv6 = "ipv6", handle = "string", text = "string", bare = "string", kind = "string",
   hex = "bytes", bytes = "bytes", pad = "bytes", flag = "bool", bool = "bool", frame = "framenum"}
 
--- The dissector's own fields.
-local F = {
-  type = {"u16", "tc.msg.type", "Type"}, -- `nlmsg_type`
-  flags = {"u16", "tc.msg.flags", "Flags", unit = "hex"}, -- `nlmsg_flags`
-  seq = {"u32", "tc.msg.seq", "Sequence number"}, -- `nlmsg_seq`
-  port = {"u32", "tc.msg.port", "Port id"}, -- `nlmsg_pid`
-  length = {"u16", "tc.nla.len", "Length"}, -- `nla_len`
-  word = {"u16", "tc.nla.type", "Type", unit = "hex"}, -- `nla_type`, with its flags
-  padding = {"bytes", "tc.nla.pad", "pad"}, -- padding of an attribute that isn't zeros, or is missing
-  raw = {"bytes", "tc.raw", "raw"}, -- bytes that don't follow their form
-  rest = {"bytes", "tc.rest", "rest"}, -- bytes after the last field of a record
-  other = {"bytes", "tc.other", "other"}, -- the payload of an attribute that isn't in the table; bytes that no choice fits
-  pref = {"u16", "tc.pref", "pref"}, -- the priority of a filter or a chain, in `tcm_info`
-  protocol = {"u16", "tc.protocol", "protocol", unit = "hex", names = "eth_p"}, -- the protocol of a filter or a chain, in `tcm_info`
-  error = {"u32", "tc.error", "error", names = "errno"}, -- of an answer: the number of the error, 0 of an acknowledgement
-  refused = {"none", "tc.refused", "refused"}, -- of a request: it is refused
-  request = {"none", "tc.request", "request"}, -- the request that an answer quotes
-  request_in = {"frame", "tc.request_in", "Request in", frame = "REQUEST"}, -- of an answer: the frame of its request
-  answer_in = {"frame", "tc.answer_in", "Answer in", frame = "RESPONSE"}, -- of a request: the frame of its answer
-}
 local function expert_of(name, about, group, severity) return ProtoExpert.new("tc.expert." .. name, about, expert.group[group], expert.severity[severity]) end
 local X = {form = expert_of("form", "Bytes that don't follow their form", "MALFORMED", "ERROR"), cut = expert_of("cut", "Message is cut", "MALFORMED", "ERROR"),
   unknown = expert_of("unknown", "Not in the table", "UNDECODED", "NOTE"), refused = expert_of("refused", "Refused by the kernel", "RESPONSE_CODE", "ERROR"),
@@ -57,20 +37,12 @@ end
 
 -- Gives a form its field and its width, and those in it.
 local function prepare(n)
-  local what = n[1]
-  n.width, n.is_leaf = n.size or WIDTHS[what], SORTS[what] ~= nil
+  local sort = SORTS[n[1]]
+  n.width, n.is_leaf = n.width or WIDTHS[n[1]], sort ~= nil
   for _, inner in ipairs(n.parts or {n.inner or n.other}) do prepare(inner) end
-  if what == "struct" then
-    n.width, n.least = 0, 0
-    for _, x in ipairs(n.parts) do
-      n.width, n.least = n.width and x.width and n.width + x.width, n.least + (x.width or 0)
-    end
-  elseif what == "array" then n.width = n.count and n.inner.width and n.count * n.inner.width end
   if n.element then n.element = declare(n.element, "none", n.inner[3]) end
   if not n[2] then return end
-  if n.frame then n.field = declare(n[2], "framenum", n[3], base.NONE, frametype[n.frame])
-  elseif SORTS[what] and SORTS[what]:find("int") then declare_number(n)
-  else n.field = declare(n[2], SORTS[what] or "none", n[3]) end
+  if sort and sort:find("int") then declare_number(n) else n.field = declare(n[2], sort or "none", n[3]) end
 end
 
 -- What a tree has at bytes: an item of a field, with this text if somebody sees it.
@@ -87,7 +59,7 @@ local function add(c, tree, n, off, len, text)
 end
 local function raw(c, off, len, tree, label, why)
   local item = tree:add(F.raw.field, c.tvb(off, len))
-  item:set_text((label and label ~= "" and label .. ": raw " or "raw: ") .. quoted(hex(bytes_of(c, off, math.min(len, 120)))))
+  item:set_text((label and label ~= "" and label .. ": raw " or "raw: ") .. hex_quoted(bytes_of(c, off, len)))
   item:add_proto_expert_info(X.form, why)
   return item
 end
@@ -106,14 +78,6 @@ local function number_text(c, n, wire)
   return n.unit == "ifindex" and c.links(v) and text .. " (" .. quoted(c.links(v)) .. ")" or text
 end
 
-local function show_number(c, n, off, tree, wire)
-  local method = (c.little and n[1]:sub(1, 2) ~= "be") and "add_le" or "add"
-  local item = tree[method](tree, n.field, c.tvb(off, n.width))
-  if c.seen then item:set_text(n[3] .. ": " .. number_text(c, n, wire)) end
-  for _, flag in ipairs(n.flags and tc.prefs.bits and n.flags or {}) do item[method](item, flag, c.tvb(off, n.width)) end
-  return item
-end
-
 -- Why bytes aren't of a form that holds no others; nil if they are.
 local function fault(n, s)
   local what = n[1]
@@ -123,43 +87,63 @@ local function fault(n, s)
   if (what == "text" or what == "bare") and not is_utf8(s) then return "a text that isn't UTF-8" end
 end
 
--- Shows a form that holds no others. Returns the item, and true if the bytes are of the form.
-local function show_leaf(c, n, off, len, tree, left)
-  local what, s = n[1], bytes_of(c, off, len)
-  local why = left == 0 and "nested too deep" or fault(n, s)
-  if why then return raw(c, off, len, tree, n[3], why), false end
-  if SORTS[what]:find("int") then return show_number(c, n, off, tree, s), true end
-  local range, text, item = c.tvb(off, len), nil, nil
+-- The value of a form that holds no others, where Wireshark can't read it, and its text.
+local function value_of(c, n, s)
+  local what = n[1]
   if what == "handle" then
-    text = handle(number_at(c, off, 4))
-    item = tree:add(n.field, range, text)
+    local text = handle(unsigned(c.little and s:reverse() or s))
+    return text, text
   elseif what == "text" or what == "bare" or what == "kind" then
     s = (what == "bare" or s:sub(-1) ~= "\0") and s or s:sub(1, -2)
-    item, text = tree:add(n.field, range, clean(s)), quoted(s)
-  elseif what == "flag" or what == "bool" then
-    item, text = tree:add(n.field, range, s ~= "\0"), s ~= "\0" and "true" or "false"
-  elseif c.is_flush and n[2] == "tc.action.cookie" and len == 4 then -- of the answer to a flush: how many actions there were
-    item = tree:add(n.field, range)
-    set(c, item, "count", ("%.0f"):format(number_at(c, off, 4)))
-  else
-    item = tree:add(n.field, range)
-    text = what == "mac" and hex(s):gsub("(..)(.)", "%1:%2", 5) or what == "ipv4" and ("%d.%d.%d.%d"):format(s:byte(1, 4)) or
-      what ~= "ipv6" and quoted(hex(s:sub(1, 120))) or nil
+    return clean(s), quoted(s)
+  elseif what == "flag" or what == "bool" then return s ~= "\0", s ~= "\0" and "true" or "false"
+  elseif what == "mac" then return nil, hex(s):gsub("..", "%0:"):sub(1, -2)
+  elseif what == "ipv4" then return nil, ("%d.%d.%d.%d"):format(s:byte(1, 4)) end
+  return nil, what ~= "ipv6" and hex_quoted(s) or nil
+end
+
+-- Shows a form that holds no others. Returns the item, and true if the bytes are of the form.
+local function show_leaf(c, n, off, len, tree, left)
+  local s, range = bytes_of(c, off, len), c.tvb(off, len)
+  local why = left == 0 and "nested too deep" or fault(n, s)
+  if why then return raw(c, off, len, tree, n[3], why), false end
+  if not SORTS[n[1]]:find("int") then
+    local value, text = value_of(c, n, s)
+    local item = value == nil and tree:add(n.field, range) or tree:add(n.field, range, value)
+    if c.is_flush and n[2] == "tc.action.cookie" and len == 4 then set(c, item, "count", ("%.0f"):format(number_at(c, off, 4)))
+    elseif text then set(c, item, n[3], text) end
+    return item, true
   end
-  if text then set(c, item, n[3], text) end
+  local method = (c.little and n[1]:sub(1, 2) ~= "be") and "add_le" or "add"
+  local item = tree[method](tree, n.field, range)
+  if c.seen then item:set_text(n[3] .. ": " .. number_text(c, n, s)) end
+  for _, flag in ipairs(tc.prefs.bits and n.flags or {}) do item[method](item, flag, range) end
   return item, true
 end
 
 local show = {}
 
--- Shows a form on its own, or within an item of its own from `from` on. Returns the item; true if the bytes are of a form without others; a list's kind.
-local function member(c, n, off, len, tree, kind, left, from)
-  if n.is_leaf then return show_leaf(c, n, off, len, tree, left) end
-  local item, range = tree, from and c.tvb(from, off + len - from) or c.tvb(off, len)
+-- The length and the type of an attribute: `head` has its place, its word, and what the table says of it.
+local function show_head(c, item, head)
+  if not head or not head.word or not tc.prefs.headers then return end
+  add(c, item, F.length, head.at, 2)
+  local text = ("0x%04x"):format(head.word) .. (head.kernel and (" (%s%s)"):format(head.kernel, head.word >= NESTED and ", NLA_F_NESTED" or "") or "")
+  add(c, item, F.word, head.at + 2, 2, text .. (head.usual and head.usual ~= head.word and (", usually 0x%04x"):format(head.usual) or ""))
+end
+
+-- Shows a form in an item of its own, or without one; of an attribute with its header. Returns the item; true if it is a leaf of its form; a list's kind.
+local function member(c, n, off, len, tree, kind, left, head)
+  if n.is_leaf then
+    local item, plain = show_leaf(c, n, off, len, tree, left)
+    show_head(c, item, head)
+    return item, plain
+  end
+  local item, range = tree, head and c.tvb(head.at, off + len - head.at) or c.tvb(off, len)
   if n.field then
     item = tree:add(n.field, range)
     if c.seen then item:set_text(n[3]) end
   elseif n[1] == "array" then item = tree:add(range, n[3]) end
+  if item ~= tree then show_head(c, item, head) end
   if left == 0 then return raw(c, off, len, item, nil, "nested too deep"), false end
   return item, false, show[n[1]](c, n, off, len, item, kind, left - 1)
 end
@@ -172,14 +156,17 @@ function show.struct(c, n, off, len, tree, kind, left)
     if x[1] ~= "pad" or bytes_of(c, off, size):find("[^\0]") then member(c, x, off, size, tree, kind, left) end
     off = off + size
   end
-  if off < stop then add(c, tree, F.rest, off, stop - off, quoted(hex(bytes_of(c, off, stop - off)))):add_proto_expert_info(X.form, "bytes after the record") end
+  if off < stop then add(c, tree, F.rest, off, stop - off, hex_quoted(bytes_of(c, off, stop - off))):add_proto_expert_info(X.form, "bytes after the record") end
 end
 
 function show.array(c, n, off, len, tree, kind, left)
   local stop, size, texts = off + len, n.inner.width or len, {}
   while off < stop do
     member(c, n.inner, off, math.min(size, stop - off), tree, kind, left)
-    if c.seen and n.inner.is_leaf and #texts < 60 and stop - off >= size then texts[#texts + 1] = number_text(c, n.inner, bytes_of(c, off, size)) end
+    if c.seen and n.inner.is_leaf and #texts < 60 then
+      local s = bytes_of(c, off, math.min(size, stop - off))
+      texts[#texts + 1] = #s == size and number_text(c, n.inner, s) or "raw " .. hex(s)
+    end
     off = off + size
   end
   if #texts > 0 then set(c, tree, n[3], table.concat(texts, " ")) end
@@ -189,57 +176,48 @@ function show.choice(c, n, off, len, tree, kind, left)
   local bytes = bytes_of(c, off, len)
   for _, x in ipairs(n.parts) do
     local start = x.prefix or ""
-    if (x.length or len) == len and bytes:sub(1, #start) == start then return member(c, x, off + #start, len - #start, tree, kind, left, off) end
+    if (x.length or len) == len and bytes:sub(1, #start) == start then return member(c, x, off + #start, len - #start, tree, kind, left, {at = off}) end
   end
-  add(c, tree, F.other, off, len, quoted(hex(bytes:sub(1, 120)))):add_proto_expert_info(X.unknown, "a form that isn't in the table")
+  add(c, tree, F.other, off, len, hex_quoted(bytes)):add_proto_expert_info(X.unknown, "a form that isn't in the table")
 end
 
--- Goes through attributes. `one` shows one by its type, its word, and the places of its header, its payload and its end, and returns the item. What is no
--- attribute is raw to the end.
-local function each(c, off, len, tree, one)
-  local stop = off + len
-  while off < stop do
-    local room = stop - off
-    local size = room >= 4 and number_at(c, off, 2) or 0
+-- Goes through attributes: the type and the word of each, the places of its header and its payload, and the length of that. Of what is no attribute, which is
+-- the rest, the type is false.
+local function attributes(c, off, stop)
+  return function()
+    if off >= stop then return nil end
+    local at, room = off, stop - off
+    local size = room >= 4 and number_at(c, at, 2) or 0
     if size < 4 or size > room then
-      return raw(c, off, room, tree, nil, room < 4 and "no room for the header of an attribute" or ("%d bytes instead of %d"):format(room, size))
+      off = stop
+      return false, 0, at, at, room
     end
-    local whole, word = math.min(size + -size % 4, room), number_at(c, off + 2, 2)
-    local item = one(word % TYPE, word, off, off + 4, size - 4, whole)
-    local padding = bytes_of(c, off + size, whole - size)
-    if #padding < -size % 4 or padding:find("[^\0]") then add(c, item, F.padding, off + size, #padding, quoted(hex(padding))) end
-    off = off + whole
+    local word = number_at(c, at + 2, 2)
+    off = at + size + -size % 4
+    return word % TYPE, word, at, at + 4, size - 4
   end
 end
 
--- The length and the type of an attribute. `usual`: its word in the table.
-local function show_header(c, item, at, word, kernel, usual)
-  if not tc.prefs.headers or not item then return end
-  add(c, item, F.length, at, 2)
-  local text = ("0x%04x"):format(word) .. (kernel and (" (%s%s)"):format(kernel, word >= NESTED and ", NLA_F_NESTED" or "") or "")
-  add(c, item, F.word, at + 2, 2, text .. (usual and usual ~= word and (", usually 0x%04x"):format(usual) or ""))
+-- Shows attributes, each by `one`, which returns the item. What is no attribute is raw to the end.
+local function each(c, off, len, tree, one)
+  for ty, word, at, body, size in attributes(c, off, off + len) do
+    if not ty then return raw(c, at, size, tree, nil, "no attribute: " .. (size < 4 and "no room for a header" or "a wrong length")) end
+    local padding = bytes_of(c, body + size, math.min(-size % 4, off + len - body - size))
+    local is_odd = #padding < -size % 4 or padding:find("[^\0]") ~= nil
+    local item = one(ty, word, at, body, size, is_odd)
+    if is_odd then add(c, item, F.padding, body + size, #padding, hex_quoted(padding)) end
+  end
 end
 
--- Marks the attribute for which the kernel refused a request, and the one in which an attribute is missing; `list` is what it holds.
+-- Marks what the kernel's answer to a request is about: the attribute for which it was refused, and the one in which another is missing; `list` is its list.
 local function mark(c, at, item, list)
   for _, it in ipairs(c.marks or {}) do
-    if it.at == at then
+    if c.request + it.at == at then
       local row = it.missing and LISTS[list] and LISTS[list][it.missing]
       local text = it.text .. (row and " (" .. row[1] .. ")" or "")
       item:append_text("   <== " .. text)
       item:add_proto_expert_info(it.expert, text)
     end
-  end
-end
-
--- Goes through whole attributes: the type of each, and the place and length of its payload.
-local function attributes(c, off, stop)
-  return function()
-    local size = stop - off >= 4 and number_at(c, off, 2) or 0
-    if size < 4 or size > stop - off then return nil end
-    local word, body = number_at(c, off + 2, 2), off + 4
-    off = off + size + -size % 4
-    return word % TYPE, body, size - 4
   end
 end
 
@@ -250,7 +228,7 @@ local function kind_at(c, off, len)
   return is_utf8(s) and s or nil
 end
 local function own_kind(c, off, len)
-  for ty, body, size in attributes(c, off, off + len) do
+  for ty, _, _, body, size in attributes(c, off, off + len) do
     local kind = ty == 1 and kind_at(c, body, size)
     if kind then return kind end
   end
@@ -266,58 +244,56 @@ end
 
 -- Shows an attribute that isn't in the table.
 local function show_other(c, at, word, body, size, tree)
-  local item = add(c, tree, F.other, body, size, ("word 0x%04x value %s"):format(word, quoted(hex(bytes_of(c, body, math.min(size, 120))))))
+  local item = add(c, tree, F.other, body, size, ("word 0x%04x value %s"):format(word, hex_quoted(bytes_of(c, body, size))))
   item:add_proto_expert_info(X.unknown, ("type %d isn't in the table"):format(word % TYPE))
-  show_header(c, item, at, word)
+  show_head(c, item, {at = at, word = word})
   return item
 end
 
 -- The item that a mask or an end is joined with: that of its address or its beginning, if it comes before it and has the usual form.
 local function joined(c, n, before, body, size)
-  if not before or not before.plain or size ~= n.width or before.name ~= (n.mask or n.upto) then return nil end
+  if not before or size ~= n.width or before.name ~= (n.mask or n.upto) then return nil end
   local s = bytes_of(c, body, size)
   local len = n.mask and prefix(s)
   if n.mask and not len then return nil end
-  if c.seen then before.item:append_text(n.mask and "/" .. len or "-" .. (n[1] == "ipv4" and ("%d.%d.%d.%d"):format(s:byte(1, 4)) or n[1] ~= "ipv6" and
-    number_text(c, n, s) or tostring(c.tvb(body, size):ipv6()))) end
+  if c.seen then
+    local _, text = value_of(c, n, s)
+    before.item:append_text(len and "/" .. len or "-" .. (SORTS[n[1]]:find("int") and number_text(c, n, s) or text or tostring(c.tvb(body, size):ipv6())))
+  end
   return before.item
 end
 
 -- Shows an attribute of the table, by its form or that of the kind. Returns the item, its form, and what a mask or an end may be joined with.
-local function show_row(c, row, at, body, size, tree, kind, left, before)
-  local n, own = row[2], nil
-  if n[1] == "by" then
-    own = form_by(n, kind)
-    if not own then n = n.other end
-  end
+local function show_row(c, n, head, body, size, tree, kind, left, before)
+  local own = n[1] == "by" and form_by(n, kind)
+  if n[1] == "by" and not own then n = n.other end
+  head.usual = head.usual + ((own or n).nested and NESTED or 0)
   if own then
-    local item = tree:add(n.field, c.tvb(at, size + 4))
+    local item = tree:add(n.field, c.tvb(head.at, size + 4))
     if c.seen then item:set_text(n[3]) end
+    show_head(c, item, head)
     member(c, own, body, size, item, kind, n.which == "statistics" and math.max(left - 1, 0) or left)
     return item, own
   end
   local target = (n.mask or n.upto) and left > 0 and joined(c, n, before, body, size)
-  local item, plain = member(c, n, body, size, target or tree, kind, left, at)
+  local item, plain = member(c, n, body, size, target or tree, kind, left, head)
   if n[1] == "flag" and n[3] == "pad" then return item, n, before end
-  return item, n, plain and not target and {name = n[2], item = item, plain = true} or nil
+  return item, n, plain and not target and head.word == head.usual and not head.is_odd and {name = n[2], item = item} or nil
 end
 
 -- Shows a list. A kind in it sets the form of attributes after it, or if it has an own one, the first of all. Returns the kind.
 function show.list(c, n, off, len, tree, kind, left)
   local has_kind, before = n[1] ~= "list", nil
   if n[1] == "own" then kind = own_kind(c, off, len) end
-  each(c, off, len, tree, function(ty, word, at, body, size)
+  each(c, off, len, tree, function(ty, word, at, body, size, is_odd)
     local row, item, form = LISTS[n.list][ty], nil, {}
     local found = has_kind and ty == 1 and kind_at(c, body, size)
     if not row or found == nil then
       item, before = show_other(c, at, word, body, size, tree), nil
     else
       if found and n[1] == "inforce" then kind = found end
-      item, form, before = show_row(c, row, at, body, size, tree, kind, left, before)
-      local usual = ty + (form.nested and NESTED or 0)
+      item, form, before = show_row(c, row[2], {at = at, word = word, kernel = row[1], usual = ty, is_odd = is_odd}, body, size, tree, kind, left, before)
       if found and bytes_of(c, body, size):sub(-1) ~= "\0" then item:append_text(" (without a NUL)") end
-      if word ~= usual then before = nil end
-      show_header(c, item, at, word, row[1], usual)
     end
     mark(c, at, item, form.list)
     return item
@@ -330,10 +306,11 @@ show.own, show.inforce = show.list, show.list
 function show.indexed(c, n, off, len, tree, kind, left)
   each(c, off, len, tree, function(_, word, at, body, size)
     local item = tree:add(n.element, c.tvb(at, size + 4))
+    show_head(c, item, {at = at, word = word})
     local _, _, own = member(c, n.inner, body, size, item, kind, left)
-    if n.inner[1] == "own" and own and #c.actions < 8 then c.actions[#c.actions + 1] = quoted(own) end
-    item:set_text(("%s %d"):format(n.inner[3], word) .. (n.inner[1] == "own" and own and ": " .. quoted(own) or ""))
-    show_header(c, item, at, word)
+    own = n.inner[1] == "own" and own and quoted(own)
+    if own and #c.actions < 8 then c.actions[#c.actions + 1] = own end
+    item:set_text(("%s %d"):format(n.inner[3], word) .. (own and ": " .. own or ""))
     mark(c, at, item)
     return item
   end)

@@ -2,6 +2,7 @@
 -- and from text.lua, forms.lua, messages.lua. MIT licence.
 
 local NAMES = {
+  attribute_type = {[0] = "invalid", [1] = "flag", [2] = "u8", [3] = "u16", [4] = "u32", [5] = "u64", [6] = "s8", [7] = "s16", [8] = "s32", [9] = "s64", [10] = "binary", [11] = "string", [12] = "nul_string", [13] = "nested", [14] = "nested_array", [15] = "bitfield32", [16] = "sint", [17] = "uint"},
   nat_direction = {[0] = "ingress", [1] = "egress"},
   packet_type = {[0] = "host", [1] = "broadcast", [2] = "multicast", [3] = "otherhost"},
   tunnel_key_act = {[1] = "set", [2] = "release"},
@@ -59,7 +60,30 @@ local BITS = {
   tc_red = {{1, "ecn"}, {2, "harddrop"}, {4, "adaptative"}, {8, "nodrop"}},
   taprio_flag = {{1, "txtime_assist"}, {2, "full_offload"}},
 }
+NAMES.errno = {[1] = "EPERM", [2] = "ENOENT", [3] = "ESRCH", [4] = "EINTR", [5] = "EIO", [6] = "ENXIO", [7] = "E2BIG", [8] = "ENOEXEC", [9] = "EBADF", [10] = "ECHILD", [11] = "EAGAIN", [12] = "ENOMEM", [13] = "EACCES", [14] = "EFAULT", [15] = "ENOTBLK", [16] = "EBUSY", [17] = "EEXIST", [18] = "EXDEV", [19] = "ENODEV", [20] = "ENOTDIR", [21] = "EISDIR", [22] = "EINVAL", [23] = "ENFILE", [24] = "EMFILE", [25] = "ENOTTY", [26] = "ETXTBSY", [27] = "EFBIG", [28] = "ENOSPC", [29] = "ESPIPE", [30] = "EROFS", [31] = "EMLINK", [32] = "EPIPE", [33] = "EDOM", [34] = "ERANGE", [35] = "EDEADLK", [36] = "ENAMETOOLONG", [37] = "ENOLCK", [38] = "ENOSYS", [39] = "ENOTEMPTY", [40] = "ELOOP", [42] = "ENOMSG", [43] = "EIDRM", [44] = "ECHRNG", [45] = "EL2NSYNC", [46] = "EL3HLT", [47] = "EL3RST", [48] = "ELNRNG", [49] = "EUNATCH", [50] = "ENOCSI", [51] = "EL2HLT", [52] = "EBADE", [53] = "EBADR", [54] = "EXFULL", [55] = "ENOANO", [56] = "EBADRQC", [57] = "EBADSLT", [59] = "EBFONT", [60] = "ENOSTR", [61] = "ENODATA", [62] = "ETIME", [63] = "ENOSR", [64] = "ENONET", [65] = "ENOPKG", [66] = "EREMOTE", [67] = "ENOLINK", [68] = "EADV", [69] = "ESRMNT", [70] = "ECOMM", [71] = "EPROTO", [72] = "EMULTIHOP", [73] = "EDOTDOT", [74] = "EBADMSG", [75] = "EOVERFLOW", [76] = "ENOTUNIQ", [77] = "EBADFD", [78] = "EREMCHG", [79] = "ELIBACC", [80] = "ELIBBAD", [81] = "ELIBSCN", [82] = "ELIBMAX", [83] = "ELIBEXEC", [84] = "EILSEQ", [85] = "ERESTART", [86] = "ESTRPIPE", [87] = "EUSERS", [88] = "ENOTSOCK", [89] = "EDESTADDRREQ", [90] = "EMSGSIZE", [91] = "EPROTOTYPE", [92] = "ENOPROTOOPT", [93] = "EPROTONOSUPPORT", [94] = "ESOCKTNOSUPPORT", [95] = "EOPNOTSUPP", [96] = "EPFNOSUPPORT", [97] = "EAFNOSUPPORT", [98] = "EADDRINUSE", [99] = "EADDRNOTAVAIL", [100] = "ENETDOWN", [101] = "ENETUNREACH", [102] = "ENETRESET", [103] = "ECONNABORTED", [104] = "ECONNRESET", [105] = "ENOBUFS", [106] = "EISCONN", [107] = "ENOTCONN", [108] = "ESHUTDOWN", [109] = "ETOOMANYREFS", [110] = "ETIMEDOUT", [111] = "ECONNREFUSED", [112] = "EHOSTDOWN", [113] = "EHOSTUNREACH", [114] = "EALREADY", [115] = "EINPROGRESS", [116] = "ESTALE", [117] = "EUCLEAN", [118] = "ENOTNAM", [119] = "ENAVAIL", [120] = "EISNAM", [121] = "EREMOTEIO", [122] = "EDQUOT", [123] = "ENOMEDIUM", [124] = "EMEDIUMTYPE", [125] = "ECANCELED", [126] = "ENOKEY", [127] = "EKEYEXPIRED", [128] = "EKEYREVOKED", [129] = "EKEYREJECTED", [130] = "EOWNERDEAD", [131] = "ENOTRECOVERABLE", [132] = "ERFKILL", [133] = "EHWPOISON", [524] = "ENOTSUPP"}
 local LISTS = {
+  extack = {
+    [1] = {"NLMSGERR_ATTR_MSG", {"text", "tc.extack.message", "message"}},
+    [2] = {"NLMSGERR_ATTR_OFFS", {"u32", "tc.extack.offset", "offset"}},
+    [3] = {"NLMSGERR_ATTR_COOKIE", {"hex", "tc.extack.cookie", "cookie"}},
+    [4] = {"NLMSGERR_ATTR_POLICY", {"list", "tc.extack.policy", "policy", list="extack_policy", nested=true}},
+    [5] = {"NLMSGERR_ATTR_MISS_TYPE", {"u32", "tc.extack.miss_type", "miss_type"}},
+    [6] = {"NLMSGERR_ATTR_MISS_NEST", {"u32", "tc.extack.miss_nest", "miss_nest"}},
+  },
+  extack_policy = {
+    [1] = {"NL_POLICY_TYPE_ATTR_TYPE", {"u32", "tc.extack_policy.type", "type", names="attribute_type"}},
+    [2] = {"NL_POLICY_TYPE_ATTR_MIN_VALUE_S", {"s64", "tc.extack_policy.min_value_s", "min_value_s"}},
+    [3] = {"NL_POLICY_TYPE_ATTR_MAX_VALUE_S", {"s64", "tc.extack_policy.max_value_s", "max_value_s"}},
+    [4] = {"NL_POLICY_TYPE_ATTR_MIN_VALUE_U", {"u64", "tc.extack_policy.min_value_u", "min_value_u"}},
+    [5] = {"NL_POLICY_TYPE_ATTR_MAX_VALUE_U", {"u64", "tc.extack_policy.max_value_u", "max_value_u"}},
+    [6] = {"NL_POLICY_TYPE_ATTR_MIN_LENGTH", {"u32", "tc.extack_policy.min_length", "min_length", unit="bytes"}},
+    [7] = {"NL_POLICY_TYPE_ATTR_MAX_LENGTH", {"u32", "tc.extack_policy.max_length", "max_length", unit="bytes"}},
+    [8] = {"NL_POLICY_TYPE_ATTR_POLICY_IDX", {"u32", "tc.extack_policy.policy_idx", "policy_idx"}},
+    [9] = {"NL_POLICY_TYPE_ATTR_POLICY_MAXTYPE", {"u32", "tc.extack_policy.policy_maxtype", "policy_maxtype"}},
+    [10] = {"NL_POLICY_TYPE_ATTR_BITFIELD32_MASK", {"u32", "tc.extack_policy.bitfield32_mask", "bitfield32_mask", unit="hex"}},
+    [11] = {"NL_POLICY_TYPE_ATTR_PAD", {"flag", "tc.extack_policy.pad", "pad"}},
+    [12] = {"NL_POLICY_TYPE_ATTR_MASK", {"u64", "tc.extack_policy.mask", "mask", unit="hex"}},
+  },
   action = {
     [1] = {"TCA_ACT_KIND", {"kind", "tc.action.kind", "kind"}},
     [2] = {"TCA_ACT_OPTIONS", {"by", "tc.action.options", "options", which="options", sorts={"action"}, other={"list", "tc.action.options", "options", list="unknown", nested=true}}},
@@ -67,37 +91,37 @@ local LISTS = {
     [4] = {"TCA_ACT_STATS", {"list", "tc.action.stats", "stats", list="stats"}},
     [5] = {"TCA_ACT_PAD", {"flag", "tc.action.pad", "pad"}},
     [6] = {"TCA_ACT_COOKIE", {"hex", "tc.action.cookie", "cookie"}},
-    [7] = {"TCA_ACT_FLAGS", {"struct", "tc.action.flags", "flags", parts={{"u32", "tc.action.flags.value", "value", bits="tca_act_flags"}, {"u32", "tc.action.flags.selector", "selector", bits="tca_act_flags"}}}},
-    [8] = {"TCA_ACT_HW_STATS", {"struct", "tc.action.hw_stats", "hw_stats", parts={{"u32", "tc.action.hw_stats.value", "value", bits="tca_act_hw_stats"}, {"u32", "tc.action.hw_stats.selector", "selector", bits="tca_act_hw_stats"}}}},
-    [9] = {"TCA_ACT_USED_HW_STATS", {"struct", "tc.action.used_hw_stats", "used_hw_stats", parts={{"u32", "tc.action.used_hw_stats.value", "value", bits="tca_act_hw_stats"}, {"u32", "tc.action.used_hw_stats.selector", "selector", bits="tca_act_hw_stats"}}}},
+    [7] = {"TCA_ACT_FLAGS", {"struct", "tc.action.flags", "flags", width=8, least=8, parts={{"u32", "tc.action.flags.value", "value", bits="tca_act_flags"}, {"u32", "tc.action.flags.selector", "selector", bits="tca_act_flags"}}}},
+    [8] = {"TCA_ACT_HW_STATS", {"struct", "tc.action.hw_stats", "hw_stats", width=8, least=8, parts={{"u32", "tc.action.hw_stats.value", "value", bits="tca_act_hw_stats"}, {"u32", "tc.action.hw_stats.selector", "selector", bits="tca_act_hw_stats"}}}},
+    [9] = {"TCA_ACT_USED_HW_STATS", {"struct", "tc.action.used_hw_stats", "used_hw_stats", width=8, least=8, parts={{"u32", "tc.action.used_hw_stats.value", "value", bits="tca_act_hw_stats"}, {"u32", "tc.action.used_hw_stats.selector", "selector", bits="tca_act_hw_stats"}}}},
     [10] = {"TCA_ACT_IN_HW_COUNT", {"u32", "tc.action.in_hw_count", "in_hw_count"}},
   },
   unknown = {
   },
   act_bpf = {
-    [1] = {"TCA_ACT_BPF_TM", {"struct", "tc.act_bpf.tm", "tm", parts={{"u64", "tc.act_bpf.tm.install", "install", unit="clock_t"}, {"u64", "tc.act_bpf.tm.lastuse", "lastuse", unit="clock_t"}, {"u64", "tc.act_bpf.tm.expires", "expires", unit="clock_t"}, {"u64", "tc.act_bpf.tm.firstuse", "firstuse", unit="clock_t"}}}},
-    [2] = {"TCA_ACT_BPF_PARMS", {"struct", "tc.act_bpf.parms", "parms", parts={{"struct", false, "generic", parts={{"u32", "tc.act_bpf.parms.generic.index", "index"}, {"u32", "tc.act_bpf.parms.generic.capab", "capab"}, {"s32", "tc.act_bpf.parms.generic.action", "action", enum="tc_act"}, {"s32", "tc.act_bpf.parms.generic.refcnt", "refcnt"}, {"s32", "tc.act_bpf.parms.generic.bindcnt", "bindcnt"}}}}}},
+    [1] = {"TCA_ACT_BPF_TM", {"struct", "tc.act_bpf.tm", "tm", width=32, least=32, parts={{"u64", "tc.act_bpf.tm.install", "install", unit="clock_t"}, {"u64", "tc.act_bpf.tm.lastuse", "lastuse", unit="clock_t"}, {"u64", "tc.act_bpf.tm.expires", "expires", unit="clock_t"}, {"u64", "tc.act_bpf.tm.firstuse", "firstuse", unit="clock_t"}}}},
+    [2] = {"TCA_ACT_BPF_PARMS", {"struct", "tc.act_bpf.parms", "parms", width=20, least=20, parts={{"struct", false, "generic", width=20, least=20, parts={{"u32", "tc.act_bpf.parms.generic.index", "index"}, {"u32", "tc.act_bpf.parms.generic.capab", "capab"}, {"s32", "tc.act_bpf.parms.generic.action", "action", enum="tc_act"}, {"s32", "tc.act_bpf.parms.generic.refcnt", "refcnt"}, {"s32", "tc.act_bpf.parms.generic.bindcnt", "bindcnt"}}}}}},
     [3] = {"TCA_ACT_BPF_OPS_LEN", {"u16", "tc.act_bpf.ops_len", "ops_len"}},
-    [4] = {"TCA_ACT_BPF_OPS", {"array", false, "ops", inner={"struct", "tc.act_bpf.ops", "op", parts={{"u16", "tc.act_bpf.ops.code", "code", unit="hex"}, {"u8", "tc.act_bpf.ops.jt", "jt"}, {"u8", "tc.act_bpf.ops.jf", "jf"}, {"u32", "tc.act_bpf.ops.k", "k", unit="hex"}}}}},
+    [4] = {"TCA_ACT_BPF_OPS", {"array", false, "ops", inner={"struct", "tc.act_bpf.ops", "op", width=8, least=8, parts={{"u16", "tc.act_bpf.ops.code", "code", unit="hex"}, {"u8", "tc.act_bpf.ops.jt", "jt"}, {"u8", "tc.act_bpf.ops.jf", "jf"}, {"u32", "tc.act_bpf.ops.k", "k", unit="hex"}}}}},
     [5] = {"TCA_ACT_BPF_FD", {"u32", "tc.act_bpf.fd", "fd"}},
     [6] = {"TCA_ACT_BPF_NAME", {"text", "tc.act_bpf.name", "name"}},
     [7] = {"TCA_ACT_BPF_PAD", {"flag", "tc.act_bpf.pad", "pad"}},
-    [8] = {"TCA_ACT_BPF_TAG", {"bytes", "tc.act_bpf.tag", "tag", size=8}},
+    [8] = {"TCA_ACT_BPF_TAG", {"bytes", "tc.act_bpf.tag", "tag", width=8}},
     [9] = {"TCA_ACT_BPF_ID", {"u32", "tc.act_bpf.id", "id"}},
   },
   connmark = {
-    [1] = {"TCA_CONNMARK_PARMS", {"struct", "tc.connmark.parms", "parms", parts={{"struct", false, "generic", parts={{"u32", "tc.connmark.parms.generic.index", "index"}, {"u32", "tc.connmark.parms.generic.capab", "capab"}, {"s32", "tc.connmark.parms.generic.action", "action", enum="tc_act"}, {"s32", "tc.connmark.parms.generic.refcnt", "refcnt"}, {"s32", "tc.connmark.parms.generic.bindcnt", "bindcnt"}}}, {"u16", "tc.connmark.parms.zone", "zone"}, {"pad", "tc.connmark.parms.padding", "padding", size=2}}}},
-    [2] = {"TCA_CONNMARK_TM", {"struct", "tc.connmark.tm", "tm", parts={{"u64", "tc.connmark.tm.install", "install", unit="clock_t"}, {"u64", "tc.connmark.tm.lastuse", "lastuse", unit="clock_t"}, {"u64", "tc.connmark.tm.expires", "expires", unit="clock_t"}, {"u64", "tc.connmark.tm.firstuse", "firstuse", unit="clock_t"}}}},
+    [1] = {"TCA_CONNMARK_PARMS", {"struct", "tc.connmark.parms", "parms", width=24, least=24, parts={{"struct", false, "generic", width=20, least=20, parts={{"u32", "tc.connmark.parms.generic.index", "index"}, {"u32", "tc.connmark.parms.generic.capab", "capab"}, {"s32", "tc.connmark.parms.generic.action", "action", enum="tc_act"}, {"s32", "tc.connmark.parms.generic.refcnt", "refcnt"}, {"s32", "tc.connmark.parms.generic.bindcnt", "bindcnt"}}}, {"u16", "tc.connmark.parms.zone", "zone"}, {"pad", "tc.connmark.parms.padding", "padding", width=2}}}},
+    [2] = {"TCA_CONNMARK_TM", {"struct", "tc.connmark.tm", "tm", width=32, least=32, parts={{"u64", "tc.connmark.tm.install", "install", unit="clock_t"}, {"u64", "tc.connmark.tm.lastuse", "lastuse", unit="clock_t"}, {"u64", "tc.connmark.tm.expires", "expires", unit="clock_t"}, {"u64", "tc.connmark.tm.firstuse", "firstuse", unit="clock_t"}}}},
     [3] = {"TCA_CONNMARK_PAD", {"flag", "tc.connmark.pad", "pad"}},
   },
   csum = {
-    [1] = {"TCA_CSUM_PARMS", {"struct", "tc.csum.parms", "parms", parts={{"struct", false, "generic", parts={{"u32", "tc.csum.parms.generic.index", "index"}, {"u32", "tc.csum.parms.generic.capab", "capab"}, {"s32", "tc.csum.parms.generic.action", "action", enum="tc_act"}, {"s32", "tc.csum.parms.generic.refcnt", "refcnt"}, {"s32", "tc.csum.parms.generic.bindcnt", "bindcnt"}}}, {"u32", "tc.csum.parms.update_flags", "update_flags", bits="tca_csum_update_flag"}}}},
-    [2] = {"TCA_CSUM_TM", {"struct", "tc.csum.tm", "tm", parts={{"u64", "tc.csum.tm.install", "install", unit="clock_t"}, {"u64", "tc.csum.tm.lastuse", "lastuse", unit="clock_t"}, {"u64", "tc.csum.tm.expires", "expires", unit="clock_t"}, {"u64", "tc.csum.tm.firstuse", "firstuse", unit="clock_t"}}}},
+    [1] = {"TCA_CSUM_PARMS", {"struct", "tc.csum.parms", "parms", width=24, least=24, parts={{"struct", false, "generic", width=20, least=20, parts={{"u32", "tc.csum.parms.generic.index", "index"}, {"u32", "tc.csum.parms.generic.capab", "capab"}, {"s32", "tc.csum.parms.generic.action", "action", enum="tc_act"}, {"s32", "tc.csum.parms.generic.refcnt", "refcnt"}, {"s32", "tc.csum.parms.generic.bindcnt", "bindcnt"}}}, {"u32", "tc.csum.parms.update_flags", "update_flags", bits="tca_csum_update_flag"}}}},
+    [2] = {"TCA_CSUM_TM", {"struct", "tc.csum.tm", "tm", width=32, least=32, parts={{"u64", "tc.csum.tm.install", "install", unit="clock_t"}, {"u64", "tc.csum.tm.lastuse", "lastuse", unit="clock_t"}, {"u64", "tc.csum.tm.expires", "expires", unit="clock_t"}, {"u64", "tc.csum.tm.firstuse", "firstuse", unit="clock_t"}}}},
     [3] = {"TCA_CSUM_PAD", {"flag", "tc.csum.pad", "pad"}},
   },
   ct = {
-    [1] = {"TCA_CT_PARMS", {"struct", "tc.ct.parms", "parms", parts={{"struct", false, "generic", parts={{"u32", "tc.ct.parms.generic.index", "index"}, {"u32", "tc.ct.parms.generic.capab", "capab"}, {"s32", "tc.ct.parms.generic.action", "action", enum="tc_act"}, {"s32", "tc.ct.parms.generic.refcnt", "refcnt"}, {"s32", "tc.ct.parms.generic.bindcnt", "bindcnt"}}}}}},
-    [2] = {"TCA_CT_TM", {"struct", "tc.ct.tm", "tm", parts={{"u64", "tc.ct.tm.install", "install", unit="clock_t"}, {"u64", "tc.ct.tm.lastuse", "lastuse", unit="clock_t"}, {"u64", "tc.ct.tm.expires", "expires", unit="clock_t"}, {"u64", "tc.ct.tm.firstuse", "firstuse", unit="clock_t"}}}},
+    [1] = {"TCA_CT_PARMS", {"struct", "tc.ct.parms", "parms", width=20, least=20, parts={{"struct", false, "generic", width=20, least=20, parts={{"u32", "tc.ct.parms.generic.index", "index"}, {"u32", "tc.ct.parms.generic.capab", "capab"}, {"s32", "tc.ct.parms.generic.action", "action", enum="tc_act"}, {"s32", "tc.ct.parms.generic.refcnt", "refcnt"}, {"s32", "tc.ct.parms.generic.bindcnt", "bindcnt"}}}}}},
+    [2] = {"TCA_CT_TM", {"struct", "tc.ct.tm", "tm", width=32, least=32, parts={{"u64", "tc.ct.tm.install", "install", unit="clock_t"}, {"u64", "tc.ct.tm.lastuse", "lastuse", unit="clock_t"}, {"u64", "tc.ct.tm.expires", "expires", unit="clock_t"}, {"u64", "tc.ct.tm.firstuse", "firstuse", unit="clock_t"}}}},
     [3] = {"TCA_CT_ACTION", {"u16", "tc.ct.action", "action", bits="tca_ct_act"}},
     [4] = {"TCA_CT_ZONE", {"u16", "tc.ct.zone", "zone"}},
     [5] = {"TCA_CT_MARK", {"u32", "tc.ct.mark", "mark", unit="hex"}},
@@ -117,8 +141,8 @@ local LISTS = {
   },
   ctinfo = {
     [1] = {"TCA_CTINFO_PAD", {"flag", "tc.ctinfo.pad", "pad"}},
-    [2] = {"TCA_CTINFO_TM", {"struct", "tc.ctinfo.tm", "tm", parts={{"u64", "tc.ctinfo.tm.install", "install", unit="clock_t"}, {"u64", "tc.ctinfo.tm.lastuse", "lastuse", unit="clock_t"}, {"u64", "tc.ctinfo.tm.expires", "expires", unit="clock_t"}, {"u64", "tc.ctinfo.tm.firstuse", "firstuse", unit="clock_t"}}}},
-    [3] = {"TCA_CTINFO_ACT", {"struct", "tc.ctinfo.action", "action", parts={{"struct", false, "generic", parts={{"u32", "tc.ctinfo.action.generic.index", "index"}, {"u32", "tc.ctinfo.action.generic.capab", "capab"}, {"s32", "tc.ctinfo.action.generic.action", "action", enum="tc_act"}, {"s32", "tc.ctinfo.action.generic.refcnt", "refcnt"}, {"s32", "tc.ctinfo.action.generic.bindcnt", "bindcnt"}}}}}},
+    [2] = {"TCA_CTINFO_TM", {"struct", "tc.ctinfo.tm", "tm", width=32, least=32, parts={{"u64", "tc.ctinfo.tm.install", "install", unit="clock_t"}, {"u64", "tc.ctinfo.tm.lastuse", "lastuse", unit="clock_t"}, {"u64", "tc.ctinfo.tm.expires", "expires", unit="clock_t"}, {"u64", "tc.ctinfo.tm.firstuse", "firstuse", unit="clock_t"}}}},
+    [3] = {"TCA_CTINFO_ACT", {"struct", "tc.ctinfo.action", "action", width=20, least=20, parts={{"struct", false, "generic", width=20, least=20, parts={{"u32", "tc.ctinfo.action.generic.index", "index"}, {"u32", "tc.ctinfo.action.generic.capab", "capab"}, {"s32", "tc.ctinfo.action.generic.action", "action", enum="tc_act"}, {"s32", "tc.ctinfo.action.generic.refcnt", "refcnt"}, {"s32", "tc.ctinfo.action.generic.bindcnt", "bindcnt"}}}}}},
     [4] = {"TCA_CTINFO_ZONE", {"u16", "tc.ctinfo.zone", "zone"}},
     [5] = {"TCA_CTINFO_PARMS_DSCP_MASK", {"u32", "tc.ctinfo.parms_dscp_mask", "parms_dscp_mask", unit="hex"}},
     [6] = {"TCA_CTINFO_PARMS_DSCP_STATEMASK", {"u32", "tc.ctinfo.parms_dscp_statemask", "parms_dscp_statemask", unit="hex"}},
@@ -128,14 +152,14 @@ local LISTS = {
     [10] = {"TCA_CTINFO_STATS_CPMARK_SET", {"u64", "tc.ctinfo.stats_cpmark_set", "stats_cpmark_set"}},
   },
   gact = {
-    [1] = {"TCA_GACT_TM", {"struct", "tc.gact.tm", "tm", parts={{"u64", "tc.gact.tm.install", "install", unit="clock_t"}, {"u64", "tc.gact.tm.lastuse", "lastuse", unit="clock_t"}, {"u64", "tc.gact.tm.expires", "expires", unit="clock_t"}, {"u64", "tc.gact.tm.firstuse", "firstuse", unit="clock_t"}}}},
-    [2] = {"TCA_GACT_PARMS", {"struct", "tc.gact.parms", "parms", parts={{"struct", false, "generic", parts={{"u32", "tc.gact.parms.generic.index", "index"}, {"u32", "tc.gact.parms.generic.capab", "capab"}, {"s32", "tc.gact.parms.generic.action", "action", enum="tc_act"}, {"s32", "tc.gact.parms.generic.refcnt", "refcnt"}, {"s32", "tc.gact.parms.generic.bindcnt", "bindcnt"}}}}}},
-    [3] = {"TCA_GACT_PROB", {"struct", "tc.gact.prob", "prob", parts={{"u16", "tc.gact.prob.ptype", "ptype", enum="pgact"}, {"u16", "tc.gact.prob.pval", "pval"}, {"s32", "tc.gact.prob.paction", "paction", enum="tc_act"}}}},
+    [1] = {"TCA_GACT_TM", {"struct", "tc.gact.tm", "tm", width=32, least=32, parts={{"u64", "tc.gact.tm.install", "install", unit="clock_t"}, {"u64", "tc.gact.tm.lastuse", "lastuse", unit="clock_t"}, {"u64", "tc.gact.tm.expires", "expires", unit="clock_t"}, {"u64", "tc.gact.tm.firstuse", "firstuse", unit="clock_t"}}}},
+    [2] = {"TCA_GACT_PARMS", {"struct", "tc.gact.parms", "parms", width=20, least=20, parts={{"struct", false, "generic", width=20, least=20, parts={{"u32", "tc.gact.parms.generic.index", "index"}, {"u32", "tc.gact.parms.generic.capab", "capab"}, {"s32", "tc.gact.parms.generic.action", "action", enum="tc_act"}, {"s32", "tc.gact.parms.generic.refcnt", "refcnt"}, {"s32", "tc.gact.parms.generic.bindcnt", "bindcnt"}}}}}},
+    [3] = {"TCA_GACT_PROB", {"struct", "tc.gact.prob", "prob", width=8, least=8, parts={{"u16", "tc.gact.prob.ptype", "ptype", enum="pgact"}, {"u16", "tc.gact.prob.pval", "pval"}, {"s32", "tc.gact.prob.paction", "paction", enum="tc_act"}}}},
     [4] = {"TCA_GACT_PAD", {"flag", "tc.gact.pad", "pad"}},
   },
   gate = {
-    [1] = {"TCA_GATE_TM", {"struct", "tc.gate.tm", "tm", parts={{"u64", "tc.gate.tm.install", "install", unit="clock_t"}, {"u64", "tc.gate.tm.lastuse", "lastuse", unit="clock_t"}, {"u64", "tc.gate.tm.expires", "expires", unit="clock_t"}, {"u64", "tc.gate.tm.firstuse", "firstuse", unit="clock_t"}}}},
-    [2] = {"TCA_GATE_PARMS", {"struct", "tc.gate.parms", "parms", parts={{"struct", false, "generic", parts={{"u32", "tc.gate.parms.generic.index", "index"}, {"u32", "tc.gate.parms.generic.capab", "capab"}, {"s32", "tc.gate.parms.generic.action", "action", enum="tc_act"}, {"s32", "tc.gate.parms.generic.refcnt", "refcnt"}, {"s32", "tc.gate.parms.generic.bindcnt", "bindcnt"}}}}}},
+    [1] = {"TCA_GATE_TM", {"struct", "tc.gate.tm", "tm", width=32, least=32, parts={{"u64", "tc.gate.tm.install", "install", unit="clock_t"}, {"u64", "tc.gate.tm.lastuse", "lastuse", unit="clock_t"}, {"u64", "tc.gate.tm.expires", "expires", unit="clock_t"}, {"u64", "tc.gate.tm.firstuse", "firstuse", unit="clock_t"}}}},
+    [2] = {"TCA_GATE_PARMS", {"struct", "tc.gate.parms", "parms", width=20, least=20, parts={{"struct", false, "generic", width=20, least=20, parts={{"u32", "tc.gate.parms.generic.index", "index"}, {"u32", "tc.gate.parms.generic.capab", "capab"}, {"s32", "tc.gate.parms.generic.action", "action", enum="tc_act"}, {"s32", "tc.gate.parms.generic.refcnt", "refcnt"}, {"s32", "tc.gate.parms.generic.bindcnt", "bindcnt"}}}}}},
     [3] = {"TCA_GATE_PAD", {"flag", "tc.gate.pad", "pad"}},
     [4] = {"TCA_GATE_PRIORITY", {"s32", "tc.gate.priority", "priority"}},
     [5] = {"TCA_GATE_ENTRY_LIST", {"list", "tc.gate.entry_list", "entry_list", list="gate_list", nested=true}},
@@ -156,8 +180,8 @@ local LISTS = {
     [5] = {"TCA_GATE_ENTRY_MAX_OCTETS", {"s32", "tc.gate_entry.max_octets", "max_octets", unit="bytes"}},
   },
   ife = {
-    [1] = {"TCA_IFE_PARMS", {"struct", "tc.ife.parms", "parms", parts={{"struct", false, "generic", parts={{"u32", "tc.ife.parms.generic.index", "index"}, {"u32", "tc.ife.parms.generic.capab", "capab"}, {"s32", "tc.ife.parms.generic.action", "action", enum="tc_act"}, {"s32", "tc.ife.parms.generic.refcnt", "refcnt"}, {"s32", "tc.ife.parms.generic.bindcnt", "bindcnt"}}}, {"u16", "tc.ife.parms.flags", "flags", bits="ife"}, {"pad", "tc.ife.parms.padding", "padding", size=2}}}},
-    [2] = {"TCA_IFE_TM", {"struct", "tc.ife.tm", "tm", parts={{"u64", "tc.ife.tm.install", "install", unit="clock_t"}, {"u64", "tc.ife.tm.lastuse", "lastuse", unit="clock_t"}, {"u64", "tc.ife.tm.expires", "expires", unit="clock_t"}, {"u64", "tc.ife.tm.firstuse", "firstuse", unit="clock_t"}}}},
+    [1] = {"TCA_IFE_PARMS", {"struct", "tc.ife.parms", "parms", width=24, least=24, parts={{"struct", false, "generic", width=20, least=20, parts={{"u32", "tc.ife.parms.generic.index", "index"}, {"u32", "tc.ife.parms.generic.capab", "capab"}, {"s32", "tc.ife.parms.generic.action", "action", enum="tc_act"}, {"s32", "tc.ife.parms.generic.refcnt", "refcnt"}, {"s32", "tc.ife.parms.generic.bindcnt", "bindcnt"}}}, {"u16", "tc.ife.parms.flags", "flags", bits="ife"}, {"pad", "tc.ife.parms.padding", "padding", width=2}}}},
+    [2] = {"TCA_IFE_TM", {"struct", "tc.ife.tm", "tm", width=32, least=32, parts={{"u64", "tc.ife.tm.install", "install", unit="clock_t"}, {"u64", "tc.ife.tm.lastuse", "lastuse", unit="clock_t"}, {"u64", "tc.ife.tm.expires", "expires", unit="clock_t"}, {"u64", "tc.ife.tm.firstuse", "firstuse", unit="clock_t"}}}},
     [3] = {"TCA_IFE_DMAC", {"mac", "tc.ife.dmac", "dmac"}},
     [4] = {"TCA_IFE_SMAC", {"mac", "tc.ife.smac", "smac"}},
     [5] = {"TCA_IFE_TYPE", {"u16", "tc.ife.type", "type", unit="hex", names="eth_p"}},
@@ -175,20 +199,20 @@ local LISTS = {
     [1] = {"TCA_IPT_TABLE", {"text", "tc.ipt.table", "table"}},
     [2] = {"TCA_IPT_HOOK", {"u32", "tc.ipt.hook", "hook"}},
     [3] = {"TCA_IPT_INDEX", {"u32", "tc.ipt.index", "index"}},
-    [4] = {"TCA_IPT_CNT", {"struct", "tc.ipt.cnt", "cnt", parts={{"s32", "tc.ipt.cnt.refcnt", "refcnt"}, {"s32", "tc.ipt.cnt.bindcnt", "bindcnt"}}}},
-    [5] = {"TCA_IPT_TM", {"struct", "tc.ipt.tm", "tm", parts={{"u64", "tc.ipt.tm.install", "install", unit="clock_t"}, {"u64", "tc.ipt.tm.lastuse", "lastuse", unit="clock_t"}, {"u64", "tc.ipt.tm.expires", "expires", unit="clock_t"}, {"u64", "tc.ipt.tm.firstuse", "firstuse", unit="clock_t"}}}},
+    [4] = {"TCA_IPT_CNT", {"struct", "tc.ipt.cnt", "cnt", width=8, least=8, parts={{"s32", "tc.ipt.cnt.refcnt", "refcnt"}, {"s32", "tc.ipt.cnt.bindcnt", "bindcnt"}}}},
+    [5] = {"TCA_IPT_TM", {"struct", "tc.ipt.tm", "tm", width=32, least=32, parts={{"u64", "tc.ipt.tm.install", "install", unit="clock_t"}, {"u64", "tc.ipt.tm.lastuse", "lastuse", unit="clock_t"}, {"u64", "tc.ipt.tm.expires", "expires", unit="clock_t"}, {"u64", "tc.ipt.tm.firstuse", "firstuse", unit="clock_t"}}}},
     [6] = {"TCA_IPT_TARG", {"hex", "tc.ipt.targ", "targ"}},
     [7] = {"TCA_IPT_PAD", {"flag", "tc.ipt.pad", "pad"}},
   },
   mirred = {
-    [1] = {"TCA_MIRRED_TM", {"struct", "tc.mirred.tm", "tm", parts={{"u64", "tc.mirred.tm.install", "install", unit="clock_t"}, {"u64", "tc.mirred.tm.lastuse", "lastuse", unit="clock_t"}, {"u64", "tc.mirred.tm.expires", "expires", unit="clock_t"}, {"u64", "tc.mirred.tm.firstuse", "firstuse", unit="clock_t"}}}},
-    [2] = {"TCA_MIRRED_PARMS", {"struct", "tc.mirred.parms", "parms", parts={{"struct", false, "generic", parts={{"u32", "tc.mirred.parms.generic.index", "index"}, {"u32", "tc.mirred.parms.generic.capab", "capab"}, {"s32", "tc.mirred.parms.generic.action", "action", enum="tc_act"}, {"s32", "tc.mirred.parms.generic.refcnt", "refcnt"}, {"s32", "tc.mirred.parms.generic.bindcnt", "bindcnt"}}}, {"s32", "tc.mirred.parms.eaction", "eaction", enum="tca_mirred"}, {"u32", "tc.mirred.parms.ifindex", "ifindex", unit="ifindex"}}}},
+    [1] = {"TCA_MIRRED_TM", {"struct", "tc.mirred.tm", "tm", width=32, least=32, parts={{"u64", "tc.mirred.tm.install", "install", unit="clock_t"}, {"u64", "tc.mirred.tm.lastuse", "lastuse", unit="clock_t"}, {"u64", "tc.mirred.tm.expires", "expires", unit="clock_t"}, {"u64", "tc.mirred.tm.firstuse", "firstuse", unit="clock_t"}}}},
+    [2] = {"TCA_MIRRED_PARMS", {"struct", "tc.mirred.parms", "parms", width=28, least=28, parts={{"struct", false, "generic", width=20, least=20, parts={{"u32", "tc.mirred.parms.generic.index", "index"}, {"u32", "tc.mirred.parms.generic.capab", "capab"}, {"s32", "tc.mirred.parms.generic.action", "action", enum="tc_act"}, {"s32", "tc.mirred.parms.generic.refcnt", "refcnt"}, {"s32", "tc.mirred.parms.generic.bindcnt", "bindcnt"}}}, {"s32", "tc.mirred.parms.eaction", "eaction", enum="tca_mirred"}, {"u32", "tc.mirred.parms.ifindex", "ifindex", unit="ifindex"}}}},
     [3] = {"TCA_MIRRED_PAD", {"flag", "tc.mirred.pad", "pad"}},
     [4] = {"TCA_MIRRED_BLOCKID", {"u32", "tc.mirred.blockid", "blockid"}},
   },
   mpls = {
-    [1] = {"TCA_MPLS_TM", {"struct", "tc.mpls.tm", "tm", parts={{"u64", "tc.mpls.tm.install", "install", unit="clock_t"}, {"u64", "tc.mpls.tm.lastuse", "lastuse", unit="clock_t"}, {"u64", "tc.mpls.tm.expires", "expires", unit="clock_t"}, {"u64", "tc.mpls.tm.firstuse", "firstuse", unit="clock_t"}}}},
-    [2] = {"TCA_MPLS_PARMS", {"struct", "tc.mpls.parms", "parms", parts={{"struct", false, "generic", parts={{"u32", "tc.mpls.parms.generic.index", "index"}, {"u32", "tc.mpls.parms.generic.capab", "capab"}, {"s32", "tc.mpls.parms.generic.action", "action", enum="tc_act"}, {"s32", "tc.mpls.parms.generic.refcnt", "refcnt"}, {"s32", "tc.mpls.parms.generic.bindcnt", "bindcnt"}}}, {"s32", "tc.mpls.parms.m_action", "m_action", enum="tca_mpls_act"}}}},
+    [1] = {"TCA_MPLS_TM", {"struct", "tc.mpls.tm", "tm", width=32, least=32, parts={{"u64", "tc.mpls.tm.install", "install", unit="clock_t"}, {"u64", "tc.mpls.tm.lastuse", "lastuse", unit="clock_t"}, {"u64", "tc.mpls.tm.expires", "expires", unit="clock_t"}, {"u64", "tc.mpls.tm.firstuse", "firstuse", unit="clock_t"}}}},
+    [2] = {"TCA_MPLS_PARMS", {"struct", "tc.mpls.parms", "parms", width=24, least=24, parts={{"struct", false, "generic", width=20, least=20, parts={{"u32", "tc.mpls.parms.generic.index", "index"}, {"u32", "tc.mpls.parms.generic.capab", "capab"}, {"s32", "tc.mpls.parms.generic.action", "action", enum="tc_act"}, {"s32", "tc.mpls.parms.generic.refcnt", "refcnt"}, {"s32", "tc.mpls.parms.generic.bindcnt", "bindcnt"}}}, {"s32", "tc.mpls.parms.m_action", "m_action", enum="tca_mpls_act"}}}},
     [3] = {"TCA_MPLS_PAD", {"flag", "tc.mpls.pad", "pad"}},
     [4] = {"TCA_MPLS_PROTO", {"be16", "tc.mpls.proto", "proto", unit="hex", names="eth_p"}},
     [5] = {"TCA_MPLS_LABEL", {"u32", "tc.mpls.label", "label"}},
@@ -197,15 +221,15 @@ local LISTS = {
     [8] = {"TCA_MPLS_BOS", {"u8", "tc.mpls.bos", "bos"}},
   },
   nat = {
-    [1] = {"TCA_NAT_PARMS", {"struct", "tc.nat.parms", "parms", parts={{"struct", false, "generic", parts={{"u32", "tc.nat.parms.generic.index", "index"}, {"u32", "tc.nat.parms.generic.capab", "capab"}, {"s32", "tc.nat.parms.generic.action", "action", enum="tc_act"}, {"s32", "tc.nat.parms.generic.refcnt", "refcnt"}, {"s32", "tc.nat.parms.generic.bindcnt", "bindcnt"}}}, {"ipv4", "tc.nat.parms.old_addr", "old_addr"}, {"ipv4", "tc.nat.parms.new_addr", "new_addr"}, {"ipv4", "tc.nat.parms.mask", "mask"}, {"u32", "tc.nat.parms.flags", "flags", unit="hex", names="nat_direction", bits="tca_nat_flag"}}}},
-    [2] = {"TCA_NAT_TM", {"struct", "tc.nat.tm", "tm", parts={{"u64", "tc.nat.tm.install", "install", unit="clock_t"}, {"u64", "tc.nat.tm.lastuse", "lastuse", unit="clock_t"}, {"u64", "tc.nat.tm.expires", "expires", unit="clock_t"}, {"u64", "tc.nat.tm.firstuse", "firstuse", unit="clock_t"}}}},
+    [1] = {"TCA_NAT_PARMS", {"struct", "tc.nat.parms", "parms", width=36, least=36, parts={{"struct", false, "generic", width=20, least=20, parts={{"u32", "tc.nat.parms.generic.index", "index"}, {"u32", "tc.nat.parms.generic.capab", "capab"}, {"s32", "tc.nat.parms.generic.action", "action", enum="tc_act"}, {"s32", "tc.nat.parms.generic.refcnt", "refcnt"}, {"s32", "tc.nat.parms.generic.bindcnt", "bindcnt"}}}, {"ipv4", "tc.nat.parms.old_addr", "old_addr"}, {"ipv4", "tc.nat.parms.new_addr", "new_addr"}, {"ipv4", "tc.nat.parms.mask", "mask"}, {"u32", "tc.nat.parms.flags", "flags", unit="hex", names="nat_direction", bits="tca_nat_flag"}}}},
+    [2] = {"TCA_NAT_TM", {"struct", "tc.nat.tm", "tm", width=32, least=32, parts={{"u64", "tc.nat.tm.install", "install", unit="clock_t"}, {"u64", "tc.nat.tm.lastuse", "lastuse", unit="clock_t"}, {"u64", "tc.nat.tm.expires", "expires", unit="clock_t"}, {"u64", "tc.nat.tm.firstuse", "firstuse", unit="clock_t"}}}},
     [3] = {"TCA_NAT_PAD", {"flag", "tc.nat.pad", "pad"}},
   },
   pedit = {
-    [1] = {"TCA_PEDIT_TM", {"struct", "tc.pedit.tm", "tm", parts={{"u64", "tc.pedit.tm.install", "install", unit="clock_t"}, {"u64", "tc.pedit.tm.lastuse", "lastuse", unit="clock_t"}, {"u64", "tc.pedit.tm.expires", "expires", unit="clock_t"}, {"u64", "tc.pedit.tm.firstuse", "firstuse", unit="clock_t"}}}},
-    [2] = {"TCA_PEDIT_PARMS", {"struct", "tc.pedit.parms", "parms", parts={{"struct", false, "generic", parts={{"u32", "tc.pedit.parms.generic.index", "index"}, {"u32", "tc.pedit.parms.generic.capab", "capab"}, {"s32", "tc.pedit.parms.generic.action", "action", enum="tc_act"}, {"s32", "tc.pedit.parms.generic.refcnt", "refcnt"}, {"s32", "tc.pedit.parms.generic.bindcnt", "bindcnt"}}}, {"u8", "tc.pedit.parms.nkeys", "nkeys"}, {"u8", "tc.pedit.parms.flags", "flags"}, {"pad", "tc.pedit.parms.padding", "padding", size=2}, {"array", false, "keys", inner={"struct", "tc.pedit.parms.keys", "key", parts={{"u32", "tc.pedit.parms.keys.mask", "mask", unit="net_hex"}, {"u32", "tc.pedit.parms.keys.val", "val", unit="net_hex"}, {"u32", "tc.pedit.parms.keys.off", "off"}, {"u32", "tc.pedit.parms.keys.at", "at"}, {"u32", "tc.pedit.parms.keys.offmask", "offmask", unit="hex"}, {"u32", "tc.pedit.parms.keys.shift", "shift"}}}}}}},
+    [1] = {"TCA_PEDIT_TM", {"struct", "tc.pedit.tm", "tm", width=32, least=32, parts={{"u64", "tc.pedit.tm.install", "install", unit="clock_t"}, {"u64", "tc.pedit.tm.lastuse", "lastuse", unit="clock_t"}, {"u64", "tc.pedit.tm.expires", "expires", unit="clock_t"}, {"u64", "tc.pedit.tm.firstuse", "firstuse", unit="clock_t"}}}},
+    [2] = {"TCA_PEDIT_PARMS", {"struct", "tc.pedit.parms", "parms", least=24, parts={{"struct", false, "generic", width=20, least=20, parts={{"u32", "tc.pedit.parms.generic.index", "index"}, {"u32", "tc.pedit.parms.generic.capab", "capab"}, {"s32", "tc.pedit.parms.generic.action", "action", enum="tc_act"}, {"s32", "tc.pedit.parms.generic.refcnt", "refcnt"}, {"s32", "tc.pedit.parms.generic.bindcnt", "bindcnt"}}}, {"u8", "tc.pedit.parms.nkeys", "nkeys"}, {"u8", "tc.pedit.parms.flags", "flags"}, {"pad", "tc.pedit.parms.padding", "padding", width=2}, {"array", false, "keys", inner={"struct", "tc.pedit.parms.keys", "key", width=24, least=24, parts={{"u32", "tc.pedit.parms.keys.mask", "mask", unit="net_hex"}, {"u32", "tc.pedit.parms.keys.val", "val", unit="net_hex"}, {"u32", "tc.pedit.parms.keys.off", "off"}, {"u32", "tc.pedit.parms.keys.at", "at"}, {"u32", "tc.pedit.parms.keys.offmask", "offmask", unit="hex"}, {"u32", "tc.pedit.parms.keys.shift", "shift"}}}}}}},
     [3] = {"TCA_PEDIT_PAD", {"flag", "tc.pedit.pad", "pad"}},
-    [4] = {"TCA_PEDIT_PARMS_EX", {"struct", "tc.pedit.parms_ex", "parms_ex", parts={{"struct", false, "generic", parts={{"u32", "tc.pedit.parms_ex.generic.index", "index"}, {"u32", "tc.pedit.parms_ex.generic.capab", "capab"}, {"s32", "tc.pedit.parms_ex.generic.action", "action", enum="tc_act"}, {"s32", "tc.pedit.parms_ex.generic.refcnt", "refcnt"}, {"s32", "tc.pedit.parms_ex.generic.bindcnt", "bindcnt"}}}, {"u8", "tc.pedit.parms_ex.nkeys", "nkeys"}, {"u8", "tc.pedit.parms_ex.flags", "flags"}, {"pad", "tc.pedit.parms_ex.padding", "padding", size=2}, {"array", false, "keys", inner={"struct", "tc.pedit.parms_ex.keys", "key", parts={{"u32", "tc.pedit.parms_ex.keys.mask", "mask", unit="net_hex"}, {"u32", "tc.pedit.parms_ex.keys.val", "val", unit="net_hex"}, {"u32", "tc.pedit.parms_ex.keys.off", "off"}, {"u32", "tc.pedit.parms_ex.keys.at", "at"}, {"u32", "tc.pedit.parms_ex.keys.offmask", "offmask", unit="hex"}, {"u32", "tc.pedit.parms_ex.keys.shift", "shift"}}}}}}},
+    [4] = {"TCA_PEDIT_PARMS_EX", {"struct", "tc.pedit.parms_ex", "parms_ex", least=24, parts={{"struct", false, "generic", width=20, least=20, parts={{"u32", "tc.pedit.parms_ex.generic.index", "index"}, {"u32", "tc.pedit.parms_ex.generic.capab", "capab"}, {"s32", "tc.pedit.parms_ex.generic.action", "action", enum="tc_act"}, {"s32", "tc.pedit.parms_ex.generic.refcnt", "refcnt"}, {"s32", "tc.pedit.parms_ex.generic.bindcnt", "bindcnt"}}}, {"u8", "tc.pedit.parms_ex.nkeys", "nkeys"}, {"u8", "tc.pedit.parms_ex.flags", "flags"}, {"pad", "tc.pedit.parms_ex.padding", "padding", width=2}, {"array", false, "keys", inner={"struct", "tc.pedit.parms_ex.keys", "key", width=24, least=24, parts={{"u32", "tc.pedit.parms_ex.keys.mask", "mask", unit="net_hex"}, {"u32", "tc.pedit.parms_ex.keys.val", "val", unit="net_hex"}, {"u32", "tc.pedit.parms_ex.keys.off", "off"}, {"u32", "tc.pedit.parms_ex.keys.at", "at"}, {"u32", "tc.pedit.parms_ex.keys.offmask", "offmask", unit="hex"}, {"u32", "tc.pedit.parms_ex.keys.shift", "shift"}}}}}}},
     [5] = {"TCA_PEDIT_KEYS_EX", {"list", "tc.pedit.keys_ex", "keys_ex", list="pedit_keys_ex", nested=true}},
   },
   pedit_keys_ex = {
@@ -216,12 +240,12 @@ local LISTS = {
     [2] = {"TCA_PEDIT_KEY_EX_CMD", {"u16", "tc.pedit_key_ex.cmd", "cmd", enum="pedit_cmd"}},
   },
   police = {
-    [1] = {"TCA_POLICE_TBF", {"struct", "tc.police.tbf", "tbf", parts={{"u32", "tc.police.tbf.index", "index"}, {"s32", "tc.police.tbf.action", "action", enum="tc_act"}, {"u32", "tc.police.tbf.limit", "limit"}, {"u32", "tc.police.tbf.burst", "burst", unit="ticks"}, {"u32", "tc.police.tbf.mtu", "mtu", unit="bytes"}, {"struct", "tc.police.tbf.rate", "rate", parts={{"u8", "tc.police.tbf.rate.cell_log", "cell_log", unit="log2"}, {"u8", "tc.police.tbf.rate.linklayer", "linklayer", enum="tc_linklayer"}, {"u16", "tc.police.tbf.rate.overhead", "overhead", unit="bytes"}, {"s16", "tc.police.tbf.rate.cell_align", "cell_align"}, {"u16", "tc.police.tbf.rate.mpu", "mpu", unit="bytes"}, {"u32", "tc.police.tbf.rate.rate", "rate", unit="bytes/s"}}}, {"struct", "tc.police.tbf.peakrate", "peakrate", parts={{"u8", "tc.police.tbf.peakrate.cell_log", "cell_log", unit="log2"}, {"u8", "tc.police.tbf.peakrate.linklayer", "linklayer", enum="tc_linklayer"}, {"u16", "tc.police.tbf.peakrate.overhead", "overhead", unit="bytes"}, {"s16", "tc.police.tbf.peakrate.cell_align", "cell_align"}, {"u16", "tc.police.tbf.peakrate.mpu", "mpu", unit="bytes"}, {"u32", "tc.police.tbf.peakrate.rate", "rate", unit="bytes/s"}}}, {"s32", "tc.police.tbf.refcnt", "refcnt"}, {"s32", "tc.police.tbf.bindcnt", "bindcnt"}, {"u32", "tc.police.tbf.capab", "capab"}}}},
+    [1] = {"TCA_POLICE_TBF", {"struct", "tc.police.tbf", "tbf", width=56, least=56, parts={{"u32", "tc.police.tbf.index", "index"}, {"s32", "tc.police.tbf.action", "action", enum="tc_act"}, {"u32", "tc.police.tbf.limit", "limit"}, {"u32", "tc.police.tbf.burst", "burst", unit="ticks"}, {"u32", "tc.police.tbf.mtu", "mtu", unit="bytes"}, {"struct", "tc.police.tbf.rate", "rate", width=12, least=12, parts={{"u8", "tc.police.tbf.rate.cell_log", "cell_log", unit="log2"}, {"u8", "tc.police.tbf.rate.linklayer", "linklayer", enum="tc_linklayer"}, {"u16", "tc.police.tbf.rate.overhead", "overhead", unit="bytes"}, {"s16", "tc.police.tbf.rate.cell_align", "cell_align"}, {"u16", "tc.police.tbf.rate.mpu", "mpu", unit="bytes"}, {"u32", "tc.police.tbf.rate.rate", "rate", unit="bytes/s"}}}, {"struct", "tc.police.tbf.peakrate", "peakrate", width=12, least=12, parts={{"u8", "tc.police.tbf.peakrate.cell_log", "cell_log", unit="log2"}, {"u8", "tc.police.tbf.peakrate.linklayer", "linklayer", enum="tc_linklayer"}, {"u16", "tc.police.tbf.peakrate.overhead", "overhead", unit="bytes"}, {"s16", "tc.police.tbf.peakrate.cell_align", "cell_align"}, {"u16", "tc.police.tbf.peakrate.mpu", "mpu", unit="bytes"}, {"u32", "tc.police.tbf.peakrate.rate", "rate", unit="bytes/s"}}}, {"s32", "tc.police.tbf.refcnt", "refcnt"}, {"s32", "tc.police.tbf.bindcnt", "bindcnt"}, {"u32", "tc.police.tbf.capab", "capab"}}}},
     [2] = {"TCA_POLICE_RATE", {"hex", "tc.police.rate", "rate"}},
     [3] = {"TCA_POLICE_PEAKRATE", {"hex", "tc.police.peakrate", "peakrate"}},
     [4] = {"TCA_POLICE_AVRATE", {"u32", "tc.police.avrate", "avrate", unit="bytes/s"}},
     [5] = {"TCA_POLICE_RESULT", {"u32", "tc.police.result", "result", enum="tc_act"}},
-    [6] = {"TCA_POLICE_TM", {"struct", "tc.police.tm", "tm", parts={{"u64", "tc.police.tm.install", "install", unit="clock_t"}, {"u64", "tc.police.tm.lastuse", "lastuse", unit="clock_t"}, {"u64", "tc.police.tm.expires", "expires", unit="clock_t"}, {"u64", "tc.police.tm.firstuse", "firstuse", unit="clock_t"}}}},
+    [6] = {"TCA_POLICE_TM", {"struct", "tc.police.tm", "tm", width=32, least=32, parts={{"u64", "tc.police.tm.install", "install", unit="clock_t"}, {"u64", "tc.police.tm.lastuse", "lastuse", unit="clock_t"}, {"u64", "tc.police.tm.expires", "expires", unit="clock_t"}, {"u64", "tc.police.tm.firstuse", "firstuse", unit="clock_t"}}}},
     [7] = {"TCA_POLICE_PAD", {"flag", "tc.police.pad", "pad"}},
     [8] = {"TCA_POLICE_RATE64", {"u64", "tc.police.rate64", "rate64", unit="bytes/s"}},
     [9] = {"TCA_POLICE_PEAKRATE64", {"u64", "tc.police.peakrate64", "peakrate64", unit="bytes/s"}},
@@ -229,22 +253,22 @@ local LISTS = {
     [11] = {"TCA_POLICE_PKTBURST64", {"u64", "tc.police.pktburst64", "pktburst64", unit="ticks"}},
   },
   sample = {
-    [1] = {"TCA_SAMPLE_TM", {"struct", "tc.sample.tm", "tm", parts={{"u64", "tc.sample.tm.install", "install", unit="clock_t"}, {"u64", "tc.sample.tm.lastuse", "lastuse", unit="clock_t"}, {"u64", "tc.sample.tm.expires", "expires", unit="clock_t"}, {"u64", "tc.sample.tm.firstuse", "firstuse", unit="clock_t"}}}},
-    [2] = {"TCA_SAMPLE_PARMS", {"struct", "tc.sample.parms", "parms", parts={{"struct", false, "generic", parts={{"u32", "tc.sample.parms.generic.index", "index"}, {"u32", "tc.sample.parms.generic.capab", "capab"}, {"s32", "tc.sample.parms.generic.action", "action", enum="tc_act"}, {"s32", "tc.sample.parms.generic.refcnt", "refcnt"}, {"s32", "tc.sample.parms.generic.bindcnt", "bindcnt"}}}}}},
+    [1] = {"TCA_SAMPLE_TM", {"struct", "tc.sample.tm", "tm", width=32, least=32, parts={{"u64", "tc.sample.tm.install", "install", unit="clock_t"}, {"u64", "tc.sample.tm.lastuse", "lastuse", unit="clock_t"}, {"u64", "tc.sample.tm.expires", "expires", unit="clock_t"}, {"u64", "tc.sample.tm.firstuse", "firstuse", unit="clock_t"}}}},
+    [2] = {"TCA_SAMPLE_PARMS", {"struct", "tc.sample.parms", "parms", width=20, least=20, parts={{"struct", false, "generic", width=20, least=20, parts={{"u32", "tc.sample.parms.generic.index", "index"}, {"u32", "tc.sample.parms.generic.capab", "capab"}, {"s32", "tc.sample.parms.generic.action", "action", enum="tc_act"}, {"s32", "tc.sample.parms.generic.refcnt", "refcnt"}, {"s32", "tc.sample.parms.generic.bindcnt", "bindcnt"}}}}}},
     [3] = {"TCA_SAMPLE_RATE", {"u32", "tc.sample.rate", "rate"}},
     [4] = {"TCA_SAMPLE_TRUNC_SIZE", {"u32", "tc.sample.trunc_size", "trunc_size", unit="bytes"}},
     [5] = {"TCA_SAMPLE_PSAMPLE_GROUP", {"u32", "tc.sample.psample_group", "psample_group"}},
     [6] = {"TCA_SAMPLE_PAD", {"flag", "tc.sample.pad", "pad"}},
   },
   simple = {
-    [1] = {"TCA_DEF_TM", {"struct", "tc.simple.tm", "tm", parts={{"u64", "tc.simple.tm.install", "install", unit="clock_t"}, {"u64", "tc.simple.tm.lastuse", "lastuse", unit="clock_t"}, {"u64", "tc.simple.tm.expires", "expires", unit="clock_t"}, {"u64", "tc.simple.tm.firstuse", "firstuse", unit="clock_t"}}}},
-    [2] = {"TCA_DEF_PARMS", {"struct", "tc.simple.parms", "parms", parts={{"struct", false, "generic", parts={{"u32", "tc.simple.parms.generic.index", "index"}, {"u32", "tc.simple.parms.generic.capab", "capab"}, {"s32", "tc.simple.parms.generic.action", "action", enum="tc_act"}, {"s32", "tc.simple.parms.generic.refcnt", "refcnt"}, {"s32", "tc.simple.parms.generic.bindcnt", "bindcnt"}}}}}},
+    [1] = {"TCA_DEF_TM", {"struct", "tc.simple.tm", "tm", width=32, least=32, parts={{"u64", "tc.simple.tm.install", "install", unit="clock_t"}, {"u64", "tc.simple.tm.lastuse", "lastuse", unit="clock_t"}, {"u64", "tc.simple.tm.expires", "expires", unit="clock_t"}, {"u64", "tc.simple.tm.firstuse", "firstuse", unit="clock_t"}}}},
+    [2] = {"TCA_DEF_PARMS", {"struct", "tc.simple.parms", "parms", width=20, least=20, parts={{"struct", false, "generic", width=20, least=20, parts={{"u32", "tc.simple.parms.generic.index", "index"}, {"u32", "tc.simple.parms.generic.capab", "capab"}, {"s32", "tc.simple.parms.generic.action", "action", enum="tc_act"}, {"s32", "tc.simple.parms.generic.refcnt", "refcnt"}, {"s32", "tc.simple.parms.generic.bindcnt", "bindcnt"}}}}}},
     [3] = {"TCA_DEF_DATA", {"hex", "tc.simple.data", "data"}},
     [4] = {"TCA_DEF_PAD", {"flag", "tc.simple.pad", "pad"}},
   },
   skbedit = {
-    [1] = {"TCA_SKBEDIT_TM", {"struct", "tc.skbedit.tm", "tm", parts={{"u64", "tc.skbedit.tm.install", "install", unit="clock_t"}, {"u64", "tc.skbedit.tm.lastuse", "lastuse", unit="clock_t"}, {"u64", "tc.skbedit.tm.expires", "expires", unit="clock_t"}, {"u64", "tc.skbedit.tm.firstuse", "firstuse", unit="clock_t"}}}},
-    [2] = {"TCA_SKBEDIT_PARMS", {"struct", "tc.skbedit.parms", "parms", parts={{"struct", false, "generic", parts={{"u32", "tc.skbedit.parms.generic.index", "index"}, {"u32", "tc.skbedit.parms.generic.capab", "capab"}, {"s32", "tc.skbedit.parms.generic.action", "action", enum="tc_act"}, {"s32", "tc.skbedit.parms.generic.refcnt", "refcnt"}, {"s32", "tc.skbedit.parms.generic.bindcnt", "bindcnt"}}}}}},
+    [1] = {"TCA_SKBEDIT_TM", {"struct", "tc.skbedit.tm", "tm", width=32, least=32, parts={{"u64", "tc.skbedit.tm.install", "install", unit="clock_t"}, {"u64", "tc.skbedit.tm.lastuse", "lastuse", unit="clock_t"}, {"u64", "tc.skbedit.tm.expires", "expires", unit="clock_t"}, {"u64", "tc.skbedit.tm.firstuse", "firstuse", unit="clock_t"}}}},
+    [2] = {"TCA_SKBEDIT_PARMS", {"struct", "tc.skbedit.parms", "parms", width=20, least=20, parts={{"struct", false, "generic", width=20, least=20, parts={{"u32", "tc.skbedit.parms.generic.index", "index"}, {"u32", "tc.skbedit.parms.generic.capab", "capab"}, {"s32", "tc.skbedit.parms.generic.action", "action", enum="tc_act"}, {"s32", "tc.skbedit.parms.generic.refcnt", "refcnt"}, {"s32", "tc.skbedit.parms.generic.bindcnt", "bindcnt"}}}}}},
     [3] = {"TCA_SKBEDIT_PRIORITY", {"u32", "tc.skbedit.priority", "priority", unit="hex"}},
     [4] = {"TCA_SKBEDIT_QUEUE_MAPPING", {"u16", "tc.skbedit.queue_mapping", "queue_mapping"}},
     [5] = {"TCA_SKBEDIT_MARK", {"u32", "tc.skbedit.mark", "mark", unit="hex"}},
@@ -255,16 +279,16 @@ local LISTS = {
     [10] = {"TCA_SKBEDIT_QUEUE_MAPPING_MAX", {"u16", "tc.skbedit.queue_mapping_max", "queue_mapping_max"}},
   },
   skbmod = {
-    [1] = {"TCA_SKBMOD_TM", {"struct", "tc.skbmod.tm", "tm", parts={{"u64", "tc.skbmod.tm.install", "install", unit="clock_t"}, {"u64", "tc.skbmod.tm.lastuse", "lastuse", unit="clock_t"}, {"u64", "tc.skbmod.tm.expires", "expires", unit="clock_t"}, {"u64", "tc.skbmod.tm.firstuse", "firstuse", unit="clock_t"}}}},
-    [2] = {"TCA_SKBMOD_PARMS", {"struct", "tc.skbmod.parms", "parms", parts={{"struct", false, "generic", parts={{"u32", "tc.skbmod.parms.generic.index", "index"}, {"u32", "tc.skbmod.parms.generic.capab", "capab"}, {"s32", "tc.skbmod.parms.generic.action", "action", enum="tc_act"}, {"s32", "tc.skbmod.parms.generic.refcnt", "refcnt"}, {"s32", "tc.skbmod.parms.generic.bindcnt", "bindcnt"}}}, {"pad", "tc.skbmod.parms.padding", "padding", size=4}, {"u64", "tc.skbmod.parms.flags", "flags", bits="skbmod_f"}}}},
+    [1] = {"TCA_SKBMOD_TM", {"struct", "tc.skbmod.tm", "tm", width=32, least=32, parts={{"u64", "tc.skbmod.tm.install", "install", unit="clock_t"}, {"u64", "tc.skbmod.tm.lastuse", "lastuse", unit="clock_t"}, {"u64", "tc.skbmod.tm.expires", "expires", unit="clock_t"}, {"u64", "tc.skbmod.tm.firstuse", "firstuse", unit="clock_t"}}}},
+    [2] = {"TCA_SKBMOD_PARMS", {"struct", "tc.skbmod.parms", "parms", width=32, least=32, parts={{"struct", false, "generic", width=20, least=20, parts={{"u32", "tc.skbmod.parms.generic.index", "index"}, {"u32", "tc.skbmod.parms.generic.capab", "capab"}, {"s32", "tc.skbmod.parms.generic.action", "action", enum="tc_act"}, {"s32", "tc.skbmod.parms.generic.refcnt", "refcnt"}, {"s32", "tc.skbmod.parms.generic.bindcnt", "bindcnt"}}}, {"pad", "tc.skbmod.parms.padding", "padding", width=4}, {"u64", "tc.skbmod.parms.flags", "flags", bits="skbmod_f"}}}},
     [3] = {"TCA_SKBMOD_DMAC", {"mac", "tc.skbmod.dmac", "dmac"}},
     [4] = {"TCA_SKBMOD_SMAC", {"mac", "tc.skbmod.smac", "smac"}},
     [5] = {"TCA_SKBMOD_ETYPE", {"u16", "tc.skbmod.etype", "etype", unit="hex", names="eth_p"}},
     [6] = {"TCA_SKBMOD_PAD", {"flag", "tc.skbmod.pad", "pad"}},
   },
   tunnel_key = {
-    [1] = {"TCA_TUNNEL_KEY_TM", {"struct", "tc.tunnel_key.tm", "tm", parts={{"u64", "tc.tunnel_key.tm.install", "install", unit="clock_t"}, {"u64", "tc.tunnel_key.tm.lastuse", "lastuse", unit="clock_t"}, {"u64", "tc.tunnel_key.tm.expires", "expires", unit="clock_t"}, {"u64", "tc.tunnel_key.tm.firstuse", "firstuse", unit="clock_t"}}}},
-    [2] = {"TCA_TUNNEL_KEY_PARMS", {"struct", "tc.tunnel_key.parms", "parms", parts={{"struct", false, "generic", parts={{"u32", "tc.tunnel_key.parms.generic.index", "index"}, {"u32", "tc.tunnel_key.parms.generic.capab", "capab"}, {"s32", "tc.tunnel_key.parms.generic.action", "action", enum="tc_act"}, {"s32", "tc.tunnel_key.parms.generic.refcnt", "refcnt"}, {"s32", "tc.tunnel_key.parms.generic.bindcnt", "bindcnt"}}}, {"s32", "tc.tunnel_key.parms.t_action", "t_action", names="tunnel_key_act"}}}},
+    [1] = {"TCA_TUNNEL_KEY_TM", {"struct", "tc.tunnel_key.tm", "tm", width=32, least=32, parts={{"u64", "tc.tunnel_key.tm.install", "install", unit="clock_t"}, {"u64", "tc.tunnel_key.tm.lastuse", "lastuse", unit="clock_t"}, {"u64", "tc.tunnel_key.tm.expires", "expires", unit="clock_t"}, {"u64", "tc.tunnel_key.tm.firstuse", "firstuse", unit="clock_t"}}}},
+    [2] = {"TCA_TUNNEL_KEY_PARMS", {"struct", "tc.tunnel_key.parms", "parms", width=24, least=24, parts={{"struct", false, "generic", width=20, least=20, parts={{"u32", "tc.tunnel_key.parms.generic.index", "index"}, {"u32", "tc.tunnel_key.parms.generic.capab", "capab"}, {"s32", "tc.tunnel_key.parms.generic.action", "action", enum="tc_act"}, {"s32", "tc.tunnel_key.parms.generic.refcnt", "refcnt"}, {"s32", "tc.tunnel_key.parms.generic.bindcnt", "bindcnt"}}}, {"s32", "tc.tunnel_key.parms.t_action", "t_action", names="tunnel_key_act"}}}},
     [3] = {"TCA_TUNNEL_KEY_ENC_IPV4_SRC", {"ipv4", "tc.tunnel_key.enc_ipv4_src", "enc_ipv4_src"}},
     [4] = {"TCA_TUNNEL_KEY_ENC_IPV4_DST", {"ipv4", "tc.tunnel_key.enc_ipv4_dst", "enc_ipv4_dst"}},
     [5] = {"TCA_TUNNEL_KEY_ENC_IPV6_SRC", {"ipv6", "tc.tunnel_key.enc_ipv6_src", "enc_ipv6_src"}},
@@ -298,8 +322,8 @@ local LISTS = {
     [4] = {"TCA_TUNNEL_KEY_ENC_OPT_ERSPAN_HWID", {"u8", "tc.tunnel_key_erspan.hwid", "hwid"}},
   },
   vlan = {
-    [1] = {"TCA_VLAN_TM", {"struct", "tc.vlan.tm", "tm", parts={{"u64", "tc.vlan.tm.install", "install", unit="clock_t"}, {"u64", "tc.vlan.tm.lastuse", "lastuse", unit="clock_t"}, {"u64", "tc.vlan.tm.expires", "expires", unit="clock_t"}, {"u64", "tc.vlan.tm.firstuse", "firstuse", unit="clock_t"}}}},
-    [2] = {"TCA_VLAN_PARMS", {"struct", "tc.vlan.parms", "parms", parts={{"struct", false, "generic", parts={{"u32", "tc.vlan.parms.generic.index", "index"}, {"u32", "tc.vlan.parms.generic.capab", "capab"}, {"s32", "tc.vlan.parms.generic.action", "action", enum="tc_act"}, {"s32", "tc.vlan.parms.generic.refcnt", "refcnt"}, {"s32", "tc.vlan.parms.generic.bindcnt", "bindcnt"}}}, {"s32", "tc.vlan.parms.v_action", "v_action", enum="tca_vlan_act"}}}},
+    [1] = {"TCA_VLAN_TM", {"struct", "tc.vlan.tm", "tm", width=32, least=32, parts={{"u64", "tc.vlan.tm.install", "install", unit="clock_t"}, {"u64", "tc.vlan.tm.lastuse", "lastuse", unit="clock_t"}, {"u64", "tc.vlan.tm.expires", "expires", unit="clock_t"}, {"u64", "tc.vlan.tm.firstuse", "firstuse", unit="clock_t"}}}},
+    [2] = {"TCA_VLAN_PARMS", {"struct", "tc.vlan.parms", "parms", width=24, least=24, parts={{"struct", false, "generic", width=20, least=20, parts={{"u32", "tc.vlan.parms.generic.index", "index"}, {"u32", "tc.vlan.parms.generic.capab", "capab"}, {"s32", "tc.vlan.parms.generic.action", "action", enum="tc_act"}, {"s32", "tc.vlan.parms.generic.refcnt", "refcnt"}, {"s32", "tc.vlan.parms.generic.bindcnt", "bindcnt"}}}, {"s32", "tc.vlan.parms.v_action", "v_action", enum="tca_vlan_act"}}}},
     [3] = {"TCA_VLAN_PUSH_VLAN_ID", {"u16", "tc.vlan.push_vlan_id", "push_vlan_id"}},
     [4] = {"TCA_VLAN_PUSH_VLAN_PROTOCOL", {"be16", "tc.vlan.push_vlan_protocol", "push_vlan_protocol", unit="hex", names="eth_p"}},
     [5] = {"TCA_VLAN_PAD", {"flag", "tc.vlan.pad", "pad"}},
@@ -308,11 +332,11 @@ local LISTS = {
     [8] = {"TCA_VLAN_PUSH_ETH_SRC", {"mac", "tc.vlan.push_eth_src", "push_eth_src"}},
   },
   ematch_tree = {
-    [1] = {"TCA_EMATCH_TREE_HDR", {"struct", "tc.ematch_tree.hdr", "hdr", parts={{"u16", "tc.ematch_tree.hdr.nmatches", "nmatches"}, {"u16", "tc.ematch_tree.hdr.progid", "progid"}}}},
-    [2] = {"TCA_EMATCH_TREE_LIST", {"indexed", "tc.ematch_tree.list", "list", element="tc.ematch", inner={"choice", false, "match", parts={{"struct", "tc.ematch.container", "container", prefix="\000\000\000\000", parts={{"u16", "tc.ematch.container.flags", "flags", bits="tcf_em"}, {"pad", "tc.ematch.container.padding", "padding", size=2}, {"u32", "tc.ematch.container.first", "first"}}}, {"struct", "tc.ematch.cmp", "cmp", prefix="\000\000\001\000", parts={{"u16", "tc.ematch.cmp.flags", "flags", bits="tcf_em"}, {"pad", "tc.ematch.cmp.padding", "padding", size=2}, {"struct", "tc.ematch.cmp.match", "match", parts={{"u32", "tc.ematch.cmp.match.val", "val", unit="hex"}, {"u32", "tc.ematch.cmp.match.mask", "mask", unit="hex"}, {"u16", "tc.ematch.cmp.match.off", "off", unit="bytes"}, {"u8", "tc.ematch.cmp.match.align_flags", "align_flags", unit="hex", names="em_align"}, {"u8", "tc.ematch.cmp.match.layer_opnd", "layer_opnd", unit="hex", names="em_layer_opnd"}}}}}, {"struct", "tc.ematch.nbyte", "nbyte", prefix="\000\000\002\000", parts={{"u16", "tc.ematch.nbyte.flags", "flags", bits="tcf_em"}, {"pad", "tc.ematch.nbyte.padding", "padding", size=2}, {"struct", "tc.ematch.nbyte.match", "match", parts={{"u16", "tc.ematch.nbyte.match.off", "off", unit="bytes"}, {"u16", "tc.ematch.nbyte.match.len_layer", "len_layer"}}}, {"hex", "tc.ematch.nbyte.needle", "needle"}}}, {"struct", "tc.ematch.u32", "u32", prefix="\000\000\003\000", parts={{"u16", "tc.ematch.u32.flags", "flags", bits="tcf_em"}, {"pad", "tc.ematch.u32.padding", "padding", size=2}, {"struct", "tc.ematch.u32.match", "match", parts={{"be32", "tc.ematch.u32.match.mask", "mask", unit="hex"}, {"be32", "tc.ematch.u32.match.val", "val", unit="hex"}, {"s32", "tc.ematch.u32.match.off", "off", unit="bytes"}, {"s32", "tc.ematch.u32.match.offmask", "offmask"}}}}}, {"struct", "tc.ematch.meta", "meta", prefix="\000\000\004\000", parts={{"u16", "tc.ematch.meta.flags", "flags", bits="tcf_em"}, {"pad", "tc.ematch.meta.padding", "padding", size=2}, {"list", false, "attributes", list="em_meta"}}}, {"struct", "tc.ematch.text", "text", prefix="\000\000\005\000", parts={{"u16", "tc.ematch.text.flags", "flags", bits="tcf_em"}, {"pad", "tc.ematch.text.padding", "padding", size=2}, {"struct", "tc.ematch.text.match", "match", parts={{"bytes", "tc.ematch.text.match.algo", "algo", size=16}, {"u16", "tc.ematch.text.match.from_offset", "from_offset", unit="bytes"}, {"u16", "tc.ematch.text.match.to_offset", "to_offset", unit="bytes"}, {"u16", "tc.ematch.text.match.pattern_len", "pattern_len", unit="bytes"}, {"u8", "tc.ematch.text.match.layers", "layers"}, {"pad", "tc.ematch.text.match.pad", "pad", size=1}}}, {"hex", "tc.ematch.text.pattern", "pattern"}}}, {"struct", "tc.ematch.canid", "canid", prefix="\000\000\007\000", parts={{"u16", "tc.ematch.canid.flags", "flags", bits="tcf_em"}, {"pad", "tc.ematch.canid.padding", "padding", size=2}, {"array", false, "match", inner={"struct", "tc.ematch.canid.match", "id", parts={{"u32", "tc.ematch.canid.match.can_id", "can_id", unit="hex"}, {"u32", "tc.ematch.canid.match.can_mask", "can_mask", unit="hex"}}}}}}, {"struct", "tc.ematch.ipset", "ipset", prefix="\000\000\008\000", parts={{"u16", "tc.ematch.ipset.flags", "flags", bits="tcf_em"}, {"pad", "tc.ematch.ipset.padding", "padding", size=2}, {"struct", "tc.ematch.ipset.match", "match", parts={{"u16", "tc.ematch.ipset.match.index", "index"}, {"u8", "tc.ematch.ipset.match.dim", "dim"}, {"u8", "tc.ematch.ipset.match.flags", "flags"}}}}}, {"struct", "tc.ematch.ipt", "ipt", prefix="\000\000\009\000", parts={{"u16", "tc.ematch.ipt.flags", "flags", bits="tcf_em"}, {"pad", "tc.ematch.ipt.padding", "padding", size=2}, {"list", false, "attributes", list="em_ipt"}}}}}}},
+    [1] = {"TCA_EMATCH_TREE_HDR", {"struct", "tc.ematch_tree.hdr", "hdr", width=4, least=4, parts={{"u16", "tc.ematch_tree.hdr.nmatches", "nmatches"}, {"u16", "tc.ematch_tree.hdr.progid", "progid"}}}},
+    [2] = {"TCA_EMATCH_TREE_LIST", {"indexed", "tc.ematch_tree.list", "list", element="tc.ematch", inner={"choice", false, "match", parts={{"struct", "tc.ematch.container", "container", prefix="\000\000\000\000", width=8, least=8, parts={{"u16", "tc.ematch.container.flags", "flags", bits="tcf_em"}, {"pad", "tc.ematch.container.padding", "padding", width=2}, {"u32", "tc.ematch.container.first", "first"}}}, {"struct", "tc.ematch.cmp", "cmp", prefix="\000\000\001\000", width=16, least=16, parts={{"u16", "tc.ematch.cmp.flags", "flags", bits="tcf_em"}, {"pad", "tc.ematch.cmp.padding", "padding", width=2}, {"struct", "tc.ematch.cmp.match", "match", width=12, least=12, parts={{"u32", "tc.ematch.cmp.match.val", "val", unit="hex"}, {"u32", "tc.ematch.cmp.match.mask", "mask", unit="hex"}, {"u16", "tc.ematch.cmp.match.off", "off", unit="bytes"}, {"u8", "tc.ematch.cmp.match.align_flags", "align_flags", unit="hex", names="em_align"}, {"u8", "tc.ematch.cmp.match.layer_opnd", "layer_opnd", unit="hex", names="em_layer_opnd"}}}}}, {"struct", "tc.ematch.nbyte", "nbyte", prefix="\000\000\002\000", least=8, parts={{"u16", "tc.ematch.nbyte.flags", "flags", bits="tcf_em"}, {"pad", "tc.ematch.nbyte.padding", "padding", width=2}, {"struct", "tc.ematch.nbyte.match", "match", width=4, least=4, parts={{"u16", "tc.ematch.nbyte.match.off", "off", unit="bytes"}, {"u16", "tc.ematch.nbyte.match.len_layer", "len_layer"}}}, {"hex", "tc.ematch.nbyte.needle", "needle"}}}, {"struct", "tc.ematch.u32", "u32", prefix="\000\000\003\000", width=20, least=20, parts={{"u16", "tc.ematch.u32.flags", "flags", bits="tcf_em"}, {"pad", "tc.ematch.u32.padding", "padding", width=2}, {"struct", "tc.ematch.u32.match", "match", width=16, least=16, parts={{"be32", "tc.ematch.u32.match.mask", "mask", unit="hex"}, {"be32", "tc.ematch.u32.match.val", "val", unit="hex"}, {"s32", "tc.ematch.u32.match.off", "off", unit="bytes"}, {"s32", "tc.ematch.u32.match.offmask", "offmask"}}}}}, {"struct", "tc.ematch.meta", "meta", prefix="\000\000\004\000", least=4, parts={{"u16", "tc.ematch.meta.flags", "flags", bits="tcf_em"}, {"pad", "tc.ematch.meta.padding", "padding", width=2}, {"list", false, "attributes", list="em_meta"}}}, {"struct", "tc.ematch.text", "text", prefix="\000\000\005\000", least=28, parts={{"u16", "tc.ematch.text.flags", "flags", bits="tcf_em"}, {"pad", "tc.ematch.text.padding", "padding", width=2}, {"struct", "tc.ematch.text.match", "match", width=24, least=24, parts={{"bytes", "tc.ematch.text.match.algo", "algo", width=16}, {"u16", "tc.ematch.text.match.from_offset", "from_offset", unit="bytes"}, {"u16", "tc.ematch.text.match.to_offset", "to_offset", unit="bytes"}, {"u16", "tc.ematch.text.match.pattern_len", "pattern_len", unit="bytes"}, {"u8", "tc.ematch.text.match.layers", "layers"}, {"pad", "tc.ematch.text.match.pad", "pad", width=1}}}, {"hex", "tc.ematch.text.pattern", "pattern"}}}, {"struct", "tc.ematch.canid", "canid", prefix="\000\000\007\000", least=4, parts={{"u16", "tc.ematch.canid.flags", "flags", bits="tcf_em"}, {"pad", "tc.ematch.canid.padding", "padding", width=2}, {"array", false, "match", inner={"struct", "tc.ematch.canid.match", "id", width=8, least=8, parts={{"u32", "tc.ematch.canid.match.can_id", "can_id", unit="hex"}, {"u32", "tc.ematch.canid.match.can_mask", "can_mask", unit="hex"}}}}}}, {"struct", "tc.ematch.ipset", "ipset", prefix="\000\000\008\000", width=8, least=8, parts={{"u16", "tc.ematch.ipset.flags", "flags", bits="tcf_em"}, {"pad", "tc.ematch.ipset.padding", "padding", width=2}, {"struct", "tc.ematch.ipset.match", "match", width=4, least=4, parts={{"u16", "tc.ematch.ipset.match.index", "index"}, {"u8", "tc.ematch.ipset.match.dim", "dim"}, {"u8", "tc.ematch.ipset.match.flags", "flags"}}}}}, {"struct", "tc.ematch.ipt", "ipt", prefix="\000\000\009\000", least=4, parts={{"u16", "tc.ematch.ipt.flags", "flags", bits="tcf_em"}, {"pad", "tc.ematch.ipt.padding", "padding", width=2}, {"list", false, "attributes", list="em_ipt"}}}}}}},
   },
   em_meta = {
-    [1] = {"TCA_EM_META_HDR", {"struct", "tc.em_meta.hdr", "hdr", parts={{"struct", "tc.em_meta.hdr.left", "left", parts={{"u16", "tc.em_meta.hdr.left.kind", "kind", unit="hex"}, {"u8", "tc.em_meta.hdr.left.shift", "shift"}, {"u8", "tc.em_meta.hdr.left.op", "op", enum="tcf_em_opnd"}}}, {"struct", "tc.em_meta.hdr.right", "right", parts={{"u16", "tc.em_meta.hdr.right.kind", "kind", unit="hex"}, {"u8", "tc.em_meta.hdr.right.shift", "shift"}, {"u8", "tc.em_meta.hdr.right.op", "op", enum="tcf_em_opnd"}}}}}},
+    [1] = {"TCA_EM_META_HDR", {"struct", "tc.em_meta.hdr", "hdr", width=8, least=8, parts={{"struct", "tc.em_meta.hdr.left", "left", width=4, least=4, parts={{"u16", "tc.em_meta.hdr.left.kind", "kind", unit="hex"}, {"u8", "tc.em_meta.hdr.left.shift", "shift"}, {"u8", "tc.em_meta.hdr.left.op", "op", enum="tcf_em_opnd"}}}, {"struct", "tc.em_meta.hdr.right", "right", width=4, least=4, parts={{"u16", "tc.em_meta.hdr.right.kind", "kind", unit="hex"}, {"u8", "tc.em_meta.hdr.right.shift", "shift"}, {"u8", "tc.em_meta.hdr.right.op", "op", enum="tcf_em_opnd"}}}}}},
     [2] = {"TCA_EM_META_LVALUE", {"hex", "tc.em_meta.lvalue", "lvalue"}},
     [3] = {"TCA_EM_META_RVALUE", {"hex", "tc.em_meta.rvalue", "rvalue"}},
   },
@@ -328,7 +352,7 @@ local LISTS = {
     [2] = {"TCA_BASIC_EMATCHES", {"list", "tc.basic.ematches", "ematches", list="ematch_tree"}},
     [3] = {"TCA_BASIC_ACT", {"indexed", "tc.basic.action", "action", element="tc.action", inner={"own", false, "action", list="action"}}},
     [4] = {"TCA_BASIC_POLICE", {"list", "tc.basic.police", "police", list="police"}},
-    [5] = {"TCA_BASIC_PCNT", {"struct", "tc.basic.pcnt", "pcnt", parts={{"u64", "tc.basic.pcnt.rcnt", "rcnt"}, {"u64", "tc.basic.pcnt.rhit", "rhit"}}}},
+    [5] = {"TCA_BASIC_PCNT", {"struct", "tc.basic.pcnt", "pcnt", width=16, least=16, parts={{"u64", "tc.basic.pcnt.rcnt", "rcnt"}, {"u64", "tc.basic.pcnt.rhit", "rhit"}}}},
     [6] = {"TCA_BASIC_PAD", {"flag", "tc.basic.pad", "pad"}},
   },
   bpf = {
@@ -336,12 +360,12 @@ local LISTS = {
     [2] = {"TCA_BPF_POLICE", {"list", "tc.bpf.police", "police", list="police"}},
     [3] = {"TCA_BPF_CLASSID", {"handle", "tc.bpf.class_id", "class_id"}},
     [4] = {"TCA_BPF_OPS_LEN", {"u16", "tc.bpf.ops_len", "ops_len"}},
-    [5] = {"TCA_BPF_OPS", {"array", false, "ops", inner={"struct", "tc.bpf.ops", "op", parts={{"u16", "tc.bpf.ops.code", "code", unit="hex"}, {"u8", "tc.bpf.ops.jt", "jt"}, {"u8", "tc.bpf.ops.jf", "jf"}, {"u32", "tc.bpf.ops.k", "k", unit="hex"}}}}},
+    [5] = {"TCA_BPF_OPS", {"array", false, "ops", inner={"struct", "tc.bpf.ops", "op", width=8, least=8, parts={{"u16", "tc.bpf.ops.code", "code", unit="hex"}, {"u8", "tc.bpf.ops.jt", "jt"}, {"u8", "tc.bpf.ops.jf", "jf"}, {"u32", "tc.bpf.ops.k", "k", unit="hex"}}}}},
     [6] = {"TCA_BPF_FD", {"u32", "tc.bpf.prog_fd", "prog_fd"}},
     [7] = {"TCA_BPF_NAME", {"text", "tc.bpf.prog_name", "prog_name"}},
     [8] = {"TCA_BPF_FLAGS", {"u32", "tc.bpf.flags", "flags", bits="tca_bpf_flag"}},
     [9] = {"TCA_BPF_FLAGS_GEN", {"u32", "tc.bpf.flags_generic", "flags_generic", bits="tca_cls_flags"}},
-    [10] = {"TCA_BPF_TAG", {"bytes", "tc.bpf.prog_tag", "prog_tag", size=8}},
+    [10] = {"TCA_BPF_TAG", {"bytes", "tc.bpf.prog_tag", "prog_tag", width=8}},
     [11] = {"TCA_BPF_ID", {"u32", "tc.bpf.prog_id", "prog_id"}},
   },
   cgroup = {
@@ -460,8 +484,8 @@ local LISTS = {
     [94] = {"TCA_FLOWER_KEY_CT_ZONE_MASK", {"u16", "tc.flower.ct_zone_mask", "ct_zone_mask", unit="hex"}},
     [95] = {"TCA_FLOWER_KEY_CT_MARK", {"u32", "tc.flower.ct_mark", "ct_mark", unit="hex"}},
     [96] = {"TCA_FLOWER_KEY_CT_MARK_MASK", {"u32", "tc.flower.ct_mark_mask", "ct_mark_mask", unit="hex"}},
-    [97] = {"TCA_FLOWER_KEY_CT_LABELS", {"bytes", "tc.flower.ct_labels", "ct_labels", size=16}},
-    [98] = {"TCA_FLOWER_KEY_CT_LABELS_MASK", {"bytes", "tc.flower.ct_labels_mask", "ct_labels_mask", size=16}},
+    [97] = {"TCA_FLOWER_KEY_CT_LABELS", {"bytes", "tc.flower.ct_labels", "ct_labels", width=16}},
+    [98] = {"TCA_FLOWER_KEY_CT_LABELS_MASK", {"bytes", "tc.flower.ct_labels_mask", "ct_labels_mask", width=16}},
     [99] = {"TCA_FLOWER_KEY_MPLS_OPTS", {"list", "tc.flower.mpls_opts", "mpls_opts", list="mpls_opts", nested=true}},
     [100] = {"TCA_FLOWER_KEY_HASH", {"u32", "tc.flower.key_hash", "key_hash", unit="hex"}},
     [101] = {"TCA_FLOWER_KEY_HASH_MASK", {"u32", "tc.flower.key_hash_mask", "key_hash_mask", unit="hex"}},
@@ -530,7 +554,7 @@ local LISTS = {
     [1] = {"TCA_MATCHALL_CLASSID", {"handle", "tc.matchall.class_id", "class_id"}},
     [2] = {"TCA_MATCHALL_ACT", {"indexed", "tc.matchall.action", "action", element="tc.action", inner={"own", false, "action", list="action"}}},
     [3] = {"TCA_MATCHALL_FLAGS", {"u32", "tc.matchall.flags", "flags", bits="tca_cls_flags"}},
-    [4] = {"TCA_MATCHALL_PCNT", {"struct", "tc.matchall.pnct", "pnct", parts={{"u64", "tc.matchall.pnct.rhit", "rhit", unit="packets"}}}},
+    [4] = {"TCA_MATCHALL_PCNT", {"struct", "tc.matchall.pnct", "pnct", width=8, least=8, parts={{"u64", "tc.matchall.pnct.rhit", "rhit", unit="packets"}}}},
     [5] = {"TCA_MATCHALL_PAD", {"flag", "tc.matchall.pad", "pad"}},
   },
   route = {
@@ -545,7 +569,7 @@ local LISTS = {
     [1] = {"TCA_RSVP_CLASSID", {"handle", "tc.rsvp.class_id", "class_id"}},
     [2] = {"TCA_RSVP_DST", {"ipv4", "tc.rsvp.dst", "dst"}},
     [3] = {"TCA_RSVP_SRC", {"ipv4", "tc.rsvp.src", "src"}},
-    [4] = {"TCA_RSVP_PINFO", {"struct", "tc.rsvp.pinfo", "pinfo", parts={{"struct", "tc.rsvp.pinfo.dpi", "dpi", parts={{"u32", "tc.rsvp.pinfo.dpi.key", "key", unit="hex"}, {"u32", "tc.rsvp.pinfo.dpi.mask", "mask", unit="hex"}, {"s32", "tc.rsvp.pinfo.dpi.offset", "offset"}}}, {"struct", "tc.rsvp.pinfo.spi", "spi", parts={{"u32", "tc.rsvp.pinfo.spi.key", "key", unit="hex"}, {"u32", "tc.rsvp.pinfo.spi.mask", "mask", unit="hex"}, {"s32", "tc.rsvp.pinfo.spi.offset", "offset"}}}, {"u8", "tc.rsvp.pinfo.protocol", "protocol", names="ip_proto"}, {"u8", "tc.rsvp.pinfo.tunnelid", "tunnelid"}, {"u8", "tc.rsvp.pinfo.tunnelhdr", "tunnelhdr"}, {"pad", "tc.rsvp.pinfo.pad", "pad", size=1}}}},
+    [4] = {"TCA_RSVP_PINFO", {"struct", "tc.rsvp.pinfo", "pinfo", width=28, least=28, parts={{"struct", "tc.rsvp.pinfo.dpi", "dpi", width=12, least=12, parts={{"u32", "tc.rsvp.pinfo.dpi.key", "key", unit="hex"}, {"u32", "tc.rsvp.pinfo.dpi.mask", "mask", unit="hex"}, {"s32", "tc.rsvp.pinfo.dpi.offset", "offset"}}}, {"struct", "tc.rsvp.pinfo.spi", "spi", width=12, least=12, parts={{"u32", "tc.rsvp.pinfo.spi.key", "key", unit="hex"}, {"u32", "tc.rsvp.pinfo.spi.mask", "mask", unit="hex"}, {"s32", "tc.rsvp.pinfo.spi.offset", "offset"}}}, {"u8", "tc.rsvp.pinfo.protocol", "protocol", names="ip_proto"}, {"u8", "tc.rsvp.pinfo.tunnelid", "tunnelid"}, {"u8", "tc.rsvp.pinfo.tunnelhdr", "tunnelhdr"}, {"pad", "tc.rsvp.pinfo.pad", "pad", width=1}}}},
     [5] = {"TCA_RSVP_POLICE", {"list", "tc.rsvp.police", "police", list="police"}},
     [6] = {"TCA_RSVP_ACT", {"indexed", "tc.rsvp.action", "action", element="tc.action", inner={"own", false, "action", list="action"}}},
   },
@@ -553,7 +577,7 @@ local LISTS = {
     [1] = {"TCA_RSVP_CLASSID", {"handle", "tc.rsvp6.class_id", "class_id"}},
     [2] = {"TCA_RSVP_DST", {"ipv6", "tc.rsvp6.dst", "dst"}},
     [3] = {"TCA_RSVP_SRC", {"ipv6", "tc.rsvp6.src", "src"}},
-    [4] = {"TCA_RSVP_PINFO", {"struct", "tc.rsvp6.pinfo", "pinfo", parts={{"struct", "tc.rsvp6.pinfo.dpi", "dpi", parts={{"u32", "tc.rsvp6.pinfo.dpi.key", "key", unit="hex"}, {"u32", "tc.rsvp6.pinfo.dpi.mask", "mask", unit="hex"}, {"s32", "tc.rsvp6.pinfo.dpi.offset", "offset"}}}, {"struct", "tc.rsvp6.pinfo.spi", "spi", parts={{"u32", "tc.rsvp6.pinfo.spi.key", "key", unit="hex"}, {"u32", "tc.rsvp6.pinfo.spi.mask", "mask", unit="hex"}, {"s32", "tc.rsvp6.pinfo.spi.offset", "offset"}}}, {"u8", "tc.rsvp6.pinfo.protocol", "protocol", names="ip_proto"}, {"u8", "tc.rsvp6.pinfo.tunnelid", "tunnelid"}, {"u8", "tc.rsvp6.pinfo.tunnelhdr", "tunnelhdr"}, {"pad", "tc.rsvp6.pinfo.pad", "pad", size=1}}}},
+    [4] = {"TCA_RSVP_PINFO", {"struct", "tc.rsvp6.pinfo", "pinfo", width=28, least=28, parts={{"struct", "tc.rsvp6.pinfo.dpi", "dpi", width=12, least=12, parts={{"u32", "tc.rsvp6.pinfo.dpi.key", "key", unit="hex"}, {"u32", "tc.rsvp6.pinfo.dpi.mask", "mask", unit="hex"}, {"s32", "tc.rsvp6.pinfo.dpi.offset", "offset"}}}, {"struct", "tc.rsvp6.pinfo.spi", "spi", width=12, least=12, parts={{"u32", "tc.rsvp6.pinfo.spi.key", "key", unit="hex"}, {"u32", "tc.rsvp6.pinfo.spi.mask", "mask", unit="hex"}, {"s32", "tc.rsvp6.pinfo.spi.offset", "offset"}}}, {"u8", "tc.rsvp6.pinfo.protocol", "protocol", names="ip_proto"}, {"u8", "tc.rsvp6.pinfo.tunnelid", "tunnelid"}, {"u8", "tc.rsvp6.pinfo.tunnelhdr", "tunnelhdr"}, {"pad", "tc.rsvp6.pinfo.pad", "pad", width=1}}}},
     [5] = {"TCA_RSVP_POLICE", {"list", "tc.rsvp6.police", "police", list="police"}},
     [6] = {"TCA_RSVP_ACT", {"indexed", "tc.rsvp6.action", "action", element="tc.action", inner={"own", false, "action", list="action"}}},
   },
@@ -571,21 +595,21 @@ local LISTS = {
     [2] = {"TCA_U32_HASH", {"u32", "tc.u32.hash", "hash", unit="u32_handle"}},
     [3] = {"TCA_U32_LINK", {"u32", "tc.u32.link", "link", unit="u32_handle"}},
     [4] = {"TCA_U32_DIVISOR", {"u32", "tc.u32.divisor", "divisor"}},
-    [5] = {"TCA_U32_SEL", {"struct", "tc.u32.selector", "selector", parts={{"u8", "tc.u32.selector.flags", "flags", bits="tc_u32"}, {"u8", "tc.u32.selector.offshift", "offshift"}, {"u8", "tc.u32.selector.nkeys", "nkeys"}, {"pad", "tc.u32.selector.padding", "padding", size=1}, {"be16", "tc.u32.selector.offmask", "offmask", unit="hex"}, {"u16", "tc.u32.selector.off", "off", unit="bytes"}, {"s16", "tc.u32.selector.offoff", "offoff", unit="bytes"}, {"s16", "tc.u32.selector.hoff", "hoff", unit="bytes"}, {"be32", "tc.u32.selector.hmask", "hmask", unit="hex"}, {"array", false, "keys", inner={"struct", "tc.u32.selector.keys", "key", parts={{"be32", "tc.u32.selector.keys.mask", "mask", unit="hex"}, {"be32", "tc.u32.selector.keys.val", "val", unit="hex"}, {"s32", "tc.u32.selector.keys.off", "off", unit="bytes"}, {"s32", "tc.u32.selector.keys.offmask", "offmask"}}}}}}},
+    [5] = {"TCA_U32_SEL", {"struct", "tc.u32.selector", "selector", least=16, parts={{"u8", "tc.u32.selector.flags", "flags", bits="tc_u32"}, {"u8", "tc.u32.selector.offshift", "offshift"}, {"u8", "tc.u32.selector.nkeys", "nkeys"}, {"pad", "tc.u32.selector.padding", "padding", width=1}, {"be16", "tc.u32.selector.offmask", "offmask", unit="hex"}, {"u16", "tc.u32.selector.off", "off", unit="bytes"}, {"s16", "tc.u32.selector.offoff", "offoff", unit="bytes"}, {"s16", "tc.u32.selector.hoff", "hoff", unit="bytes"}, {"be32", "tc.u32.selector.hmask", "hmask", unit="hex"}, {"array", false, "keys", inner={"struct", "tc.u32.selector.keys", "key", width=16, least=16, parts={{"be32", "tc.u32.selector.keys.mask", "mask", unit="hex"}, {"be32", "tc.u32.selector.keys.val", "val", unit="hex"}, {"s32", "tc.u32.selector.keys.off", "off", unit="bytes"}, {"s32", "tc.u32.selector.keys.offmask", "offmask"}}}}}}},
     [6] = {"TCA_U32_POLICE", {"list", "tc.u32.police", "police", list="police"}},
     [7] = {"TCA_U32_ACT", {"indexed", "tc.u32.action", "action", element="tc.action", inner={"own", false, "action", list="action"}}},
     [8] = {"TCA_U32_INDEV", {"text", "tc.u32.indev", "indev"}},
-    [9] = {"TCA_U32_PCNT", {"struct", "tc.u32.pnct", "pnct", parts={{"u64", "tc.u32.pnct.rcnt", "rcnt", unit="packets"}, {"u64", "tc.u32.pnct.rhit", "rhit", unit="packets"}, {"array", false, "kcnts", inner={"u64", "tc.u32.pnct.kcnts", "kcnts", unit="packets"}}}}},
-    [10] = {"TCA_U32_MARK", {"struct", "tc.u32.mark", "mark", parts={{"u32", "tc.u32.mark.val", "val", unit="hex"}, {"u32", "tc.u32.mark.mask", "mask", unit="hex"}, {"u32", "tc.u32.mark.success", "success"}}}},
+    [9] = {"TCA_U32_PCNT", {"struct", "tc.u32.pnct", "pnct", least=16, parts={{"u64", "tc.u32.pnct.rcnt", "rcnt", unit="packets"}, {"u64", "tc.u32.pnct.rhit", "rhit", unit="packets"}, {"array", false, "kcnts", inner={"u64", "tc.u32.pnct.kcnts", "kcnts", unit="packets"}}}}},
+    [10] = {"TCA_U32_MARK", {"struct", "tc.u32.mark", "mark", width=12, least=12, parts={{"u32", "tc.u32.mark.val", "val", unit="hex"}, {"u32", "tc.u32.mark.mask", "mask", unit="hex"}, {"u32", "tc.u32.mark.success", "success"}}}},
     [11] = {"TCA_U32_FLAGS", {"u32", "tc.u32.flags", "flags", bits="tca_cls_flags"}},
     [12] = {"TCA_U32_PAD", {"flag", "tc.u32.pad", "pad"}},
   },
   tc = {
     [1] = {"TCA_KIND", {"kind", "tc.kind", "kind"}},
     [2] = {"TCA_OPTIONS", {"by", "tc.options", "options", which="options", sorts={"qdisc", "filter"}, other={"hex", "tc.options_raw", "options_raw"}}},
-    [3] = {"TCA_STATS", {"struct", "tc.stats", "stats", parts={{"u64", "tc.stats.bytes", "bytes", unit="bytes"}, {"u32", "tc.stats.packets", "packets", unit="packets"}, {"u32", "tc.stats.drops", "drops", unit="packets"}, {"u32", "tc.stats.overlimits", "overlimits"}, {"u32", "tc.stats.bps", "bps", unit="bytes/s"}, {"u32", "tc.stats.pps", "pps", unit="packets/s"}, {"u32", "tc.stats.qlen", "qlen", unit="packets"}, {"u32", "tc.stats.backlog", "backlog", unit="bytes"}, {"pad", "tc.stats.padding", "padding", size=4}}}},
+    [3] = {"TCA_STATS", {"struct", "tc.stats", "stats", width=40, least=40, parts={{"u64", "tc.stats.bytes", "bytes", unit="bytes"}, {"u32", "tc.stats.packets", "packets", unit="packets"}, {"u32", "tc.stats.drops", "drops", unit="packets"}, {"u32", "tc.stats.overlimits", "overlimits"}, {"u32", "tc.stats.bps", "bps", unit="bytes/s"}, {"u32", "tc.stats.pps", "pps", unit="packets/s"}, {"u32", "tc.stats.qlen", "qlen", unit="packets"}, {"u32", "tc.stats.backlog", "backlog", unit="bytes"}, {"pad", "tc.stats.padding", "padding", width=4}}}},
     [4] = {"TCA_XSTATS", {"by", "tc.xstats", "xstats", which="statistics", sorts={"qdisc"}, other={"choice", "tc.xstats", "xstats", parts={}}}},
-    [5] = {"TCA_RATE", {"struct", "tc.rate", "rate", parts={{"s8", "tc.rate.interval", "interval", unit="log2"}, {"u8", "tc.rate.ewma_log", "ewma_log", unit="log2"}}}},
+    [5] = {"TCA_RATE", {"struct", "tc.rate", "rate", width=2, least=2, parts={{"s8", "tc.rate.interval", "interval", unit="log2"}, {"u8", "tc.rate.ewma_log", "ewma_log", unit="log2"}}}},
     [6] = {"TCA_FCNT", {"u32", "tc.fcnt", "fcnt"}},
     [7] = {"TCA_STATS2", {"list", "tc.stats2", "stats2", list="stats"}},
     [8] = {"TCA_STAB", {"list", "tc.stab", "stab", list="stab"}},
@@ -595,12 +619,12 @@ local LISTS = {
     [12] = {"TCA_HW_OFFLOAD", {"u8", "tc.hw_offload", "hw_offload"}},
     [13] = {"TCA_INGRESS_BLOCK", {"u32", "tc.ingress_block", "ingress_block"}},
     [14] = {"TCA_EGRESS_BLOCK", {"u32", "tc.egress_block", "egress_block"}},
-    [15] = {"TCA_DUMP_FLAGS", {"struct", "tc.dump_flags", "dump_flags", parts={{"u32", "tc.dump_flags.value", "value", bits="tca_dump_flags"}, {"u32", "tc.dump_flags.selector", "selector", bits="tca_dump_flags"}}}},
+    [15] = {"TCA_DUMP_FLAGS", {"struct", "tc.dump_flags", "dump_flags", width=8, least=8, parts={{"u32", "tc.dump_flags.value", "value", bits="tca_dump_flags"}, {"u32", "tc.dump_flags.selector", "selector", bits="tca_dump_flags"}}}},
     [16] = {"TCA_EXT_WARN_MSG", {"text", "tc.ext_warn_msg", "ext_warn_msg"}},
   },
   action_message = {
     [1] = {"TCA_ROOT_TAB", {"indexed", "tc.actions", "actions", element="tc.action", inner={"own", false, "action", list="action"}}},
-    [2] = {"TCA_ROOT_FLAGS", {"struct", "tc.flags", "flags", parts={{"u32", "tc.flags.flags", "flags", bits="tca_act_flag"}, {"u32", "tc.flags.selector", "selector", bits="tca_act_flag"}}}},
+    [2] = {"TCA_ROOT_FLAGS", {"struct", "tc.flags", "flags", width=8, least=8, parts={{"u32", "tc.flags.flags", "flags", bits="tca_act_flag"}, {"u32", "tc.flags.selector", "selector", bits="tca_act_flag"}}}},
     [3] = {"TCA_ROOT_COUNT", {"u32", "tc.root_count", "root_count"}},
     [4] = {"TCA_ROOT_TIME_DELTA", {"u32", "tc.root_time_delta", "root_time_delta", unit="ms"}},
     [5] = {"TCA_ROOT_EXT_WARN_MSG", {"bare", "tc.root_ext_warn_msg", "root_ext_warn_msg"}},
@@ -679,19 +703,19 @@ local LISTS = {
     [25] = {"TCA_CAKE_TIN_STATS_FLOW_QUANTUM", {"u32", "tc.cake_tin_stats.flow_quantum", "flow_quantum", unit="bytes"}},
   },
   cbq = {
-    [1] = {"TCA_CBQ_LSSOPT", {"struct", "tc.cbq.lssopt", "lssopt", parts={{"u8", "tc.cbq.lssopt.change", "change", bits="tcf_cbq_lss_change"}, {"u8", "tc.cbq.lssopt.flags", "flags", bits="tcf_cbq_lss_flags"}, {"u8", "tc.cbq.lssopt.ewma_log", "ewma_log"}, {"u8", "tc.cbq.lssopt.level", "level"}, {"u32", "tc.cbq.lssopt.maxidle", "maxidle"}, {"u32", "tc.cbq.lssopt.minidle", "minidle"}, {"u32", "tc.cbq.lssopt.offtime", "offtime"}, {"u32", "tc.cbq.lssopt.avpkt", "avpkt"}}}},
-    [2] = {"TCA_CBQ_WRROPT", {"struct", "tc.cbq.wrropt", "wrropt", parts={{"u8", "tc.cbq.wrropt.flags", "flags"}, {"u8", "tc.cbq.wrropt.priority", "priority"}, {"u8", "tc.cbq.wrropt.cpriority", "cpriority"}, {"pad", "tc.cbq.wrropt.__reserved", "__reserved", size=1}, {"u32", "tc.cbq.wrropt.allot", "allot"}, {"u32", "tc.cbq.wrropt.weight", "weight"}}}},
-    [3] = {"TCA_CBQ_FOPT", {"struct", "tc.cbq.fopt", "fopt", parts={{"u32", "tc.cbq.fopt.split", "split", unit="hex"}, {"u32", "tc.cbq.fopt.defmap", "defmap", unit="hex"}, {"u32", "tc.cbq.fopt.defchange", "defchange", unit="hex"}}}},
-    [4] = {"TCA_CBQ_OVL_STRATEGY", {"struct", "tc.cbq.ovl_strategy", "ovl_strategy", parts={{"u8", "tc.cbq.ovl_strategy.strategy", "strategy"}, {"u8", "tc.cbq.ovl_strategy.priority2", "priority2"}, {"pad", "tc.cbq.ovl_strategy.pad", "pad", size=2}, {"u32", "tc.cbq.ovl_strategy.penalty", "penalty"}}}},
-    [5] = {"TCA_CBQ_RATE", {"struct", "tc.cbq.rate", "rate", parts={{"u8", "tc.cbq.rate.cell_log", "cell_log", unit="log2"}, {"u8", "tc.cbq.rate.linklayer", "linklayer", enum="tc_linklayer"}, {"u16", "tc.cbq.rate.overhead", "overhead", unit="bytes"}, {"s16", "tc.cbq.rate.cell_align", "cell_align"}, {"u16", "tc.cbq.rate.mpu", "mpu", unit="bytes"}, {"u32", "tc.cbq.rate.rate", "rate", unit="bytes/s"}}}},
+    [1] = {"TCA_CBQ_LSSOPT", {"struct", "tc.cbq.lssopt", "lssopt", width=20, least=20, parts={{"u8", "tc.cbq.lssopt.change", "change", bits="tcf_cbq_lss_change"}, {"u8", "tc.cbq.lssopt.flags", "flags", bits="tcf_cbq_lss_flags"}, {"u8", "tc.cbq.lssopt.ewma_log", "ewma_log"}, {"u8", "tc.cbq.lssopt.level", "level"}, {"u32", "tc.cbq.lssopt.maxidle", "maxidle"}, {"u32", "tc.cbq.lssopt.minidle", "minidle"}, {"u32", "tc.cbq.lssopt.offtime", "offtime"}, {"u32", "tc.cbq.lssopt.avpkt", "avpkt"}}}},
+    [2] = {"TCA_CBQ_WRROPT", {"struct", "tc.cbq.wrropt", "wrropt", width=12, least=12, parts={{"u8", "tc.cbq.wrropt.flags", "flags"}, {"u8", "tc.cbq.wrropt.priority", "priority"}, {"u8", "tc.cbq.wrropt.cpriority", "cpriority"}, {"pad", "tc.cbq.wrropt.__reserved", "__reserved", width=1}, {"u32", "tc.cbq.wrropt.allot", "allot"}, {"u32", "tc.cbq.wrropt.weight", "weight"}}}},
+    [3] = {"TCA_CBQ_FOPT", {"struct", "tc.cbq.fopt", "fopt", width=12, least=12, parts={{"u32", "tc.cbq.fopt.split", "split", unit="hex"}, {"u32", "tc.cbq.fopt.defmap", "defmap", unit="hex"}, {"u32", "tc.cbq.fopt.defchange", "defchange", unit="hex"}}}},
+    [4] = {"TCA_CBQ_OVL_STRATEGY", {"struct", "tc.cbq.ovl_strategy", "ovl_strategy", width=8, least=8, parts={{"u8", "tc.cbq.ovl_strategy.strategy", "strategy"}, {"u8", "tc.cbq.ovl_strategy.priority2", "priority2"}, {"pad", "tc.cbq.ovl_strategy.pad", "pad", width=2}, {"u32", "tc.cbq.ovl_strategy.penalty", "penalty"}}}},
+    [5] = {"TCA_CBQ_RATE", {"struct", "tc.cbq.rate", "rate", width=12, least=12, parts={{"u8", "tc.cbq.rate.cell_log", "cell_log", unit="log2"}, {"u8", "tc.cbq.rate.linklayer", "linklayer", enum="tc_linklayer"}, {"u16", "tc.cbq.rate.overhead", "overhead", unit="bytes"}, {"s16", "tc.cbq.rate.cell_align", "cell_align"}, {"u16", "tc.cbq.rate.mpu", "mpu", unit="bytes"}, {"u32", "tc.cbq.rate.rate", "rate", unit="bytes/s"}}}},
     [6] = {"TCA_CBQ_RTAB", {"hex", "tc.cbq.rtab", "rtab"}},
-    [7] = {"TCA_CBQ_POLICE", {"struct", "tc.cbq.police", "police", parts={{"u8", "tc.cbq.police.police", "police"}, {"pad", "tc.cbq.police.__res1", "__res1", size=1}, {"pad", "tc.cbq.police.__res2", "__res2", size=2}}}},
+    [7] = {"TCA_CBQ_POLICE", {"struct", "tc.cbq.police", "police", width=4, least=4, parts={{"u8", "tc.cbq.police.police", "police"}, {"pad", "tc.cbq.police.__res1", "__res1", width=1}, {"pad", "tc.cbq.police.__res2", "__res2", width=2}}}},
   },
   cbs = {
-    [1] = {"TCA_CBS_PARMS", {"struct", "tc.cbs.parms", "parms", parts={{"u8", "tc.cbs.parms.offload", "offload"}, {"pad", "tc.cbs.parms._pad", "_pad", size=3}, {"s32", "tc.cbs.parms.hicredit", "hicredit", unit="bytes"}, {"s32", "tc.cbs.parms.locredit", "locredit", unit="bytes"}, {"s32", "tc.cbs.parms.idleslope", "idleslope", unit="kbit/s"}, {"s32", "tc.cbs.parms.sendslope", "sendslope", unit="kbit/s"}}}},
+    [1] = {"TCA_CBS_PARMS", {"struct", "tc.cbs.parms", "parms", width=20, least=20, parts={{"u8", "tc.cbs.parms.offload", "offload"}, {"pad", "tc.cbs.parms._pad", "_pad", width=3}, {"s32", "tc.cbs.parms.hicredit", "hicredit", unit="bytes"}, {"s32", "tc.cbs.parms.locredit", "locredit", unit="bytes"}, {"s32", "tc.cbs.parms.idleslope", "idleslope", unit="kbit/s"}, {"s32", "tc.cbs.parms.sendslope", "sendslope", unit="kbit/s"}}}},
   },
   choke = {
-    [1] = {"TCA_CHOKE_PARMS", {"struct", "tc.choke.parms", "parms", parts={{"u32", "tc.choke.parms.limit", "limit", unit="packets"}, {"u32", "tc.choke.parms.qth_min", "qth_min", unit="packets"}, {"u32", "tc.choke.parms.qth_max", "qth_max", unit="packets"}, {"u8", "tc.choke.parms.wlog", "Wlog", unit="log2"}, {"u8", "tc.choke.parms.plog", "Plog", unit="log2"}, {"u8", "tc.choke.parms.scell_log", "Scell_log", unit="log2"}, {"u8", "tc.choke.parms.flags", "flags", bits="tc_red"}}}},
+    [1] = {"TCA_CHOKE_PARMS", {"struct", "tc.choke.parms", "parms", width=16, least=16, parts={{"u32", "tc.choke.parms.limit", "limit", unit="packets"}, {"u32", "tc.choke.parms.qth_min", "qth_min", unit="packets"}, {"u32", "tc.choke.parms.qth_max", "qth_max", unit="packets"}, {"u8", "tc.choke.parms.wlog", "Wlog", unit="log2"}, {"u8", "tc.choke.parms.plog", "Plog", unit="log2"}, {"u8", "tc.choke.parms.scell_log", "Scell_log", unit="log2"}, {"u8", "tc.choke.parms.flags", "flags", bits="tc_red"}}}},
     [2] = {"TCA_CHOKE_STAB", {"hex", "tc.choke.stab", "stab"}},
     [3] = {"TCA_CHOKE_MAX_P", {"u32", "tc.choke.max_p", "max_p", unit="probability"}},
   },
@@ -713,7 +737,7 @@ local LISTS = {
     [5] = {"TCA_DSMARK_VALUE", {"u8", "tc.dsmark.value", "value", unit="hex"}},
   },
   etf = {
-    [1] = {"TCA_ETF_PARMS", {"struct", "tc.etf.parms", "parms", parts={{"s32", "tc.etf.parms.delta", "delta", unit="ns"}, {"s32", "tc.etf.parms.clockid", "clockid", names="clockid"}, {"u32", "tc.etf.parms.flags", "flags", bits="tc_etf"}}}},
+    [1] = {"TCA_ETF_PARMS", {"struct", "tc.etf.parms", "parms", width=12, least=12, parts={{"s32", "tc.etf.parms.delta", "delta", unit="ns"}, {"s32", "tc.etf.parms.clockid", "clockid", names="clockid"}, {"u32", "tc.etf.parms.flags", "flags", bits="tc_etf"}}}},
   },
   ets = {
     [1] = {"TCA_ETS_NBANDS", {"u8", "tc.ets.nbands", "nbands"}},
@@ -745,8 +769,8 @@ local LISTS = {
     [13] = {"TCA_FQ_TIMER_SLACK", {"u32", "tc.fq.timer_slack", "timer_slack", unit="ns"}},
     [14] = {"TCA_FQ_HORIZON", {"u32", "tc.fq.horizon", "horizon", unit="us"}},
     [15] = {"TCA_FQ_HORIZON_DROP", {"u8", "tc.fq.horizon_drop", "horizon_drop"}},
-    [16] = {"TCA_FQ_PRIOMAP", {"struct", "tc.fq.priomap", "priomap", parts={{"s32", "tc.fq.priomap.bands", "bands"}, {"array", false, "priomap", inner={"u8", "tc.fq.priomap.priomap", "priomap"}, count=16}}}},
-    [17] = {"TCA_FQ_WEIGHTS", {"array", false, "weights", inner={"s32", "tc.fq.weights", "weights"}, count=3}},
+    [16] = {"TCA_FQ_PRIOMAP", {"struct", "tc.fq.priomap", "priomap", width=20, least=20, parts={{"s32", "tc.fq.priomap.bands", "bands"}, {"array", false, "priomap", inner={"u8", "tc.fq.priomap.priomap", "priomap"}, width=16}}}},
+    [17] = {"TCA_FQ_WEIGHTS", {"array", false, "weights", inner={"s32", "tc.fq.weights", "weights"}, width=12}},
   },
   fq_codel = {
     [1] = {"TCA_FQ_CODEL_TARGET", {"u32", "tc.fq_codel.target", "target", unit="us"}},
@@ -776,9 +800,9 @@ local LISTS = {
     [12] = {"TCA_FQ_PIE_DQ_RATE_ESTIMATOR", {"u32", "tc.fq_pie.dq_rate_estimator", "dq_rate_estimator"}},
   },
   gred = {
-    [1] = {"TCA_GRED_PARMS", {"array", false, "parms", inner={"struct", "tc.gred.parms", "queue", parts={{"u32", "tc.gred.parms.limit", "limit", unit="bytes"}, {"u32", "tc.gred.parms.qth_min", "qth_min", unit="bytes"}, {"u32", "tc.gred.parms.qth_max", "qth_max", unit="bytes"}, {"u32", "tc.gred.parms.dp", "DP"}, {"u32", "tc.gred.parms.backlog", "backlog", unit="bytes"}, {"u32", "tc.gred.parms.qave", "qave", unit="bytes"}, {"u32", "tc.gred.parms.forced", "forced", unit="packets"}, {"u32", "tc.gred.parms.early", "early", unit="packets"}, {"u32", "tc.gred.parms.other", "other", unit="packets"}, {"u32", "tc.gred.parms.pdrop", "pdrop", unit="packets"}, {"u8", "tc.gred.parms.wlog", "Wlog", unit="log2"}, {"u8", "tc.gred.parms.plog", "Plog", unit="log2"}, {"u8", "tc.gred.parms.scell_log", "Scell_log", unit="log2"}, {"u8", "tc.gred.parms.prio", "prio"}, {"u32", "tc.gred.parms.packets", "packets", unit="packets"}, {"u32", "tc.gred.parms.bytesin", "bytesin", unit="bytes"}}}}},
+    [1] = {"TCA_GRED_PARMS", {"array", false, "parms", inner={"struct", "tc.gred.parms", "queue", width=52, least=52, parts={{"u32", "tc.gred.parms.limit", "limit", unit="bytes"}, {"u32", "tc.gred.parms.qth_min", "qth_min", unit="bytes"}, {"u32", "tc.gred.parms.qth_max", "qth_max", unit="bytes"}, {"u32", "tc.gred.parms.dp", "DP"}, {"u32", "tc.gred.parms.backlog", "backlog", unit="bytes"}, {"u32", "tc.gred.parms.qave", "qave", unit="bytes"}, {"u32", "tc.gred.parms.forced", "forced", unit="packets"}, {"u32", "tc.gred.parms.early", "early", unit="packets"}, {"u32", "tc.gred.parms.other", "other", unit="packets"}, {"u32", "tc.gred.parms.pdrop", "pdrop", unit="packets"}, {"u8", "tc.gred.parms.wlog", "Wlog", unit="log2"}, {"u8", "tc.gred.parms.plog", "Plog", unit="log2"}, {"u8", "tc.gred.parms.scell_log", "Scell_log", unit="log2"}, {"u8", "tc.gred.parms.prio", "prio"}, {"u32", "tc.gred.parms.packets", "packets", unit="packets"}, {"u32", "tc.gred.parms.bytesin", "bytesin", unit="bytes"}}}}},
     [2] = {"TCA_GRED_STAB", {"hex", "tc.gred.stab", "stab"}},
-    [3] = {"TCA_GRED_DPS", {"struct", "tc.gred.dps", "dps", parts={{"u32", "tc.gred.dps.dps", "DPs"}, {"u32", "tc.gred.dps.def_dp", "def_DP"}, {"u8", "tc.gred.dps.grio", "grio"}, {"u8", "tc.gred.dps.flags", "flags", bits="tc_red"}, {"pad", "tc.gred.dps.pad1", "pad1", size=2}}}},
+    [3] = {"TCA_GRED_DPS", {"struct", "tc.gred.dps", "dps", width=12, least=12, parts={{"u32", "tc.gred.dps.dps", "DPs"}, {"u32", "tc.gred.dps.def_dp", "def_DP"}, {"u8", "tc.gred.dps.grio", "grio"}, {"u8", "tc.gred.dps.flags", "flags", bits="tc_red"}, {"pad", "tc.gred.dps.pad1", "pad1", width=2}}}},
     [4] = {"TCA_GRED_MAX_P", {"array", false, "max_p", inner={"u32", "tc.gred.max_p", "max_p", unit="probability"}}},
     [5] = {"TCA_GRED_LIMIT", {"u32", "tc.gred.limit", "limit", unit="bytes"}},
     [6] = {"TCA_GRED_VQ_LIST", {"list", "tc.gred.vq_list", "vq_list", list="gred_vq_list"}},
@@ -801,9 +825,9 @@ local LISTS = {
     [12] = {"TCA_GRED_VQ_FLAGS", {"u32", "tc.gred_vq.flags", "flags", bits="tc_red"}},
   },
   hfsc = {
-    [1] = {"TCA_HFSC_RSC", {"struct", "tc.hfsc.rsc", "rsc", parts={{"u32", "tc.hfsc.rsc.m1", "m1", unit="bytes/s"}, {"u32", "tc.hfsc.rsc.d", "d", unit="us"}, {"u32", "tc.hfsc.rsc.m2", "m2", unit="bytes/s"}}}},
-    [2] = {"TCA_HFSC_FSC", {"struct", "tc.hfsc.fsc", "fsc", parts={{"u32", "tc.hfsc.fsc.m1", "m1", unit="bytes/s"}, {"u32", "tc.hfsc.fsc.d", "d", unit="us"}, {"u32", "tc.hfsc.fsc.m2", "m2", unit="bytes/s"}}}},
-    [3] = {"TCA_HFSC_USC", {"struct", "tc.hfsc.usc", "usc", parts={{"u32", "tc.hfsc.usc.m1", "m1", unit="bytes/s"}, {"u32", "tc.hfsc.usc.d", "d", unit="us"}, {"u32", "tc.hfsc.usc.m2", "m2", unit="bytes/s"}}}},
+    [1] = {"TCA_HFSC_RSC", {"struct", "tc.hfsc.rsc", "rsc", width=12, least=12, parts={{"u32", "tc.hfsc.rsc.m1", "m1", unit="bytes/s"}, {"u32", "tc.hfsc.rsc.d", "d", unit="us"}, {"u32", "tc.hfsc.rsc.m2", "m2", unit="bytes/s"}}}},
+    [2] = {"TCA_HFSC_FSC", {"struct", "tc.hfsc.fsc", "fsc", width=12, least=12, parts={{"u32", "tc.hfsc.fsc.m1", "m1", unit="bytes/s"}, {"u32", "tc.hfsc.fsc.d", "d", unit="us"}, {"u32", "tc.hfsc.fsc.m2", "m2", unit="bytes/s"}}}},
+    [3] = {"TCA_HFSC_USC", {"struct", "tc.hfsc.usc", "usc", width=12, least=12, parts={{"u32", "tc.hfsc.usc.m1", "m1", unit="bytes/s"}, {"u32", "tc.hfsc.usc.d", "d", unit="us"}, {"u32", "tc.hfsc.usc.m2", "m2", unit="bytes/s"}}}},
   },
   hhf = {
     [1] = {"TCA_HHF_BACKLOG_LIMIT", {"u32", "tc.hhf.backlog_limit", "backlog_limit", unit="packets"}},
@@ -815,8 +839,8 @@ local LISTS = {
     [7] = {"TCA_HHF_NON_HH_WEIGHT", {"u32", "tc.hhf.non_hh_weight", "non_hh_weight"}},
   },
   htb = {
-    [1] = {"TCA_HTB_PARMS", {"struct", "tc.htb.parms", "parms", parts={{"struct", "tc.htb.parms.rate", "rate", parts={{"u8", "tc.htb.parms.rate.cell_log", "cell_log", unit="log2"}, {"u8", "tc.htb.parms.rate.linklayer", "linklayer", enum="tc_linklayer"}, {"u16", "tc.htb.parms.rate.overhead", "overhead", unit="bytes"}, {"s16", "tc.htb.parms.rate.cell_align", "cell_align"}, {"u16", "tc.htb.parms.rate.mpu", "mpu", unit="bytes"}, {"u32", "tc.htb.parms.rate.rate", "rate", unit="bytes/s"}}}, {"struct", "tc.htb.parms.ceil", "ceil", parts={{"u8", "tc.htb.parms.ceil.cell_log", "cell_log", unit="log2"}, {"u8", "tc.htb.parms.ceil.linklayer", "linklayer", enum="tc_linklayer"}, {"u16", "tc.htb.parms.ceil.overhead", "overhead", unit="bytes"}, {"s16", "tc.htb.parms.ceil.cell_align", "cell_align"}, {"u16", "tc.htb.parms.ceil.mpu", "mpu", unit="bytes"}, {"u32", "tc.htb.parms.ceil.rate", "rate", unit="bytes/s"}}}, {"u32", "tc.htb.parms.buffer", "buffer", unit="ticks"}, {"u32", "tc.htb.parms.cbuffer", "cbuffer", unit="ticks"}, {"u32", "tc.htb.parms.quantum", "quantum", unit="bytes"}, {"u32", "tc.htb.parms.level", "level"}, {"u32", "tc.htb.parms.prio", "prio"}}}},
-    [2] = {"TCA_HTB_INIT", {"struct", "tc.htb.init", "init", parts={{"u32", "tc.htb.init.version", "version"}, {"u32", "tc.htb.init.rate2quantum", "rate2quantum"}, {"u32", "tc.htb.init.defcls", "defcls", unit="hex"}, {"u32", "tc.htb.init.debug", "debug"}, {"u32", "tc.htb.init.direct_pkts", "direct_pkts"}}}},
+    [1] = {"TCA_HTB_PARMS", {"struct", "tc.htb.parms", "parms", width=44, least=44, parts={{"struct", "tc.htb.parms.rate", "rate", width=12, least=12, parts={{"u8", "tc.htb.parms.rate.cell_log", "cell_log", unit="log2"}, {"u8", "tc.htb.parms.rate.linklayer", "linklayer", enum="tc_linklayer"}, {"u16", "tc.htb.parms.rate.overhead", "overhead", unit="bytes"}, {"s16", "tc.htb.parms.rate.cell_align", "cell_align"}, {"u16", "tc.htb.parms.rate.mpu", "mpu", unit="bytes"}, {"u32", "tc.htb.parms.rate.rate", "rate", unit="bytes/s"}}}, {"struct", "tc.htb.parms.ceil", "ceil", width=12, least=12, parts={{"u8", "tc.htb.parms.ceil.cell_log", "cell_log", unit="log2"}, {"u8", "tc.htb.parms.ceil.linklayer", "linklayer", enum="tc_linklayer"}, {"u16", "tc.htb.parms.ceil.overhead", "overhead", unit="bytes"}, {"s16", "tc.htb.parms.ceil.cell_align", "cell_align"}, {"u16", "tc.htb.parms.ceil.mpu", "mpu", unit="bytes"}, {"u32", "tc.htb.parms.ceil.rate", "rate", unit="bytes/s"}}}, {"u32", "tc.htb.parms.buffer", "buffer", unit="ticks"}, {"u32", "tc.htb.parms.cbuffer", "cbuffer", unit="ticks"}, {"u32", "tc.htb.parms.quantum", "quantum", unit="bytes"}, {"u32", "tc.htb.parms.level", "level"}, {"u32", "tc.htb.parms.prio", "prio"}}}},
+    [2] = {"TCA_HTB_INIT", {"struct", "tc.htb.init", "init", width=20, least=20, parts={{"u32", "tc.htb.init.version", "version"}, {"u32", "tc.htb.init.rate2quantum", "rate2quantum"}, {"u32", "tc.htb.init.defcls", "defcls", unit="hex"}, {"u32", "tc.htb.init.debug", "debug"}, {"u32", "tc.htb.init.direct_pkts", "direct_pkts"}}}},
     [3] = {"TCA_HTB_CTAB", {"hex", "tc.htb.ctab", "ctab"}},
     [4] = {"TCA_HTB_RTAB", {"hex", "tc.htb.rtab", "rtab"}},
     [5] = {"TCA_HTB_DIRECT_QLEN", {"u32", "tc.htb.direct_qlen", "direct_qlen", unit="packets"}},
@@ -845,24 +869,24 @@ local LISTS = {
     [2] = {"TCA_MQPRIO_TC_ENTRY_FP", {"u32", "tc.mqprio_tc_entry.fp", "fp", enum="tc_fp"}},
   },
   netem = {
-    [1] = {"TCA_NETEM_CORR", {"struct", "tc.netem.corr", "corr", parts={{"u32", "tc.netem.corr.delay_corr", "delay_corr", unit="probability"}, {"u32", "tc.netem.corr.loss_corr", "loss_corr", unit="probability"}, {"u32", "tc.netem.corr.dup_corr", "dup_corr", unit="probability"}}}},
+    [1] = {"TCA_NETEM_CORR", {"struct", "tc.netem.corr", "corr", width=12, least=12, parts={{"u32", "tc.netem.corr.delay_corr", "delay_corr", unit="probability"}, {"u32", "tc.netem.corr.loss_corr", "loss_corr", unit="probability"}, {"u32", "tc.netem.corr.dup_corr", "dup_corr", unit="probability"}}}},
     [2] = {"TCA_NETEM_DELAY_DIST", {"array", false, "delay_dist", inner={"s16", "tc.netem.delay_dist", "delay_dist"}}},
-    [3] = {"TCA_NETEM_REORDER", {"struct", "tc.netem.reorder", "reorder", parts={{"u32", "tc.netem.reorder.probability", "probability", unit="probability"}, {"u32", "tc.netem.reorder.correlation", "correlation", unit="probability"}}}},
-    [4] = {"TCA_NETEM_CORRUPT", {"struct", "tc.netem.corrupt", "corrupt", parts={{"u32", "tc.netem.corrupt.probability", "probability", unit="probability"}, {"u32", "tc.netem.corrupt.correlation", "correlation", unit="probability"}}}},
+    [3] = {"TCA_NETEM_REORDER", {"struct", "tc.netem.reorder", "reorder", width=8, least=8, parts={{"u32", "tc.netem.reorder.probability", "probability", unit="probability"}, {"u32", "tc.netem.reorder.correlation", "correlation", unit="probability"}}}},
+    [4] = {"TCA_NETEM_CORRUPT", {"struct", "tc.netem.corrupt", "corrupt", width=8, least=8, parts={{"u32", "tc.netem.corrupt.probability", "probability", unit="probability"}, {"u32", "tc.netem.corrupt.correlation", "correlation", unit="probability"}}}},
     [5] = {"TCA_NETEM_LOSS", {"list", "tc.netem.loss_model", "loss", list="netem_loss", nested=true}},
-    [6] = {"TCA_NETEM_RATE", {"struct", "tc.netem.rate", "rate", parts={{"u32", "tc.netem.rate.rate", "rate", unit="bytes/s"}, {"s32", "tc.netem.rate.packet_overhead", "packet_overhead", unit="bytes"}, {"u32", "tc.netem.rate.cell_size", "cell_size", unit="bytes"}, {"s32", "tc.netem.rate.cell_overhead", "cell_overhead", unit="bytes"}}}},
+    [6] = {"TCA_NETEM_RATE", {"struct", "tc.netem.rate", "rate", width=16, least=16, parts={{"u32", "tc.netem.rate.rate", "rate", unit="bytes/s"}, {"s32", "tc.netem.rate.packet_overhead", "packet_overhead", unit="bytes"}, {"u32", "tc.netem.rate.cell_size", "cell_size", unit="bytes"}, {"s32", "tc.netem.rate.cell_overhead", "cell_overhead", unit="bytes"}}}},
     [7] = {"TCA_NETEM_ECN", {"u32", "tc.netem.ecn", "ecn"}},
     [8] = {"TCA_NETEM_RATE64", {"u64", "tc.netem.rate64", "rate64", unit="bytes/s"}},
     [9] = {"TCA_NETEM_PAD", {"flag", "tc.netem.pad", "pad"}},
     [10] = {"TCA_NETEM_LATENCY64", {"s64", "tc.netem.latency64", "latency64", unit="ns"}},
     [11] = {"TCA_NETEM_JITTER64", {"s64", "tc.netem.jitter64", "jitter64", unit="ns"}},
-    [12] = {"TCA_NETEM_SLOT", {"struct", "tc.netem.slot", "slot", parts={{"s64", "tc.netem.slot.min_delay", "min_delay", unit="ns"}, {"s64", "tc.netem.slot.max_delay", "max_delay", unit="ns"}, {"s32", "tc.netem.slot.max_packets", "max_packets", unit="packets"}, {"s32", "tc.netem.slot.max_bytes", "max_bytes", unit="bytes"}, {"s64", "tc.netem.slot.dist_delay", "dist_delay", unit="ns"}, {"s64", "tc.netem.slot.dist_jitter", "dist_jitter", unit="ns"}}}},
+    [12] = {"TCA_NETEM_SLOT", {"struct", "tc.netem.slot", "slot", width=40, least=40, parts={{"s64", "tc.netem.slot.min_delay", "min_delay", unit="ns"}, {"s64", "tc.netem.slot.max_delay", "max_delay", unit="ns"}, {"s32", "tc.netem.slot.max_packets", "max_packets", unit="packets"}, {"s32", "tc.netem.slot.max_bytes", "max_bytes", unit="bytes"}, {"s64", "tc.netem.slot.dist_delay", "dist_delay", unit="ns"}, {"s64", "tc.netem.slot.dist_jitter", "dist_jitter", unit="ns"}}}},
     [13] = {"TCA_NETEM_SLOT_DIST", {"array", false, "slot_dist", inner={"s16", "tc.netem.slot_dist", "slot_dist"}}},
     [14] = {"TCA_NETEM_PRNG_SEED", {"u64", "tc.netem.prng_seed", "prng_seed"}},
   },
   netem_loss = {
-    [1] = {"NETEM_LOSS_GI", {"struct", "tc.netem_loss.gi", "gi", parts={{"u32", "tc.netem_loss.gi.p13", "p13", unit="probability"}, {"u32", "tc.netem_loss.gi.p31", "p31", unit="probability"}, {"u32", "tc.netem_loss.gi.p32", "p32", unit="probability"}, {"u32", "tc.netem_loss.gi.p14", "p14", unit="probability"}, {"u32", "tc.netem_loss.gi.p23", "p23", unit="probability"}}}},
-    [2] = {"NETEM_LOSS_GE", {"struct", "tc.netem_loss.ge", "ge", parts={{"u32", "tc.netem_loss.ge.p", "p", unit="probability"}, {"u32", "tc.netem_loss.ge.r", "r", unit="probability"}, {"u32", "tc.netem_loss.ge.h", "h", unit="probability"}, {"u32", "tc.netem_loss.ge.k1", "k1", unit="probability"}}}},
+    [1] = {"NETEM_LOSS_GI", {"struct", "tc.netem_loss.gi", "gi", width=20, least=20, parts={{"u32", "tc.netem_loss.gi.p13", "p13", unit="probability"}, {"u32", "tc.netem_loss.gi.p31", "p31", unit="probability"}, {"u32", "tc.netem_loss.gi.p32", "p32", unit="probability"}, {"u32", "tc.netem_loss.gi.p14", "p14", unit="probability"}, {"u32", "tc.netem_loss.gi.p23", "p23", unit="probability"}}}},
+    [2] = {"NETEM_LOSS_GE", {"struct", "tc.netem_loss.ge", "ge", width=16, least=16, parts={{"u32", "tc.netem_loss.ge.p", "p", unit="probability"}, {"u32", "tc.netem_loss.ge.r", "r", unit="probability"}, {"u32", "tc.netem_loss.ge.h", "h", unit="probability"}, {"u32", "tc.netem_loss.ge.k1", "k1", unit="probability"}}}},
   },
   no_options = {
   },
@@ -884,18 +908,18 @@ local LISTS = {
     [2] = {"TCA_QFQ_LMAX", {"u32", "tc.qfq.lmax", "lmax", unit="bytes"}},
   },
   red = {
-    [1] = {"TCA_RED_PARMS", {"struct", "tc.red.parms", "parms", parts={{"u32", "tc.red.parms.limit", "limit", unit="bytes"}, {"u32", "tc.red.parms.qth_min", "qth_min", unit="bytes"}, {"u32", "tc.red.parms.qth_max", "qth_max", unit="bytes"}, {"u8", "tc.red.parms.wlog", "Wlog", unit="log2"}, {"u8", "tc.red.parms.plog", "Plog", unit="log2"}, {"u8", "tc.red.parms.scell_log", "Scell_log", unit="log2"}, {"u8", "tc.red.parms.flags", "flags", bits="tc_red"}}}},
+    [1] = {"TCA_RED_PARMS", {"struct", "tc.red.parms", "parms", width=16, least=16, parts={{"u32", "tc.red.parms.limit", "limit", unit="bytes"}, {"u32", "tc.red.parms.qth_min", "qth_min", unit="bytes"}, {"u32", "tc.red.parms.qth_max", "qth_max", unit="bytes"}, {"u8", "tc.red.parms.wlog", "Wlog", unit="log2"}, {"u8", "tc.red.parms.plog", "Plog", unit="log2"}, {"u8", "tc.red.parms.scell_log", "Scell_log", unit="log2"}, {"u8", "tc.red.parms.flags", "flags", bits="tc_red"}}}},
     [2] = {"TCA_RED_STAB", {"hex", "tc.red.stab", "stab"}},
     [3] = {"TCA_RED_MAX_P", {"u32", "tc.red.max_p", "max_p", unit="probability"}},
-    [4] = {"TCA_RED_FLAGS", {"struct", "tc.red.flags", "flags", parts={{"u32", "tc.red.flags.value", "value", bits="tc_red"}, {"u32", "tc.red.flags.selector", "selector", bits="tc_red"}}}},
+    [4] = {"TCA_RED_FLAGS", {"struct", "tc.red.flags", "flags", width=8, least=8, parts={{"u32", "tc.red.flags.value", "value", bits="tc_red"}, {"u32", "tc.red.flags.selector", "selector", bits="tc_red"}}}},
     [5] = {"TCA_RED_EARLY_DROP_BLOCK", {"u32", "tc.red.early_drop_block", "early_drop_block"}},
     [6] = {"TCA_RED_MARK_BLOCK", {"u32", "tc.red.mark_block", "mark_block"}},
   },
   sfb = {
-    [1] = {"TCA_SFB_PARMS", {"struct", "tc.sfb.parms", "parms", parts={{"u32", "tc.sfb.parms.rehash_interval", "rehash_interval", unit="ms"}, {"u32", "tc.sfb.parms.warmup_time", "warmup_time", unit="ms"}, {"u32", "tc.sfb.parms.max", "max", unit="packets"}, {"u32", "tc.sfb.parms.bin_size", "bin_size", unit="packets"}, {"u32", "tc.sfb.parms.increment", "increment"}, {"u32", "tc.sfb.parms.decrement", "decrement"}, {"u32", "tc.sfb.parms.limit", "limit", unit="packets"}, {"u32", "tc.sfb.parms.penalty_rate", "penalty_rate", unit="packets/s"}, {"u32", "tc.sfb.parms.penalty_burst", "penalty_burst", unit="packets"}}}},
+    [1] = {"TCA_SFB_PARMS", {"struct", "tc.sfb.parms", "parms", width=36, least=36, parts={{"u32", "tc.sfb.parms.rehash_interval", "rehash_interval", unit="ms"}, {"u32", "tc.sfb.parms.warmup_time", "warmup_time", unit="ms"}, {"u32", "tc.sfb.parms.max", "max", unit="packets"}, {"u32", "tc.sfb.parms.bin_size", "bin_size", unit="packets"}, {"u32", "tc.sfb.parms.increment", "increment"}, {"u32", "tc.sfb.parms.decrement", "decrement"}, {"u32", "tc.sfb.parms.limit", "limit", unit="packets"}, {"u32", "tc.sfb.parms.penalty_rate", "penalty_rate", unit="packets/s"}, {"u32", "tc.sfb.parms.penalty_burst", "penalty_burst", unit="packets"}}}},
   },
   taprio = {
-    [1] = {"TCA_TAPRIO_ATTR_PRIOMAP", {"struct", "tc.taprio.priomap", "priomap", parts={{"u8", "tc.taprio.priomap.num_tc", "num_tc"}, {"array", false, "prio_tc_map", inner={"u8", "tc.taprio.priomap.prio_tc_map", "prio_tc_map"}, count=16}, {"u8", "tc.taprio.priomap.hw", "hw"}, {"array", false, "count", inner={"u16", "tc.taprio.priomap.count", "count"}, count=16}, {"array", false, "offset", inner={"u16", "tc.taprio.priomap.offset", "offset"}, count=16}}}},
+    [1] = {"TCA_TAPRIO_ATTR_PRIOMAP", {"struct", "tc.taprio.priomap", "priomap", width=82, least=82, parts={{"u8", "tc.taprio.priomap.num_tc", "num_tc"}, {"array", false, "prio_tc_map", inner={"u8", "tc.taprio.priomap.prio_tc_map", "prio_tc_map"}, width=16}, {"u8", "tc.taprio.priomap.hw", "hw"}, {"array", false, "count", inner={"u16", "tc.taprio.priomap.count", "count"}, width=32}, {"array", false, "offset", inner={"u16", "tc.taprio.priomap.offset", "offset"}, width=32}}}},
     [2] = {"TCA_TAPRIO_ATTR_SCHED_ENTRY_LIST", {"list", "tc.taprio.sched_entry_list", "sched_entry_list", list="taprio_entry_list", nested=true}},
     [3] = {"TCA_TAPRIO_ATTR_SCHED_BASE_TIME", {"s64", "tc.taprio.sched_base_time", "sched_base_time", unit="ns"}},
     [4] = {"TCA_TAPRIO_ATTR_SCHED_SINGLE_ENTRY", {"list", "tc.taprio.sched_single_entry", "sched_single_entry", list="taprio_entry"}},
@@ -928,7 +952,7 @@ local LISTS = {
     [3] = {"TCA_TAPRIO_OFFLOAD_STATS_TX_OVERRUNS", {"u64", "tc.taprio_stats.tx_overruns", "tx_overruns", unit="packets"}},
   },
   tbf = {
-    [1] = {"TCA_TBF_PARMS", {"struct", "tc.tbf.parms", "parms", parts={{"struct", "tc.tbf.parms.rate", "rate", parts={{"u8", "tc.tbf.parms.rate.cell_log", "cell_log", unit="log2"}, {"u8", "tc.tbf.parms.rate.linklayer", "linklayer", enum="tc_linklayer"}, {"u16", "tc.tbf.parms.rate.overhead", "overhead", unit="bytes"}, {"s16", "tc.tbf.parms.rate.cell_align", "cell_align"}, {"u16", "tc.tbf.parms.rate.mpu", "mpu", unit="bytes"}, {"u32", "tc.tbf.parms.rate.rate", "rate", unit="bytes/s"}}}, {"struct", "tc.tbf.parms.peakrate", "peakrate", parts={{"u8", "tc.tbf.parms.peakrate.cell_log", "cell_log", unit="log2"}, {"u8", "tc.tbf.parms.peakrate.linklayer", "linklayer", enum="tc_linklayer"}, {"u16", "tc.tbf.parms.peakrate.overhead", "overhead", unit="bytes"}, {"s16", "tc.tbf.parms.peakrate.cell_align", "cell_align"}, {"u16", "tc.tbf.parms.peakrate.mpu", "mpu", unit="bytes"}, {"u32", "tc.tbf.parms.peakrate.rate", "rate", unit="bytes/s"}}}, {"u32", "tc.tbf.parms.limit", "limit", unit="bytes"}, {"u32", "tc.tbf.parms.buffer", "buffer", unit="ticks"}, {"u32", "tc.tbf.parms.mtu", "mtu", unit="ticks"}}}},
+    [1] = {"TCA_TBF_PARMS", {"struct", "tc.tbf.parms", "parms", width=36, least=36, parts={{"struct", "tc.tbf.parms.rate", "rate", width=12, least=12, parts={{"u8", "tc.tbf.parms.rate.cell_log", "cell_log", unit="log2"}, {"u8", "tc.tbf.parms.rate.linklayer", "linklayer", enum="tc_linklayer"}, {"u16", "tc.tbf.parms.rate.overhead", "overhead", unit="bytes"}, {"s16", "tc.tbf.parms.rate.cell_align", "cell_align"}, {"u16", "tc.tbf.parms.rate.mpu", "mpu", unit="bytes"}, {"u32", "tc.tbf.parms.rate.rate", "rate", unit="bytes/s"}}}, {"struct", "tc.tbf.parms.peakrate", "peakrate", width=12, least=12, parts={{"u8", "tc.tbf.parms.peakrate.cell_log", "cell_log", unit="log2"}, {"u8", "tc.tbf.parms.peakrate.linklayer", "linklayer", enum="tc_linklayer"}, {"u16", "tc.tbf.parms.peakrate.overhead", "overhead", unit="bytes"}, {"s16", "tc.tbf.parms.peakrate.cell_align", "cell_align"}, {"u16", "tc.tbf.parms.peakrate.mpu", "mpu", unit="bytes"}, {"u32", "tc.tbf.parms.peakrate.rate", "rate", unit="bytes/s"}}}, {"u32", "tc.tbf.parms.limit", "limit", unit="bytes"}, {"u32", "tc.tbf.parms.buffer", "buffer", unit="ticks"}, {"u32", "tc.tbf.parms.mtu", "mtu", unit="ticks"}}}},
     [2] = {"TCA_TBF_RTAB", {"hex", "tc.tbf.rtab", "rtab"}},
     [3] = {"TCA_TBF_PTAB", {"hex", "tc.tbf.ptab", "ptab"}},
     [4] = {"TCA_TBF_RATE64", {"u64", "tc.tbf.rate64", "rate64", unit="bytes/s"}},
@@ -938,19 +962,38 @@ local LISTS = {
     [8] = {"TCA_TBF_PAD", {"flag", "tc.tbf.pad", "pad"}},
   },
   stab = {
-    [1] = {"TCA_STAB_BASE", {"struct", "tc.stab.base", "base", parts={{"u8", "tc.stab.base.cell_log", "cell_log", unit="log2"}, {"u8", "tc.stab.base.size_log", "size_log", unit="log2"}, {"s16", "tc.stab.base.cell_align", "cell_align"}, {"s32", "tc.stab.base.overhead", "overhead", unit="bytes"}, {"u32", "tc.stab.base.linklayer", "linklayer", enum="tc_linklayer"}, {"u32", "tc.stab.base.mpu", "mpu", unit="bytes"}, {"u32", "tc.stab.base.mtu", "mtu", unit="bytes"}, {"u32", "tc.stab.base.tsize", "tsize"}}}},
+    [1] = {"TCA_STAB_BASE", {"struct", "tc.stab.base", "base", width=24, least=24, parts={{"u8", "tc.stab.base.cell_log", "cell_log", unit="log2"}, {"u8", "tc.stab.base.size_log", "size_log", unit="log2"}, {"s16", "tc.stab.base.cell_align", "cell_align"}, {"s32", "tc.stab.base.overhead", "overhead", unit="bytes"}, {"u32", "tc.stab.base.linklayer", "linklayer", enum="tc_linklayer"}, {"u32", "tc.stab.base.mpu", "mpu", unit="bytes"}, {"u32", "tc.stab.base.mtu", "mtu", unit="bytes"}, {"u32", "tc.stab.base.tsize", "tsize"}}}},
     [2] = {"TCA_STAB_DATA", {"array", false, "data", inner={"u16", "tc.stab.data", "data"}}},
   },
   stats = {
-    [1] = {"TCA_STATS_BASIC", {"struct", "tc.stats.basic", "basic", parts={{"u64", "tc.stats.basic.bytes", "bytes", unit="bytes"}, {"u32", "tc.stats.basic.packets", "packets", unit="packets"}, {"pad", "tc.stats.basic.padding", "padding", size=4}}}},
-    [2] = {"TCA_STATS_RATE_EST", {"struct", "tc.stats.rate_est", "rate_est", parts={{"u32", "tc.stats.rate_est.bps", "bps", unit="bytes/s"}, {"u32", "tc.stats.rate_est.pps", "pps", unit="packets/s"}}}},
-    [3] = {"TCA_STATS_QUEUE", {"struct", "tc.stats.queue", "queue", parts={{"u32", "tc.stats.queue.qlen", "qlen", unit="packets"}, {"u32", "tc.stats.queue.backlog", "backlog", unit="bytes"}, {"u32", "tc.stats.queue.drops", "drops", unit="packets"}, {"u32", "tc.stats.queue.requeues", "requeues", unit="packets"}, {"u32", "tc.stats.queue.overlimits", "overlimits"}}}},
+    [1] = {"TCA_STATS_BASIC", {"struct", "tc.stats.basic", "basic", width=16, least=16, parts={{"u64", "tc.stats.basic.bytes", "bytes", unit="bytes"}, {"u32", "tc.stats.basic.packets", "packets", unit="packets"}, {"pad", "tc.stats.basic.padding", "padding", width=4}}}},
+    [2] = {"TCA_STATS_RATE_EST", {"struct", "tc.stats.rate_est", "rate_est", width=8, least=8, parts={{"u32", "tc.stats.rate_est.bps", "bps", unit="bytes/s"}, {"u32", "tc.stats.rate_est.pps", "pps", unit="packets/s"}}}},
+    [3] = {"TCA_STATS_QUEUE", {"struct", "tc.stats.queue", "queue", width=20, least=20, parts={{"u32", "tc.stats.queue.qlen", "qlen", unit="packets"}, {"u32", "tc.stats.queue.backlog", "backlog", unit="bytes"}, {"u32", "tc.stats.queue.drops", "drops", unit="packets"}, {"u32", "tc.stats.queue.requeues", "requeues", unit="packets"}, {"u32", "tc.stats.queue.overlimits", "overlimits"}}}},
     [4] = {"TCA_STATS_APP", {"by", "tc.stats.app", "app", which="statistics", sorts={"qdisc"}, other={"choice", "tc.stats.app", "app", parts={}}}},
-    [5] = {"TCA_STATS_RATE_EST64", {"struct", "tc.stats.rate_est64", "rate_est64", parts={{"u64", "tc.stats.rate_est64.bps", "bps", unit="bytes/s"}, {"u64", "tc.stats.rate_est64.pps", "pps", unit="packets/s"}}}},
+    [5] = {"TCA_STATS_RATE_EST64", {"struct", "tc.stats.rate_est64", "rate_est64", width=16, least=16, parts={{"u64", "tc.stats.rate_est64.bps", "bps", unit="bytes/s"}, {"u64", "tc.stats.rate_est64.pps", "pps", unit="packets/s"}}}},
     [6] = {"TCA_STATS_PAD", {"flag", "tc.stats.pad", "pad"}},
-    [7] = {"TCA_STATS_BASIC_HW", {"struct", "tc.stats.basic_hw", "basic_hw", parts={{"u64", "tc.stats.basic_hw.bytes", "bytes", unit="bytes"}, {"u32", "tc.stats.basic_hw.packets", "packets", unit="packets"}, {"pad", "tc.stats.basic_hw.padding", "padding", size=4}}}},
+    [7] = {"TCA_STATS_BASIC_HW", {"struct", "tc.stats.basic_hw", "basic_hw", width=16, least=16, parts={{"u64", "tc.stats.basic_hw.bytes", "bytes", unit="bytes"}, {"u32", "tc.stats.basic_hw.packets", "packets", unit="packets"}, {"pad", "tc.stats.basic_hw.padding", "padding", width=4}}}},
     [8] = {"TCA_STATS_PKT64", {"u64", "tc.stats.pkt64", "pkt64", unit="packets"}},
   },
+}
+local F = {
+  type = {"u16", "tc.msg.type", "Type", names="message_type"},
+  flags = {"u16", "tc.msg.flags", "Flags", unit="hex"},
+  seq = {"u32", "tc.msg.seq", "Sequence number"},
+  port = {"u32", "tc.msg.port", "Port id"},
+  length = {"u16", "tc.nla.len", "Length"},
+  word = {"u16", "tc.nla.type", "Type", unit="hex"},
+  padding = {"bytes", "tc.nla.pad", "pad"},
+  raw = {"bytes", "tc.raw", "raw"},
+  rest = {"bytes", "tc.rest", "rest"},
+  other = {"bytes", "tc.other", "other"},
+  pref = {"u16", "tc.pref", "pref"},
+  protocol = {"u16", "tc.protocol", "protocol", unit="hex", names="eth_p"},
+  error = {"u32", "tc.error", "error", names="errno"},
+  request = {"none", "tc.request", "request"},
+  request_in = {"frame", "tc.request_in", "Request in"},
+  answer_in = {"frame", "tc.answer_in", "Answer in"},
+  refused = {"none", "tc.refused", "refused"},
 }
 local KINDS = {qdisc = {}, filter = {}, action = {}}
 KINDS.action.bpf = {options={"list", false, "", list="act_bpf", nested=true}}
@@ -988,48 +1031,48 @@ KINDS.filter.tcindex = {options={"list", false, "", list="tcindex"}}
 KINDS.filter.u32 = {options={"list", false, "", list="u32"}}
 KINDS.qdisc.atm = {options={"list", false, "", list="atm"}}
 KINDS.qdisc.cake = {options={"list", false, "", list="cake"}, statistics={"list", false, "", list="cake_stats"}}
-KINDS.qdisc.cbq = {options={"list", false, "", list="cbq"}, statistics={"struct", false, "", parts={{"u32", "tc.cbq.xstats.borrows", "borrows"}, {"u32", "tc.cbq.xstats.overactions", "overactions"}, {"s32", "tc.cbq.xstats.avgidle", "avgidle"}, {"s32", "tc.cbq.xstats.undertime", "undertime"}}}}
+KINDS.qdisc.cbq = {options={"list", false, "", list="cbq"}, statistics={"struct", false, "", width=16, least=16, parts={{"u32", "tc.cbq.xstats.borrows", "borrows"}, {"u32", "tc.cbq.xstats.overactions", "overactions"}, {"s32", "tc.cbq.xstats.avgidle", "avgidle"}, {"s32", "tc.cbq.xstats.undertime", "undertime"}}}}
 KINDS.qdisc.cbs = {options={"list", false, "", list="cbs"}}
-KINDS.qdisc.choke = {options={"list", false, "", list="choke"}, statistics={"struct", false, "", parts={{"u32", "tc.choke.xstats.early", "early"}, {"u32", "tc.choke.xstats.pdrop", "pdrop"}, {"u32", "tc.choke.xstats.other", "other"}, {"u32", "tc.choke.xstats.marked", "marked"}, {"u32", "tc.choke.xstats.matched", "matched"}}}}
-KINDS.qdisc.codel = {options={"list", false, "", list="codel"}, statistics={"struct", false, "", parts={{"u32", "tc.codel.xstats.maxpacket", "maxpacket"}, {"u32", "tc.codel.xstats.count", "count"}, {"u32", "tc.codel.xstats.lastcount", "lastcount"}, {"u32", "tc.codel.xstats.ldelay", "ldelay", unit="us"}, {"s32", "tc.codel.xstats.drop_next", "drop_next", unit="us"}, {"u32", "tc.codel.xstats.drop_overlimit", "drop_overlimit"}, {"u32", "tc.codel.xstats.ecn_mark", "ecn_mark"}, {"u32", "tc.codel.xstats.dropping", "dropping"}, {"u32", "tc.codel.xstats.ce_mark", "ce_mark"}}}}
-KINDS.qdisc.drr = {options={"list", false, "", list="drr"}, statistics={"struct", false, "", parts={{"u32", "tc.drr.xstats.deficit", "deficit"}}}}
+KINDS.qdisc.choke = {options={"list", false, "", list="choke"}, statistics={"struct", false, "", width=20, least=20, parts={{"u32", "tc.choke.xstats.early", "early"}, {"u32", "tc.choke.xstats.pdrop", "pdrop"}, {"u32", "tc.choke.xstats.other", "other"}, {"u32", "tc.choke.xstats.marked", "marked"}, {"u32", "tc.choke.xstats.matched", "matched"}}}}
+KINDS.qdisc.codel = {options={"list", false, "", list="codel"}, statistics={"struct", false, "", width=36, least=36, parts={{"u32", "tc.codel.xstats.maxpacket", "maxpacket"}, {"u32", "tc.codel.xstats.count", "count"}, {"u32", "tc.codel.xstats.lastcount", "lastcount"}, {"u32", "tc.codel.xstats.ldelay", "ldelay", unit="us"}, {"s32", "tc.codel.xstats.drop_next", "drop_next", unit="us"}, {"u32", "tc.codel.xstats.drop_overlimit", "drop_overlimit"}, {"u32", "tc.codel.xstats.ecn_mark", "ecn_mark"}, {"u32", "tc.codel.xstats.dropping", "dropping"}, {"u32", "tc.codel.xstats.ce_mark", "ce_mark"}}}}
+KINDS.qdisc.drr = {options={"list", false, "", list="drr"}, statistics={"struct", false, "", width=4, least=4, parts={{"u32", "tc.drr.xstats.deficit", "deficit"}}}}
 KINDS.qdisc.dsmark = {options={"list", false, "", list="dsmark"}}
 KINDS.qdisc.etf = {options={"list", false, "", list="etf"}}
 KINDS.qdisc.ets = {options={"list", false, "", list="ets", nested=true}}
-KINDS.qdisc.pfifo = {options={"struct", false, "", parts={{"u32", "tc.pfifo.limit", "limit", unit="packets"}}}}
+KINDS.qdisc.pfifo = {options={"struct", false, "", width=4, least=4, parts={{"u32", "tc.pfifo.limit", "limit", unit="packets"}}}}
 KINDS.qdisc.pfifo_head_drop = KINDS.qdisc.pfifo
-KINDS.qdisc.bfifo = {options={"struct", false, "", parts={{"u32", "tc.bfifo.limit", "limit", unit="bytes"}}}}
-KINDS.qdisc.fq = {options={"list", false, "", list="fq"}, statistics={"struct", false, "", parts={{"u64", "tc.fq.xstats.gc_flows", "gc_flows"}, {"u64", "tc.fq.xstats.highprio_packets", "highprio_packets"}, {"u64", "tc.fq.xstats.tcp_retrans", "tcp_retrans"}, {"u64", "tc.fq.xstats.throttled", "throttled"}, {"u64", "tc.fq.xstats.flows_plimit", "flows_plimit"}, {"u64", "tc.fq.xstats.pkts_too_long", "pkts_too_long"}, {"u64", "tc.fq.xstats.allocation_errors", "allocation_errors"}, {"s64", "tc.fq.xstats.time_next_delayed_flow", "time_next_delayed_flow", unit="ns"}, {"u32", "tc.fq.xstats.flows", "flows"}, {"u32", "tc.fq.xstats.inactive_flows", "inactive_flows"}, {"u32", "tc.fq.xstats.throttled_flows", "throttled_flows"}, {"u32", "tc.fq.xstats.unthrottle_latency_ns", "unthrottle_latency_ns", unit="ns"}, {"u64", "tc.fq.xstats.ce_mark", "ce_mark"}, {"u64", "tc.fq.xstats.horizon_drops", "horizon_drops"}, {"u64", "tc.fq.xstats.horizon_caps", "horizon_caps"}, {"array", false, "since_6_7", inner={"struct", "tc.fq.xstats.since_6_7", "since", parts={{"u64", "tc.fq.xstats.since_6_7.fastpath_packets", "fastpath_packets"}, {"array", false, "band_drops", inner={"u64", "tc.fq.xstats.since_6_7.band_drops", "band_drops"}, count=3}, {"array", false, "band_pkt_count", inner={"u32", "tc.fq.xstats.since_6_7.band_pkt_count", "band_pkt_count"}, count=3}, {"pad", "tc.fq.xstats.since_6_7.pad", "pad", size=4}}}}}}}
-KINDS.qdisc.fq_codel = {options={"list", false, "", list="fq_codel"}, statistics={"choice", false, "", parts={{"struct", false, "qdisc", prefix="\000\000\000\000", parts={{"u32", "tc.fq_codel.xstats.qdisc.maxpacket", "maxpacket", unit="bytes"}, {"u32", "tc.fq_codel.xstats.qdisc.drop_overlimit", "drop_overlimit", unit="packets"}, {"u32", "tc.fq_codel.xstats.qdisc.ecn_mark", "ecn_mark", unit="packets"}, {"u32", "tc.fq_codel.xstats.qdisc.new_flow_count", "new_flow_count"}, {"u32", "tc.fq_codel.xstats.qdisc.new_flows_len", "new_flows_len"}, {"u32", "tc.fq_codel.xstats.qdisc.old_flows_len", "old_flows_len"}, {"u32", "tc.fq_codel.xstats.qdisc.ce_mark", "ce_mark", unit="packets"}, {"u32", "tc.fq_codel.xstats.qdisc.memory_usage", "memory_usage", unit="bytes"}, {"u32", "tc.fq_codel.xstats.qdisc.drop_overmemory", "drop_overmemory", unit="packets"}}}, {"struct", false, "class", prefix="\001\000\000\000", parts={{"s32", "tc.fq_codel.xstats.class.deficit", "deficit", unit="bytes"}, {"u32", "tc.fq_codel.xstats.class.ldelay", "ldelay", unit="us"}, {"u32", "tc.fq_codel.xstats.class.count", "count"}, {"u32", "tc.fq_codel.xstats.class.lastcount", "lastcount"}, {"u32", "tc.fq_codel.xstats.class.dropping", "dropping"}, {"s32", "tc.fq_codel.xstats.class.drop_next", "drop_next", unit="us"}}}}}}
-KINDS.qdisc.fq_pie = {options={"list", false, "", list="fq_pie", nested=true}, statistics={"struct", false, "", parts={{"u32", "tc.fq_pie.xstats.packets_in", "packets_in"}, {"u32", "tc.fq_pie.xstats.dropped", "dropped"}, {"u32", "tc.fq_pie.xstats.overlimit", "overlimit"}, {"u32", "tc.fq_pie.xstats.overmemory", "overmemory"}, {"u32", "tc.fq_pie.xstats.ecn_mark", "ecn_mark"}, {"u32", "tc.fq_pie.xstats.new_flow_count", "new_flow_count"}, {"u32", "tc.fq_pie.xstats.new_flows_len", "new_flows_len"}, {"u32", "tc.fq_pie.xstats.old_flows_len", "old_flows_len"}, {"u32", "tc.fq_pie.xstats.memory_usage", "memory_usage"}}}}
+KINDS.qdisc.bfifo = {options={"struct", false, "", width=4, least=4, parts={{"u32", "tc.bfifo.limit", "limit", unit="bytes"}}}}
+KINDS.qdisc.fq = {options={"list", false, "", list="fq"}, statistics={"struct", false, "", least=104, parts={{"u64", "tc.fq.xstats.gc_flows", "gc_flows"}, {"u64", "tc.fq.xstats.highprio_packets", "highprio_packets"}, {"u64", "tc.fq.xstats.tcp_retrans", "tcp_retrans"}, {"u64", "tc.fq.xstats.throttled", "throttled"}, {"u64", "tc.fq.xstats.flows_plimit", "flows_plimit"}, {"u64", "tc.fq.xstats.pkts_too_long", "pkts_too_long"}, {"u64", "tc.fq.xstats.allocation_errors", "allocation_errors"}, {"s64", "tc.fq.xstats.time_next_delayed_flow", "time_next_delayed_flow", unit="ns"}, {"u32", "tc.fq.xstats.flows", "flows"}, {"u32", "tc.fq.xstats.inactive_flows", "inactive_flows"}, {"u32", "tc.fq.xstats.throttled_flows", "throttled_flows"}, {"u32", "tc.fq.xstats.unthrottle_latency_ns", "unthrottle_latency_ns", unit="ns"}, {"u64", "tc.fq.xstats.ce_mark", "ce_mark"}, {"u64", "tc.fq.xstats.horizon_drops", "horizon_drops"}, {"u64", "tc.fq.xstats.horizon_caps", "horizon_caps"}, {"array", false, "since_6_7", inner={"struct", "tc.fq.xstats.since_6_7", "since", width=48, least=48, parts={{"u64", "tc.fq.xstats.since_6_7.fastpath_packets", "fastpath_packets"}, {"array", false, "band_drops", inner={"u64", "tc.fq.xstats.since_6_7.band_drops", "band_drops"}, width=24}, {"array", false, "band_pkt_count", inner={"u32", "tc.fq.xstats.since_6_7.band_pkt_count", "band_pkt_count"}, width=12}, {"pad", "tc.fq.xstats.since_6_7.pad", "pad", width=4}}}}}}}
+KINDS.qdisc.fq_codel = {options={"list", false, "", list="fq_codel"}, statistics={"choice", false, "", parts={{"struct", false, "qdisc", prefix="\000\000\000\000", width=36, least=36, parts={{"u32", "tc.fq_codel.xstats.qdisc.maxpacket", "maxpacket", unit="bytes"}, {"u32", "tc.fq_codel.xstats.qdisc.drop_overlimit", "drop_overlimit", unit="packets"}, {"u32", "tc.fq_codel.xstats.qdisc.ecn_mark", "ecn_mark", unit="packets"}, {"u32", "tc.fq_codel.xstats.qdisc.new_flow_count", "new_flow_count"}, {"u32", "tc.fq_codel.xstats.qdisc.new_flows_len", "new_flows_len"}, {"u32", "tc.fq_codel.xstats.qdisc.old_flows_len", "old_flows_len"}, {"u32", "tc.fq_codel.xstats.qdisc.ce_mark", "ce_mark", unit="packets"}, {"u32", "tc.fq_codel.xstats.qdisc.memory_usage", "memory_usage", unit="bytes"}, {"u32", "tc.fq_codel.xstats.qdisc.drop_overmemory", "drop_overmemory", unit="packets"}}}, {"struct", false, "class", prefix="\001\000\000\000", width=24, least=24, parts={{"s32", "tc.fq_codel.xstats.class.deficit", "deficit", unit="bytes"}, {"u32", "tc.fq_codel.xstats.class.ldelay", "ldelay", unit="us"}, {"u32", "tc.fq_codel.xstats.class.count", "count"}, {"u32", "tc.fq_codel.xstats.class.lastcount", "lastcount"}, {"u32", "tc.fq_codel.xstats.class.dropping", "dropping"}, {"s32", "tc.fq_codel.xstats.class.drop_next", "drop_next", unit="us"}}}}}}
+KINDS.qdisc.fq_pie = {options={"list", false, "", list="fq_pie", nested=true}, statistics={"struct", false, "", width=36, least=36, parts={{"u32", "tc.fq_pie.xstats.packets_in", "packets_in"}, {"u32", "tc.fq_pie.xstats.dropped", "dropped"}, {"u32", "tc.fq_pie.xstats.overlimit", "overlimit"}, {"u32", "tc.fq_pie.xstats.overmemory", "overmemory"}, {"u32", "tc.fq_pie.xstats.ecn_mark", "ecn_mark"}, {"u32", "tc.fq_pie.xstats.new_flow_count", "new_flow_count"}, {"u32", "tc.fq_pie.xstats.new_flows_len", "new_flows_len"}, {"u32", "tc.fq_pie.xstats.old_flows_len", "old_flows_len"}, {"u32", "tc.fq_pie.xstats.memory_usage", "memory_usage"}}}}
 KINDS.qdisc.gred = {options={"list", false, "", list="gred"}}
-KINDS.qdisc.hfsc = {options={"choice", false, "", parts={{"struct", false, "qdisc", length=2, parts={{"u16", "tc.hfsc.qdisc.defcls", "defcls", unit="hex"}}}, {"list", false, "class", list="hfsc"}}}, statistics={"struct", false, "", parts={{"u64", "tc.hfsc.xstats.work", "work", unit="bytes"}, {"u64", "tc.hfsc.xstats.rtwork", "rtwork", unit="bytes"}, {"u32", "tc.hfsc.xstats.period", "period"}, {"u32", "tc.hfsc.xstats.level", "level"}}}}
-KINDS.qdisc.hhf = {options={"list", false, "", list="hhf"}, statistics={"struct", false, "", parts={{"u32", "tc.hhf.xstats.drop_overlimit", "drop_overlimit"}, {"u32", "tc.hhf.xstats.hh_overlimit", "hh_overlimit"}, {"u32", "tc.hhf.xstats.hh_tot_count", "hh_tot_count"}, {"u32", "tc.hhf.xstats.hh_cur_count", "hh_cur_count"}}}}
-KINDS.qdisc.htb = {options={"list", false, "", list="htb"}, statistics={"struct", false, "", parts={{"u32", "tc.htb.xstats.lends", "lends"}, {"u32", "tc.htb.xstats.borrows", "borrows"}, {"u32", "tc.htb.xstats.giants", "giants"}, {"s32", "tc.htb.xstats.tokens", "tokens", unit="ticks"}, {"s32", "tc.htb.xstats.ctokens", "ctokens", unit="ticks"}}}}
+KINDS.qdisc.hfsc = {options={"choice", false, "", parts={{"struct", false, "qdisc", length=2, width=2, least=2, parts={{"u16", "tc.hfsc.qdisc.defcls", "defcls", unit="hex"}}}, {"list", false, "class", list="hfsc"}}}, statistics={"struct", false, "", width=24, least=24, parts={{"u64", "tc.hfsc.xstats.work", "work", unit="bytes"}, {"u64", "tc.hfsc.xstats.rtwork", "rtwork", unit="bytes"}, {"u32", "tc.hfsc.xstats.period", "period"}, {"u32", "tc.hfsc.xstats.level", "level"}}}}
+KINDS.qdisc.hhf = {options={"list", false, "", list="hhf"}, statistics={"struct", false, "", width=16, least=16, parts={{"u32", "tc.hhf.xstats.drop_overlimit", "drop_overlimit"}, {"u32", "tc.hhf.xstats.hh_overlimit", "hh_overlimit"}, {"u32", "tc.hhf.xstats.hh_tot_count", "hh_tot_count"}, {"u32", "tc.hhf.xstats.hh_cur_count", "hh_cur_count"}}}}
+KINDS.qdisc.htb = {options={"list", false, "", list="htb"}, statistics={"struct", false, "", width=20, least=20, parts={{"u32", "tc.htb.xstats.lends", "lends"}, {"u32", "tc.htb.xstats.borrows", "borrows"}, {"u32", "tc.htb.xstats.giants", "giants"}, {"s32", "tc.htb.xstats.tokens", "tokens", unit="ticks"}, {"s32", "tc.htb.xstats.ctokens", "ctokens", unit="ticks"}}}}
 KINDS.qdisc.ingress = {options={"list", false, "", list="ingress"}}
-KINDS.qdisc.mqprio = {options={"struct", false, "", parts={{"u8", "tc.mqprio.num_tc", "num_tc"}, {"array", false, "prio_tc_map", inner={"u8", "tc.mqprio.prio_tc_map", "prio_tc_map"}, count=16}, {"u8", "tc.mqprio.hw", "hw"}, {"array", false, "count", inner={"u16", "tc.mqprio.count", "count"}, count=16}, {"array", false, "offset", inner={"u16", "tc.mqprio.offset", "offset"}, count=16}, {"pad", "tc.mqprio.padding", "padding", size=2}, {"list", false, "attributes", list="mqprio"}}}}
-KINDS.qdisc.multiq = {options={"struct", false, "", parts={{"u16", "tc.multiq.bands", "bands"}, {"u16", "tc.multiq.max_bands", "max_bands"}}}}
-KINDS.qdisc.netem = {options={"struct", false, "", parts={{"u32", "tc.netem.latency", "latency", unit="ticks"}, {"u32", "tc.netem.limit", "limit", unit="packets"}, {"u32", "tc.netem.loss", "loss", unit="probability"}, {"u32", "tc.netem.gap", "gap", unit="packets"}, {"u32", "tc.netem.duplicate", "duplicate", unit="probability"}, {"u32", "tc.netem.jitter", "jitter", unit="ticks"}, {"list", false, "attributes", list="netem"}}}}
+KINDS.qdisc.mqprio = {options={"struct", false, "", least=84, parts={{"u8", "tc.mqprio.num_tc", "num_tc"}, {"array", false, "prio_tc_map", inner={"u8", "tc.mqprio.prio_tc_map", "prio_tc_map"}, width=16}, {"u8", "tc.mqprio.hw", "hw"}, {"array", false, "count", inner={"u16", "tc.mqprio.count", "count"}, width=32}, {"array", false, "offset", inner={"u16", "tc.mqprio.offset", "offset"}, width=32}, {"pad", "tc.mqprio.padding", "padding", width=2}, {"list", false, "attributes", list="mqprio"}}}}
+KINDS.qdisc.multiq = {options={"struct", false, "", width=4, least=4, parts={{"u16", "tc.multiq.bands", "bands"}, {"u16", "tc.multiq.max_bands", "max_bands"}}}}
+KINDS.qdisc.netem = {options={"struct", false, "", least=24, parts={{"u32", "tc.netem.latency", "latency", unit="ticks"}, {"u32", "tc.netem.limit", "limit", unit="packets"}, {"u32", "tc.netem.loss", "loss", unit="probability"}, {"u32", "tc.netem.gap", "gap", unit="packets"}, {"u32", "tc.netem.duplicate", "duplicate", unit="probability"}, {"u32", "tc.netem.jitter", "jitter", unit="ticks"}, {"list", false, "attributes", list="netem"}}}}
 KINDS.qdisc.noop = {options={"list", false, "", list="no_options"}}
 KINDS.qdisc.noqueue = KINDS.qdisc.noop
 KINDS.qdisc.blackhole = KINDS.qdisc.noop
 KINDS.qdisc.mq = KINDS.qdisc.noop
 KINDS.qdisc.teql0 = KINDS.qdisc.noop
 KINDS.qdisc.clsact = {options={"list", false, "", list="no_options"}}
-KINDS.qdisc.pie = {options={"list", false, "", list="pie"}, statistics={"struct", false, "", parts={{"u64", "tc.pie.xstats.prob", "prob"}, {"u32", "tc.pie.xstats.delay", "delay", unit="us"}, {"u32", "tc.pie.xstats.avg_dq_rate", "avg_dq_rate", unit="bytes/s"}, {"u32", "tc.pie.xstats.dq_rate_estimating", "dq_rate_estimating"}, {"u32", "tc.pie.xstats.packets_in", "packets_in"}, {"u32", "tc.pie.xstats.dropped", "dropped"}, {"u32", "tc.pie.xstats.overlimit", "overlimit"}, {"u32", "tc.pie.xstats.maxq", "maxq"}, {"u32", "tc.pie.xstats.ecn_mark", "ecn_mark"}}}}
-KINDS.qdisc.plug = {options={"struct", false, "", parts={{"s32", "tc.plug.action", "action", enum="tcq_plug"}, {"u32", "tc.plug.limit", "limit", unit="bytes"}}}}
-KINDS.qdisc.prio = {options={"struct", false, "", parts={{"s32", "tc.prio.bands", "bands"}, {"array", false, "priomap", inner={"u8", "tc.prio.priomap", "priomap"}, count=16}, {"list", false, "attributes", list="prio"}}}}
+KINDS.qdisc.pie = {options={"list", false, "", list="pie"}, statistics={"struct", false, "", width=40, least=40, parts={{"u64", "tc.pie.xstats.prob", "prob"}, {"u32", "tc.pie.xstats.delay", "delay", unit="us"}, {"u32", "tc.pie.xstats.avg_dq_rate", "avg_dq_rate", unit="bytes/s"}, {"u32", "tc.pie.xstats.dq_rate_estimating", "dq_rate_estimating"}, {"u32", "tc.pie.xstats.packets_in", "packets_in"}, {"u32", "tc.pie.xstats.dropped", "dropped"}, {"u32", "tc.pie.xstats.overlimit", "overlimit"}, {"u32", "tc.pie.xstats.maxq", "maxq"}, {"u32", "tc.pie.xstats.ecn_mark", "ecn_mark"}}}}
+KINDS.qdisc.plug = {options={"struct", false, "", width=8, least=8, parts={{"s32", "tc.plug.action", "action", enum="tcq_plug"}, {"u32", "tc.plug.limit", "limit", unit="bytes"}}}}
+KINDS.qdisc.prio = {options={"struct", false, "", least=20, parts={{"s32", "tc.prio.bands", "bands"}, {"array", false, "priomap", inner={"u8", "tc.prio.priomap", "priomap"}, width=16}, {"list", false, "attributes", list="prio"}}}}
 KINDS.qdisc.rr = KINDS.qdisc.prio
-KINDS.qdisc.pfifo_fast = {options={"struct", false, "", parts={{"s32", "tc.pfifo_fast.bands", "bands"}, {"array", false, "priomap", inner={"u8", "tc.pfifo_fast.priomap", "priomap"}, count=16}}}}
-KINDS.qdisc.qfq = {options={"list", false, "", list="qfq"}, statistics={"struct", false, "", parts={{"u32", "tc.qfq.xstats.weight", "weight"}, {"u32", "tc.qfq.xstats.lmax", "lmax", unit="bytes"}}}}
-KINDS.qdisc.red = {options={"list", false, "", list="red"}, statistics={"struct", false, "", parts={{"u32", "tc.red.xstats.early", "early", unit="packets"}, {"u32", "tc.red.xstats.pdrop", "pdrop", unit="packets"}, {"u32", "tc.red.xstats.other", "other", unit="packets"}, {"u32", "tc.red.xstats.marked", "marked", unit="packets"}}}}
-KINDS.qdisc.sfb = {options={"list", false, "", list="sfb"}, statistics={"struct", false, "", parts={{"u32", "tc.sfb.xstats.earlydrop", "earlydrop"}, {"u32", "tc.sfb.xstats.penaltydrop", "penaltydrop"}, {"u32", "tc.sfb.xstats.bucketdrop", "bucketdrop"}, {"u32", "tc.sfb.xstats.queuedrop", "queuedrop"}, {"u32", "tc.sfb.xstats.childdrop", "childdrop"}, {"u32", "tc.sfb.xstats.marked", "marked"}, {"u32", "tc.sfb.xstats.maxqlen", "maxqlen", unit="packets"}, {"u32", "tc.sfb.xstats.maxprob", "maxprob"}, {"u32", "tc.sfb.xstats.avgprob", "avgprob"}}}}
-KINDS.qdisc.sfq = {options={"choice", false, "", parts={{"struct", false, "qopt", length=20, parts={{"u32", "tc.sfq.qopt.quantum", "quantum", unit="bytes"}, {"s32", "tc.sfq.qopt.perturb_period", "perturb_period", unit="s"}, {"u32", "tc.sfq.qopt.limit", "limit", unit="packets"}, {"u32", "tc.sfq.qopt.divisor", "divisor"}, {"u32", "tc.sfq.qopt.flows", "flows"}}}, {"struct", false, "qopt_v1", length=72, parts={{"struct", "tc.sfq.qopt_v1.v0", "v0", parts={{"u32", "tc.sfq.qopt_v1.v0.quantum", "quantum", unit="bytes"}, {"s32", "tc.sfq.qopt_v1.v0.perturb_period", "perturb_period", unit="s"}, {"u32", "tc.sfq.qopt_v1.v0.limit", "limit", unit="packets"}, {"u32", "tc.sfq.qopt_v1.v0.divisor", "divisor"}, {"u32", "tc.sfq.qopt_v1.v0.flows", "flows"}}}, {"u32", "tc.sfq.qopt_v1.depth", "depth", unit="packets"}, {"u32", "tc.sfq.qopt_v1.headdrop", "headdrop"}, {"u32", "tc.sfq.qopt_v1.limit", "limit", unit="bytes"}, {"u32", "tc.sfq.qopt_v1.qth_min", "qth_min", unit="bytes"}, {"u32", "tc.sfq.qopt_v1.qth_max", "qth_max", unit="bytes"}, {"u8", "tc.sfq.qopt_v1.wlog", "Wlog", unit="log2"}, {"u8", "tc.sfq.qopt_v1.plog", "Plog", unit="log2"}, {"u8", "tc.sfq.qopt_v1.scell_log", "Scell_log", unit="log2"}, {"u8", "tc.sfq.qopt_v1.flags", "flags", bits="tc_red"}, {"u32", "tc.sfq.qopt_v1.max_p", "max_P", unit="probability"}, {"struct", "tc.sfq.qopt_v1.stats", "stats", parts={{"u32", "tc.sfq.qopt_v1.stats.prob_drop", "prob_drop", unit="packets"}, {"u32", "tc.sfq.qopt_v1.stats.forced_drop", "forced_drop", unit="packets"}, {"u32", "tc.sfq.qopt_v1.stats.prob_mark", "prob_mark", unit="packets"}, {"u32", "tc.sfq.qopt_v1.stats.forced_mark", "forced_mark", unit="packets"}, {"u32", "tc.sfq.qopt_v1.stats.prob_mark_head", "prob_mark_head", unit="packets"}, {"u32", "tc.sfq.qopt_v1.stats.forced_mark_head", "forced_mark_head", unit="packets"}}}}}}}, statistics={"struct", false, "", parts={{"s32", "tc.sfq.xstats.allot", "allot", unit="bytes"}}}}
-KINDS.qdisc.skbprio = {options={"struct", false, "", parts={{"u32", "tc.skbprio.limit", "limit", unit="packets"}}}}
+KINDS.qdisc.pfifo_fast = {options={"struct", false, "", width=20, least=20, parts={{"s32", "tc.pfifo_fast.bands", "bands"}, {"array", false, "priomap", inner={"u8", "tc.pfifo_fast.priomap", "priomap"}, width=16}}}}
+KINDS.qdisc.qfq = {options={"list", false, "", list="qfq"}, statistics={"struct", false, "", width=8, least=8, parts={{"u32", "tc.qfq.xstats.weight", "weight"}, {"u32", "tc.qfq.xstats.lmax", "lmax", unit="bytes"}}}}
+KINDS.qdisc.red = {options={"list", false, "", list="red"}, statistics={"struct", false, "", width=16, least=16, parts={{"u32", "tc.red.xstats.early", "early", unit="packets"}, {"u32", "tc.red.xstats.pdrop", "pdrop", unit="packets"}, {"u32", "tc.red.xstats.other", "other", unit="packets"}, {"u32", "tc.red.xstats.marked", "marked", unit="packets"}}}}
+KINDS.qdisc.sfb = {options={"list", false, "", list="sfb"}, statistics={"struct", false, "", width=36, least=36, parts={{"u32", "tc.sfb.xstats.earlydrop", "earlydrop"}, {"u32", "tc.sfb.xstats.penaltydrop", "penaltydrop"}, {"u32", "tc.sfb.xstats.bucketdrop", "bucketdrop"}, {"u32", "tc.sfb.xstats.queuedrop", "queuedrop"}, {"u32", "tc.sfb.xstats.childdrop", "childdrop"}, {"u32", "tc.sfb.xstats.marked", "marked"}, {"u32", "tc.sfb.xstats.maxqlen", "maxqlen", unit="packets"}, {"u32", "tc.sfb.xstats.maxprob", "maxprob"}, {"u32", "tc.sfb.xstats.avgprob", "avgprob"}}}}
+KINDS.qdisc.sfq = {options={"choice", false, "", parts={{"struct", false, "qopt", length=20, width=20, least=20, parts={{"u32", "tc.sfq.qopt.quantum", "quantum", unit="bytes"}, {"s32", "tc.sfq.qopt.perturb_period", "perturb_period", unit="s"}, {"u32", "tc.sfq.qopt.limit", "limit", unit="packets"}, {"u32", "tc.sfq.qopt.divisor", "divisor"}, {"u32", "tc.sfq.qopt.flows", "flows"}}}, {"struct", false, "qopt_v1", length=72, width=72, least=72, parts={{"struct", "tc.sfq.qopt_v1.v0", "v0", width=20, least=20, parts={{"u32", "tc.sfq.qopt_v1.v0.quantum", "quantum", unit="bytes"}, {"s32", "tc.sfq.qopt_v1.v0.perturb_period", "perturb_period", unit="s"}, {"u32", "tc.sfq.qopt_v1.v0.limit", "limit", unit="packets"}, {"u32", "tc.sfq.qopt_v1.v0.divisor", "divisor"}, {"u32", "tc.sfq.qopt_v1.v0.flows", "flows"}}}, {"u32", "tc.sfq.qopt_v1.depth", "depth", unit="packets"}, {"u32", "tc.sfq.qopt_v1.headdrop", "headdrop"}, {"u32", "tc.sfq.qopt_v1.limit", "limit", unit="bytes"}, {"u32", "tc.sfq.qopt_v1.qth_min", "qth_min", unit="bytes"}, {"u32", "tc.sfq.qopt_v1.qth_max", "qth_max", unit="bytes"}, {"u8", "tc.sfq.qopt_v1.wlog", "Wlog", unit="log2"}, {"u8", "tc.sfq.qopt_v1.plog", "Plog", unit="log2"}, {"u8", "tc.sfq.qopt_v1.scell_log", "Scell_log", unit="log2"}, {"u8", "tc.sfq.qopt_v1.flags", "flags", bits="tc_red"}, {"u32", "tc.sfq.qopt_v1.max_p", "max_P", unit="probability"}, {"struct", "tc.sfq.qopt_v1.stats", "stats", width=24, least=24, parts={{"u32", "tc.sfq.qopt_v1.stats.prob_drop", "prob_drop", unit="packets"}, {"u32", "tc.sfq.qopt_v1.stats.forced_drop", "forced_drop", unit="packets"}, {"u32", "tc.sfq.qopt_v1.stats.prob_mark", "prob_mark", unit="packets"}, {"u32", "tc.sfq.qopt_v1.stats.forced_mark", "forced_mark", unit="packets"}, {"u32", "tc.sfq.qopt_v1.stats.prob_mark_head", "prob_mark_head", unit="packets"}, {"u32", "tc.sfq.qopt_v1.stats.forced_mark_head", "forced_mark_head", unit="packets"}}}}}}}, statistics={"struct", false, "", width=4, least=4, parts={{"s32", "tc.sfq.xstats.allot", "allot", unit="bytes"}}}}
+KINDS.qdisc.skbprio = {options={"struct", false, "", width=4, least=4, parts={{"u32", "tc.skbprio.limit", "limit", unit="packets"}}}}
 KINDS.qdisc.taprio = {options={"list", false, "", list="taprio"}, statistics={"list", false, "", list="taprio_stats", nested=true}}
 KINDS.qdisc.tbf = {options={"list", false, "", list="tbf"}}
-local TCMSG = {family = {"u8", "tc.family", "family", enum="address_family"}, padding = {"pad", "tc.padding", "padding", size=3}, index = {"s32", "tc.index", "index", unit="ifindex"}, handle = {"handle", "tc.handle", "handle"}, parent = {"handle", "tc.parent", "parent"}, info = {"u32", "tc.info", "info"}}
-local TCAMSG = {family = {"u8", "tc.family", "family", enum="address_family"}, padding = {"pad", "tc.padding", "padding", size=3}}
+local TCMSG = {family = {"u8", "tc.family", "family", enum="address_family"}, padding = {"pad", "tc.padding", "padding", width=3}, index = {"s32", "tc.index", "index", unit="ifindex"}, handle = {"handle", "tc.handle", "handle"}, parent = {"handle", "tc.parent", "parent"}, info = {"u32", "tc.info", "info"}}
+local TCAMSG = {family = {"u8", "tc.family", "family", enum="address_family"}, padding = {"pad", "tc.padding", "padding", width=3}}
 
 -- ---- Values as text: printable ASCII, in the units and with the names of outlines. Numbers are decimal digits, since those of Lua 5.2 have 53 bits.
 
@@ -1054,10 +1097,8 @@ local function is_utf8(s)
   return true
 end
 
-local function escape(c) return ("\\x%02x"):format(c:byte()) end
-
 -- Bytes as printable ASCII: what is none is escaped, such as \x1b.
-local function clean(s) return (s:gsub("[^ -~]", escape)) end
+local function clean(s) return (s:gsub("[^ -~]", function(c) return ("\\x%02x"):format(c:byte()) end)) end
 
 -- A text as an outline has it: in quotes unless it is a word.
 local function quoted(s)
@@ -1065,7 +1106,9 @@ local function quoted(s)
   return '"' .. clean((s:gsub('["\\]', "\\%0"))) .. '"'
 end
 
+-- Bytes in hex; for a line as many as it has room for.
 local function hex(s) return (s:gsub(".", function(c) return ("%02x"):format(c:byte()) end)) end
+local function hex_quoted(s) return s == "" and '""' or hex(s:sub(1, 120)) end
 
 -- Digits, multiplied by a small number, and another added.
 local function times(digits, by, plus)
@@ -1193,7 +1236,7 @@ local function in_unit(unit, s, is_signed, raw)
   if SIGNED[unit] then return SIGNED[unit](digits, sign) end
   if sign == "-" then return "-" .. digits end
   if unit == "hex" or unit == "net_hex" then return "0x" .. hex(s):gsub("^0+(.)", "%1") end
-  return UNSIGNED[unit] and UNSIGNED[unit](digits) or digits
+  return UNSIGNED[unit] and UNSIGNED[unit](digits, "") or digits
 end
 
 
@@ -1208,26 +1251,6 @@ local SORTS = {u8 = "uint8", u16 = "uint16", u32 = "uint32", u64 = "uint64", s8 
   be32 = "uint32", be64 = "uint64", mac = "ether", ipv4 = "ipv4", ipv6 = "ipv6", handle = "string", text = "string", bare = "string", kind = "string",
   hex = "bytes", bytes = "bytes", pad = "bytes", flag = "bool", bool = "bool", frame = "framenum"}
 
--- The dissector's own fields.
-local F = {
-  type = {"u16", "tc.msg.type", "Type"}, -- `nlmsg_type`
-  flags = {"u16", "tc.msg.flags", "Flags", unit = "hex"}, -- `nlmsg_flags`
-  seq = {"u32", "tc.msg.seq", "Sequence number"}, -- `nlmsg_seq`
-  port = {"u32", "tc.msg.port", "Port id"}, -- `nlmsg_pid`
-  length = {"u16", "tc.nla.len", "Length"}, -- `nla_len`
-  word = {"u16", "tc.nla.type", "Type", unit = "hex"}, -- `nla_type`, with its flags
-  padding = {"bytes", "tc.nla.pad", "pad"}, -- padding of an attribute that isn't zeros, or is missing
-  raw = {"bytes", "tc.raw", "raw"}, -- bytes that don't follow their form
-  rest = {"bytes", "tc.rest", "rest"}, -- bytes after the last field of a record
-  other = {"bytes", "tc.other", "other"}, -- the payload of an attribute that isn't in the table; bytes that no choice fits
-  pref = {"u16", "tc.pref", "pref"}, -- the priority of a filter or a chain, in `tcm_info`
-  protocol = {"u16", "tc.protocol", "protocol", unit = "hex", names = "eth_p"}, -- the protocol of a filter or a chain, in `tcm_info`
-  error = {"u32", "tc.error", "error", names = "errno"}, -- of an answer: the number of the error, 0 of an acknowledgement
-  refused = {"none", "tc.refused", "refused"}, -- of a request: it is refused
-  request = {"none", "tc.request", "request"}, -- the request that an answer quotes
-  request_in = {"frame", "tc.request_in", "Request in", frame = "REQUEST"}, -- of an answer: the frame of its request
-  answer_in = {"frame", "tc.answer_in", "Answer in", frame = "RESPONSE"}, -- of a request: the frame of its answer
-}
 local function expert_of(name, about, group, severity) return ProtoExpert.new("tc.expert." .. name, about, expert.group[group], expert.severity[severity]) end
 local X = {form = expert_of("form", "Bytes that don't follow their form", "MALFORMED", "ERROR"), cut = expert_of("cut", "Message is cut", "MALFORMED", "ERROR"),
   unknown = expert_of("unknown", "Not in the table", "UNDECODED", "NOTE"), refused = expert_of("refused", "Refused by the kernel", "RESPONSE_CODE", "ERROR"),
@@ -1255,20 +1278,12 @@ end
 
 -- Gives a form its field and its width, and those in it.
 local function prepare(n)
-  local what = n[1]
-  n.width, n.is_leaf = n.size or WIDTHS[what], SORTS[what] ~= nil
+  local sort = SORTS[n[1]]
+  n.width, n.is_leaf = n.width or WIDTHS[n[1]], sort ~= nil
   for _, inner in ipairs(n.parts or {n.inner or n.other}) do prepare(inner) end
-  if what == "struct" then
-    n.width, n.least = 0, 0
-    for _, x in ipairs(n.parts) do
-      n.width, n.least = n.width and x.width and n.width + x.width, n.least + (x.width or 0)
-    end
-  elseif what == "array" then n.width = n.count and n.inner.width and n.count * n.inner.width end
   if n.element then n.element = declare(n.element, "none", n.inner[3]) end
   if not n[2] then return end
-  if n.frame then n.field = declare(n[2], "framenum", n[3], base.NONE, frametype[n.frame])
-  elseif SORTS[what] and SORTS[what]:find("int") then declare_number(n)
-  else n.field = declare(n[2], SORTS[what] or "none", n[3]) end
+  if sort and sort:find("int") then declare_number(n) else n.field = declare(n[2], sort or "none", n[3]) end
 end
 
 -- What a tree has at bytes: an item of a field, with this text if somebody sees it.
@@ -1285,7 +1300,7 @@ local function add(c, tree, n, off, len, text)
 end
 local function raw(c, off, len, tree, label, why)
   local item = tree:add(F.raw.field, c.tvb(off, len))
-  item:set_text((label and label ~= "" and label .. ": raw " or "raw: ") .. quoted(hex(bytes_of(c, off, math.min(len, 120)))))
+  item:set_text((label and label ~= "" and label .. ": raw " or "raw: ") .. hex_quoted(bytes_of(c, off, len)))
   item:add_proto_expert_info(X.form, why)
   return item
 end
@@ -1304,14 +1319,6 @@ local function number_text(c, n, wire)
   return n.unit == "ifindex" and c.links(v) and text .. " (" .. quoted(c.links(v)) .. ")" or text
 end
 
-local function show_number(c, n, off, tree, wire)
-  local method = (c.little and n[1]:sub(1, 2) ~= "be") and "add_le" or "add"
-  local item = tree[method](tree, n.field, c.tvb(off, n.width))
-  if c.seen then item:set_text(n[3] .. ": " .. number_text(c, n, wire)) end
-  for _, flag in ipairs(n.flags and tc.prefs.bits and n.flags or {}) do item[method](item, flag, c.tvb(off, n.width)) end
-  return item
-end
-
 -- Why bytes aren't of a form that holds no others; nil if they are.
 local function fault(n, s)
   local what = n[1]
@@ -1321,43 +1328,63 @@ local function fault(n, s)
   if (what == "text" or what == "bare") and not is_utf8(s) then return "a text that isn't UTF-8" end
 end
 
--- Shows a form that holds no others. Returns the item, and true if the bytes are of the form.
-local function show_leaf(c, n, off, len, tree, left)
-  local what, s = n[1], bytes_of(c, off, len)
-  local why = left == 0 and "nested too deep" or fault(n, s)
-  if why then return raw(c, off, len, tree, n[3], why), false end
-  if SORTS[what]:find("int") then return show_number(c, n, off, tree, s), true end
-  local range, text, item = c.tvb(off, len), nil, nil
+-- The value of a form that holds no others, where Wireshark can't read it, and its text.
+local function value_of(c, n, s)
+  local what = n[1]
   if what == "handle" then
-    text = handle(number_at(c, off, 4))
-    item = tree:add(n.field, range, text)
+    local text = handle(unsigned(c.little and s:reverse() or s))
+    return text, text
   elseif what == "text" or what == "bare" or what == "kind" then
     s = (what == "bare" or s:sub(-1) ~= "\0") and s or s:sub(1, -2)
-    item, text = tree:add(n.field, range, clean(s)), quoted(s)
-  elseif what == "flag" or what == "bool" then
-    item, text = tree:add(n.field, range, s ~= "\0"), s ~= "\0" and "true" or "false"
-  elseif c.is_flush and n[2] == "tc.action.cookie" and len == 4 then -- of the answer to a flush: how many actions there were
-    item = tree:add(n.field, range)
-    set(c, item, "count", ("%.0f"):format(number_at(c, off, 4)))
-  else
-    item = tree:add(n.field, range)
-    text = what == "mac" and hex(s):gsub("(..)(.)", "%1:%2", 5) or what == "ipv4" and ("%d.%d.%d.%d"):format(s:byte(1, 4)) or
-      what ~= "ipv6" and quoted(hex(s:sub(1, 120))) or nil
+    return clean(s), quoted(s)
+  elseif what == "flag" or what == "bool" then return s ~= "\0", s ~= "\0" and "true" or "false"
+  elseif what == "mac" then return nil, hex(s):gsub("..", "%0:"):sub(1, -2)
+  elseif what == "ipv4" then return nil, ("%d.%d.%d.%d"):format(s:byte(1, 4)) end
+  return nil, what ~= "ipv6" and hex_quoted(s) or nil
+end
+
+-- Shows a form that holds no others. Returns the item, and true if the bytes are of the form.
+local function show_leaf(c, n, off, len, tree, left)
+  local s, range = bytes_of(c, off, len), c.tvb(off, len)
+  local why = left == 0 and "nested too deep" or fault(n, s)
+  if why then return raw(c, off, len, tree, n[3], why), false end
+  if not SORTS[n[1]]:find("int") then
+    local value, text = value_of(c, n, s)
+    local item = value == nil and tree:add(n.field, range) or tree:add(n.field, range, value)
+    if c.is_flush and n[2] == "tc.action.cookie" and len == 4 then set(c, item, "count", ("%.0f"):format(number_at(c, off, 4)))
+    elseif text then set(c, item, n[3], text) end
+    return item, true
   end
-  if text then set(c, item, n[3], text) end
+  local method = (c.little and n[1]:sub(1, 2) ~= "be") and "add_le" or "add"
+  local item = tree[method](tree, n.field, range)
+  if c.seen then item:set_text(n[3] .. ": " .. number_text(c, n, s)) end
+  for _, flag in ipairs(tc.prefs.bits and n.flags or {}) do item[method](item, flag, range) end
   return item, true
 end
 
 local show = {}
 
--- Shows a form on its own, or within an item of its own from `from` on. Returns the item; true if the bytes are of a form without others; a list's kind.
-local function member(c, n, off, len, tree, kind, left, from)
-  if n.is_leaf then return show_leaf(c, n, off, len, tree, left) end
-  local item, range = tree, from and c.tvb(from, off + len - from) or c.tvb(off, len)
+-- The length and the type of an attribute: `head` has its place, its word, and what the table says of it.
+local function show_head(c, item, head)
+  if not head or not head.word or not tc.prefs.headers then return end
+  add(c, item, F.length, head.at, 2)
+  local text = ("0x%04x"):format(head.word) .. (head.kernel and (" (%s%s)"):format(head.kernel, head.word >= NESTED and ", NLA_F_NESTED" or "") or "")
+  add(c, item, F.word, head.at + 2, 2, text .. (head.usual and head.usual ~= head.word and (", usually 0x%04x"):format(head.usual) or ""))
+end
+
+-- Shows a form in an item of its own, or without one; of an attribute with its header. Returns the item; true if it is a leaf of its form; a list's kind.
+local function member(c, n, off, len, tree, kind, left, head)
+  if n.is_leaf then
+    local item, plain = show_leaf(c, n, off, len, tree, left)
+    show_head(c, item, head)
+    return item, plain
+  end
+  local item, range = tree, head and c.tvb(head.at, off + len - head.at) or c.tvb(off, len)
   if n.field then
     item = tree:add(n.field, range)
     if c.seen then item:set_text(n[3]) end
   elseif n[1] == "array" then item = tree:add(range, n[3]) end
+  if item ~= tree then show_head(c, item, head) end
   if left == 0 then return raw(c, off, len, item, nil, "nested too deep"), false end
   return item, false, show[n[1]](c, n, off, len, item, kind, left - 1)
 end
@@ -1370,14 +1397,17 @@ function show.struct(c, n, off, len, tree, kind, left)
     if x[1] ~= "pad" or bytes_of(c, off, size):find("[^\0]") then member(c, x, off, size, tree, kind, left) end
     off = off + size
   end
-  if off < stop then add(c, tree, F.rest, off, stop - off, quoted(hex(bytes_of(c, off, stop - off)))):add_proto_expert_info(X.form, "bytes after the record") end
+  if off < stop then add(c, tree, F.rest, off, stop - off, hex_quoted(bytes_of(c, off, stop - off))):add_proto_expert_info(X.form, "bytes after the record") end
 end
 
 function show.array(c, n, off, len, tree, kind, left)
   local stop, size, texts = off + len, n.inner.width or len, {}
   while off < stop do
     member(c, n.inner, off, math.min(size, stop - off), tree, kind, left)
-    if c.seen and n.inner.is_leaf and #texts < 60 and stop - off >= size then texts[#texts + 1] = number_text(c, n.inner, bytes_of(c, off, size)) end
+    if c.seen and n.inner.is_leaf and #texts < 60 then
+      local s = bytes_of(c, off, math.min(size, stop - off))
+      texts[#texts + 1] = #s == size and number_text(c, n.inner, s) or "raw " .. hex(s)
+    end
     off = off + size
   end
   if #texts > 0 then set(c, tree, n[3], table.concat(texts, " ")) end
@@ -1387,57 +1417,48 @@ function show.choice(c, n, off, len, tree, kind, left)
   local bytes = bytes_of(c, off, len)
   for _, x in ipairs(n.parts) do
     local start = x.prefix or ""
-    if (x.length or len) == len and bytes:sub(1, #start) == start then return member(c, x, off + #start, len - #start, tree, kind, left, off) end
+    if (x.length or len) == len and bytes:sub(1, #start) == start then return member(c, x, off + #start, len - #start, tree, kind, left, {at = off}) end
   end
-  add(c, tree, F.other, off, len, quoted(hex(bytes:sub(1, 120)))):add_proto_expert_info(X.unknown, "a form that isn't in the table")
+  add(c, tree, F.other, off, len, hex_quoted(bytes)):add_proto_expert_info(X.unknown, "a form that isn't in the table")
 end
 
--- Goes through attributes. `one` shows one by its type, its word, and the places of its header, its payload and its end, and returns the item. What is no
--- attribute is raw to the end.
-local function each(c, off, len, tree, one)
-  local stop = off + len
-  while off < stop do
-    local room = stop - off
-    local size = room >= 4 and number_at(c, off, 2) or 0
+-- Goes through attributes: the type and the word of each, the places of its header and its payload, and the length of that. Of what is no attribute, which is
+-- the rest, the type is false.
+local function attributes(c, off, stop)
+  return function()
+    if off >= stop then return nil end
+    local at, room = off, stop - off
+    local size = room >= 4 and number_at(c, at, 2) or 0
     if size < 4 or size > room then
-      return raw(c, off, room, tree, nil, room < 4 and "no room for the header of an attribute" or ("%d bytes instead of %d"):format(room, size))
+      off = stop
+      return false, 0, at, at, room
     end
-    local whole, word = math.min(size + -size % 4, room), number_at(c, off + 2, 2)
-    local item = one(word % TYPE, word, off, off + 4, size - 4, whole)
-    local padding = bytes_of(c, off + size, whole - size)
-    if #padding < -size % 4 or padding:find("[^\0]") then add(c, item, F.padding, off + size, #padding, quoted(hex(padding))) end
-    off = off + whole
+    local word = number_at(c, at + 2, 2)
+    off = at + size + -size % 4
+    return word % TYPE, word, at, at + 4, size - 4
   end
 end
 
--- The length and the type of an attribute. `usual`: its word in the table.
-local function show_header(c, item, at, word, kernel, usual)
-  if not tc.prefs.headers or not item then return end
-  add(c, item, F.length, at, 2)
-  local text = ("0x%04x"):format(word) .. (kernel and (" (%s%s)"):format(kernel, word >= NESTED and ", NLA_F_NESTED" or "") or "")
-  add(c, item, F.word, at + 2, 2, text .. (usual and usual ~= word and (", usually 0x%04x"):format(usual) or ""))
+-- Shows attributes, each by `one`, which returns the item. What is no attribute is raw to the end.
+local function each(c, off, len, tree, one)
+  for ty, word, at, body, size in attributes(c, off, off + len) do
+    if not ty then return raw(c, at, size, tree, nil, "no attribute: " .. (size < 4 and "no room for a header" or "a wrong length")) end
+    local padding = bytes_of(c, body + size, math.min(-size % 4, off + len - body - size))
+    local is_odd = #padding < -size % 4 or padding:find("[^\0]") ~= nil
+    local item = one(ty, word, at, body, size, is_odd)
+    if is_odd then add(c, item, F.padding, body + size, #padding, hex_quoted(padding)) end
+  end
 end
 
--- Marks the attribute for which the kernel refused a request, and the one in which an attribute is missing; `list` is what it holds.
+-- Marks what the kernel's answer to a request is about: the attribute for which it was refused, and the one in which another is missing; `list` is its list.
 local function mark(c, at, item, list)
   for _, it in ipairs(c.marks or {}) do
-    if it.at == at then
+    if c.request + it.at == at then
       local row = it.missing and LISTS[list] and LISTS[list][it.missing]
       local text = it.text .. (row and " (" .. row[1] .. ")" or "")
       item:append_text("   <== " .. text)
       item:add_proto_expert_info(it.expert, text)
     end
-  end
-end
-
--- Goes through whole attributes: the type of each, and the place and length of its payload.
-local function attributes(c, off, stop)
-  return function()
-    local size = stop - off >= 4 and number_at(c, off, 2) or 0
-    if size < 4 or size > stop - off then return nil end
-    local word, body = number_at(c, off + 2, 2), off + 4
-    off = off + size + -size % 4
-    return word % TYPE, body, size - 4
   end
 end
 
@@ -1448,7 +1469,7 @@ local function kind_at(c, off, len)
   return is_utf8(s) and s or nil
 end
 local function own_kind(c, off, len)
-  for ty, body, size in attributes(c, off, off + len) do
+  for ty, _, _, body, size in attributes(c, off, off + len) do
     local kind = ty == 1 and kind_at(c, body, size)
     if kind then return kind end
   end
@@ -1464,58 +1485,56 @@ end
 
 -- Shows an attribute that isn't in the table.
 local function show_other(c, at, word, body, size, tree)
-  local item = add(c, tree, F.other, body, size, ("word 0x%04x value %s"):format(word, quoted(hex(bytes_of(c, body, math.min(size, 120))))))
+  local item = add(c, tree, F.other, body, size, ("word 0x%04x value %s"):format(word, hex_quoted(bytes_of(c, body, size))))
   item:add_proto_expert_info(X.unknown, ("type %d isn't in the table"):format(word % TYPE))
-  show_header(c, item, at, word)
+  show_head(c, item, {at = at, word = word})
   return item
 end
 
 -- The item that a mask or an end is joined with: that of its address or its beginning, if it comes before it and has the usual form.
 local function joined(c, n, before, body, size)
-  if not before or not before.plain or size ~= n.width or before.name ~= (n.mask or n.upto) then return nil end
+  if not before or size ~= n.width or before.name ~= (n.mask or n.upto) then return nil end
   local s = bytes_of(c, body, size)
   local len = n.mask and prefix(s)
   if n.mask and not len then return nil end
-  if c.seen then before.item:append_text(n.mask and "/" .. len or "-" .. (n[1] == "ipv4" and ("%d.%d.%d.%d"):format(s:byte(1, 4)) or n[1] ~= "ipv6" and
-    number_text(c, n, s) or tostring(c.tvb(body, size):ipv6()))) end
+  if c.seen then
+    local _, text = value_of(c, n, s)
+    before.item:append_text(len and "/" .. len or "-" .. (SORTS[n[1]]:find("int") and number_text(c, n, s) or text or tostring(c.tvb(body, size):ipv6())))
+  end
   return before.item
 end
 
 -- Shows an attribute of the table, by its form or that of the kind. Returns the item, its form, and what a mask or an end may be joined with.
-local function show_row(c, row, at, body, size, tree, kind, left, before)
-  local n, own = row[2], nil
-  if n[1] == "by" then
-    own = form_by(n, kind)
-    if not own then n = n.other end
-  end
+local function show_row(c, n, head, body, size, tree, kind, left, before)
+  local own = n[1] == "by" and form_by(n, kind)
+  if n[1] == "by" and not own then n = n.other end
+  head.usual = head.usual + ((own or n).nested and NESTED or 0)
   if own then
-    local item = tree:add(n.field, c.tvb(at, size + 4))
+    local item = tree:add(n.field, c.tvb(head.at, size + 4))
     if c.seen then item:set_text(n[3]) end
+    show_head(c, item, head)
     member(c, own, body, size, item, kind, n.which == "statistics" and math.max(left - 1, 0) or left)
     return item, own
   end
   local target = (n.mask or n.upto) and left > 0 and joined(c, n, before, body, size)
-  local item, plain = member(c, n, body, size, target or tree, kind, left, at)
+  local item, plain = member(c, n, body, size, target or tree, kind, left, head)
   if n[1] == "flag" and n[3] == "pad" then return item, n, before end
-  return item, n, plain and not target and {name = n[2], item = item, plain = true} or nil
+  return item, n, plain and not target and head.word == head.usual and not head.is_odd and {name = n[2], item = item} or nil
 end
 
 -- Shows a list. A kind in it sets the form of attributes after it, or if it has an own one, the first of all. Returns the kind.
 function show.list(c, n, off, len, tree, kind, left)
   local has_kind, before = n[1] ~= "list", nil
   if n[1] == "own" then kind = own_kind(c, off, len) end
-  each(c, off, len, tree, function(ty, word, at, body, size)
+  each(c, off, len, tree, function(ty, word, at, body, size, is_odd)
     local row, item, form = LISTS[n.list][ty], nil, {}
     local found = has_kind and ty == 1 and kind_at(c, body, size)
     if not row or found == nil then
       item, before = show_other(c, at, word, body, size, tree), nil
     else
       if found and n[1] == "inforce" then kind = found end
-      item, form, before = show_row(c, row, at, body, size, tree, kind, left, before)
-      local usual = ty + (form.nested and NESTED or 0)
+      item, form, before = show_row(c, row[2], {at = at, word = word, kernel = row[1], usual = ty, is_odd = is_odd}, body, size, tree, kind, left, before)
       if found and bytes_of(c, body, size):sub(-1) ~= "\0" then item:append_text(" (without a NUL)") end
-      if word ~= usual then before = nil end
-      show_header(c, item, at, word, row[1], usual)
     end
     mark(c, at, item, form.list)
     return item
@@ -1528,105 +1547,58 @@ show.own, show.inforce = show.list, show.list
 function show.indexed(c, n, off, len, tree, kind, left)
   each(c, off, len, tree, function(_, word, at, body, size)
     local item = tree:add(n.element, c.tvb(at, size + 4))
+    show_head(c, item, {at = at, word = word})
     local _, _, own = member(c, n.inner, body, size, item, kind, left)
-    if n.inner[1] == "own" and own and #c.actions < 8 then c.actions[#c.actions + 1] = quoted(own) end
-    item:set_text(("%s %d"):format(n.inner[3], word) .. (n.inner[1] == "own" and own and ": " .. quoted(own) or ""))
-    show_header(c, item, at, word)
+    own = n.inner[1] == "own" and own and quoted(own)
+    if own and #c.actions < 8 then c.actions[#c.actions + 1] = own end
+    item:set_text(("%s %d"):format(n.inner[3], word) .. (own and ": " .. own or ""))
     mark(c, at, item)
     return item
   end)
 end
 
-
 -- ---- Messages: netlink's header, answers of the kernel, names of interfaces, packets
 
-local NLMSG_ERROR, RTM_NEWLINK, IFLA_IFNAME = 2, 16, 3
-local ARPHRD_NETLINK, NETLINK_ROUTE = 824, 0
-local NLM_F_REQUEST, NLM_F_CAPPED, NLM_F_ACK_TLVS = 1, 0x100, 0x200
+local NLMSG_ERROR, RTM_NEWLINK, IFLA_IFNAME, ARPHRD_NETLINK, NETLINK_ROUTE = 2, 16, 3, 824, 0
+local NLM_F_CAPPED, NLM_F_ACK_TLVS, NLM_F_ROOT = 0x100, 0x200, 0x100
 local TYPES = {}
 for first, name in pairs({[36] = "QDISC", [40] = "TCLASS", [44] = "TFILTER", [48] = "ACTION", [100] = "CHAIN"}) do
   for i, verb in ipairs({"NEW", "DEL", "GET"}) do TYPES[first + i - 1] = "RTM_" .. verb .. name end
 end
-local FLAGS = {{0x01, "request"}, {0x02, "multi"}, {0x04, "ack"}, {0x08, "echo"}, {0x10, "dump_intr"}, {0x20, "dump_filtered"}}
-local FLAGS_OF = {NEW = {{0x400, "create"}, {0x200, "excl"}, {0x100, "replace"}, {0x800, "append"}}, GET = {{0x100, "root"}, {0x200, "match"}, {0x400, "atomic"}},
-  DEL = {{0x100, "nonrec"}, {0x200, "bulk"}}, FLUSH = {{0x100, "root"}}, ANSWER = {{NLM_F_CAPPED, "capped"}, {NLM_F_ACK_TLVS, "ack_tlvs"}}}
-
--- asm-generic/errno-base.h and errno.h, from 1 on; `-` has no name
-local errno = [[EPERM ENOENT ESRCH EINTR EIO ENXIO E2BIG ENOEXEC EBADF ECHILD EAGAIN ENOMEM EACCES EFAULT ENOTBLK EBUSY EEXIST EXDEV ENODEV ENOTDIR EISDIR EINVAL
-  ENFILE EMFILE ENOTTY ETXTBSY EFBIG ENOSPC ESPIPE EROFS EMLINK EPIPE EDOM ERANGE EDEADLK ENAMETOOLONG ENOLCK ENOSYS ENOTEMPTY ELOOP - ENOMSG EIDRM ECHRNG
-  EL2NSYNC EL3HLT EL3RST ELNRNG EUNATCH ENOCSI EL2HLT EBADE EBADR EXFULL ENOANO EBADRQC EBADSLT - EBFONT ENOSTR ENODATA ETIME ENOSR ENONET ENOPKG EREMOTE
-  ENOLINK EADV ESRMNT ECOMM EPROTO EMULTIHOP EDOTDOT EBADMSG EOVERFLOW ENOTUNIQ EBADFD EREMCHG ELIBACC ELIBBAD ELIBSCN ELIBMAX ELIBEXEC EILSEQ ERESTART
-  ESTRPIPE EUSERS ENOTSOCK EDESTADDRREQ EMSGSIZE EPROTOTYPE ENOPROTOOPT EPROTONOSUPPORT ESOCKTNOSUPPORT EOPNOTSUPP EPFNOSUPPORT EAFNOSUPPORT EADDRINUSE
-  EADDRNOTAVAIL ENETDOWN ENETUNREACH ENETRESET ECONNABORTED ECONNRESET ENOBUFS EISCONN ENOTCONN ESHUTDOWN ETOOMANYREFS ETIMEDOUT ECONNREFUSED EHOSTDOWN
-  EHOSTUNREACH EALREADY EINPROGRESS ESTALE EUCLEAN ENOTNAM ENAVAIL EISNAM EREMOTEIO EDQUOT ENOMEDIUM EMEDIUMTYPE ECANCELED ENOKEY EKEYEXPIRED EKEYREVOKED
-  EKEYREJECTED EOWNERDEAD ENOTRECOVERABLE ERFKILL EHWPOISON]]
-NAMES.errno = {[524] = "ENOTSUPP"}
-local number = 0
-for name in errno:gmatch("%S+") do
-  number = number + 1
-  NAMES.errno[number] = name ~= "-" and name or nil
-end
 NAMES.message_type = {[NLMSG_ERROR] = "NLMSG_ERROR"}
 for ty, name in pairs(TYPES) do NAMES.message_type[ty] = name end
-F.type.names = "message_type"
-
--- The attributes of an extended acknowledgement, `enum nlmsgerr_attrs`, and of the policy in it.
-LISTS.extack = {
-  [1] = {"NLMSGERR_ATTR_MSG", {"text", "tc.extack.message", "message"}}, -- `NLMSGERR_ATTR_MSG`, what is wrong
-  [2] = {"NLMSGERR_ATTR_OFFS", {"u32", "tc.extack.offset", "offset"}}, -- `NLMSGERR_ATTR_OFFS`, where in the request, from its netlink header on
-  [3] = {"NLMSGERR_ATTR_COOKIE", {"hex", "tc.extack.cookie", "cookie"}}, -- `NLMSGERR_ATTR_COOKIE`
-  [4] = {"NLMSGERR_ATTR_POLICY", {"list", "tc.extack.policy", "policy", list = "policy", nested = true}}, -- `NLMSGERR_ATTR_POLICY`
-  [5] = {"NLMSGERR_ATTR_MISS_TYPE", {"u32", "tc.extack.miss_type", "miss_type"}}, -- `NLMSGERR_ATTR_MISS_TYPE`, the type of the missing attribute
-  [6] = {"NLMSGERR_ATTR_MISS_NEST", {"u32", "tc.extack.miss_nest", "miss_nest"}}, -- `NLMSGERR_ATTR_MISS_NEST`, where it is missing, as the offset
-}
-LISTS.policy = {
-  [1] = {"NL_POLICY_TYPE_ATTR_TYPE", {"u32", "tc.extack.policy.type", "type", names = "attribute_type"}}, -- `NL_POLICY_TYPE_ATTR_TYPE`
-  [2] = {"NL_POLICY_TYPE_ATTR_MIN_VALUE_S", {"s64", "tc.extack.policy.min_value_s", "min_value_s"}}, -- `NL_POLICY_TYPE_ATTR_MIN_VALUE_S`
-  [3] = {"NL_POLICY_TYPE_ATTR_MAX_VALUE_S", {"s64", "tc.extack.policy.max_value_s", "max_value_s"}}, -- `NL_POLICY_TYPE_ATTR_MAX_VALUE_S`
-  [4] = {"NL_POLICY_TYPE_ATTR_MIN_VALUE_U", {"u64", "tc.extack.policy.min_value_u", "min_value_u"}}, -- `NL_POLICY_TYPE_ATTR_MIN_VALUE_U`
-  [5] = {"NL_POLICY_TYPE_ATTR_MAX_VALUE_U", {"u64", "tc.extack.policy.max_value_u", "max_value_u"}}, -- `NL_POLICY_TYPE_ATTR_MAX_VALUE_U`
-  [6] = {"NL_POLICY_TYPE_ATTR_MIN_LENGTH", {"u32", "tc.extack.policy.min_length", "min_length", unit = "bytes"}}, -- `NL_POLICY_TYPE_ATTR_MIN_LENGTH`
-  [7] = {"NL_POLICY_TYPE_ATTR_MAX_LENGTH", {"u32", "tc.extack.policy.max_length", "max_length", unit = "bytes"}}, -- `NL_POLICY_TYPE_ATTR_MAX_LENGTH`
-  [8] = {"NL_POLICY_TYPE_ATTR_POLICY_IDX", {"u32", "tc.extack.policy.policy_idx", "policy_idx"}}, -- `NL_POLICY_TYPE_ATTR_POLICY_IDX`
-  [9] = {"NL_POLICY_TYPE_ATTR_POLICY_MAXTYPE", {"u32", "tc.extack.policy.policy_maxtype", "policy_maxtype"}}, -- `NL_POLICY_TYPE_ATTR_POLICY_MAXTYPE`
-  [10] = {"NL_POLICY_TYPE_ATTR_BITFIELD32_MASK", {"u32", "tc.extack.policy.bitfield32_mask", "bitfield32_mask", unit = "hex"}}, -- `NL_POLICY_TYPE_ATTR_BITFIELD32_MASK`
-  [12] = {"NL_POLICY_TYPE_ATTR_MASK", {"u64", "tc.extack.policy.mask", "mask", unit = "hex"}}, -- `NL_POLICY_TYPE_ATTR_MASK`
-}
-NAMES.attribute_type = {[0] = "invalid", "flag", "u8", "u16", "u32", "u64", "s8", "s16", "s32", "s64", "binary", "string", "nul_string", "nested", "nested_array",
-  "bitfield32", "sint", "uint"}
+local FLAGS = {{0x01, "request"}, {0x02, "multi"}, {0x04, "ack"}, {0x08, "echo"}, {0x10, "dump_intr"}, {0x20, "dump_filtered"}}
+local FLAGS_OF = {NEW = {{0x400, "create"}, {0x200, "excl"}, {0x100, "replace"}, {0x800, "append"}}, GET = {{0x100, "root"}, {0x200, "match"}, {0x400, "atomic"}},
+  DEL = {{0x100, "nonrec"}, {0x200, "bulk"}}, FLUSH = {{0x100, "root"}}, ANSWER = {{0x100, "capped"}, {0x200, "ack_tlvs"}}}
 
 local EXTACK = {"list", false, "extack", list = "extack"}
 local BODIES = {tc = {"inforce", false, "", list = "tc"}, action = {"list", false, "", list = "action_message"}}
-for _, n in pairs(F) do prepare(n) end
 for _, rows in pairs(LISTS) do for _, row in pairs(rows) do prepare(row[2]) end end
 for _, of in pairs(KINDS) do for _, kind in pairs(of) do for _, n in pairs(kind) do prepare(n) end end end
-for _, head in pairs({TCMSG, TCAMSG}) do for _, n in pairs(head) do prepare(n) end end
-for _, n in pairs(BODIES) do prepare(n) end
-prepare(EXTACK)
+for _, all in pairs({F, TCMSG, TCAMSG, BODIES, {EXTACK}}) do for _, n in pairs(all) do prepare(n) end end
 tc.fields = fields
 tc.experts = {X.form, X.cut, X.unknown, X.refused, X.warning}
 tc.prefs.headers = Pref.bool("Show the length and the type of each attribute", true, "A line for each part of struct nlattr")
 tc.prefs.bits = Pref.bool("Show the bits of flag words", true, "A line for each bit that has a name")
 
--- Of a capture: requests by the bytes of their netlink headers; the answers found to them, and the requests of answers, by frame and place; names of interfaces.
+-- Of a capture: requests by their netlink headers; by frame and place the answers to requests, and the requests of answers; names of interfaces.
 local asked, answers, requests, links
 local function forget() asked, answers, requests, links = {}, {}, {}, {} end
 tc.init = forget
 forget()
 
--- Keeps the name of an interface in a message of the kernel, at the frame from which on it is known.
+-- Keeps the name of an interface in a message of the kernel, with the frame from which on it is known.
 local function learn(c, off, len, frame)
-  if len < 16 then return end
-  local index, name = number_at(c, off + 4, 4), nil
-  for ty, body, size in attributes(c, off + 16, off + len) do
+  local index, name = len >= 16 and number_at(c, off + 4, 4), nil
+  for ty, _, _, body, size in attributes(c, off + 16, off + len) do
     if ty == IFLA_IFNAME then name = kind_at(c, body, size) end
   end
-  if not name or name == "" then return end
+  if not index or not name or name == "" then return end
   links[index] = links[index] or {}
   table.insert(links[index], {frame = frame, name = name})
 end
 
--- The name that an interface has at a frame; before any is known, the first.
+-- The name of an interface at a frame; before any is known, the first.
 local function link_at(frame)
   return function(index)
     local found = links[index] and links[index][1]
@@ -1635,66 +1607,22 @@ local function link_at(frame)
   end
 end
 
-local function flag_words(ty, flags)
-  local verb = ty == 49 and "FLUSH" or ty == NLMSG_ERROR and "ANSWER" or TYPES[ty]:sub(5, 7)
-  local out, rest = "", flags
-  for _, of in ipairs({FLAGS, FLAGS_OF[verb]}) do
-    for _, flag in ipairs(of) do
-      if math.floor(flags / flag[1]) % 2 == 1 then out, rest = out .. " " .. flag[2], rest - flag[1] end
-    end
-  end
-  return rest > 0 and ("%s 0x%04x"):format(out, rest) or out
-end
-
--- Shows the last number of a header, by what the message is about; returns it in words.
-local function show_info(c, ty, off, tree)
-  local v, item, text = number_at(c, off, 4), show_leaf(c, TCMSG.info, off, 4, tree, 1), nil
-  if ty < 40 then text = ("refcnt %.0f"):format(v)
-  elseif ty < 44 then text = "leaf " .. handle(v)
-  else
-    local upper, lower = c.little and off + 2 or off, c.little and off or off + 2
-    local pref, protocol = number_at(c, upper, 2), unsigned(bytes_of(c, lower, 2))
-    local name = NAMES.eth_p[protocol] and NAMES.eth_p[protocol] .. " (0x%04x)" or "0x%04x"
-    text = ("pref %.0f protocol " .. name):format(pref, protocol)
-    add(c, item, F.pref, upper, 2, ("%.0f"):format(pref))
-    set(c, item:add(F.protocol.field, c.tvb(lower, 2)), "protocol", name:format(protocol))
-  end
-  set(c, item, "info", text)
-  return v == 0 and "" or " " .. text
-end
-
--- Shows `struct tcmsg`; returns it in words.
-local function show_tcmsg(c, ty, off, len, tree)
-  local family, index, words = number_at(c, off, 1), number_at(c, off + 4, 4), ""
-  show_leaf(c, TCMSG.family, off, 1, tree, 1)
-  if family > 0 then words = " family " .. number_text(c, TCMSG.family, bytes_of(c, off, 1)) end
-  if bytes_of(c, off + 1, 3):find("[^\0]") then show_leaf(c, TCMSG.padding, off + 1, 3, tree, 1) end
-  show_leaf(c, TCMSG.index, off + 4, 4, tree, 1)
-  local is_block, parent = index == 0xffffffff, number_at(c, off + 12, 4)
-  if not is_block then words = words .. " index " .. number_text(c, TCMSG.index, bytes_of(c, off + 4, 4)) end
-  local own = number_at(c, off + 8, 4)
-  local text = handle(own)
-  if ty >= 44 and ty <= 46 then text = own_kind(c, off + 20, len - 20) == "u32" and u32_handle(own) or ("0x%x"):format(own) end
-  set(c, show_leaf(c, TCMSG.handle, off + 8, 4, tree, 1), "handle", text)
-  local at = is_block and {"block", ("%.0f"):format(parent)} or {"parent", handle(parent)}
-  set(c, show_leaf(c, TCMSG.parent, off + 12, 4, tree, 1), at[1], at[2])
-  return ("%s handle %s %s %s"):format(words, text, at[1], at[2]) .. show_info(c, ty, off + 16, tree)
-end
-
--- Shows `struct tcamsg`; returns it in words.
-local function show_tcamsg(c, off, tree)
-  local family = number_at(c, off, 1)
-  show_leaf(c, TCAMSG.family, off, 1, tree, 1)
-  if bytes_of(c, off + 1, 3):find("[^\0]") then show_leaf(c, TCAMSG.padding, off + 1, 3, tree, 1) end
-  return family > 0 and " family " .. number_text(c, TCAMSG.family, bytes_of(c, off, 1)) or ""
-end
-
--- The netlink header at a place.
+-- A netlink header.
 local function header_at(c, at)
   return {length = number_at(c, at, 4), type = number_at(c, at + 4, 2), flags = number_at(c, at + 6, 2), seq = number_at(c, at + 8, 4), port = number_at(c, at + 12, 4)}
 end
+local function has(flags, bit) return math.floor(flags / bit) % 2 == 1 end
+local function is_action(ty) return ty >= 48 and ty <= 50 end
+
+-- Shows a netlink header; returns its flags, sequence number and port in words.
 local function show_netlink(c, h, at, tree)
-  local words = flag_words(h.type, h.flags)
+  local verb, words, rest = h.type == 49 and "FLUSH" or h.type == NLMSG_ERROR and "ANSWER" or TYPES[h.type]:sub(5, 7), "", h.flags
+  for _, of in ipairs({FLAGS, FLAGS_OF[verb]}) do
+    for _, flag in ipairs(of) do
+      if has(h.flags, flag[1]) then words, rest = words .. " " .. flag[2], rest - flag[1] end
+    end
+  end
+  words = rest > 0 and ("%s 0x%04x"):format(words, rest) or words
   if tc.prefs.headers then
     add(c, tree, F.type, at + 4, 2, NAMES.message_type[h.type])
     add(c, tree, F.flags, at + 6, 2, ("0x%04x"):format(h.flags) .. words)
@@ -1704,89 +1632,104 @@ local function show_netlink(c, h, at, tree)
   return ("%s seq %.0f%s"):format(words, h.seq, h.port > 0 and (" port %.0f"):format(h.port) or "")
 end
 
--- Shows a message after its netlink header. Returns its header in words, and its kind and those of its actions.
-local function show_body(c, h, off, len, tree)
-  local is_action = h.type >= 48 and h.type <= 50
-  local size = is_action and 4 or 20
-  if len < size then
-    raw(c, off, len, tree, nil, ("%d bytes instead of %d"):format(len, size))
-    return "", ""
-  end
-  c.is_flush, c.actions = h.type == 49 and math.floor(h.flags / 0x100) % 2 == 1, {}
-  local words = is_action and show_tcamsg(c, off, tree) or show_tcmsg(c, h.type, off, len, tree)
-  local _, _, kind = member(c, is_action and BODIES.action or BODIES.tc, off + size, len - size, tree, nil, DEEPEST - 1)
-  local about = not is_action and kind and " " .. quoted(kind) or ""
-  return words, about .. (#c.actions > 0 and " actions " .. table.concat(c.actions, " ") or "")
+-- Shows the family that both headers begin with, and its padding; returns them in words.
+local function show_family(c, parts, off, tree)
+  local family, padding = bytes_of(c, off, 1), bytes_of(c, off + 1, 3)
+  show_leaf(c, parts.family, off, 1, tree, 1)
+  if padding ~= "\0\0\0" then show_leaf(c, parts.padding, off + 1, 3, tree, 1) end
+  return (family ~= "\0" and " family " .. number_text(c, parts.family, family) or "") .. (padding ~= "\0\0\0" and " padding " .. hex(padding) or "")
 end
 
--- The extended acknowledgement of an answer: the values of its attributes, and what they say of the request, at places from its netlink header on.
-local function extack_of(c, off, stop, name)
-  local it = {text = name, marks = {}}
-  for ty, body, size in attributes(c, off, stop) do
-    if ty == 1 then it.message = clean(kind_at(c, body, size) or hex(bytes_of(c, body, size)))
-    elseif size == 4 and (ty == 2 or ty == 5 or ty == 6) then it[ty] = number_at(c, body, 4) end
+-- Shows the last number of `struct tcmsg`, by what the message is about; returns it in words.
+local function show_info(c, ty, off, tree)
+  local v, item, text = number_at(c, off, 4), show_leaf(c, TCMSG.info, off, 4, tree, 1), nil
+  if ty < 40 then text = ("refcnt %.0f"):format(v)
+  elseif ty < 44 then text = "leaf " .. handle(v)
+  else
+    local upper, lower = c.little and off + 2 or off, c.little and off or off + 2
+    local pref, protocol = ("%.0f"):format(number_at(c, upper, 2)), number_text({}, F.protocol, bytes_of(c, lower, 2))
+    add(c, item, F.pref, upper, 2, pref)
+    set(c, item:add(F.protocol.field, c.tvb(lower, 2)), "protocol", protocol)
+    text = "pref " .. pref .. " protocol " .. protocol
   end
-  if it.message then it.text = name .. ": " .. it.message end
-  if it[2] then it.marks[1] = {at = it[2], text = it.text} end
-  if it[5] then it.marks[#it.marks + 1] = {at = it[6] or 0, text = ("attribute %d is missing"):format(it[5]), missing = it[5]} end
+  set(c, item, "info", text)
+  return v == 0 and "" or " " .. text
+end
+
+-- Shows `struct tcmsg`; returns it in words.
+local function show_tcmsg(c, ty, off, len, tree)
+  local words, own, parent = show_family(c, TCMSG, off, tree), number_at(c, off + 8, 4), number_at(c, off + 12, 4)
+  show_leaf(c, TCMSG.index, off + 4, 4, tree, 1)
+  local is_block, text = bytes_of(c, off + 4, 4) == "\255\255\255\255", handle(own)
+  if not is_block then words = words .. " index " .. number_text(c, TCMSG.index, bytes_of(c, off + 4, 4)) end
+  if ty >= 44 and ty <= 46 then text = own_kind(c, off + 20, len - 20) == "u32" and u32_handle(own) or ("0x%x"):format(own) end
+  set(c, show_leaf(c, TCMSG.handle, off + 8, 4, tree, 1), "handle", text)
+  local of = is_block and {"block", ("%.0f"):format(parent)} or {"parent", handle(parent)}
+  set(c, show_leaf(c, TCMSG.parent, off + 12, 4, tree, 1), of[1], of[2])
+  return ("%s handle %s %s %s"):format(words, text, of[1], of[2]) .. show_info(c, ty, off + 16, tree)
+end
+
+-- Shows a message after its netlink header, marked by the answer to it. Returns its header in words, and its kind and those of its actions.
+local function show_body(c, h, at, len, tree, marks)
+  local size, off = is_action(h.type) and 4 or 20, at + 16
+  if len < size then return "", "", raw(c, off, len, tree, nil, ("%d bytes instead of %d"):format(len, size)) end
+  c.is_flush, c.actions, c.marks, c.request = h.type == 49 and has(h.flags, NLM_F_ROOT), {}, marks, at
+  local words = size == 4 and show_family(c, TCAMSG, off, tree) or show_tcmsg(c, h.type, off, len, tree)
+  local _, _, kind = member(c, size == 4 and BODIES.action or BODIES.tc, off + size, len - size, tree, nil, DEEPEST - 1)
+  return words, (size == 20 and kind and " " .. quoted(kind) or "") .. (#c.actions > 0 and " actions " .. table.concat(c.actions, " ") or "")
+end
+
+-- What an extended acknowledgement says: its text, and marks at places of the request.
+local function extack_of(c, off, stop, errno)
+  local name, said, found = errno == 0 and "ok" or NAMES.errno[errno] or ("%.0f"):format(errno), nil, {}
+  for ty, _, _, body, size in attributes(c, off, stop) do
+    if ty == 1 then said = clean(kind_at(c, body, size) or hex(bytes_of(c, body, size)))
+    elseif ty and size == 4 then found[ty] = number_at(c, body, 4) end
+  end
+  local it = {errno = errno, name = name, said = said, text = name .. (said and ": " .. said or ""), marks = {}, expert = errno > 0 and X.refused or X.warning}
+  if found[2] then it.marks[1] = {at = found[2], text = (errno > 0 and "refused: " or "") .. it.text, expert = it.expert} end
+  if found[5] then
+    table.insert(it.marks, {at = found[6] or 0, text = ("attribute %.0f is missing"):format(found[5]), missing = found[5], expert = it.expert})
+  end
   return it
 end
 
--- The marks, at their places in a packet.
-local function marks_at(marks, at, is_error)
-  local out = {}
-  for i, it in ipairs(marks) do
-    out[i] = {at = at + it.at, text = (is_error and not it.missing and "refused: " or "") .. it.text, missing = it.missing, expert = is_error and X.refused or X.warning}
+-- Shows an answer to a request of traffic control; returns what it says, and what of.
+local function show_answer(c, h, at, len, tree, pinfo, key)
+  local off, quoted_at = at + 16, at + 20
+  local errno, quote, asking = -number_at(c, off, 4) % 2 ^ 32, header_at(c, quoted_at), bytes_of(c, quoted_at, 16)
+  local whole = has(h.flags, NLM_F_CAPPED) and 16 or math.max(16, math.min(quote.length, len - 20))
+  local from = math.min(quoted_at + whole + -whole % 4, at + len)
+  local stop = has(h.flags, NLM_F_ACK_TLVS) and at + len or from
+  local ack = extack_of(c, from, stop, errno)
+  if asked[asking] and not pinfo.visited then
+    ack.frame, requests[key], answers[asked[asking].key] = pinfo.number, asked[asking].frame, ack
+    asked[asking] = nil
   end
-  return out
-end
-
--- Shows an answer to a request of traffic control; returns its words.
-local function show_answer(c, h, off, len, tree, pinfo, key)
-  local errno = -number_at(c, off, 4) % 2 ^ 32
-  local name, request, room = errno == 0 and "ok" or NAMES.errno[errno] or ("%.0f"):format(errno), off + 4, len - 4
-  local quote = header_at(c, request)
-  local whole = math.floor(h.flags / NLM_F_CAPPED) % 2 == 1 and 16 or math.max(16, math.min(quote.length, room))
-  local from = math.min(request + whole + -whole % 4, off + len)
-  local stop = math.floor(h.flags / NLM_F_ACK_TLVS) % 2 == 1 and off + len or from
-  local ack = extack_of(c, from, stop, name)
-  set(c, tree:add(F.error.field, c.tvb(off, 4), errno), "error", name)
-  local item = tree:add(F.request.field, c.tvb(request, whole))
-  if not pinfo.visited and asked[bytes_of(c, request, 16)] then
-    local it = asked[bytes_of(c, request, 16)]
-    requests[key], asked[bytes_of(c, request, 16)] = it.frame, nil
-    answers[it.key] = {frame = pinfo.number, marks = ack.marks, text = ack.text, errno = errno}
-  end
+  set(c, tree:add(F.error.field, c.tvb(off, 4), errno), "error", ack.name)
   if requests[key] then tree:add(F.request_in.field, requests[key]):set_generated() end
-  c.marks = marks_at(ack.marks, request, errno > 0)
-  local words = show_netlink(c, quote, request, item)
-  local header, about = "", ""
-  if whole > 16 then header, about = show_body(c, quote, request + 16, whole - 16, item) end
+  local item, header, about = tree:add(F.request.field, c.tvb(quoted_at, whole)), "", ""
+  local words = show_netlink(c, quote, quoted_at, item)
+  if whole > 16 then header, about = show_body(c, quote, quoted_at, whole - 16, item, ack.marks) end
   item:set_text("request: " .. TYPES[quote.type] .. words .. header .. about)
-  mark(c, request, item, quote.type >= 48 and quote.type <= 50 and "action_message" or "tc")
+  c.marks, c.request = ack.marks, quoted_at
+  mark(c, quoted_at, item, is_action(quote.type) and "action_message" or "tc")
   c.marks = nil
   if stop > from then member(c, EXTACK, from, stop - from, tree:add(c.tvb(from, stop - from), "extended acknowledgement"), nil, DEEPEST) end
-  if errno > 0 then tree:add_proto_expert_info(X.refused, ack.text) elseif ack.message then tree:add_proto_expert_info(X.warning, ack.message) end
-  return errno == 0 and (ack.message and "warning: " .. ack.message or "acknowledgement") or ack.text, TYPES[quote.type] .. about
+  if errno > 0 or ack.said then tree:add_proto_expert_info(ack.expert, errno > 0 and ack.text or ack.said) end
+  return errno > 0 and ack.text or ack.said and "warning: " .. ack.said or "acknowledgement", TYPES[quote.type] .. about
 end
 
--- Shows a request or a message of the kernel, marked if it was refused; returns its words.
+-- Shows a request, marked by the answer to it, or a message of the kernel; returns its words.
 local function show_message(c, h, at, len, tree, pinfo, key)
   local answer = answers[key]
-  if h.flags % 2 == NLM_F_REQUEST and not pinfo.visited then asked[bytes_of(c, at, 16)] = {frame = pinfo.number, key = key} end
-  if answer then
-    tree:add(F.answer_in.field, answer.frame):set_generated()
-    if answer.errno > 0 then
-      local item = tree:add(F.refused.field)
-      item:set_text("refused: " .. answer.text)
-      item:set_generated()
-      item:add_proto_expert_info(X.refused, answer.text)
-    end
-    c.marks = marks_at(answer.marks, at, answer.errno > 0)
+  if h.flags % 2 == 1 and not pinfo.visited then asked[bytes_of(c, at, 16)] = {frame = pinfo.number, key = key} end
+  if answer then tree:add(F.answer_in.field, answer.frame):set_generated() end
+  if answer and answer.errno > 0 then
+    local item = tree:add(F.refused.field):set_text("refused: " .. answer.text):set_generated()
+    item:add_proto_expert_info(X.refused, answer.text)
   end
-  local header, about = show_body(c, h, at + 16, len - 16, tree)
-  mark(c, at, tree, h.type >= 48 and h.type <= 50 and "action_message" or "tc")
-  c.marks = nil
+  local header, about = show_body(c, h, at, len - 16, tree, answer and answer.marks)
   return header, about
 end
 
@@ -1796,25 +1739,21 @@ local function show_one(c, h, at, len, root, pinfo)
   if h.type == RTM_NEWLINK and h.flags % 2 == 0 and not pinfo.visited then learn(c, at + 16, len - 16, pinfo.number) end
   if not TYPES[h.type] and not is_answer then return nil end
   local tree, key = root:add(tc, c.tvb(at, len)), pinfo.number .. ":" .. at
-  local words = show_netlink(c, h, at, tree)
+  local words, show_it = show_netlink(c, h, at, tree), is_answer and show_answer or show_message
   if len < h.length then tree:add_proto_expert_info(X.cut, ("%d bytes of %.0f are there"):format(len, h.length)) end
-  if is_answer then
-    local text, of = show_answer(c, h, at + 16, len - 16, tree, pinfo, key)
-    tree:set_text("Linux Traffic Control: NLMSG_ERROR " .. text .. words)
-    return text .. " <- " .. of
-  end
-  local header, about = show_message(c, h, at, len, tree, pinfo, key)
-  tree:set_text("Linux Traffic Control: " .. TYPES[h.type] .. words .. header .. about)
-  return TYPES[h.type] .. about .. header
+  local first, second = show_it(c, h, at, len, tree, pinfo, key)
+  tree:set_text("Linux Traffic Control: " .. (is_answer and "NLMSG_ERROR " .. first .. words or TYPES[h.type] .. words .. first .. second))
+  if not is_answer then mark(c, at, tree, is_action(h.type) and "action_message" or "tc") end
+  c.marks = nil
+  return is_answer and first .. " <- " .. second or TYPES[h.type] .. second .. first
 end
 
--- Shows the netlink messages of a packet. The byte order is the one in which the length of each fits.
+-- Shows the netlink messages of a packet. The byte order is the one in which the length of a message fits.
 local function show_packet(tvb, pinfo, root, at)
-  local c = {tvb = tvb, bytes = tvb:raw(), seen = root.visible, links = link_at(pinfo.number), actions = {}}
-  local shown, more = {}, 0
+  local c, shown, more = {tvb = tvb, bytes = tvb:raw(), seen = root.visible, links = link_at(pinfo.number)}, {}, 0
   while #c.bytes - at >= 16 do
-    local room = #c.bytes - at
-    local big, little = unsigned(c.bytes:sub(at + 1, at + 4)), unsigned(c.bytes:sub(at + 1, at + 4):reverse())
+    local room, first = #c.bytes - at, c.bytes:sub(at + 1, at + 4)
+    local big, little = unsigned(first), unsigned(first:reverse())
     c.little = little >= 16 and little <= room or not (big >= 16 and big <= room)
     local h = header_at(c, at)
     if h.length < 16 then break end
@@ -1822,13 +1761,12 @@ local function show_packet(tvb, pinfo, root, at)
     if words and #shown < 3 then shown[#shown + 1] = words elseif words then more = more + 1 end
     at = at + h.length + -h.length % 4
   end
-  if #shown > 0 then
-    pinfo.cols.protocol = "TC"
-    pinfo.cols.info = table.concat(shown, " | ") .. (more > 0 and (" | and %d more"):format(more) or "")
-  end
+  if #shown == 0 then return end
+  pinfo.cols.protocol = "TC"
+  pinfo.cols.info = table.concat(shown, " | ") .. (more > 0 and (" | and %d more"):format(more) or "")
 end
 
--- Where the netlink messages of route netlink begin in a packet with a cooked header: of LINKTYPE_NETLINK and LINKTYPE_LINUX_SLL, or of SLL2.
+-- Where the messages of route netlink begin in a packet with a cooked header: of LINKTYPE_NETLINK and LINKTYPE_LINUX_SLL, or of SLL2.
 local function messages_in(tvb)
   if tvb:len() < 32 then return nil end
   if tvb(2, 2):uint() == ARPHRD_NETLINK and tvb(14, 2):uint() == NETLINK_ROUTE then return 16 end
@@ -1836,21 +1774,19 @@ local function messages_in(tvb)
 end
 
 -- A post-dissector is called for every packet, which costs even where it does nothing. So it becomes one at the first packet of these link types: until then it
--- is in the place of their dissectors, calls the one that was there, and puts them back.
+-- is in the place of their dissectors; it calls the one that was there, and puts them back.
 local link_types, built_in = DissectorTable.get("wtap_encap"), {}
 for _, number in ipairs({wtap_encaps.NETLINK or 158, wtap_encaps.SLL or 25, wtap_encaps.SLL2 or 210}) do built_in[number] = link_types:get_dissector(number) end
-local function become_post_dissector(tvb, pinfo, root)
+function tc.dissector(tvb, pinfo, root)
+  if not built_in then
+    local at = messages_in(tvb)
+    return at and show_packet(tvb, pinfo, root, at)
+  end
   local first = built_in[pinfo.match]
   for number, dissector in pairs(built_in) do link_types:add(number, dissector) end
   built_in = nil
   register_postdissector(tc)
   if first then pcall(first.call, first, tvb, pinfo, root) end
   return tvb:len()
-end
-
-function tc.dissector(tvb, pinfo, root)
-  if built_in then return become_post_dissector(tvb, pinfo, root) end
-  local at = messages_in(tvb)
-  if at then show_packet(tvb, pinfo, root, at) end
 end
 for number in pairs(built_in) do link_types:add(number, tc) end

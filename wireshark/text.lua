@@ -21,10 +21,8 @@ local function is_utf8(s)
   return true
 end
 
-local function escape(c) return ("\\x%02x"):format(c:byte()) end
-
 -- Bytes as printable ASCII: what is none is escaped, such as \x1b.
-local function clean(s) return (s:gsub("[^ -~]", escape)) end
+local function clean(s) return (s:gsub("[^ -~]", function(c) return ("\\x%02x"):format(c:byte()) end)) end
 
 -- A text as an outline has it: in quotes unless it is a word.
 local function quoted(s)
@@ -32,7 +30,9 @@ local function quoted(s)
   return '"' .. clean((s:gsub('["\\]', "\\%0"))) .. '"'
 end
 
+-- Bytes in hex; for a line as many as it has room for.
 local function hex(s) return (s:gsub(".", function(c) return ("%02x"):format(c:byte()) end)) end
+local function hex_quoted(s) return s == "" and '""' or hex(s:sub(1, 120)) end
 
 -- Digits, multiplied by a small number, and another added.
 local function times(digits, by, plus)
@@ -160,5 +160,5 @@ local function in_unit(unit, s, is_signed, raw)
   if SIGNED[unit] then return SIGNED[unit](digits, sign) end
   if sign == "-" then return "-" .. digits end
   if unit == "hex" or unit == "net_hex" then return "0x" .. hex(s):gsub("^0+(.)", "%1") end
-  return UNSIGNED[unit] and UNSIGNED[unit](digits) or digits
+  return UNSIGNED[unit] and UNSIGNED[unit](digits, "") or digits
 end
