@@ -1,19 +1,16 @@
-
 -- ---- Forms: what the tables say of bytes. What doesn't follow its form is shown raw, as in the JSON and the outlines of tcshow.
 
 local tc = Proto("tc", "Linux Traffic Control")
-local NESTED, TYPE = 0x8000, 0x4000 -- NLA_F_NESTED; above the bits of an attribute's type
-local DEEPEST = 16 -- so deep forms nest; what is deeper is raw
+local NESTED, TYPE, DEEPEST = 0x8000, 0x4000, 16 -- NLA_F_NESTED; above the bits of an attribute's type; so deep forms nest, what is deeper is raw
 local WIDTHS = {u8 = 1, u16 = 2, u32 = 4, u64 = 8, s8 = 1, s16 = 2, s32 = 4, s64 = 8, be16 = 2, be32 = 4, be64 = 8, handle = 4, mac = 6, ipv4 = 4, ipv6 = 16,
   flag = 0, bool = 1}
 local SORTS = {u8 = "uint8", u16 = "uint16", u32 = "uint32", u64 = "uint64", s8 = "int8", s16 = "int16", s32 = "int32", s64 = "int64", be16 = "uint16",
   be32 = "uint32", be64 = "uint64", mac = "ether", ipv4 = "ipv4", ipv6 = "ipv6", handle = "string", text = "string", bare = "string", kind = "string",
   hex = "bytes", bytes = "bytes", pad = "bytes", flag = "bool", bool = "bool", frame = "framenum"}
 
-local function expert_of(name, about, group, severity) return ProtoExpert.new("tc.expert." .. name, about, expert.group[group], expert.severity[severity]) end
-local X = {form = expert_of("form", "Bytes that don't follow their form", "MALFORMED", "ERROR"), cut = expert_of("cut", "Message is cut", "MALFORMED", "ERROR"),
-  unknown = expert_of("unknown", "Not in the table", "UNDECODED", "NOTE"), refused = expert_of("refused", "Refused by the kernel", "RESPONSE_CODE", "ERROR"),
-  warning = expert_of("warning", "Warning of the kernel", "RESPONSE_CODE", "WARN")}
+local X = {form = {"Bytes that don't follow their form", "MALFORMED", "ERROR"}, cut = {"Message is cut", "MALFORMED", "ERROR"},
+  unknown = {"Not in the tables", "UNDECODED", "NOTE"}, refused = {"Refused", "RESPONSE_CODE", "ERROR"}, warning = {"Warning", "RESPONSE_CODE", "WARN"}}
+for name, it in pairs(X) do X[name] = ProtoExpert.new("tc.expert." .. name, it[1], expert.group[it[2]], expert.severity[it[3]]) end
 
 -- Fields are declared once for each name.
 local declared, fields = {}, {}
@@ -41,8 +38,8 @@ local function prepare(n)
   n.width, n.is_leaf = n.width or WIDTHS[n[1]], sort ~= nil
   for _, inner in ipairs(n.parts or {n.inner or n.other}) do prepare(inner) end
   if n.element then n.element = declare(n.element, "none", n.inner[3]) end
-  if not n[2] then return end
-  if sort and sort:find("int") then declare_number(n) else n.field = declare(n[2], sort or "none", n[3]) end
+  if n[2] and sort and sort:find("int") then declare_number(n)
+  elseif n[2] then n.field = declare(n[2], sort or "none", n[3], n.frame and base.NONE or nil, n.frame and frametype[n.frame] or nil) end
 end
 
 -- What a tree has at bytes: an item of a field, with this text if somebody sees it.
@@ -75,7 +72,7 @@ local function number_text(c, n, wire)
   local text = n.unit == "hex" and n.names and #s == 2 and ("0x%04x"):format(v) or in_unit(n.unit, s, is_signed, wire)
   if name then return name .. " (" .. text .. ")" end
   if n.bits and not n.names then return flags(BITS[n.bits], unsigned(s:sub(1, -5)), unsigned(s:sub(-4)), in_unit("hex", s)) end
-  return n.unit == "ifindex" and c.links(v) and text .. " (" .. quoted(c.links(v)) .. ")" or text
+  return n.unit == "ifindex" and c.links[v] and text .. " (" .. quoted(c.links[v]) .. ")" or text
 end
 
 -- Why bytes aren't of a form that holds no others; nil if they are.
@@ -94,7 +91,7 @@ local function value_of(c, n, s)
     local text = handle(unsigned(c.little and s:reverse() or s))
     return text, text
   elseif what == "text" or what == "bare" or what == "kind" then
-    s = (what == "bare" or s:sub(-1) ~= "\0") and s or s:sub(1, -2)
+    s = what == "bare" and s or s:gsub("\0$", "")
     return clean(s), quoted(s)
   elseif what == "flag" or what == "bool" then return s ~= "\0", s ~= "\0" and "true" or "false"
   elseif what == "mac" then return nil, hex(s):gsub("..", "%0:"):sub(1, -2)
@@ -181,8 +178,7 @@ function show.choice(c, n, off, len, tree, kind, left)
   add(c, tree, F.other, off, len, hex_quoted(bytes)):add_proto_expert_info(X.unknown, "a form that isn't in the table")
 end
 
--- Goes through attributes: the type and the word of each, the places of its header and its payload, and the length of that. Of what is no attribute, which is
--- the rest, the type is false.
+-- Goes through attributes: the type and word of each, the places of header and payload, and its length. If the rest is no attribute, its type is false.
 local function attributes(c, off, stop)
   return function()
     if off >= stop then return nil end
@@ -223,8 +219,7 @@ end
 
 -- The text of a kind, without the NUL that may end it; nil if it isn't UTF-8, and then it is none.
 local function kind_at(c, off, len)
-  local s = bytes_of(c, off, len)
-  s = s:sub(-1) == "\0" and s:sub(1, -2) or s
+  local s = bytes_of(c, off, len):gsub("\0$", "")
   return is_utf8(s) and s or nil
 end
 local function own_kind(c, off, len)
@@ -232,22 +227,6 @@ local function own_kind(c, off, len)
     local kind = ty == 1 and kind_at(c, body, size)
     if kind then return kind end
   end
-end
-
--- The form of an attribute that depends on the kind.
-local function form_by(n, kind)
-  for _, sort in ipairs(n.sorts) do
-    local of = KINDS[sort][kind or ""]
-    if of and of[n.which] then return of[n.which] end
-  end
-end
-
--- Shows an attribute that isn't in the table.
-local function show_other(c, at, word, body, size, tree)
-  local item = add(c, tree, F.other, body, size, ("word 0x%04x value %s"):format(word, hex_quoted(bytes_of(c, body, size))))
-  item:add_proto_expert_info(X.unknown, ("type %d isn't in the table"):format(word % TYPE))
-  show_head(c, item, {at = at, word = word})
-  return item
 end
 
 -- The item that a mask or an end is joined with: that of its address or its beginning, if it comes before it and has the usual form.
@@ -265,7 +244,7 @@ end
 
 -- Shows an attribute of the table, by its form or that of the kind. Returns the item, its form, and what a mask or an end may be joined with.
 local function show_row(c, n, head, body, size, tree, kind, left, before)
-  local own = n[1] == "by" and form_by(n, kind)
+  local own = n[1] == "by" and (KINDS[n.kinds][kind] or {})[n.which]
   if n[1] == "by" and not own then n = n.other end
   head.usual = head.usual + ((own or n).nested and NESTED or 0)
   if own then
@@ -289,7 +268,9 @@ function show.list(c, n, off, len, tree, kind, left)
     local row, item, form = LISTS[n.list][ty], nil, {}
     local found = has_kind and ty == 1 and kind_at(c, body, size)
     if not row or found == nil then
-      item, before = show_other(c, at, word, body, size, tree), nil
+      item, before = add(c, tree, F.other, body, size, ("word 0x%04x value %s"):format(word, hex_quoted(bytes_of(c, body, size)))), nil
+      item:add_proto_expert_info(X.unknown, ("type %d isn't in the table"):format(ty))
+      show_head(c, item, {at = at, word = word})
     else
       if found and n[1] == "inforce" then kind = found end
       item, form, before = show_row(c, row[2], {at = at, word = word, kernel = row[1], usual = ty, is_odd = is_odd}, body, size, tree, kind, left, before)

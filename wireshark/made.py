@@ -116,7 +116,8 @@ MARKS = {
     15: ['error: ok', r'message: "a \"warning\"\x1b"', 'cookie: cafe', r'NLMSG_ERROR warning: a "warning"\x1b'],
 }
 FILTERS = [(5, 'tc.refused'), (3, 'tc.error == "EINVAL"'), (5, 'tc.error > 0'), (2, 'tc.extack.miss_type'), (1, 'tc.extack.policy'),
-           (3, 'tc.extack.offset == 72'), (12, 'tc.fq_codel.quantum == 1048576'), (7, 'tc.answer_in'), (7, 'tc.request_in'), (14, 'tc.msg.type == "RTM_NEWQDISC"')]
+           (3, 'tc.extack.offset == 72'), (12, 'tc.fq_codel.quantum == 1048576'), (7, 'tc.answer_in'), (7, 'tc.request_in'),
+           (14, 'tc.msg.type == "RTM_NEWQDISC"')]
 
 
 # ---- changed and broken ones

@@ -2,15 +2,9 @@
 
 local NLMSG_ERROR, RTM_NEWLINK, IFLA_IFNAME, ARPHRD_NETLINK, NETLINK_ROUTE = 2, 16, 3, 824, 0
 local NLM_F_CAPPED, NLM_F_ACK_TLVS, NLM_F_ROOT = 0x100, 0x200, 0x100
-local TYPES = {}
-for first, name in pairs({[36] = "QDISC", [40] = "TCLASS", [44] = "TFILTER", [48] = "ACTION", [100] = "CHAIN"}) do
-  for i, verb in ipairs({"NEW", "DEL", "GET"}) do TYPES[first + i - 1] = "RTM_" .. verb .. name end
-end
-NAMES.message_type = {[NLMSG_ERROR] = "NLMSG_ERROR"}
-for ty, name in pairs(TYPES) do NAMES.message_type[ty] = name end
 local FLAGS = {{0x01, "request"}, {0x02, "multi"}, {0x04, "ack"}, {0x08, "echo"}, {0x10, "dump_intr"}, {0x20, "dump_filtered"}}
-local FLAGS_OF = {NEW = {{0x400, "create"}, {0x200, "excl"}, {0x100, "replace"}, {0x800, "append"}}, GET = {{0x100, "root"}, {0x200, "match"}, {0x400, "atomic"}},
-  DEL = {{0x100, "nonrec"}, {0x200, "bulk"}}, FLUSH = {{0x100, "root"}}, ANSWER = {{0x100, "capped"}, {0x200, "ack_tlvs"}}}
+local FLAGS_OF = {NEW = {{0x400, "create"}, {0x200, "excl"}, {0x100, "replace"}, {0x800, "append"}}, DEL = {{0x100, "nonrec"}, {0x200, "bulk"}},
+  GET = {{0x100, "root"}, {0x200, "match"}, {0x400, "atomic"}}, FLUSH = {{0x100, "root"}}, ANSWER = {{0x100, "capped"}, {0x200, "ack_tlvs"}}}
 
 local EXTACK = {"list", false, "extack", list = "extack"}
 local BODIES = {tc = {"inforce", false, "", list = "tc"}, action = {"list", false, "", list = "action_message"}}
@@ -28,29 +22,17 @@ local function forget() asked, answers, requests, links = {}, {}, {}, {} end
 tc.init = forget
 forget()
 
--- Keeps the name of an interface in a message of the kernel, with the frame from which on it is known.
-local function learn(c, off, len, frame)
-  local index, name = len >= 16 and number_at(c, off + 4, 4), nil
-  for ty, _, _, body, size in attributes(c, off + 16, off + len) do
-    if ty == IFLA_IFNAME then name = kind_at(c, body, size) end
-  end
-  if not index or not name or name == "" then return end
-  links[index] = links[index] or {}
-  table.insert(links[index], {frame = frame, name = name})
-end
-
--- The name of an interface at a frame; before any is known, the first.
-local function link_at(frame)
-  return function(index)
-    local found = links[index] and links[index][1]
-    for _, it in ipairs(links[index] or {}) do if it.frame <= frame then found = it end end
-    return found and found.name
+-- Keeps the name of an interface in a message of the kernel; the last counts.
+local function learn(c, off, stop)
+  for ty, _, _, body, size in attributes(c, off + 16, stop) do
+    if ty == IFLA_IFNAME then links[number_at(c, off + 4, 4)] = kind_at(c, body, size) end
   end
 end
 
 -- A netlink header.
 local function header_at(c, at)
-  return {length = number_at(c, at, 4), type = number_at(c, at + 4, 2), flags = number_at(c, at + 6, 2), seq = number_at(c, at + 8, 4), port = number_at(c, at + 12, 4)}
+  local function u32(off) return number_at(c, at + off, 4) end
+  return {length = u32(0), type = number_at(c, at + 4, 2), flags = number_at(c, at + 6, 2), seq = u32(8), port = u32(12)}
 end
 local function has(flags, bit) return math.floor(flags / bit) % 2 == 1 end
 local function is_action(ty) return ty >= 48 and ty <= 50 end
@@ -167,17 +149,15 @@ local function show_message(c, h, at, len, tree, pinfo, key)
   if h.flags % 2 == 1 and not pinfo.visited then asked[bytes_of(c, at, 16)] = {frame = pinfo.number, key = key} end
   if answer then tree:add(F.answer_in.field, answer.frame):set_generated() end
   if answer and answer.errno > 0 then
-    local item = tree:add(F.refused.field):set_text("refused: " .. answer.text):set_generated()
-    item:add_proto_expert_info(X.refused, answer.text)
+    tree:add(F.refused.field):set_text("refused: " .. answer.text):set_generated():add_proto_expert_info(X.refused, answer.text)
   end
-  local header, about = show_body(c, h, at, len - 16, tree, answer and answer.marks)
-  return header, about
+  return show_body(c, h, at, len - 16, tree, answer and answer.marks)
 end
 
 -- Shows the netlink message at a place: a tree of its own if it is traffic control, or answers it. Returns its words for the list of packets.
 local function show_one(c, h, at, len, root, pinfo)
   local is_answer = h.type == NLMSG_ERROR and len >= 36 and TYPES[number_at(c, at + 24, 2)]
-  if h.type == RTM_NEWLINK and h.flags % 2 == 0 and not pinfo.visited then learn(c, at + 16, len - 16, pinfo.number) end
+  if h.type == RTM_NEWLINK and h.flags % 2 == 0 and not pinfo.visited then learn(c, at + 16, at + len) end
   if not TYPES[h.type] and not is_answer then return nil end
   local tree, key = root:add(tc, c.tvb(at, len)), pinfo.number .. ":" .. at
   local words, show_it = show_netlink(c, h, at, tree), is_answer and show_answer or show_message
@@ -191,7 +171,7 @@ end
 
 -- Shows the netlink messages of a packet. The byte order is the one in which the length of a message fits.
 local function show_packet(tvb, pinfo, root, at)
-  local c, shown, more = {tvb = tvb, bytes = tvb:raw(), seen = root.visible, links = link_at(pinfo.number)}, {}, 0
+  local c, shown, more = {tvb = tvb, bytes = tvb:raw(), seen = root.visible, links = links}, {}, 0
   while #c.bytes - at >= 16 do
     local room, first = #c.bytes - at, c.bytes:sub(at + 1, at + 4)
     local big, little = unsigned(first), unsigned(first:reverse())

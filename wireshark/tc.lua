@@ -61,6 +61,8 @@ local BITS = {
   taprio_flag = {{1, "txtime_assist"}, {2, "full_offload"}},
 }
 NAMES.errno = {[1] = "EPERM", [2] = "ENOENT", [3] = "ESRCH", [4] = "EINTR", [5] = "EIO", [6] = "ENXIO", [7] = "E2BIG", [8] = "ENOEXEC", [9] = "EBADF", [10] = "ECHILD", [11] = "EAGAIN", [12] = "ENOMEM", [13] = "EACCES", [14] = "EFAULT", [15] = "ENOTBLK", [16] = "EBUSY", [17] = "EEXIST", [18] = "EXDEV", [19] = "ENODEV", [20] = "ENOTDIR", [21] = "EISDIR", [22] = "EINVAL", [23] = "ENFILE", [24] = "EMFILE", [25] = "ENOTTY", [26] = "ETXTBSY", [27] = "EFBIG", [28] = "ENOSPC", [29] = "ESPIPE", [30] = "EROFS", [31] = "EMLINK", [32] = "EPIPE", [33] = "EDOM", [34] = "ERANGE", [35] = "EDEADLK", [36] = "ENAMETOOLONG", [37] = "ENOLCK", [38] = "ENOSYS", [39] = "ENOTEMPTY", [40] = "ELOOP", [42] = "ENOMSG", [43] = "EIDRM", [44] = "ECHRNG", [45] = "EL2NSYNC", [46] = "EL3HLT", [47] = "EL3RST", [48] = "ELNRNG", [49] = "EUNATCH", [50] = "ENOCSI", [51] = "EL2HLT", [52] = "EBADE", [53] = "EBADR", [54] = "EXFULL", [55] = "ENOANO", [56] = "EBADRQC", [57] = "EBADSLT", [59] = "EBFONT", [60] = "ENOSTR", [61] = "ENODATA", [62] = "ETIME", [63] = "ENOSR", [64] = "ENONET", [65] = "ENOPKG", [66] = "EREMOTE", [67] = "ENOLINK", [68] = "EADV", [69] = "ESRMNT", [70] = "ECOMM", [71] = "EPROTO", [72] = "EMULTIHOP", [73] = "EDOTDOT", [74] = "EBADMSG", [75] = "EOVERFLOW", [76] = "ENOTUNIQ", [77] = "EBADFD", [78] = "EREMCHG", [79] = "ELIBACC", [80] = "ELIBBAD", [81] = "ELIBSCN", [82] = "ELIBMAX", [83] = "ELIBEXEC", [84] = "EILSEQ", [85] = "ERESTART", [86] = "ESTRPIPE", [87] = "EUSERS", [88] = "ENOTSOCK", [89] = "EDESTADDRREQ", [90] = "EMSGSIZE", [91] = "EPROTOTYPE", [92] = "ENOPROTOOPT", [93] = "EPROTONOSUPPORT", [94] = "ESOCKTNOSUPPORT", [95] = "EOPNOTSUPP", [96] = "EPFNOSUPPORT", [97] = "EAFNOSUPPORT", [98] = "EADDRINUSE", [99] = "EADDRNOTAVAIL", [100] = "ENETDOWN", [101] = "ENETUNREACH", [102] = "ENETRESET", [103] = "ECONNABORTED", [104] = "ECONNRESET", [105] = "ENOBUFS", [106] = "EISCONN", [107] = "ENOTCONN", [108] = "ESHUTDOWN", [109] = "ETOOMANYREFS", [110] = "ETIMEDOUT", [111] = "ECONNREFUSED", [112] = "EHOSTDOWN", [113] = "EHOSTUNREACH", [114] = "EALREADY", [115] = "EINPROGRESS", [116] = "ESTALE", [117] = "EUCLEAN", [118] = "ENOTNAM", [119] = "ENAVAIL", [120] = "EISNAM", [121] = "EREMOTEIO", [122] = "EDQUOT", [123] = "ENOMEDIUM", [124] = "EMEDIUMTYPE", [125] = "ECANCELED", [126] = "ENOKEY", [127] = "EKEYEXPIRED", [128] = "EKEYREVOKED", [129] = "EKEYREJECTED", [130] = "EOWNERDEAD", [131] = "ENOTRECOVERABLE", [132] = "ERFKILL", [133] = "EHWPOISON", [524] = "ENOTSUPP"}
+NAMES.message_type = {[36] = "RTM_NEWQDISC", [37] = "RTM_DELQDISC", [38] = "RTM_GETQDISC", [40] = "RTM_NEWTCLASS", [41] = "RTM_DELTCLASS", [42] = "RTM_GETTCLASS", [44] = "RTM_NEWTFILTER", [45] = "RTM_DELTFILTER", [46] = "RTM_GETTFILTER", [48] = "RTM_NEWACTION", [49] = "RTM_DELACTION", [50] = "RTM_GETACTION", [100] = "RTM_NEWCHAIN", [101] = "RTM_DELCHAIN", [102] = "RTM_GETCHAIN", [2] = "NLMSG_ERROR"}
+local TYPES = {[36] = "RTM_NEWQDISC", [37] = "RTM_DELQDISC", [38] = "RTM_GETQDISC", [40] = "RTM_NEWTCLASS", [41] = "RTM_DELTCLASS", [42] = "RTM_GETTCLASS", [44] = "RTM_NEWTFILTER", [45] = "RTM_DELTFILTER", [46] = "RTM_GETTFILTER", [48] = "RTM_NEWACTION", [49] = "RTM_DELACTION", [50] = "RTM_GETACTION", [100] = "RTM_NEWCHAIN", [101] = "RTM_DELCHAIN", [102] = "RTM_GETCHAIN"}
 local LISTS = {
   extack = {
     [1] = {"NLMSGERR_ATTR_MSG", {"text", "tc.extack.message", "message"}},
@@ -86,7 +88,7 @@ local LISTS = {
   },
   action = {
     [1] = {"TCA_ACT_KIND", {"kind", "tc.action.kind", "kind"}},
-    [2] = {"TCA_ACT_OPTIONS", {"by", "tc.action.options", "options", which="options", sorts={"action"}, other={"list", "tc.action.options", "options", list="unknown", nested=true}}},
+    [2] = {"TCA_ACT_OPTIONS", {"by", "tc.action.options", "options", which="options", kinds="action", other={"list", "tc.action.options", "options", list="unknown", nested=true}}},
     [3] = {"TCA_ACT_INDEX", {"u32", "tc.action.index", "index"}},
     [4] = {"TCA_ACT_STATS", {"list", "tc.action.stats", "stats", list="stats"}},
     [5] = {"TCA_ACT_PAD", {"flag", "tc.action.pad", "pad"}},
@@ -606,9 +608,9 @@ local LISTS = {
   },
   tc = {
     [1] = {"TCA_KIND", {"kind", "tc.kind", "kind"}},
-    [2] = {"TCA_OPTIONS", {"by", "tc.options", "options", which="options", sorts={"qdisc", "filter"}, other={"hex", "tc.options_raw", "options_raw"}}},
+    [2] = {"TCA_OPTIONS", {"by", "tc.options", "options", which="options", kinds="tc", other={"hex", "tc.options_raw", "options_raw"}}},
     [3] = {"TCA_STATS", {"struct", "tc.stats", "stats", width=40, least=40, parts={{"u64", "tc.stats.bytes", "bytes", unit="bytes"}, {"u32", "tc.stats.packets", "packets", unit="packets"}, {"u32", "tc.stats.drops", "drops", unit="packets"}, {"u32", "tc.stats.overlimits", "overlimits"}, {"u32", "tc.stats.bps", "bps", unit="bytes/s"}, {"u32", "tc.stats.pps", "pps", unit="packets/s"}, {"u32", "tc.stats.qlen", "qlen", unit="packets"}, {"u32", "tc.stats.backlog", "backlog", unit="bytes"}, {"pad", "tc.stats.padding", "padding", width=4}}}},
-    [4] = {"TCA_XSTATS", {"by", "tc.xstats", "xstats", which="statistics", sorts={"qdisc"}, other={"choice", "tc.xstats", "xstats", parts={}}}},
+    [4] = {"TCA_XSTATS", {"by", "tc.xstats", "xstats", which="statistics", kinds="tc", other={"choice", "tc.xstats", "xstats", parts={}}}},
     [5] = {"TCA_RATE", {"struct", "tc.rate", "rate", width=2, least=2, parts={{"s8", "tc.rate.interval", "interval", unit="log2"}, {"u8", "tc.rate.ewma_log", "ewma_log", unit="log2"}}}},
     [6] = {"TCA_FCNT", {"u32", "tc.fcnt", "fcnt"}},
     [7] = {"TCA_STATS2", {"list", "tc.stats2", "stats2", list="stats"}},
@@ -969,7 +971,7 @@ local LISTS = {
     [1] = {"TCA_STATS_BASIC", {"struct", "tc.stats.basic", "basic", width=16, least=16, parts={{"u64", "tc.stats.basic.bytes", "bytes", unit="bytes"}, {"u32", "tc.stats.basic.packets", "packets", unit="packets"}, {"pad", "tc.stats.basic.padding", "padding", width=4}}}},
     [2] = {"TCA_STATS_RATE_EST", {"struct", "tc.stats.rate_est", "rate_est", width=8, least=8, parts={{"u32", "tc.stats.rate_est.bps", "bps", unit="bytes/s"}, {"u32", "tc.stats.rate_est.pps", "pps", unit="packets/s"}}}},
     [3] = {"TCA_STATS_QUEUE", {"struct", "tc.stats.queue", "queue", width=20, least=20, parts={{"u32", "tc.stats.queue.qlen", "qlen", unit="packets"}, {"u32", "tc.stats.queue.backlog", "backlog", unit="bytes"}, {"u32", "tc.stats.queue.drops", "drops", unit="packets"}, {"u32", "tc.stats.queue.requeues", "requeues", unit="packets"}, {"u32", "tc.stats.queue.overlimits", "overlimits"}}}},
-    [4] = {"TCA_STATS_APP", {"by", "tc.stats.app", "app", which="statistics", sorts={"qdisc"}, other={"choice", "tc.stats.app", "app", parts={}}}},
+    [4] = {"TCA_STATS_APP", {"by", "tc.stats.app", "app", which="statistics", kinds="tc", other={"choice", "tc.stats.app", "app", parts={}}}},
     [5] = {"TCA_STATS_RATE_EST64", {"struct", "tc.stats.rate_est64", "rate_est64", width=16, least=16, parts={{"u64", "tc.stats.rate_est64.bps", "bps", unit="bytes/s"}, {"u64", "tc.stats.rate_est64.pps", "pps", unit="packets/s"}}}},
     [6] = {"TCA_STATS_PAD", {"flag", "tc.stats.pad", "pad"}},
     [7] = {"TCA_STATS_BASIC_HW", {"struct", "tc.stats.basic_hw", "basic_hw", width=16, least=16, parts={{"u64", "tc.stats.basic_hw.bytes", "bytes", unit="bytes"}, {"u32", "tc.stats.basic_hw.packets", "packets", unit="packets"}, {"pad", "tc.stats.basic_hw.padding", "padding", width=4}}}},
@@ -991,11 +993,11 @@ local F = {
   protocol = {"u16", "tc.protocol", "protocol", unit="hex", names="eth_p"},
   error = {"u32", "tc.error", "error", names="errno"},
   request = {"none", "tc.request", "request"},
-  request_in = {"frame", "tc.request_in", "Request in"},
-  answer_in = {"frame", "tc.answer_in", "Answer in"},
+  request_in = {"frame", "tc.request_in", "Request in", frame="REQUEST"},
+  answer_in = {"frame", "tc.answer_in", "Answer in", frame="RESPONSE"},
   refused = {"none", "tc.refused", "refused"},
 }
-local KINDS = {qdisc = {}, filter = {}, action = {}}
+local KINDS = {tc = {}, action = {}}
 KINDS.action.bpf = {options={"list", false, "", list="act_bpf", nested=true}}
 KINDS.action.connmark = {options={"list", false, "", list="connmark", nested=true}}
 KINDS.action.csum = {options={"list", false, "", list="csum", nested=true}}
@@ -1017,84 +1019,71 @@ KINDS.action.skbedit = {options={"list", false, "", list="skbedit", nested=true}
 KINDS.action.skbmod = {options={"list", false, "", list="skbmod", nested=true}}
 KINDS.action.tunnel_key = {options={"list", false, "", list="tunnel_key", nested=true}}
 KINDS.action.vlan = {options={"list", false, "", list="vlan", nested=true}}
-KINDS.filter.basic = {options={"list", false, "", list="basic"}}
-KINDS.filter.bpf = {options={"list", false, "", list="bpf"}}
-KINDS.filter.cgroup = {options={"list", false, "", list="cgroup"}}
-KINDS.filter.flow = {options={"list", false, "", list="flow"}}
-KINDS.filter.flower = {options={"list", false, "", list="flower"}}
-KINDS.filter.fw = {options={"list", false, "", list="fw"}}
-KINDS.filter.matchall = {options={"list", false, "", list="matchall"}}
-KINDS.filter.route = {options={"list", false, "", list="route"}}
-KINDS.filter.rsvp = {options={"list", false, "", list="rsvp"}}
-KINDS.filter.rsvp6 = {options={"list", false, "", list="rsvp6"}}
-KINDS.filter.tcindex = {options={"list", false, "", list="tcindex"}}
-KINDS.filter.u32 = {options={"list", false, "", list="u32"}}
-KINDS.qdisc.atm = {options={"list", false, "", list="atm"}}
-KINDS.qdisc.cake = {options={"list", false, "", list="cake"}, statistics={"list", false, "", list="cake_stats"}}
-KINDS.qdisc.cbq = {options={"list", false, "", list="cbq"}, statistics={"struct", false, "", width=16, least=16, parts={{"u32", "tc.cbq.xstats.borrows", "borrows"}, {"u32", "tc.cbq.xstats.overactions", "overactions"}, {"s32", "tc.cbq.xstats.avgidle", "avgidle"}, {"s32", "tc.cbq.xstats.undertime", "undertime"}}}}
-KINDS.qdisc.cbs = {options={"list", false, "", list="cbs"}}
-KINDS.qdisc.choke = {options={"list", false, "", list="choke"}, statistics={"struct", false, "", width=20, least=20, parts={{"u32", "tc.choke.xstats.early", "early"}, {"u32", "tc.choke.xstats.pdrop", "pdrop"}, {"u32", "tc.choke.xstats.other", "other"}, {"u32", "tc.choke.xstats.marked", "marked"}, {"u32", "tc.choke.xstats.matched", "matched"}}}}
-KINDS.qdisc.codel = {options={"list", false, "", list="codel"}, statistics={"struct", false, "", width=36, least=36, parts={{"u32", "tc.codel.xstats.maxpacket", "maxpacket"}, {"u32", "tc.codel.xstats.count", "count"}, {"u32", "tc.codel.xstats.lastcount", "lastcount"}, {"u32", "tc.codel.xstats.ldelay", "ldelay", unit="us"}, {"s32", "tc.codel.xstats.drop_next", "drop_next", unit="us"}, {"u32", "tc.codel.xstats.drop_overlimit", "drop_overlimit"}, {"u32", "tc.codel.xstats.ecn_mark", "ecn_mark"}, {"u32", "tc.codel.xstats.dropping", "dropping"}, {"u32", "tc.codel.xstats.ce_mark", "ce_mark"}}}}
-KINDS.qdisc.drr = {options={"list", false, "", list="drr"}, statistics={"struct", false, "", width=4, least=4, parts={{"u32", "tc.drr.xstats.deficit", "deficit"}}}}
-KINDS.qdisc.dsmark = {options={"list", false, "", list="dsmark"}}
-KINDS.qdisc.etf = {options={"list", false, "", list="etf"}}
-KINDS.qdisc.ets = {options={"list", false, "", list="ets", nested=true}}
-KINDS.qdisc.pfifo = {options={"struct", false, "", width=4, least=4, parts={{"u32", "tc.pfifo.limit", "limit", unit="packets"}}}}
-KINDS.qdisc.pfifo_head_drop = KINDS.qdisc.pfifo
-KINDS.qdisc.bfifo = {options={"struct", false, "", width=4, least=4, parts={{"u32", "tc.bfifo.limit", "limit", unit="bytes"}}}}
-KINDS.qdisc.fq = {options={"list", false, "", list="fq"}, statistics={"struct", false, "", least=104, parts={{"u64", "tc.fq.xstats.gc_flows", "gc_flows"}, {"u64", "tc.fq.xstats.highprio_packets", "highprio_packets"}, {"u64", "tc.fq.xstats.tcp_retrans", "tcp_retrans"}, {"u64", "tc.fq.xstats.throttled", "throttled"}, {"u64", "tc.fq.xstats.flows_plimit", "flows_plimit"}, {"u64", "tc.fq.xstats.pkts_too_long", "pkts_too_long"}, {"u64", "tc.fq.xstats.allocation_errors", "allocation_errors"}, {"s64", "tc.fq.xstats.time_next_delayed_flow", "time_next_delayed_flow", unit="ns"}, {"u32", "tc.fq.xstats.flows", "flows"}, {"u32", "tc.fq.xstats.inactive_flows", "inactive_flows"}, {"u32", "tc.fq.xstats.throttled_flows", "throttled_flows"}, {"u32", "tc.fq.xstats.unthrottle_latency_ns", "unthrottle_latency_ns", unit="ns"}, {"u64", "tc.fq.xstats.ce_mark", "ce_mark"}, {"u64", "tc.fq.xstats.horizon_drops", "horizon_drops"}, {"u64", "tc.fq.xstats.horizon_caps", "horizon_caps"}, {"array", false, "since_6_7", inner={"struct", "tc.fq.xstats.since_6_7", "since", width=48, least=48, parts={{"u64", "tc.fq.xstats.since_6_7.fastpath_packets", "fastpath_packets"}, {"array", false, "band_drops", inner={"u64", "tc.fq.xstats.since_6_7.band_drops", "band_drops"}, width=24}, {"array", false, "band_pkt_count", inner={"u32", "tc.fq.xstats.since_6_7.band_pkt_count", "band_pkt_count"}, width=12}, {"pad", "tc.fq.xstats.since_6_7.pad", "pad", width=4}}}}}}}
-KINDS.qdisc.fq_codel = {options={"list", false, "", list="fq_codel"}, statistics={"choice", false, "", parts={{"struct", false, "qdisc", prefix="\000\000\000\000", width=36, least=36, parts={{"u32", "tc.fq_codel.xstats.qdisc.maxpacket", "maxpacket", unit="bytes"}, {"u32", "tc.fq_codel.xstats.qdisc.drop_overlimit", "drop_overlimit", unit="packets"}, {"u32", "tc.fq_codel.xstats.qdisc.ecn_mark", "ecn_mark", unit="packets"}, {"u32", "tc.fq_codel.xstats.qdisc.new_flow_count", "new_flow_count"}, {"u32", "tc.fq_codel.xstats.qdisc.new_flows_len", "new_flows_len"}, {"u32", "tc.fq_codel.xstats.qdisc.old_flows_len", "old_flows_len"}, {"u32", "tc.fq_codel.xstats.qdisc.ce_mark", "ce_mark", unit="packets"}, {"u32", "tc.fq_codel.xstats.qdisc.memory_usage", "memory_usage", unit="bytes"}, {"u32", "tc.fq_codel.xstats.qdisc.drop_overmemory", "drop_overmemory", unit="packets"}}}, {"struct", false, "class", prefix="\001\000\000\000", width=24, least=24, parts={{"s32", "tc.fq_codel.xstats.class.deficit", "deficit", unit="bytes"}, {"u32", "tc.fq_codel.xstats.class.ldelay", "ldelay", unit="us"}, {"u32", "tc.fq_codel.xstats.class.count", "count"}, {"u32", "tc.fq_codel.xstats.class.lastcount", "lastcount"}, {"u32", "tc.fq_codel.xstats.class.dropping", "dropping"}, {"s32", "tc.fq_codel.xstats.class.drop_next", "drop_next", unit="us"}}}}}}
-KINDS.qdisc.fq_pie = {options={"list", false, "", list="fq_pie", nested=true}, statistics={"struct", false, "", width=36, least=36, parts={{"u32", "tc.fq_pie.xstats.packets_in", "packets_in"}, {"u32", "tc.fq_pie.xstats.dropped", "dropped"}, {"u32", "tc.fq_pie.xstats.overlimit", "overlimit"}, {"u32", "tc.fq_pie.xstats.overmemory", "overmemory"}, {"u32", "tc.fq_pie.xstats.ecn_mark", "ecn_mark"}, {"u32", "tc.fq_pie.xstats.new_flow_count", "new_flow_count"}, {"u32", "tc.fq_pie.xstats.new_flows_len", "new_flows_len"}, {"u32", "tc.fq_pie.xstats.old_flows_len", "old_flows_len"}, {"u32", "tc.fq_pie.xstats.memory_usage", "memory_usage"}}}}
-KINDS.qdisc.gred = {options={"list", false, "", list="gred"}}
-KINDS.qdisc.hfsc = {options={"choice", false, "", parts={{"struct", false, "qdisc", length=2, width=2, least=2, parts={{"u16", "tc.hfsc.qdisc.defcls", "defcls", unit="hex"}}}, {"list", false, "class", list="hfsc"}}}, statistics={"struct", false, "", width=24, least=24, parts={{"u64", "tc.hfsc.xstats.work", "work", unit="bytes"}, {"u64", "tc.hfsc.xstats.rtwork", "rtwork", unit="bytes"}, {"u32", "tc.hfsc.xstats.period", "period"}, {"u32", "tc.hfsc.xstats.level", "level"}}}}
-KINDS.qdisc.hhf = {options={"list", false, "", list="hhf"}, statistics={"struct", false, "", width=16, least=16, parts={{"u32", "tc.hhf.xstats.drop_overlimit", "drop_overlimit"}, {"u32", "tc.hhf.xstats.hh_overlimit", "hh_overlimit"}, {"u32", "tc.hhf.xstats.hh_tot_count", "hh_tot_count"}, {"u32", "tc.hhf.xstats.hh_cur_count", "hh_cur_count"}}}}
-KINDS.qdisc.htb = {options={"list", false, "", list="htb"}, statistics={"struct", false, "", width=20, least=20, parts={{"u32", "tc.htb.xstats.lends", "lends"}, {"u32", "tc.htb.xstats.borrows", "borrows"}, {"u32", "tc.htb.xstats.giants", "giants"}, {"s32", "tc.htb.xstats.tokens", "tokens", unit="ticks"}, {"s32", "tc.htb.xstats.ctokens", "ctokens", unit="ticks"}}}}
-KINDS.qdisc.ingress = {options={"list", false, "", list="ingress"}}
-KINDS.qdisc.mqprio = {options={"struct", false, "", least=84, parts={{"u8", "tc.mqprio.num_tc", "num_tc"}, {"array", false, "prio_tc_map", inner={"u8", "tc.mqprio.prio_tc_map", "prio_tc_map"}, width=16}, {"u8", "tc.mqprio.hw", "hw"}, {"array", false, "count", inner={"u16", "tc.mqprio.count", "count"}, width=32}, {"array", false, "offset", inner={"u16", "tc.mqprio.offset", "offset"}, width=32}, {"pad", "tc.mqprio.padding", "padding", width=2}, {"list", false, "attributes", list="mqprio"}}}}
-KINDS.qdisc.multiq = {options={"struct", false, "", width=4, least=4, parts={{"u16", "tc.multiq.bands", "bands"}, {"u16", "tc.multiq.max_bands", "max_bands"}}}}
-KINDS.qdisc.netem = {options={"struct", false, "", least=24, parts={{"u32", "tc.netem.latency", "latency", unit="ticks"}, {"u32", "tc.netem.limit", "limit", unit="packets"}, {"u32", "tc.netem.loss", "loss", unit="probability"}, {"u32", "tc.netem.gap", "gap", unit="packets"}, {"u32", "tc.netem.duplicate", "duplicate", unit="probability"}, {"u32", "tc.netem.jitter", "jitter", unit="ticks"}, {"list", false, "attributes", list="netem"}}}}
-KINDS.qdisc.noop = {options={"list", false, "", list="no_options"}}
-KINDS.qdisc.noqueue = KINDS.qdisc.noop
-KINDS.qdisc.blackhole = KINDS.qdisc.noop
-KINDS.qdisc.mq = KINDS.qdisc.noop
-KINDS.qdisc.teql0 = KINDS.qdisc.noop
-KINDS.qdisc.clsact = {options={"list", false, "", list="no_options"}}
-KINDS.qdisc.pie = {options={"list", false, "", list="pie"}, statistics={"struct", false, "", width=40, least=40, parts={{"u64", "tc.pie.xstats.prob", "prob"}, {"u32", "tc.pie.xstats.delay", "delay", unit="us"}, {"u32", "tc.pie.xstats.avg_dq_rate", "avg_dq_rate", unit="bytes/s"}, {"u32", "tc.pie.xstats.dq_rate_estimating", "dq_rate_estimating"}, {"u32", "tc.pie.xstats.packets_in", "packets_in"}, {"u32", "tc.pie.xstats.dropped", "dropped"}, {"u32", "tc.pie.xstats.overlimit", "overlimit"}, {"u32", "tc.pie.xstats.maxq", "maxq"}, {"u32", "tc.pie.xstats.ecn_mark", "ecn_mark"}}}}
-KINDS.qdisc.plug = {options={"struct", false, "", width=8, least=8, parts={{"s32", "tc.plug.action", "action", enum="tcq_plug"}, {"u32", "tc.plug.limit", "limit", unit="bytes"}}}}
-KINDS.qdisc.prio = {options={"struct", false, "", least=20, parts={{"s32", "tc.prio.bands", "bands"}, {"array", false, "priomap", inner={"u8", "tc.prio.priomap", "priomap"}, width=16}, {"list", false, "attributes", list="prio"}}}}
-KINDS.qdisc.rr = KINDS.qdisc.prio
-KINDS.qdisc.pfifo_fast = {options={"struct", false, "", width=20, least=20, parts={{"s32", "tc.pfifo_fast.bands", "bands"}, {"array", false, "priomap", inner={"u8", "tc.pfifo_fast.priomap", "priomap"}, width=16}}}}
-KINDS.qdisc.qfq = {options={"list", false, "", list="qfq"}, statistics={"struct", false, "", width=8, least=8, parts={{"u32", "tc.qfq.xstats.weight", "weight"}, {"u32", "tc.qfq.xstats.lmax", "lmax", unit="bytes"}}}}
-KINDS.qdisc.red = {options={"list", false, "", list="red"}, statistics={"struct", false, "", width=16, least=16, parts={{"u32", "tc.red.xstats.early", "early", unit="packets"}, {"u32", "tc.red.xstats.pdrop", "pdrop", unit="packets"}, {"u32", "tc.red.xstats.other", "other", unit="packets"}, {"u32", "tc.red.xstats.marked", "marked", unit="packets"}}}}
-KINDS.qdisc.sfb = {options={"list", false, "", list="sfb"}, statistics={"struct", false, "", width=36, least=36, parts={{"u32", "tc.sfb.xstats.earlydrop", "earlydrop"}, {"u32", "tc.sfb.xstats.penaltydrop", "penaltydrop"}, {"u32", "tc.sfb.xstats.bucketdrop", "bucketdrop"}, {"u32", "tc.sfb.xstats.queuedrop", "queuedrop"}, {"u32", "tc.sfb.xstats.childdrop", "childdrop"}, {"u32", "tc.sfb.xstats.marked", "marked"}, {"u32", "tc.sfb.xstats.maxqlen", "maxqlen", unit="packets"}, {"u32", "tc.sfb.xstats.maxprob", "maxprob"}, {"u32", "tc.sfb.xstats.avgprob", "avgprob"}}}}
-KINDS.qdisc.sfq = {options={"choice", false, "", parts={{"struct", false, "qopt", length=20, width=20, least=20, parts={{"u32", "tc.sfq.qopt.quantum", "quantum", unit="bytes"}, {"s32", "tc.sfq.qopt.perturb_period", "perturb_period", unit="s"}, {"u32", "tc.sfq.qopt.limit", "limit", unit="packets"}, {"u32", "tc.sfq.qopt.divisor", "divisor"}, {"u32", "tc.sfq.qopt.flows", "flows"}}}, {"struct", false, "qopt_v1", length=72, width=72, least=72, parts={{"struct", "tc.sfq.qopt_v1.v0", "v0", width=20, least=20, parts={{"u32", "tc.sfq.qopt_v1.v0.quantum", "quantum", unit="bytes"}, {"s32", "tc.sfq.qopt_v1.v0.perturb_period", "perturb_period", unit="s"}, {"u32", "tc.sfq.qopt_v1.v0.limit", "limit", unit="packets"}, {"u32", "tc.sfq.qopt_v1.v0.divisor", "divisor"}, {"u32", "tc.sfq.qopt_v1.v0.flows", "flows"}}}, {"u32", "tc.sfq.qopt_v1.depth", "depth", unit="packets"}, {"u32", "tc.sfq.qopt_v1.headdrop", "headdrop"}, {"u32", "tc.sfq.qopt_v1.limit", "limit", unit="bytes"}, {"u32", "tc.sfq.qopt_v1.qth_min", "qth_min", unit="bytes"}, {"u32", "tc.sfq.qopt_v1.qth_max", "qth_max", unit="bytes"}, {"u8", "tc.sfq.qopt_v1.wlog", "Wlog", unit="log2"}, {"u8", "tc.sfq.qopt_v1.plog", "Plog", unit="log2"}, {"u8", "tc.sfq.qopt_v1.scell_log", "Scell_log", unit="log2"}, {"u8", "tc.sfq.qopt_v1.flags", "flags", bits="tc_red"}, {"u32", "tc.sfq.qopt_v1.max_p", "max_P", unit="probability"}, {"struct", "tc.sfq.qopt_v1.stats", "stats", width=24, least=24, parts={{"u32", "tc.sfq.qopt_v1.stats.prob_drop", "prob_drop", unit="packets"}, {"u32", "tc.sfq.qopt_v1.stats.forced_drop", "forced_drop", unit="packets"}, {"u32", "tc.sfq.qopt_v1.stats.prob_mark", "prob_mark", unit="packets"}, {"u32", "tc.sfq.qopt_v1.stats.forced_mark", "forced_mark", unit="packets"}, {"u32", "tc.sfq.qopt_v1.stats.prob_mark_head", "prob_mark_head", unit="packets"}, {"u32", "tc.sfq.qopt_v1.stats.forced_mark_head", "forced_mark_head", unit="packets"}}}}}}}, statistics={"struct", false, "", width=4, least=4, parts={{"s32", "tc.sfq.xstats.allot", "allot", unit="bytes"}}}}
-KINDS.qdisc.skbprio = {options={"struct", false, "", width=4, least=4, parts={{"u32", "tc.skbprio.limit", "limit", unit="packets"}}}}
-KINDS.qdisc.taprio = {options={"list", false, "", list="taprio"}, statistics={"list", false, "", list="taprio_stats", nested=true}}
-KINDS.qdisc.tbf = {options={"list", false, "", list="tbf"}}
+KINDS.tc.basic = {options={"list", false, "", list="basic"}}
+KINDS.tc.bpf = {options={"list", false, "", list="bpf"}}
+KINDS.tc.cgroup = {options={"list", false, "", list="cgroup"}}
+KINDS.tc.flow = {options={"list", false, "", list="flow"}}
+KINDS.tc.flower = {options={"list", false, "", list="flower"}}
+KINDS.tc.fw = {options={"list", false, "", list="fw"}}
+KINDS.tc.matchall = {options={"list", false, "", list="matchall"}}
+KINDS.tc.route = {options={"list", false, "", list="route"}}
+KINDS.tc.rsvp = {options={"list", false, "", list="rsvp"}}
+KINDS.tc.rsvp6 = {options={"list", false, "", list="rsvp6"}}
+KINDS.tc.tcindex = {options={"list", false, "", list="tcindex"}}
+KINDS.tc.u32 = {options={"list", false, "", list="u32"}}
+KINDS.tc.atm = {options={"list", false, "", list="atm"}}
+KINDS.tc.cake = {options={"list", false, "", list="cake"}, statistics={"list", false, "", list="cake_stats"}}
+KINDS.tc.cbq = {options={"list", false, "", list="cbq"}, statistics={"struct", false, "", width=16, least=16, parts={{"u32", "tc.cbq.xstats.borrows", "borrows"}, {"u32", "tc.cbq.xstats.overactions", "overactions"}, {"s32", "tc.cbq.xstats.avgidle", "avgidle"}, {"s32", "tc.cbq.xstats.undertime", "undertime"}}}}
+KINDS.tc.cbs = {options={"list", false, "", list="cbs"}}
+KINDS.tc.choke = {options={"list", false, "", list="choke"}, statistics={"struct", false, "", width=20, least=20, parts={{"u32", "tc.choke.xstats.early", "early"}, {"u32", "tc.choke.xstats.pdrop", "pdrop"}, {"u32", "tc.choke.xstats.other", "other"}, {"u32", "tc.choke.xstats.marked", "marked"}, {"u32", "tc.choke.xstats.matched", "matched"}}}}
+KINDS.tc.codel = {options={"list", false, "", list="codel"}, statistics={"struct", false, "", width=36, least=36, parts={{"u32", "tc.codel.xstats.maxpacket", "maxpacket"}, {"u32", "tc.codel.xstats.count", "count"}, {"u32", "tc.codel.xstats.lastcount", "lastcount"}, {"u32", "tc.codel.xstats.ldelay", "ldelay", unit="us"}, {"s32", "tc.codel.xstats.drop_next", "drop_next", unit="us"}, {"u32", "tc.codel.xstats.drop_overlimit", "drop_overlimit"}, {"u32", "tc.codel.xstats.ecn_mark", "ecn_mark"}, {"u32", "tc.codel.xstats.dropping", "dropping"}, {"u32", "tc.codel.xstats.ce_mark", "ce_mark"}}}}
+KINDS.tc.drr = {options={"list", false, "", list="drr"}, statistics={"struct", false, "", width=4, least=4, parts={{"u32", "tc.drr.xstats.deficit", "deficit"}}}}
+KINDS.tc.dsmark = {options={"list", false, "", list="dsmark"}}
+KINDS.tc.etf = {options={"list", false, "", list="etf"}}
+KINDS.tc.ets = {options={"list", false, "", list="ets", nested=true}}
+KINDS.tc.pfifo = {options={"struct", false, "", width=4, least=4, parts={{"u32", "tc.pfifo.limit", "limit", unit="packets"}}}}
+KINDS.tc.pfifo_head_drop = KINDS.tc.pfifo
+KINDS.tc.bfifo = {options={"struct", false, "", width=4, least=4, parts={{"u32", "tc.bfifo.limit", "limit", unit="bytes"}}}}
+KINDS.tc.fq = {options={"list", false, "", list="fq"}, statistics={"struct", false, "", least=104, parts={{"u64", "tc.fq.xstats.gc_flows", "gc_flows"}, {"u64", "tc.fq.xstats.highprio_packets", "highprio_packets"}, {"u64", "tc.fq.xstats.tcp_retrans", "tcp_retrans"}, {"u64", "tc.fq.xstats.throttled", "throttled"}, {"u64", "tc.fq.xstats.flows_plimit", "flows_plimit"}, {"u64", "tc.fq.xstats.pkts_too_long", "pkts_too_long"}, {"u64", "tc.fq.xstats.allocation_errors", "allocation_errors"}, {"s64", "tc.fq.xstats.time_next_delayed_flow", "time_next_delayed_flow", unit="ns"}, {"u32", "tc.fq.xstats.flows", "flows"}, {"u32", "tc.fq.xstats.inactive_flows", "inactive_flows"}, {"u32", "tc.fq.xstats.throttled_flows", "throttled_flows"}, {"u32", "tc.fq.xstats.unthrottle_latency_ns", "unthrottle_latency_ns", unit="ns"}, {"u64", "tc.fq.xstats.ce_mark", "ce_mark"}, {"u64", "tc.fq.xstats.horizon_drops", "horizon_drops"}, {"u64", "tc.fq.xstats.horizon_caps", "horizon_caps"}, {"array", false, "since_6_7", inner={"struct", "tc.fq.xstats.since_6_7", "since", width=48, least=48, parts={{"u64", "tc.fq.xstats.since_6_7.fastpath_packets", "fastpath_packets"}, {"array", false, "band_drops", inner={"u64", "tc.fq.xstats.since_6_7.band_drops", "band_drops"}, width=24}, {"array", false, "band_pkt_count", inner={"u32", "tc.fq.xstats.since_6_7.band_pkt_count", "band_pkt_count"}, width=12}, {"pad", "tc.fq.xstats.since_6_7.pad", "pad", width=4}}}}}}}
+KINDS.tc.fq_codel = {options={"list", false, "", list="fq_codel"}, statistics={"choice", false, "", parts={{"struct", false, "qdisc", prefix="\000\000\000\000", width=36, least=36, parts={{"u32", "tc.fq_codel.xstats.qdisc.maxpacket", "maxpacket", unit="bytes"}, {"u32", "tc.fq_codel.xstats.qdisc.drop_overlimit", "drop_overlimit", unit="packets"}, {"u32", "tc.fq_codel.xstats.qdisc.ecn_mark", "ecn_mark", unit="packets"}, {"u32", "tc.fq_codel.xstats.qdisc.new_flow_count", "new_flow_count"}, {"u32", "tc.fq_codel.xstats.qdisc.new_flows_len", "new_flows_len"}, {"u32", "tc.fq_codel.xstats.qdisc.old_flows_len", "old_flows_len"}, {"u32", "tc.fq_codel.xstats.qdisc.ce_mark", "ce_mark", unit="packets"}, {"u32", "tc.fq_codel.xstats.qdisc.memory_usage", "memory_usage", unit="bytes"}, {"u32", "tc.fq_codel.xstats.qdisc.drop_overmemory", "drop_overmemory", unit="packets"}}}, {"struct", false, "class", prefix="\001\000\000\000", width=24, least=24, parts={{"s32", "tc.fq_codel.xstats.class.deficit", "deficit", unit="bytes"}, {"u32", "tc.fq_codel.xstats.class.ldelay", "ldelay", unit="us"}, {"u32", "tc.fq_codel.xstats.class.count", "count"}, {"u32", "tc.fq_codel.xstats.class.lastcount", "lastcount"}, {"u32", "tc.fq_codel.xstats.class.dropping", "dropping"}, {"s32", "tc.fq_codel.xstats.class.drop_next", "drop_next", unit="us"}}}}}}
+KINDS.tc.fq_pie = {options={"list", false, "", list="fq_pie", nested=true}, statistics={"struct", false, "", width=36, least=36, parts={{"u32", "tc.fq_pie.xstats.packets_in", "packets_in"}, {"u32", "tc.fq_pie.xstats.dropped", "dropped"}, {"u32", "tc.fq_pie.xstats.overlimit", "overlimit"}, {"u32", "tc.fq_pie.xstats.overmemory", "overmemory"}, {"u32", "tc.fq_pie.xstats.ecn_mark", "ecn_mark"}, {"u32", "tc.fq_pie.xstats.new_flow_count", "new_flow_count"}, {"u32", "tc.fq_pie.xstats.new_flows_len", "new_flows_len"}, {"u32", "tc.fq_pie.xstats.old_flows_len", "old_flows_len"}, {"u32", "tc.fq_pie.xstats.memory_usage", "memory_usage"}}}}
+KINDS.tc.gred = {options={"list", false, "", list="gred"}}
+KINDS.tc.hfsc = {options={"choice", false, "", parts={{"struct", false, "qdisc", length=2, width=2, least=2, parts={{"u16", "tc.hfsc.qdisc.defcls", "defcls", unit="hex"}}}, {"list", false, "class", list="hfsc"}}}, statistics={"struct", false, "", width=24, least=24, parts={{"u64", "tc.hfsc.xstats.work", "work", unit="bytes"}, {"u64", "tc.hfsc.xstats.rtwork", "rtwork", unit="bytes"}, {"u32", "tc.hfsc.xstats.period", "period"}, {"u32", "tc.hfsc.xstats.level", "level"}}}}
+KINDS.tc.hhf = {options={"list", false, "", list="hhf"}, statistics={"struct", false, "", width=16, least=16, parts={{"u32", "tc.hhf.xstats.drop_overlimit", "drop_overlimit"}, {"u32", "tc.hhf.xstats.hh_overlimit", "hh_overlimit"}, {"u32", "tc.hhf.xstats.hh_tot_count", "hh_tot_count"}, {"u32", "tc.hhf.xstats.hh_cur_count", "hh_cur_count"}}}}
+KINDS.tc.htb = {options={"list", false, "", list="htb"}, statistics={"struct", false, "", width=20, least=20, parts={{"u32", "tc.htb.xstats.lends", "lends"}, {"u32", "tc.htb.xstats.borrows", "borrows"}, {"u32", "tc.htb.xstats.giants", "giants"}, {"s32", "tc.htb.xstats.tokens", "tokens", unit="ticks"}, {"s32", "tc.htb.xstats.ctokens", "ctokens", unit="ticks"}}}}
+KINDS.tc.ingress = {options={"list", false, "", list="ingress"}}
+KINDS.tc.mqprio = {options={"struct", false, "", least=84, parts={{"u8", "tc.mqprio.num_tc", "num_tc"}, {"array", false, "prio_tc_map", inner={"u8", "tc.mqprio.prio_tc_map", "prio_tc_map"}, width=16}, {"u8", "tc.mqprio.hw", "hw"}, {"array", false, "count", inner={"u16", "tc.mqprio.count", "count"}, width=32}, {"array", false, "offset", inner={"u16", "tc.mqprio.offset", "offset"}, width=32}, {"pad", "tc.mqprio.padding", "padding", width=2}, {"list", false, "attributes", list="mqprio"}}}}
+KINDS.tc.multiq = {options={"struct", false, "", width=4, least=4, parts={{"u16", "tc.multiq.bands", "bands"}, {"u16", "tc.multiq.max_bands", "max_bands"}}}}
+KINDS.tc.netem = {options={"struct", false, "", least=24, parts={{"u32", "tc.netem.latency", "latency", unit="ticks"}, {"u32", "tc.netem.limit", "limit", unit="packets"}, {"u32", "tc.netem.loss", "loss", unit="probability"}, {"u32", "tc.netem.gap", "gap", unit="packets"}, {"u32", "tc.netem.duplicate", "duplicate", unit="probability"}, {"u32", "tc.netem.jitter", "jitter", unit="ticks"}, {"list", false, "attributes", list="netem"}}}}
+KINDS.tc.noop = {options={"list", false, "", list="no_options"}}
+KINDS.tc.noqueue = KINDS.tc.noop
+KINDS.tc.blackhole = KINDS.tc.noop
+KINDS.tc.mq = KINDS.tc.noop
+KINDS.tc.teql0 = KINDS.tc.noop
+KINDS.tc.clsact = {options={"list", false, "", list="no_options"}}
+KINDS.tc.pie = {options={"list", false, "", list="pie"}, statistics={"struct", false, "", width=40, least=40, parts={{"u64", "tc.pie.xstats.prob", "prob"}, {"u32", "tc.pie.xstats.delay", "delay", unit="us"}, {"u32", "tc.pie.xstats.avg_dq_rate", "avg_dq_rate", unit="bytes/s"}, {"u32", "tc.pie.xstats.dq_rate_estimating", "dq_rate_estimating"}, {"u32", "tc.pie.xstats.packets_in", "packets_in"}, {"u32", "tc.pie.xstats.dropped", "dropped"}, {"u32", "tc.pie.xstats.overlimit", "overlimit"}, {"u32", "tc.pie.xstats.maxq", "maxq"}, {"u32", "tc.pie.xstats.ecn_mark", "ecn_mark"}}}}
+KINDS.tc.plug = {options={"struct", false, "", width=8, least=8, parts={{"s32", "tc.plug.action", "action", enum="tcq_plug"}, {"u32", "tc.plug.limit", "limit", unit="bytes"}}}}
+KINDS.tc.prio = {options={"struct", false, "", least=20, parts={{"s32", "tc.prio.bands", "bands"}, {"array", false, "priomap", inner={"u8", "tc.prio.priomap", "priomap"}, width=16}, {"list", false, "attributes", list="prio"}}}}
+KINDS.tc.rr = KINDS.tc.prio
+KINDS.tc.pfifo_fast = {options={"struct", false, "", width=20, least=20, parts={{"s32", "tc.pfifo_fast.bands", "bands"}, {"array", false, "priomap", inner={"u8", "tc.pfifo_fast.priomap", "priomap"}, width=16}}}}
+KINDS.tc.qfq = {options={"list", false, "", list="qfq"}, statistics={"struct", false, "", width=8, least=8, parts={{"u32", "tc.qfq.xstats.weight", "weight"}, {"u32", "tc.qfq.xstats.lmax", "lmax", unit="bytes"}}}}
+KINDS.tc.red = {options={"list", false, "", list="red"}, statistics={"struct", false, "", width=16, least=16, parts={{"u32", "tc.red.xstats.early", "early", unit="packets"}, {"u32", "tc.red.xstats.pdrop", "pdrop", unit="packets"}, {"u32", "tc.red.xstats.other", "other", unit="packets"}, {"u32", "tc.red.xstats.marked", "marked", unit="packets"}}}}
+KINDS.tc.sfb = {options={"list", false, "", list="sfb"}, statistics={"struct", false, "", width=36, least=36, parts={{"u32", "tc.sfb.xstats.earlydrop", "earlydrop"}, {"u32", "tc.sfb.xstats.penaltydrop", "penaltydrop"}, {"u32", "tc.sfb.xstats.bucketdrop", "bucketdrop"}, {"u32", "tc.sfb.xstats.queuedrop", "queuedrop"}, {"u32", "tc.sfb.xstats.childdrop", "childdrop"}, {"u32", "tc.sfb.xstats.marked", "marked"}, {"u32", "tc.sfb.xstats.maxqlen", "maxqlen", unit="packets"}, {"u32", "tc.sfb.xstats.maxprob", "maxprob"}, {"u32", "tc.sfb.xstats.avgprob", "avgprob"}}}}
+KINDS.tc.sfq = {options={"choice", false, "", parts={{"struct", false, "qopt", length=20, width=20, least=20, parts={{"u32", "tc.sfq.qopt.quantum", "quantum", unit="bytes"}, {"s32", "tc.sfq.qopt.perturb_period", "perturb_period", unit="s"}, {"u32", "tc.sfq.qopt.limit", "limit", unit="packets"}, {"u32", "tc.sfq.qopt.divisor", "divisor"}, {"u32", "tc.sfq.qopt.flows", "flows"}}}, {"struct", false, "qopt_v1", length=72, width=72, least=72, parts={{"struct", "tc.sfq.qopt_v1.v0", "v0", width=20, least=20, parts={{"u32", "tc.sfq.qopt_v1.v0.quantum", "quantum", unit="bytes"}, {"s32", "tc.sfq.qopt_v1.v0.perturb_period", "perturb_period", unit="s"}, {"u32", "tc.sfq.qopt_v1.v0.limit", "limit", unit="packets"}, {"u32", "tc.sfq.qopt_v1.v0.divisor", "divisor"}, {"u32", "tc.sfq.qopt_v1.v0.flows", "flows"}}}, {"u32", "tc.sfq.qopt_v1.depth", "depth", unit="packets"}, {"u32", "tc.sfq.qopt_v1.headdrop", "headdrop"}, {"u32", "tc.sfq.qopt_v1.limit", "limit", unit="bytes"}, {"u32", "tc.sfq.qopt_v1.qth_min", "qth_min", unit="bytes"}, {"u32", "tc.sfq.qopt_v1.qth_max", "qth_max", unit="bytes"}, {"u8", "tc.sfq.qopt_v1.wlog", "Wlog", unit="log2"}, {"u8", "tc.sfq.qopt_v1.plog", "Plog", unit="log2"}, {"u8", "tc.sfq.qopt_v1.scell_log", "Scell_log", unit="log2"}, {"u8", "tc.sfq.qopt_v1.flags", "flags", bits="tc_red"}, {"u32", "tc.sfq.qopt_v1.max_p", "max_P", unit="probability"}, {"struct", "tc.sfq.qopt_v1.stats", "stats", width=24, least=24, parts={{"u32", "tc.sfq.qopt_v1.stats.prob_drop", "prob_drop", unit="packets"}, {"u32", "tc.sfq.qopt_v1.stats.forced_drop", "forced_drop", unit="packets"}, {"u32", "tc.sfq.qopt_v1.stats.prob_mark", "prob_mark", unit="packets"}, {"u32", "tc.sfq.qopt_v1.stats.forced_mark", "forced_mark", unit="packets"}, {"u32", "tc.sfq.qopt_v1.stats.prob_mark_head", "prob_mark_head", unit="packets"}, {"u32", "tc.sfq.qopt_v1.stats.forced_mark_head", "forced_mark_head", unit="packets"}}}}}}}, statistics={"struct", false, "", width=4, least=4, parts={{"s32", "tc.sfq.xstats.allot", "allot", unit="bytes"}}}}
+KINDS.tc.skbprio = {options={"struct", false, "", width=4, least=4, parts={{"u32", "tc.skbprio.limit", "limit", unit="packets"}}}}
+KINDS.tc.taprio = {options={"list", false, "", list="taprio"}, statistics={"list", false, "", list="taprio_stats", nested=true}}
+KINDS.tc.tbf = {options={"list", false, "", list="tbf"}}
 local TCMSG = {family = {"u8", "tc.family", "family", enum="address_family"}, padding = {"pad", "tc.padding", "padding", width=3}, index = {"s32", "tc.index", "index", unit="ifindex"}, handle = {"handle", "tc.handle", "handle"}, parent = {"handle", "tc.parent", "parent"}, info = {"u32", "tc.info", "info"}}
 local TCAMSG = {family = {"u8", "tc.family", "family", enum="address_family"}, padding = {"pad", "tc.padding", "padding", width=3}}
 
 -- ---- Values as text: printable ASCII, in the units and with the names of outlines. Numbers are decimal digits, since those of Lua 5.2 have 53 bits.
 
--- True for valid UTF-8: no overlong form, no surrogate, nothing above U+10FFFF.
+-- True for valid UTF-8: sequences of these forms, which leave out overlong ones, surrogates and what is above U+10FFFF.
+local SEQUENCES = {"[\194-\223][\128-\191]", "\224[\160-\191][\128-\191]", "[\225-\236\238\239][\128-\191][\128-\191]", "\237[\128-\159][\128-\191]",
+  "\240[\144-\191][\128-\191][\128-\191]", "[\241-\243][\128-\191][\128-\191][\128-\191]", "\244[\128-\143][\128-\191][\128-\191]"}
 local function is_utf8(s)
-  local at, len = s:find("[\128-\255]"), #s
-  while at do
-    local c, more, least = s:byte(at), 0, 0
-    if c >= 0xc2 and c < 0xe0 then more, least = 1, 0x80
-    elseif c >= 0xe0 and c < 0xf0 then more, least = 2, 0x800
-    elseif c >= 0xf0 and c < 0xf5 then more, least = 3, 0x10000
-    else return false end
-    local point = c % 2 ^ (6 - more)
-    for i = at + 1, at + more do
-      local d = i <= len and s:byte(i) or 0
-      if d < 0x80 or d > 0xbf then return false end
-      point = point * 64 + d - 0x80
-    end
-    if point < least or point > 0x10ffff or point >= 0xd800 and point < 0xe000 then return false end
-    at = s:find("[\128-\255]", at + more + 1)
-  end
-  return true
+  for _, sequence in ipairs(s:find("[\128-\255]") and SEQUENCES or {}) do s = s:gsub(sequence, "?") end
+  return not s:find("[\128-\255]")
 end
 
 -- Bytes as printable ASCII: what is none is escaped, such as \x1b.
@@ -1161,15 +1150,11 @@ local function handle(n)
   return (major > 0 and ("%x"):format(major) or "") .. ":" .. (minor > 0 and ("%x"):format(minor) or "")
 end
 
+-- Units: functions of digits and a sign. Those in UNSIGNED make no sense below zero.
 local function counted(name) return function(n, sign) return sign .. n .. name end end
 local function span(name, zeros)
-  return function(n, sign)
-    local longer = n ~= "0" and n:sub(-3) == "000" and (" (%s%s)"):format(sign, time(n .. zeros)) or ""
-    return sign .. n .. name .. longer
-  end
+  return function(n, sign) return sign .. n .. name .. (n ~= "0" and n:sub(-3) == "000" and (" (%s%s)"):format(sign, time(n .. zeros)) or "") end
 end
-
--- Units: of digits and a sign. Those below make no sense below zero.
 local SIGNED = {bytes = counted("B"), packets = counted("p"), s = counted("s"), ns = span("ns", ""), us = span("us", "000"), ms = span("ms", "000000"),
   ticks = function(n, sign) return ("%s%s ticks (%s%s)"):format(sign, n, sign, time(times(n, 64))) end}
 local UNSIGNED = {["packets/s"] = counted(" p/s"), ["kbit/s"] = counted(" kbit/s"), percent = counted("%"),
@@ -1239,22 +1224,19 @@ local function in_unit(unit, s, is_signed, raw)
   return UNSIGNED[unit] and UNSIGNED[unit](digits, "") or digits
 end
 
-
 -- ---- Forms: what the tables say of bytes. What doesn't follow its form is shown raw, as in the JSON and the outlines of tcshow.
 
 local tc = Proto("tc", "Linux Traffic Control")
-local NESTED, TYPE = 0x8000, 0x4000 -- NLA_F_NESTED; above the bits of an attribute's type
-local DEEPEST = 16 -- so deep forms nest; what is deeper is raw
+local NESTED, TYPE, DEEPEST = 0x8000, 0x4000, 16 -- NLA_F_NESTED; above the bits of an attribute's type; so deep forms nest, what is deeper is raw
 local WIDTHS = {u8 = 1, u16 = 2, u32 = 4, u64 = 8, s8 = 1, s16 = 2, s32 = 4, s64 = 8, be16 = 2, be32 = 4, be64 = 8, handle = 4, mac = 6, ipv4 = 4, ipv6 = 16,
   flag = 0, bool = 1}
 local SORTS = {u8 = "uint8", u16 = "uint16", u32 = "uint32", u64 = "uint64", s8 = "int8", s16 = "int16", s32 = "int32", s64 = "int64", be16 = "uint16",
   be32 = "uint32", be64 = "uint64", mac = "ether", ipv4 = "ipv4", ipv6 = "ipv6", handle = "string", text = "string", bare = "string", kind = "string",
   hex = "bytes", bytes = "bytes", pad = "bytes", flag = "bool", bool = "bool", frame = "framenum"}
 
-local function expert_of(name, about, group, severity) return ProtoExpert.new("tc.expert." .. name, about, expert.group[group], expert.severity[severity]) end
-local X = {form = expert_of("form", "Bytes that don't follow their form", "MALFORMED", "ERROR"), cut = expert_of("cut", "Message is cut", "MALFORMED", "ERROR"),
-  unknown = expert_of("unknown", "Not in the table", "UNDECODED", "NOTE"), refused = expert_of("refused", "Refused by the kernel", "RESPONSE_CODE", "ERROR"),
-  warning = expert_of("warning", "Warning of the kernel", "RESPONSE_CODE", "WARN")}
+local X = {form = {"Bytes that don't follow their form", "MALFORMED", "ERROR"}, cut = {"Message is cut", "MALFORMED", "ERROR"},
+  unknown = {"Not in the tables", "UNDECODED", "NOTE"}, refused = {"Refused", "RESPONSE_CODE", "ERROR"}, warning = {"Warning", "RESPONSE_CODE", "WARN"}}
+for name, it in pairs(X) do X[name] = ProtoExpert.new("tc.expert." .. name, it[1], expert.group[it[2]], expert.severity[it[3]]) end
 
 -- Fields are declared once for each name.
 local declared, fields = {}, {}
@@ -1282,8 +1264,8 @@ local function prepare(n)
   n.width, n.is_leaf = n.width or WIDTHS[n[1]], sort ~= nil
   for _, inner in ipairs(n.parts or {n.inner or n.other}) do prepare(inner) end
   if n.element then n.element = declare(n.element, "none", n.inner[3]) end
-  if not n[2] then return end
-  if sort and sort:find("int") then declare_number(n) else n.field = declare(n[2], sort or "none", n[3]) end
+  if n[2] and sort and sort:find("int") then declare_number(n)
+  elseif n[2] then n.field = declare(n[2], sort or "none", n[3], n.frame and base.NONE or nil, n.frame and frametype[n.frame] or nil) end
 end
 
 -- What a tree has at bytes: an item of a field, with this text if somebody sees it.
@@ -1316,7 +1298,7 @@ local function number_text(c, n, wire)
   local text = n.unit == "hex" and n.names and #s == 2 and ("0x%04x"):format(v) or in_unit(n.unit, s, is_signed, wire)
   if name then return name .. " (" .. text .. ")" end
   if n.bits and not n.names then return flags(BITS[n.bits], unsigned(s:sub(1, -5)), unsigned(s:sub(-4)), in_unit("hex", s)) end
-  return n.unit == "ifindex" and c.links(v) and text .. " (" .. quoted(c.links(v)) .. ")" or text
+  return n.unit == "ifindex" and c.links[v] and text .. " (" .. quoted(c.links[v]) .. ")" or text
 end
 
 -- Why bytes aren't of a form that holds no others; nil if they are.
@@ -1335,7 +1317,7 @@ local function value_of(c, n, s)
     local text = handle(unsigned(c.little and s:reverse() or s))
     return text, text
   elseif what == "text" or what == "bare" or what == "kind" then
-    s = (what == "bare" or s:sub(-1) ~= "\0") and s or s:sub(1, -2)
+    s = what == "bare" and s or s:gsub("\0$", "")
     return clean(s), quoted(s)
   elseif what == "flag" or what == "bool" then return s ~= "\0", s ~= "\0" and "true" or "false"
   elseif what == "mac" then return nil, hex(s):gsub("..", "%0:"):sub(1, -2)
@@ -1422,8 +1404,7 @@ function show.choice(c, n, off, len, tree, kind, left)
   add(c, tree, F.other, off, len, hex_quoted(bytes)):add_proto_expert_info(X.unknown, "a form that isn't in the table")
 end
 
--- Goes through attributes: the type and the word of each, the places of its header and its payload, and the length of that. Of what is no attribute, which is
--- the rest, the type is false.
+-- Goes through attributes: the type and word of each, the places of header and payload, and its length. If the rest is no attribute, its type is false.
 local function attributes(c, off, stop)
   return function()
     if off >= stop then return nil end
@@ -1464,8 +1445,7 @@ end
 
 -- The text of a kind, without the NUL that may end it; nil if it isn't UTF-8, and then it is none.
 local function kind_at(c, off, len)
-  local s = bytes_of(c, off, len)
-  s = s:sub(-1) == "\0" and s:sub(1, -2) or s
+  local s = bytes_of(c, off, len):gsub("\0$", "")
   return is_utf8(s) and s or nil
 end
 local function own_kind(c, off, len)
@@ -1473,22 +1453,6 @@ local function own_kind(c, off, len)
     local kind = ty == 1 and kind_at(c, body, size)
     if kind then return kind end
   end
-end
-
--- The form of an attribute that depends on the kind.
-local function form_by(n, kind)
-  for _, sort in ipairs(n.sorts) do
-    local of = KINDS[sort][kind or ""]
-    if of and of[n.which] then return of[n.which] end
-  end
-end
-
--- Shows an attribute that isn't in the table.
-local function show_other(c, at, word, body, size, tree)
-  local item = add(c, tree, F.other, body, size, ("word 0x%04x value %s"):format(word, hex_quoted(bytes_of(c, body, size))))
-  item:add_proto_expert_info(X.unknown, ("type %d isn't in the table"):format(word % TYPE))
-  show_head(c, item, {at = at, word = word})
-  return item
 end
 
 -- The item that a mask or an end is joined with: that of its address or its beginning, if it comes before it and has the usual form.
@@ -1506,7 +1470,7 @@ end
 
 -- Shows an attribute of the table, by its form or that of the kind. Returns the item, its form, and what a mask or an end may be joined with.
 local function show_row(c, n, head, body, size, tree, kind, left, before)
-  local own = n[1] == "by" and form_by(n, kind)
+  local own = n[1] == "by" and (KINDS[n.kinds][kind] or {})[n.which]
   if n[1] == "by" and not own then n = n.other end
   head.usual = head.usual + ((own or n).nested and NESTED or 0)
   if own then
@@ -1530,7 +1494,9 @@ function show.list(c, n, off, len, tree, kind, left)
     local row, item, form = LISTS[n.list][ty], nil, {}
     local found = has_kind and ty == 1 and kind_at(c, body, size)
     if not row or found == nil then
-      item, before = show_other(c, at, word, body, size, tree), nil
+      item, before = add(c, tree, F.other, body, size, ("word 0x%04x value %s"):format(word, hex_quoted(bytes_of(c, body, size)))), nil
+      item:add_proto_expert_info(X.unknown, ("type %d isn't in the table"):format(ty))
+      show_head(c, item, {at = at, word = word})
     else
       if found and n[1] == "inforce" then kind = found end
       item, form, before = show_row(c, row[2], {at = at, word = word, kernel = row[1], usual = ty, is_odd = is_odd}, body, size, tree, kind, left, before)
@@ -1561,15 +1527,9 @@ end
 
 local NLMSG_ERROR, RTM_NEWLINK, IFLA_IFNAME, ARPHRD_NETLINK, NETLINK_ROUTE = 2, 16, 3, 824, 0
 local NLM_F_CAPPED, NLM_F_ACK_TLVS, NLM_F_ROOT = 0x100, 0x200, 0x100
-local TYPES = {}
-for first, name in pairs({[36] = "QDISC", [40] = "TCLASS", [44] = "TFILTER", [48] = "ACTION", [100] = "CHAIN"}) do
-  for i, verb in ipairs({"NEW", "DEL", "GET"}) do TYPES[first + i - 1] = "RTM_" .. verb .. name end
-end
-NAMES.message_type = {[NLMSG_ERROR] = "NLMSG_ERROR"}
-for ty, name in pairs(TYPES) do NAMES.message_type[ty] = name end
 local FLAGS = {{0x01, "request"}, {0x02, "multi"}, {0x04, "ack"}, {0x08, "echo"}, {0x10, "dump_intr"}, {0x20, "dump_filtered"}}
-local FLAGS_OF = {NEW = {{0x400, "create"}, {0x200, "excl"}, {0x100, "replace"}, {0x800, "append"}}, GET = {{0x100, "root"}, {0x200, "match"}, {0x400, "atomic"}},
-  DEL = {{0x100, "nonrec"}, {0x200, "bulk"}}, FLUSH = {{0x100, "root"}}, ANSWER = {{0x100, "capped"}, {0x200, "ack_tlvs"}}}
+local FLAGS_OF = {NEW = {{0x400, "create"}, {0x200, "excl"}, {0x100, "replace"}, {0x800, "append"}}, DEL = {{0x100, "nonrec"}, {0x200, "bulk"}},
+  GET = {{0x100, "root"}, {0x200, "match"}, {0x400, "atomic"}}, FLUSH = {{0x100, "root"}}, ANSWER = {{0x100, "capped"}, {0x200, "ack_tlvs"}}}
 
 local EXTACK = {"list", false, "extack", list = "extack"}
 local BODIES = {tc = {"inforce", false, "", list = "tc"}, action = {"list", false, "", list = "action_message"}}
@@ -1587,29 +1547,17 @@ local function forget() asked, answers, requests, links = {}, {}, {}, {} end
 tc.init = forget
 forget()
 
--- Keeps the name of an interface in a message of the kernel, with the frame from which on it is known.
-local function learn(c, off, len, frame)
-  local index, name = len >= 16 and number_at(c, off + 4, 4), nil
-  for ty, _, _, body, size in attributes(c, off + 16, off + len) do
-    if ty == IFLA_IFNAME then name = kind_at(c, body, size) end
-  end
-  if not index or not name or name == "" then return end
-  links[index] = links[index] or {}
-  table.insert(links[index], {frame = frame, name = name})
-end
-
--- The name of an interface at a frame; before any is known, the first.
-local function link_at(frame)
-  return function(index)
-    local found = links[index] and links[index][1]
-    for _, it in ipairs(links[index] or {}) do if it.frame <= frame then found = it end end
-    return found and found.name
+-- Keeps the name of an interface in a message of the kernel; the last counts.
+local function learn(c, off, stop)
+  for ty, _, _, body, size in attributes(c, off + 16, stop) do
+    if ty == IFLA_IFNAME then links[number_at(c, off + 4, 4)] = kind_at(c, body, size) end
   end
 end
 
 -- A netlink header.
 local function header_at(c, at)
-  return {length = number_at(c, at, 4), type = number_at(c, at + 4, 2), flags = number_at(c, at + 6, 2), seq = number_at(c, at + 8, 4), port = number_at(c, at + 12, 4)}
+  local function u32(off) return number_at(c, at + off, 4) end
+  return {length = u32(0), type = number_at(c, at + 4, 2), flags = number_at(c, at + 6, 2), seq = u32(8), port = u32(12)}
 end
 local function has(flags, bit) return math.floor(flags / bit) % 2 == 1 end
 local function is_action(ty) return ty >= 48 and ty <= 50 end
@@ -1726,17 +1674,15 @@ local function show_message(c, h, at, len, tree, pinfo, key)
   if h.flags % 2 == 1 and not pinfo.visited then asked[bytes_of(c, at, 16)] = {frame = pinfo.number, key = key} end
   if answer then tree:add(F.answer_in.field, answer.frame):set_generated() end
   if answer and answer.errno > 0 then
-    local item = tree:add(F.refused.field):set_text("refused: " .. answer.text):set_generated()
-    item:add_proto_expert_info(X.refused, answer.text)
+    tree:add(F.refused.field):set_text("refused: " .. answer.text):set_generated():add_proto_expert_info(X.refused, answer.text)
   end
-  local header, about = show_body(c, h, at, len - 16, tree, answer and answer.marks)
-  return header, about
+  return show_body(c, h, at, len - 16, tree, answer and answer.marks)
 end
 
 -- Shows the netlink message at a place: a tree of its own if it is traffic control, or answers it. Returns its words for the list of packets.
 local function show_one(c, h, at, len, root, pinfo)
   local is_answer = h.type == NLMSG_ERROR and len >= 36 and TYPES[number_at(c, at + 24, 2)]
-  if h.type == RTM_NEWLINK and h.flags % 2 == 0 and not pinfo.visited then learn(c, at + 16, len - 16, pinfo.number) end
+  if h.type == RTM_NEWLINK and h.flags % 2 == 0 and not pinfo.visited then learn(c, at + 16, at + len) end
   if not TYPES[h.type] and not is_answer then return nil end
   local tree, key = root:add(tc, c.tvb(at, len)), pinfo.number .. ":" .. at
   local words, show_it = show_netlink(c, h, at, tree), is_answer and show_answer or show_message
@@ -1750,7 +1696,7 @@ end
 
 -- Shows the netlink messages of a packet. The byte order is the one in which the length of a message fits.
 local function show_packet(tvb, pinfo, root, at)
-  local c, shown, more = {tvb = tvb, bytes = tvb:raw(), seen = root.visible, links = link_at(pinfo.number)}, {}, 0
+  local c, shown, more = {tvb = tvb, bytes = tvb:raw(), seen = root.visible, links = links}, {}, 0
   while #c.bytes - at >= 16 do
     local room, first = #c.bytes - at, c.bytes:sub(at + 1, at + 4)
     local big, little = unsigned(first), unsigned(first:reverse())

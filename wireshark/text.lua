@@ -1,24 +1,11 @@
 -- ---- Values as text: printable ASCII, in the units and with the names of outlines. Numbers are decimal digits, since those of Lua 5.2 have 53 bits.
 
--- True for valid UTF-8: no overlong form, no surrogate, nothing above U+10FFFF.
+-- True for valid UTF-8: sequences of these forms, which leave out overlong ones, surrogates and what is above U+10FFFF.
+local SEQUENCES = {"[\194-\223][\128-\191]", "\224[\160-\191][\128-\191]", "[\225-\236\238\239][\128-\191][\128-\191]", "\237[\128-\159][\128-\191]",
+  "\240[\144-\191][\128-\191][\128-\191]", "[\241-\243][\128-\191][\128-\191][\128-\191]", "\244[\128-\143][\128-\191][\128-\191]"}
 local function is_utf8(s)
-  local at, len = s:find("[\128-\255]"), #s
-  while at do
-    local c, more, least = s:byte(at), 0, 0
-    if c >= 0xc2 and c < 0xe0 then more, least = 1, 0x80
-    elseif c >= 0xe0 and c < 0xf0 then more, least = 2, 0x800
-    elseif c >= 0xf0 and c < 0xf5 then more, least = 3, 0x10000
-    else return false end
-    local point = c % 2 ^ (6 - more)
-    for i = at + 1, at + more do
-      local d = i <= len and s:byte(i) or 0
-      if d < 0x80 or d > 0xbf then return false end
-      point = point * 64 + d - 0x80
-    end
-    if point < least or point > 0x10ffff or point >= 0xd800 and point < 0xe000 then return false end
-    at = s:find("[\128-\255]", at + more + 1)
-  end
-  return true
+  for _, sequence in ipairs(s:find("[\128-\255]") and SEQUENCES or {}) do s = s:gsub(sequence, "?") end
+  return not s:find("[\128-\255]")
 end
 
 -- Bytes as printable ASCII: what is none is escaped, such as \x1b.
@@ -85,15 +72,11 @@ local function handle(n)
   return (major > 0 and ("%x"):format(major) or "") .. ":" .. (minor > 0 and ("%x"):format(minor) or "")
 end
 
+-- Units: functions of digits and a sign. Those in UNSIGNED make no sense below zero.
 local function counted(name) return function(n, sign) return sign .. n .. name end end
 local function span(name, zeros)
-  return function(n, sign)
-    local longer = n ~= "0" and n:sub(-3) == "000" and (" (%s%s)"):format(sign, time(n .. zeros)) or ""
-    return sign .. n .. name .. longer
-  end
+  return function(n, sign) return sign .. n .. name .. (n ~= "0" and n:sub(-3) == "000" and (" (%s%s)"):format(sign, time(n .. zeros)) or "") end
 end
-
--- Units: of digits and a sign. Those below make no sense below zero.
 local SIGNED = {bytes = counted("B"), packets = counted("p"), s = counted("s"), ns = span("ns", ""), us = span("us", "000"), ms = span("ms", "000000"),
   ticks = function(n, sign) return ("%s%s ticks (%s%s)"):format(sign, n, sign, time(times(n, 64))) end}
 local UNSIGNED = {["packets/s"] = counted(" p/s"), ["kbit/s"] = counted(" kbit/s"), percent = counted("%"),
