@@ -1600,8 +1600,8 @@ local function show_info(c, ty, off, tree)
     set(c, item:add(F.protocol.field, c.tvb(lower, 2)), "protocol", protocol)
     text = "pref " .. pref .. " protocol " .. protocol
   end
-  set(c, item, "info", text)
-  return v == 0 and "" or " " .. text
+  if v > 0 then set(c, item, "info", text) end
+  return v > 0 and " " .. text or ""
 end
 
 -- Shows `struct tcmsg`; returns it in words.
