@@ -1,4 +1,4 @@
-//! The columns of `kinds/partners`. Written by `kinds/columns`.
+//! The columns of what is in a line with the member before it. Written by `kinds/columns`.
 
 ghost use Rattle.std.specs.Prelude.{map, ◌≡◌};
 ghost use Rattle.tc_columns.specs.Arrays.{columns_of_partners_1250};

@@ -1,4 +1,4 @@
-//! The columns of `kinds/roots`. Written by `kinds/columns`.
+//! The columns of messages and their headers. Written by `kinds/columns`.
 
 ghost use Rattle.std.specs.Prelude.{map, ◌≡◌};
 ghost use Rattle.tc_columns.specs.Arrays.{columns_of_roots_250};

@@ -1,4 +1,4 @@
-//! The names of `kinds/partners`. Written by `kinds/columns`.
+//! The names that these members have in a line of their own. Written by `kinds/columns`.
 
 ghost use Rattle.std.specs.Prelude.{map, ◌≡◌};
 ghost use Rattle.tc_columns.specs.Arrays.{names_of_partners_1250};
