@@ -129,7 +129,8 @@ abbrev pub ConstChoice : Type 0
 ConstChoice = ChoiceOf (Const (List ℕ)) (Const (List ℕ))
 
 abbrev pub ConstPart : Type 0
-ConstPart = PartOf (Const (List ℕ)) (Const (List ConstName)) (Const (List ConstField)) (Const (List ConstRow)) (Const (List ConstKindRows)) (Const (List ConstChoice))
+ConstPart =
+    PartOf (Const (List ℕ)) (Const (List ConstName)) (Const (List ConstField)) (Const (List ConstRow)) (Const (List ConstKindRows)) (Const (List ConstChoice))
 
 abbrev pub const_name_view : ConstName → Name
 const_name_view x = record { number = x.number; name = x.name.now }
