@@ -1,6 +1,6 @@
 -- The columns of messages that speak of one thing.
 use Rattle.std.specs.Prelude.{List, None, Option, [], refl, ℕ, ◌≡◌}
-use Rattle.tc_columns.specs.Tables.{all_columns, all_names}
+use Rattle.tc_columns.specs.Tables.{all_columns, all_names, columns_of}
 use Rattle.tc_columns.specs.declared.root.Root.{Root}
 use Rattle.tc_columns.specs.declared.root.Root.TheVariants as root
 use Rattle.tc_form_values.specs.Places.{kind_place}
@@ -43,5 +43,5 @@ kind_table g =
 
 -- no columns are at the place of none
 pub none_there : all_columns NONE ≡ []
-unfolding all_columns
+unfolding all_columns columns_of
 none_there = refl
