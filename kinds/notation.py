@@ -11,7 +11,8 @@ LEAVES = {'handle': ('Handle', 4), 'flag': ('Flag', 0), 'bool': ('Truth', 1), 't
 NAMED = {'struct': ('struct', 'Record'), 'list': ('list', 'List'), 'nested': ('list', 'List'), 'inforce': ('list', 'InForce'), 'own': ('list', 'Own'),
          'choice': ('choice', 'Choice'), 'enum': ('enum', 'Named'), 'bits': ('bits', 'Number')}
 UNITS = 'bytes packets bytes/s packets/s kbit/s ns us ms s ticks clock_t percent probability ifindex log2 hex net_hex u32_handle'.split()
-SHOWN = ['names', 'mask', 'end', 'as']  # how it is shown to people, each behind the unit with a name
+COLUMNS = 'names mask end as tc normal when'.split()  # what a line may have after the unit, each with a value, beside `=N`
+CHANGES = ['whole', 'keeps']  # what a change of a kind takes
 KINDS, MARKS = ['qdisc', 'filter', 'action'], ['raw', 'Other', 'word', 'pad', 'Kind', 'bare']
 RESERVED = {'list': MARKS, 'choice': MARKS, 'struct': ['raw', 'rest']}
 faults, blocks, kinds, aliases, messages, files, elements = [], {}, [], {}, [], {}, {}
@@ -35,18 +36,21 @@ class Form:
         return iter([self] + list(self.inner or []))
 
 class Line:
-    """A line of a block: a number, the kernel's name, the name in JSON, the form, the unit."""
-    def __init__(self, where, name, form=None, number=None, kernel='', unit='', **more):
-        self.where, self.name, self.form, self.number, self.kernel, self.unit = where, name, form, number, kernel, unit
+    """A line of a block: a number, the kernel's name, the name in JSON, the form, the unit, the columns after it, and the comment."""
+    def __init__(self, where, name, form=None, number=None, kernel='', unit='', columns=(), **more):
+        self.where, self.name, self.form, self.number, self.kernel, self.unit, self.columns = where, name, form, number, kernel, unit, dict(columns)
+        self.comment = ''
         self.__dict__.update(more)
 
     def word(self):
         return self.number | NESTED * (self.form.what == 'nested')
 
 class Block:
-    """A block: its sort (struct, list, qdisc ..), its names and its lines, the layers and the width at which it is used, and its parts by layer."""
+    """A block: its sort (struct, list, qdisc ..), its names and its lines, the layers and the width at which it is used, and its parts by layer; of a kind
+    what a change takes, and the options that only making it takes."""
     def __init__(self, where, sort, words):
         self.where, self.sort, self.words, self.name, self.lines, self.layers, self.bits, self.parts = where, sort, words, words[0], [], [], 32, {}
+        self.change, self.fixed = None, []
 
 def number(where, text):
     if re.fullmatch(r'0x[0-9a-f]+', text):
@@ -79,21 +83,37 @@ def read_form(where, words):
         fault(where, 'no such form: %s' % (word or 'none'))
     return aliases.get(word, Form('leaf', 'hex')), rest if word in aliases else []
 
-def shown_of(words):
-    """How a line is shown to people, and the words before."""
-    shown = {}
-    while len(words) > 1 and words[-2] in SHOWN:
-        shown[words[-2]], words = words[-1], words[:-2]
-    return words, shown
+def columns_of(where, words):
+    """The columns after the unit: `=N`, or a word and its value."""
+    columns = {}
+    while words:
+        column, value = ('=', words[0][1:]) if words[0].startswith('=') else (words[0], ' '.join(words[1:2]))
+        if column not in COLUMNS + ['='] or not value or column in columns:
+            fault(where, 'not understood: %s' % ' '.join(words))
+        columns[column], words = value, words[1 if column == '=' else 2:]
+    return columns
 
-def form_and_unit(where, words, units=UNITS):
+def form_and_columns(where, words):
+    """The form at the front, the unit and the columns after it."""
     form, rest = read_form(where, words)
-    if ' '.join(rest) not in [''] + units:
-        fault(where, '%s: %s' % ('no such unit' if units else 'not understood', ' '.join(rest)))
-    return form, ' '.join(rest)
+    unit = rest[0] if rest[:1] and rest[0] in UNITS else ''
+    return form, unit, columns_of(where, rest[1:] if unit else rest)
 
 def only_form(where, words):
-    return form_and_unit(where, words, [])[0]
+    form, rest = read_form(where, words)
+    if rest:
+        fault(where, 'not understood: %s' % ' '.join(rest))
+    return form
+
+def read_change(block, where, words):
+    """What a change of a kind takes; true if the words say that."""
+    if words[0] == 'change' and len(words) == 2 and words[1] in CHANGES and not block.change:
+        block.change = words[1]
+    elif words[0] == 'fixed' and len(words) > 1:
+        block.fixed += words[1:]
+    else:
+        return False
+    return True
 
 def read_line(block, where, words):
     if block.sort in KINDS and words[0] == 'options':
@@ -101,8 +121,8 @@ def read_line(block, where, words):
     if block.sort in KINDS and words[0] == 'statistics' and len(words) > 2:
         return Line(where, 'statistics', only_form(where, words[2:]), kernel=words[1])
     if block.sort == 'struct' and len(words) > 1:
-        form, unit = form_and_unit(where, shown_of(words[1:])[0])
-        return Line(where, words[0], form, unit=unit, people=shown_of(words[1:])[1])
+        form, unit, columns = form_and_columns(where, words[1:])
+        return Line(where, words[0], form, unit=unit, columns=columns)
     if block.sort in ('enum', 'bits', 'names') and len(words) == 3:
         return Line(where, words[2], None, number(where, words[0]), words[1])
     if block.sort == 'list' and len(words) > 3 and words[3] in ('options', 'statistics') and 'else' in words[5:-2]:
@@ -110,8 +130,8 @@ def read_line(block, where, words):
         other = Line(where, words[end + 1], only_form(where, words[end + 2:]), *at)
         return Line(where, words[2], Form('by kind', (words[3], words[5:end])), *at, other=other)
     if block.sort == 'list' and len(words) > 3:
-        form, unit = form_and_unit(where, shown_of(words[3:])[0])
-        return Line(where, words[2], form, number(where, words[0]), words[1], unit, people=shown_of(words[3:])[1])
+        form, unit, columns = form_and_columns(where, words[3:])
+        return Line(where, words[2], form, number(where, words[0]), words[1], unit, columns)
     if block.sort == 'choice' and len(words) > 1:
         more = re.fullmatch(r'(?:starts ((?:[0-9a-f]{2})+) )?(?:length (\d+) )?(.*)', ' '.join(words[1:]))
         return Line(where, words[0], only_form(where, more[3].split()), prefix=bytes.fromhex(more[1] or ''), length=more[2])
@@ -124,8 +144,12 @@ def read(path):
         if not words:
             continue
         if text[0].isspace() and block:
+            if block.sort in KINDS and read_change(block, where, words):
+                continue
             line = read_line(block, where, words)
-            block.lines += [line] if line else []
+            if line:
+                line.comment = text.partition('#')[2].strip()
+                block.lines.append(line)
         elif words[0] == 'form' and len(words) > 2:
             aliases[words[1]] = only_form(where, words[2:])
         elif words[0] == 'message' and len(words) > 2:
@@ -174,17 +198,23 @@ def check_use(where, form):
         if block and f.layer not in block.layers:
             block.layers.append(f.layer)
 
-def check_people(block, x):
-    """That what a line is shown with is there: names, and the line before it whose mask or end it is."""
-    people = getattr(x, 'people', {})
-    names = blocks.get(('names', people.get('names')))
-    if 'names' in people and not names:
-        fault(x.where, 'no such names: %s' % people['names'])
+def check_columns(block, x):
+    """That what a line's columns name is there: names, and the line before it whose mask or end it is."""
+    names = blocks.get(('names', x.columns.get('names')))
+    if 'names' in x.columns and not names:
+        fault(x.where, 'no such names: %s' % x.columns['names'])
     elif names:
         names.layers.append('')
     for what in ('mask', 'end'):
-        if what in people and people[what] not in [y.name for y in block.lines if y is not x]:
-            fault(x.where, 'no such line: %s' % people[what])
+        if what in x.columns and x.columns[what] not in [y.name for y in block.lines if y is not x]:
+            fault(x.where, 'no such line: %s' % x.columns[what])
+
+def check_fixed(kind):
+    """That the options that only making a kind takes are attributes of its list."""
+    options = [named(x.form) for x in kind.lines if x.name == 'options']
+    for name in kind.fixed:
+        if name not in [x.name for block in options if block for x in block.lines]:
+            fault(kind.where, 'no such option: %s' % name)
 
 def check(block):
     for x in block.lines:
@@ -196,13 +226,15 @@ def check(block):
             fault(x.where, 'a field without a fixed width that is not the last')
         if block.sort == 'list' and not 0 < x.number < 0x4000:
             fault(x.where, 'an attribute has no type %d' % x.number)
-        check_people(block, x)
+        check_columns(block, x)
     for what in ['name'] + (['number', 'kernel'] if block.sort in ('list', 'enum', 'bits', 'names') else []):
         twice('name' if what == 'kernel' else what, block.lines, [getattr(x, what) for x in block.lines])
 
 def check_all():
     for block in list(blocks.values()) + kinds:
         check(block)
+    for kind in kinds:
+        check_fixed(kind)
     for name, form in [(m[0], m[2]) for m in messages] + list(aliases.items()):
         check_use((name, 0), form)
     for of in (['qdisc', 'filter'], ['action']):

@@ -1,10 +1,11 @@
 -- The columns of messages that speak of one thing.
-use Rattle.std.specs.Prelude.{List, [], refl, ℕ, ◌≡◌}
-use Rattle.tc_columns.specs.Tables.{all_columns, all_names}
+use Rattle.std.specs.Prelude.{List, None, Option, [], refl, ℕ, ◌≡◌}
+use Rattle.tc_columns.specs.Tables.{all_columns, all_names, columns_of}
 use Rattle.tc_columns.specs.declared.root.Root.{Root}
 use Rattle.tc_columns.specs.declared.root.Root.TheVariants as root
 use Rattle.tc_form_values.specs.Places.{kind_place}
-use Rattle.tc_form_values.specs.Tables.{Kinds, Part}
+use Rattle.tc_form_values.specs.Numbers.{number_of}
+use Rattle.tc_form_values.specs.Tables.{Kinds, Names, Part}
 use Rattle.tc_kinds.specs.Table.{tc_tables}
 use Rattle.tc_lines.specs.Columns.{Given, Table, interface_in}
 use Rattle.tc_lines.specs.Lines.{NONE}
@@ -24,17 +25,23 @@ abbrev pub under_part : Part → ℕ → List ℕ → ℕ
 under_part (Kinds common others kinds) place kind = kind_place kind others kinds
 under_part part place kind = place
 
+-- the numbers of names in JSON are where the names are in the tables of all kinds
+abbrev pub number_in : Part → List ℕ → Option ℕ
+number_in (Names names) name = number_of names name
+number_in part name = None
+
 abbrev pub kind_table : Given → Table
 kind_table g =
     record {
       columns = all_columns;
       under = λ p kind. under_part (tc_tables p) p kind;
       names = all_names;
+      number = λ p name. number_in (tc_tables p) name;
       interface = λ n. interface_in g.interfaces n;
       all = g.all;
     }
 
 -- no columns are at the place of none
 pub none_there : all_columns NONE ≡ []
-unfolding all_columns
+unfolding all_columns columns_of
 none_there = refl

@@ -1,3 +1,3 @@
-pub mod Items
+pub mod Arrays
 pub mod Kinds
 pub mod Tables

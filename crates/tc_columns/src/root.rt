@@ -3,7 +3,8 @@
 ghost use Rattle.std.specs.Prelude.{map, option_map, ◌≡◌};
 ghost use Rattle.tc_columns.specs.Kinds.{kind_table, none_there, root_place};
 ghost use Rattle.tc_form_values.specs.Places.{kind_place};
-ghost use Rattle.tc_form_values.specs.Tables.{kinds_view};
+ghost use Rattle.tc_form_values.specs.Numbers.{number_of};
+ghost use Rattle.tc_form_values.specs.Tables.{kinds_view, names_view};
 ghost use Rattle.tc_lines.specs.Columns.{interface_in};
 
 use crate::tables;
@@ -93,6 +94,17 @@ fn kind_place(kind: &str, others: usize, kinds: &[KindRows<'_>]) -> usize
     }
 }
 
+// The first number of a name in JSON.
+fn number_of(names: &[tc_form_values::Name<'_>], name: &str) -> Option<u64>
+    ensures { result ≡ number_of (names_view names.now) name.now }
+{
+    match names.split_first() {
+        Some((it, _)) if it.name == name => Some(it.number),
+        Some((_, others)) => number_of(others, name),
+        None => None,
+    }
+}
+
 // The first name of an interface.
 fn interface_in<'a>(interfaces: &[(u32, &'a str)], number: u64) -> Option<&'a str>
     ensures { option_map (λ t. t.now) result ≡ interface_in (map (λ x. (x.0, x.1.now)) interfaces.now) number }
@@ -128,6 +140,13 @@ impl<'a> Columns for KindColumns<'a> {
 
     fn names(self, place: usize) -> &'static [Name<'static>] {
         tables::all_names(place)
+    }
+
+    fn number(self, place: usize, name: &str) -> Option<u64> {
+        match TcTables.part(place) {
+            Part::Names(names) => number_of(names, name),
+            _ => None,
+        }
     }
 
     fn interface(&self, number: u64) -> Option<&str> {

@@ -74,51 +74,52 @@ pub enum Form {
     Choice(usize),
 }
 
-/// A number and its name.
+/// A number and its name. The types of a table are generic in their texts and lists: specs can cite a constant of a generic type, and of
+/// none that has a lifetime.
 #[derive(Clone, Copy)]
-pub struct Name<'a> {
+pub struct NameOf<N> {
     /// The number; of a signed one, its bits.
     pub number: u64,
     /// The name.
-    pub name: &'a str,
+    pub name: N,
 }
 
 /// A field of a record. One of no fixed width takes all bytes that are left.
 #[derive(Clone, Copy)]
-pub struct Field<'a> {
+pub struct FieldOf<N> {
     /// The name; no two fields of a record have the same.
-    pub name: &'a str,
+    pub name: N,
     /// The form.
     pub form: Form,
 }
 
 /// A row of a table of attributes.
 #[derive(Clone, Copy)]
-pub struct Row<'a> {
+pub struct RowOf<N> {
     /// `nla_type`, with its flags.
     pub word: u16,
     /// The name.
-    pub name: &'a str,
+    pub name: N,
     /// The form of the payload.
     pub form: Form,
 }
 
-/// Where the rows of a kind are.
+/// A kind and its rows.
 #[derive(Clone, Copy)]
-pub struct KindRows<'a> {
+pub struct KindRowsOf<N> {
     /// The kind.
-    pub kind: &'a str,
+    pub kind: N,
     /// The place of its rows.
     pub rows: usize,
 }
 
-/// What bytes of this length that begin so are.
+/// A form of bytes that have a prefix, and a length if there is one.
 #[derive(Clone, Copy)]
-pub struct Choice<'a> {
+pub struct ChoiceOf<N, B> {
     /// The name.
-    pub name: &'a str,
-    /// How they begin.
-    pub prefix: &'a [u8],
+    pub name: N,
+    /// The first bytes.
+    pub prefix: B,
     /// How many there are; None: any.
     pub len: Option<usize>,
     /// The form of those after the prefix.
@@ -127,18 +128,43 @@ pub struct Choice<'a> {
 
 /// A part of a table.
 #[derive(Clone, Copy)]
-pub enum Part<'a> {
+pub enum PartOf<T, N, F, R, K, C> {
     /// A form.
     One(Form),
     /// Names of numbers.
-    Names(&'a [Name<'a>]),
+    Names(N),
     /// The fields of a record.
-    Fields(&'a [Field<'a>]),
+    Fields(F),
     /// The rows of a list of attributes, each of which is shown in an object with this member, if it isn't empty.
-    Rows(&'a str, &'a [Row<'a>]),
+    Rows(T, R),
     /// The rows of a list of attributes whose rows depend on the kind: those of every kind, those of kinds without rows of their own,
     /// and those of each kind, each by their place. Rows of the kind come before those of every kind. Their layers don't count.
-    Kinds(usize, usize, &'a [KindRows<'a>]),
+    Kinds(usize, usize, K),
     /// Choices.
-    Choices(&'a [Choice<'a>]),
+    Choices(C),
 }
+
+/// A number and its name.
+pub type Name<'a> = NameOf<&'a str>;
+
+/// A field of a record.
+pub type Field<'a> = FieldOf<&'a str>;
+
+/// A row of a table of attributes.
+pub type Row<'a> = RowOf<&'a str>;
+
+/// A kind and the place of its rows.
+pub type KindRows<'a> = KindRowsOf<&'a str>;
+
+/// A form of bytes by their prefix and length.
+pub type Choice<'a> = ChoiceOf<&'a str, &'a [u8]>;
+
+/// A part of a table.
+pub type Part<'a> = PartOf<
+    &'a str,
+    &'a [Name<'a>],
+    &'a [Field<'a>],
+    &'a [Row<'a>],
+    &'a [KindRows<'a>],
+    &'a [Choice<'a>],
+>;

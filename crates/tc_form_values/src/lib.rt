@@ -19,5 +19,8 @@ pub mod values_shown;
 pub mod widths;
 
 pub use error::{MakeError, Wanted};
-pub use form::{Choice, Field, Form, KindRows, Name, Number, Part, Row};
+pub use form::{
+    Choice, ChoiceOf, Field, FieldOf, Form, KindRows, KindRowsOf, Name, NameOf, Number, Part,
+    PartOf, Row, RowOf,
+};
 pub use tables::Tables;

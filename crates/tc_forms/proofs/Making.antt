@@ -20,7 +20,7 @@ use Rattle.serde_json.specs.View.{view, items_view}
 use Rattle.serde_json.specs.declared.value.Value.{Value}
 use Rattle.tc_form_values.specs.declared.maker.Stop.{Stop}
 use Rattle.tc_form_values.specs.declared.form.Form.{Form}
-use Rattle.tc_form_values.specs.declared.form.Field.{Field as CodeField}
+use Rattle.tc_form_values.specs.Tables.{CodeField}
 use Rattle.tc_form_values.specs.declared.form.Form.TheVariants as form
 
 -- ---- what is left to append

@@ -18,7 +18,7 @@ use Rattle.tc_form_values.specs.Values.{plain_shown}
 use Rattle.tc_form_values.specs.Widths.{field_width}
 use Rattle.tc_form_values.specs.declared.form.Form.{Form}
 use Rattle.tc_form_values.specs.declared.form.Number.{Number}
-use Rattle.tc_form_values.specs.declared.form.Field.{Field as CodeField}
+use Rattle.tc_form_values.specs.Tables.{CodeField}
 use Rattle.serde_json.specs.Data.{Data, Members}
 use Rattle.tc_form_values.proofs.Sending.{sent_none, sent_then}
 

@@ -1,3 +1,2 @@
 pub mod Apart
 pub mod EachPart
-pub mod Records

@@ -6,7 +6,7 @@ mod parts;
 
 ghost use Rattle.tc_kinds.specs.Table.{tc_tables};
 
-pub use parts::{ACTION_MESSAGE, TC_MESSAGE};
+pub use parts::{ACTION_LIST, ACTION_MESSAGE, PLACES, TC_LIST, TC_MESSAGE};
 use tc_form_values::{Part, Tables};
 
 /// The tables of Linux's traffic control. It takes no memory.

@@ -1,45 +1,111 @@
--- The parts of the table are sound. Written by `kinds/generate`.
-use Rattle.std.proofs.Common.{◌/◌, ◌==◌, ℕ}
-use Rattle.tc_kinds_laws.proofs.Sound.{Sound, at, none}
-use Rattle.tc_kinds.specs.Table.{tc_tables}
-use Rattle.tc_kinds.specs.Parts.Action.{all_of_action}
-use Rattle.tc_kinds.specs.Parts.Actions.{all_of_actions}
-use Rattle.tc_kinds.specs.Parts.Elements.{all_of_elements}
-use Rattle.tc_kinds.specs.Parts.Ematch.{all_of_ematch}
-use Rattle.tc_kinds.specs.Parts.Filters.{all_of_filters}
-use Rattle.tc_kinds.specs.Parts.Message.{all_of_message}
-use Rattle.tc_kinds.specs.Parts.Qdiscs.{all_of_qdiscs}
-use Rattle.tc_kinds.specs.Parts.Shared.{all_of_shared}
-use Rattle.tc_kinds.specs.Parts.Statistics.{all_of_statistics}
-use Rattle.tc_kinds_laws.proofs.Parts.Action.{all_sound as action_sound}
-use Rattle.tc_kinds_laws.proofs.Parts.Actions.{all_sound as actions_sound}
-use Rattle.tc_kinds_laws.proofs.Parts.Elements.{all_sound as elements_sound}
-use Rattle.tc_kinds_laws.proofs.Parts.Ematch.{all_sound as ematch_sound}
-use Rattle.tc_kinds_laws.proofs.Parts.Filters.{all_sound as filters_sound}
-use Rattle.tc_kinds_laws.proofs.Parts.Message.{all_sound as message_sound}
-use Rattle.tc_kinds_laws.proofs.Parts.Qdiscs.{all_sound as qdiscs_sound}
-use Rattle.tc_kinds_laws.proofs.Parts.Shared.{all_sound as shared_sound}
-use Rattle.tc_kinds_laws.proofs.Parts.Statistics.{all_sound as statistics_sound}
-pub mod Action
-pub mod Actions
-pub mod Elements
-pub mod Ematch
-pub mod Filters
-pub mod Message
-pub mod Qdiscs
-pub mod Shared
-pub mod Statistics
+-- Every part of the table is sound. Written by `kinds/generate`.
+use Rattle.std.proofs.Common.{refl, ℕ}
+use Rattle.tc_kinds.proofs.EachPart.{EachFile, each_part}
+use Rattle.tc_kinds.specs.Parts.{parts_of_action, parts_of_actions_bpf, parts_of_actions_connmark, parts_of_actions_csum, parts_of_actions_ct}
+use Rattle.tc_kinds.specs.Parts.{parts_of_actions_ctinfo, parts_of_actions_gact, parts_of_actions_gate, parts_of_actions_ife}
+use Rattle.tc_kinds.specs.Parts.{parts_of_actions_ipt, parts_of_actions_mirred, parts_of_actions_mpls, parts_of_actions_nat}
+use Rattle.tc_kinds.specs.Parts.{parts_of_actions_pedit, parts_of_actions_police, parts_of_actions_sample, parts_of_actions_simple}
+use Rattle.tc_kinds.specs.Parts.{parts_of_actions_skbedit, parts_of_actions_skbmod, parts_of_actions_tunnel_key, parts_of_actions_vlan}
+use Rattle.tc_kinds.specs.Parts.{parts_of_elements, parts_of_ematch, parts_of_filters_basic, parts_of_filters_bpf, parts_of_filters_cgroup}
+use Rattle.tc_kinds.specs.Parts.{parts_of_filters_flow, parts_of_filters_flower, parts_of_filters_fw, parts_of_filters_matchall}
+use Rattle.tc_kinds.specs.Parts.{parts_of_filters_route, parts_of_filters_rsvp, parts_of_filters_tcindex, parts_of_filters_u32, parts_of_message}
+use Rattle.tc_kinds.specs.Parts.{parts_of_qdiscs_atm, parts_of_qdiscs_cake, parts_of_qdiscs_cbq, parts_of_qdiscs_cbs, parts_of_qdiscs_choke}
+use Rattle.tc_kinds.specs.Parts.{parts_of_qdiscs_codel, parts_of_qdiscs_drr, parts_of_qdiscs_dsmark, parts_of_qdiscs_etf, parts_of_qdiscs_ets}
+use Rattle.tc_kinds.specs.Parts.{parts_of_qdiscs_fifo, parts_of_qdiscs_fq, parts_of_qdiscs_fq_codel, parts_of_qdiscs_fq_pie, parts_of_qdiscs_gred}
+use Rattle.tc_kinds.specs.Parts.{parts_of_qdiscs_hfsc, parts_of_qdiscs_hhf, parts_of_qdiscs_htb, parts_of_qdiscs_ingress, parts_of_qdiscs_mqprio}
+use Rattle.tc_kinds.specs.Parts.{parts_of_qdiscs_multiq, parts_of_qdiscs_netem, parts_of_qdiscs_none, parts_of_qdiscs_pie, parts_of_qdiscs_plug}
+use Rattle.tc_kinds.specs.Parts.{parts_of_qdiscs_prio, parts_of_qdiscs_qfq, parts_of_qdiscs_red, parts_of_qdiscs_sfb, parts_of_qdiscs_sfq}
+use Rattle.tc_kinds.specs.Parts.{parts_of_qdiscs_skbprio, parts_of_qdiscs_taprio, parts_of_qdiscs_tbf, parts_of_shared, parts_of_statistics}
+use Rattle.tc_kinds.specs.Table.{parts_from_0, parts_from_18, parts_from_36, parts_from_54, parts_of, tc_tables}
+use Rattle.tc_kinds_laws.proofs.Sound.{Sound, is_sound, sound}
+
+parts_sound : EachFile (is_sound tc_tables)
+unfolding tc_tables parts_from_0 parts_from_18 parts_from_36 parts_from_54 parts_of parts_of_action parts_of_actions_bpf parts_of_actions_connmark
+    parts_of_actions_csum parts_of_actions_ct parts_of_actions_ctinfo parts_of_actions_gact parts_of_actions_gate parts_of_actions_ife
+    parts_of_actions_ipt parts_of_actions_mirred parts_of_actions_mpls parts_of_actions_nat parts_of_actions_pedit parts_of_actions_police
+    parts_of_actions_sample parts_of_actions_simple parts_of_actions_skbedit parts_of_actions_skbmod parts_of_actions_tunnel_key parts_of_actions_vlan
+    parts_of_elements parts_of_ematch parts_of_filters_basic parts_of_filters_bpf parts_of_filters_cgroup parts_of_filters_flow
+    parts_of_filters_flower parts_of_filters_fw parts_of_filters_matchall parts_of_filters_route parts_of_filters_rsvp parts_of_filters_tcindex
+    parts_of_filters_u32 parts_of_message parts_of_qdiscs_atm parts_of_qdiscs_cake parts_of_qdiscs_cbq parts_of_qdiscs_cbs parts_of_qdiscs_choke
+    parts_of_qdiscs_codel parts_of_qdiscs_drr parts_of_qdiscs_dsmark parts_of_qdiscs_etf parts_of_qdiscs_ets parts_of_qdiscs_fifo parts_of_qdiscs_fq
+    parts_of_qdiscs_fq_codel parts_of_qdiscs_fq_pie parts_of_qdiscs_gred parts_of_qdiscs_hfsc parts_of_qdiscs_hhf parts_of_qdiscs_htb
+    parts_of_qdiscs_ingress parts_of_qdiscs_mqprio parts_of_qdiscs_multiq parts_of_qdiscs_netem parts_of_qdiscs_none parts_of_qdiscs_pie
+    parts_of_qdiscs_plug parts_of_qdiscs_prio parts_of_qdiscs_qfq parts_of_qdiscs_red parts_of_qdiscs_sfb parts_of_qdiscs_sfq parts_of_qdiscs_skbprio
+    parts_of_qdiscs_taprio parts_of_qdiscs_tbf parts_of_shared parts_of_statistics
+parts_sound = record {
+  bytes = refl;
+  none = refl;
+  action = refl;
+  actions_bpf = refl;
+  actions_connmark = refl;
+  actions_csum = refl;
+  actions_ct = refl;
+  actions_ctinfo = refl;
+  actions_gact = refl;
+  actions_gate = refl;
+  actions_ife = refl;
+  actions_ipt = refl;
+  actions_mirred = refl;
+  actions_mpls = refl;
+  actions_nat = refl;
+  actions_pedit = refl;
+  actions_police = refl;
+  actions_sample = refl;
+  actions_simple = refl;
+  actions_skbedit = refl;
+  actions_skbmod = refl;
+  actions_tunnel_key = refl;
+  actions_vlan = refl;
+  elements = refl;
+  ematch = refl;
+  filters_basic = refl;
+  filters_bpf = refl;
+  filters_cgroup = refl;
+  filters_flow = refl;
+  filters_flower = refl;
+  filters_fw = refl;
+  filters_matchall = refl;
+  filters_route = refl;
+  filters_rsvp = refl;
+  filters_tcindex = refl;
+  filters_u32 = refl;
+  message = refl;
+  qdiscs_atm = refl;
+  qdiscs_cake = refl;
+  qdiscs_cbq = refl;
+  qdiscs_cbs = refl;
+  qdiscs_choke = refl;
+  qdiscs_codel = refl;
+  qdiscs_drr = refl;
+  qdiscs_dsmark = refl;
+  qdiscs_etf = refl;
+  qdiscs_ets = refl;
+  qdiscs_fifo = refl;
+  qdiscs_fq = refl;
+  qdiscs_fq_codel = refl;
+  qdiscs_fq_pie = refl;
+  qdiscs_gred = refl;
+  qdiscs_hfsc = refl;
+  qdiscs_hhf = refl;
+  qdiscs_htb = refl;
+  qdiscs_ingress = refl;
+  qdiscs_mqprio = refl;
+  qdiscs_multiq = refl;
+  qdiscs_netem = refl;
+  qdiscs_none = refl;
+  qdiscs_pie = refl;
+  qdiscs_plug = refl;
+  qdiscs_prio = refl;
+  qdiscs_qfq = refl;
+  qdiscs_red = refl;
+  qdiscs_sfb = refl;
+  qdiscs_sfq = refl;
+  qdiscs_skbprio = refl;
+  qdiscs_taprio = refl;
+  qdiscs_tbf = refl;
+  shared = refl;
+  statistics = refl;
+}
 
 pub every_part : (place : ℕ) → Sound (tc_tables place)
-unfolding tc_tables
-every_part place =
-    at (place / 600 == 0) (action_sound place) (
-    at (place / 600 == 1) (actions_sound place) (
-    at (place / 600 == 2) (elements_sound place) (
-    at (place / 600 == 3) (ematch_sound place) (
-    at (place / 600 == 4) (filters_sound place) (
-    at (place / 600 == 5) (message_sound place) (
-    at (place / 600 == 6) (qdiscs_sound place) (
-    at (place / 600 == 7) (shared_sound place) (
-    at (place / 600 == 8) (statistics_sound place) (
-    none)))))))))
+every_part place = sound (tc_tables place) (each_part (is_sound tc_tables) parts_sound place)

@@ -1,11 +1,10 @@
--- Parts whose lines all count and whose places have their parts, and that a table has such parts alone if each branch of it does.
+-- Parts whose rows, choices and names all count, and whose places have their parts. That the fields of a record have distinct names `tc_kinds` proves.
 use Rattle.std.proofs.Common.{◌≡◌, ℕ, Bool, true, false, List, [], ◌∷◌, ◌++◌, ◌&&◌, refl, if◌then◌else◌}
 use Rattle.std.proofs.lemmas.Bool.{and_parts}
 use Rattle.std.specs.List.{list_all}
 use Rattle.std.specs.Prelude.{bytes_eq}
 use Rattle.tc_form_values.specs.declared.form.Form.TheVariants as form
-use Rattle.tc_form_values.specs.Places.{choices_of, fields_of, kind_place, names_of, rows_of, rows_under_part}
-use Rattle.tc_form_values.specs.Records.{names_apart}
+use Rattle.tc_form_values.specs.Places.{choices_of, kind_place, names_of, rows_of, rows_under_part}
 use Rattle.tc_form_values.specs.Tables.{Choices, Fields, KindRows, Kinds, Names, One, Part, Row, Rows, Table}
 use Rattle.tc_kinds.specs.Table.{tc_tables}
 use Rattle.tc_kinds_laws.specs.Apart.{texts_differ, numbers_differ, types_of_rows, names_of_rows, all_count, all_shown}
@@ -30,13 +29,12 @@ abbrev pub is_sound : Table → Part → Bool
 is_sound table part =
     rows_sound table part
     && (texts_differ (kinds_of part)
-    && (names_apart (fields_of part)
     && (texts_differ (names_of_choices (choices_of part))
     && (none_reserved (names_of_choices (choices_of part))
     && (numbers_differ (numbers_named (names_of part))
     && (texts_differ (names_of_numbers (names_of part))
     && (names_its_parts table part
-    && leaves_kinds table part)))))))
+    && leaves_kinds table part))))))
 
 -- ---- what the tests say
 
@@ -80,7 +78,6 @@ under_kind table kind (Choices choices) e = record { types = refl; names = refl;
 pub record Sound (part : Part) : Type 0 where
   pub rows : (kind : List ℕ) → RowsApart (rows_under_part tc_tables kind part)
   pub kinds : texts_differ (kinds_of part) ≡ true
-  pub fields : names_apart (fields_of part) ≡ true
   pub choices : texts_differ (names_of_choices (choices_of part)) ≡ true
   pub unreserved : none_reserved (names_of_choices (choices_of part)) ≡ true
   pub numbers : numbers_differ (numbers_named (names_of part)) ≡ true
@@ -92,31 +89,18 @@ pub sound : (part : Part) → is_sound tc_tables part ≡ true → Sound part
 sound part e =
     let a : (rows_sound tc_tables part ≡ true) × (_ ≡ true) = and_parts _ _ e in
     let b : (texts_differ (kinds_of part) ≡ true) × (_ ≡ true) = and_parts _ _ a.1 in
-    let c : (names_apart (fields_of part) ≡ true) × (_ ≡ true) = and_parts _ _ b.1 in
-    let d : (texts_differ (names_of_choices (choices_of part)) ≡ true) × (_ ≡ true) = and_parts _ _ c.1 in
-    let f : (none_reserved (names_of_choices (choices_of part)) ≡ true) × (_ ≡ true) = and_parts _ _ d.1 in
-    let g : (numbers_differ (numbers_named (names_of part)) ≡ true) × (_ ≡ true) = and_parts _ _ f.1 in
-    let h : (texts_differ (names_of_numbers (names_of part)) ≡ true) × (_ ≡ true) = and_parts _ _ g.1 in
-    let l : (names_its_parts tc_tables part ≡ true) × (leaves_kinds tc_tables part ≡ true) = and_parts _ _ h.1 in
+    let c : (texts_differ (names_of_choices (choices_of part)) ≡ true) × (_ ≡ true) = and_parts _ _ b.1 in
+    let d : (none_reserved (names_of_choices (choices_of part)) ≡ true) × (_ ≡ true) = and_parts _ _ c.1 in
+    let f : (numbers_differ (numbers_named (names_of part)) ≡ true) × (_ ≡ true) = and_parts _ _ d.1 in
+    let g : (texts_differ (names_of_numbers (names_of part)) ≡ true) × (_ ≡ true) = and_parts _ _ f.1 in
+    let h : (names_its_parts tc_tables part ≡ true) × (leaves_kinds tc_tables part ≡ true) = and_parts _ _ g.1 in
     record {
       rows = λ kind. under_kind tc_tables kind part a.0;
       kinds = b.0;
-      fields = c.0;
-      choices = d.0;
-      unreserved = f.0;
-      numbers = g.0;
-      names = h.0;
-      places = l.0;
-      beside_kinds = l.1;
+      choices = c.0;
+      unreserved = d.0;
+      numbers = f.0;
+      names = g.0;
+      places = h.0;
+      beside_kinds = h.1;
     }
-
--- ---- tables
-
--- one part, and another elsewhere
-pub at : (b : Bool) {x y : Part} → Sound x → Sound y → Sound (if b then x else y)
-at true p q = p
-at false p q = q
-
--- bytes, where a table has no part
-pub none : Sound (One form.Hex)
-none = sound (One form.Hex) refl

@@ -82,13 +82,13 @@ module _ (t : Table) where
   noted v (Number u) n base place inline fs = refl
   noted v (Named u xs) n base place inline fs = refl
   noted v (Flags xs) n base place inline fs = refl
-  noted v (Text xs ys) n base place inline fs = refl
+  noted v (Text xs) n base place inline fs = refl
   noted v (Verdict xs) n base place inline fs = refl
   noted v Interface n base place inline fs = refl
   noted v (Index p) n base place inline fs = refl
   noted v (Handle u) n base place inline fs = refl
   noted v Count n base place inline fs = refl
-  noted v (Family xs ys) n base place inline fs = refl
+  noted v (Family xs) n base place inline fs = refl
   noted v (Info i) n base place inline fs = refl
   noted v (First p) n base place inline fs = refl
   noted v (From p) n base place inline fs = refl

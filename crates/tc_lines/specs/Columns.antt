@@ -1,6 +1,7 @@
 -- Columns, by places and by names in JSON.
+use Rattle.std.specs.Borrow.{Bor}
 use Rattle.std.specs.Prelude.{Bool, List, None, Option, Some, [], bytes_eq, codes, false, if◌then◌else◌, map, true, unwrap_or, ℕ, ◌+◌, ◌==◌, ◌∷◌}
-use Rattle.tc_lines.specs.declared.column.Column.{Column as CodeColumn}
+use Rattle.tc_lines.specs.declared.column.ColumnOf.{ColumnOf}
 use Rattle.tc_lines.specs.declared.column.How.{How}
 use Rattle.tc_lines.specs.declared.column.How.TheVariants.{Below, Elements, First, From, Hidden, Info, Family, Index, InLine, Number, Plain, Slash}
 use Rattle.tc_lines.specs.declared.column.How.TheVariants.{Through, To, Within}
@@ -12,12 +13,13 @@ pub record Column : Type 0 where
   pub name : List ℕ
   pub how : How
 
--- the columns at each place, the place of a list's columns under a kind, the names at each place, what the caller calls an
--- interface, and whether paddings are shown
+-- the columns at each place, the place of a list's columns under a kind, the names at each place, the number that a name in JSON stands for
+-- there, what the caller calls an interface, and whether paddings are shown
 pub record Table : Type 0 where
   pub columns : ℕ → List Column
   pub under : ℕ → List ℕ → ℕ
   pub names : ℕ → List Name
+  pub number : ℕ → List ℕ → Option ℕ
   pub interface : ℕ → Option (List ℕ)
   pub all : Bool
 
@@ -95,7 +97,7 @@ has_name all (Below p) = false
 has_name all (InLine p) = false
 has_name all (Slash p q) = false
 has_name all (To p) = false
-has_name all (Family p q) = false
+has_name all (Family p) = false
 has_name all (Info i) = false
 has_name all (Index p) = false
 has_name all h = true
@@ -114,10 +116,21 @@ opened (Slash p q) = Plain
 opened (To p) = Plain
 opened h = h
 
--- ---- what the code's values say
+-- ---- the code's values
+
+abbrev pub CodeColumn : Type 0
+CodeColumn = ColumnOf (Bor (List ℕ))
 
 abbrev pub column_view : CodeColumn → Column
 column_view c = record { key = c.key.now; name = c.name.now; how = c.how }
 
 abbrev pub columns_view : List CodeColumn → List Column
 columns_view cs = map column_view cs
+
+-- ---- the same values in a constant of the code, where a reference is another type
+
+abbrev pub ConstColumn : Type 0
+ConstColumn = ColumnOf (record { now : List ℕ })
+
+abbrev pub const_column_view : ConstColumn → Column
+const_column_view c = record { key = c.key.now; name = c.name.now; how = c.how }

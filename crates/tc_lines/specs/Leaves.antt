@@ -127,7 +127,7 @@ module _ (t : Table) where
   number_in (how.To p) n = decimal n
   number_in (how.Info i) n = if n == 0 then [] else info_text i n
   number_in (how.Index p) n = codes " index " ++ interface_text n
-  number_in (how.Family p q) n = codes " family " ++ decimal n
+  number_in (how.Family p) n = codes " family " ++ decimal n
   number_in h n = codes " " ++ number_behind h n
 
   -- a number below zero by its column; an interface of -1 stands for a block, which is named elsewhere
@@ -138,8 +138,8 @@ module _ (t : Table) where
 
   -- a text by its column, behind a blank
   abbrev pub text_behind : How → List ℕ → List ℕ
-  text_behind (how.Text p q) s = with_number (t.names q) s (number_of (t.names p) s)
-  text_behind (how.Verdict p) s = verdict_or s (number_of (t.names p) s)
+  text_behind (how.Text p) s = with_number (t.names p) s (t.number p s)
+  text_behind (how.Verdict p) s = verdict_or s (t.number p s)
   text_behind (how.Handle u) s = handle_or u s (handle_of s)
   text_behind how.Count s = count_or s (decoded (decode_sized s 4))
   text_behind (how.From p) s = quoted s ++ codes "-"
@@ -149,7 +149,7 @@ module _ (t : Table) where
   abbrev pub text_in : ℕ → How → List ℕ → List ℕ
   text_in n (how.To p) s = quoted s
   text_in n (how.Slash p q) s = slash_or n (name_at q) s (number_of (t.names p) s)
-  text_in n (how.Family p q) s = family_or (t.names q) s (number_of (t.names p) s)
+  text_in n (how.Family p) s = family_or (t.names p) s (t.number p s)
   text_in n h s = codes " " ++ text_behind h s
 
   -- a leaf at this depth, by its column and its event

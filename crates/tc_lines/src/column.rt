@@ -22,9 +22,9 @@ pub enum How {
     Named(Unit, usize),
     /// A flag word whose bits have the names at this place.
     Flags(usize),
-    /// One of the names in JSON at the first place; shown as the name of the same number at the second place, and the number.
-    Text(usize, usize),
-    /// What an action says of a packet; the names at this place are those of JSON.
+    /// One of the names in JSON at this place; shown as the name of the same number at this place, and the number.
+    Text(usize),
+    /// The verdict of an action, by its name in JSON at this place.
     Verdict(usize),
     /// The number of an interface, with the name that the caller knows.
     Interface,
@@ -35,8 +35,8 @@ pub enum How {
     Handle(Unit),
     /// Four bytes in hex, as a little-endian number.
     Count,
-    /// An address family behind its own name, or nothing if it is 0. The places are as in `Text`.
-    Family(usize, usize),
+    /// An address family behind its own name, or nothing if it is 0. The place is as in `Text`.
+    Family(usize),
     /// The last number of a header behind its own name, or nothing if it is 0.
     Info(InfoOf),
     /// As it is. The members after it are looked up in the columns at this place first, and are in the same line.
@@ -73,16 +73,22 @@ pub enum InfoOf {
     Pref(usize),
 }
 
-/// A column: the name of a member in JSON, its name for people, and how its value is shown.
+/// A column: the name of a member in JSON, its name for people, and how its value is shown. It is generic in its texts: specs can cite a
+/// constant of a generic type, and of none that has a lifetime.
 #[derive(Clone, Copy)]
-pub struct Column<'a> {
+pub struct ColumnOf<N> {
     /// The name in JSON.
-    pub key: &'a str,
+    pub key: N,
     /// The name for people.
-    pub name: &'a str,
+    pub name: N,
     /// How the value is shown.
     pub how: How,
+    /// The kernel's name of the member, for explanations; empty if there is none. A line is the same whatever it is.
+    pub kernel: N,
 }
+
+/// A column of texts.
+pub type Column<'a> = ColumnOf<&'a str>;
 
 /// Columns, by places, and the place where a message begins: by what the caller gives.
 pub trait Columns: Copy {
@@ -105,6 +111,10 @@ pub trait Columns: Copy {
     /// The names at a place.
     fn names(self, place: usize) -> &'static [Name<'static>]
         ensures { names_view result.now ≡ (says (given self)).names place };
+
+    /// The number that a name at a place stands for in JSON.
+    fn number(self, place: usize, name: &str) -> Option<u64>
+        ensures { result ≡ (says (given self)).number place name.now };
 
     /// What the caller calls an interface.
     fn interface(&self, number: u64) -> Option<&str>

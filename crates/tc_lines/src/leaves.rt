@@ -256,7 +256,7 @@ fn put_number_in<C: Columns, A: Allocator>(
             out.extend_from_slice(b" index ")?;
             put_interface(columns, out, n)
         }
-        How::Family(_, _) => {
+        How::Family(_) => {
             out.extend_from_slice(b" family ")?;
             put_decimal(out, n)
         }
@@ -407,11 +407,11 @@ fn put_text_in<C: Columns, A: Allocator>(
             text,
             number_of(columns.names(*masks), text),
         ),
-        How::Family(keys, names) => put_family_or(
+        How::Family(place) => put_family_or(
             out,
-            columns.names(*names),
+            columns.names(*place),
             text,
-            number_of(columns.names(*keys), text),
+            columns.number(*place, text),
         ),
         _ => {
             out.extend_from_slice(b" ")?;
@@ -430,13 +430,13 @@ fn put_text_behind<C: Columns, A: Allocator>(
     ensures { OnOk result (out.new.items ≡ out.old.items ++ text_behind (C.says (C.given columns.now)) how.now text.now) }
 {
     match how {
-        How::Text(keys, names) => put_with_number(
+        How::Text(place) => put_with_number(
             out,
-            columns.names(*names),
+            columns.names(*place),
             text,
-            number_of(columns.names(*keys), text),
+            columns.number(*place, text),
         ),
-        How::Verdict(keys) => put_verdict_or(out, text, number_of(columns.names(*keys), text)),
+        How::Verdict(place) => put_verdict_or(out, text, columns.number(*place, text)),
         How::Handle(unit) => put_handle_or(out, *unit, text, handle_from_tc_text(text)),
         How::Count => put_count(out, text),
         How::From(_) => {

@@ -26,6 +26,6 @@ mod log;
 mod outline;
 mod walk;
 
-pub use column::{Column, Columns, How, InfoOf};
+pub use column::{Column, ColumnOf, Columns, How, InfoOf};
 pub use error::LinesError;
 pub use outline::lines_of;

@@ -118,6 +118,7 @@ fn unnamed(key: &str) -> Column<'_>
             key,
             name: key,
             how: How::Number(Unit::LongHex),
+            kernel: "",
         };
     }
     if is_same(key, "Other") {
@@ -125,12 +126,14 @@ fn unnamed(key: &str) -> Column<'_>
             key,
             name: "other",
             how: How::Plain,
+            kernel: "",
         };
     }
     Column {
         key,
         name: key,
         how: How::Plain,
+        kernel: "",
     }
 }
 
@@ -209,7 +212,7 @@ fn has_name(all: bool, how: &How) -> bool
         | How::InLine(_)
         | How::Slash(_, _)
         | How::To(_)
-        | How::Family(_, _)
+        | How::Family(_)
         | How::Info(_)
         | How::Index(_) => false,
         _ => true,

@@ -1,5 +1,4 @@
 -- What the attributes of a kind are, as a text: a line for each attribute, field and choice, in the order of the table, below that in which it is.
-use Rattle.std.specs.Borrow.{Bor}
 use Rattle.std.specs.Option.{option_map_or}
 use Rattle.std.specs.Prelude.{List, None, Option, Some, [], bytes_eq, codes, decimal, if◌then◌else◌, nat_le, nat_lt, suc, zero, ℕ}
 use Rattle.std.specs.Prelude.{◌&&◌, ◌++◌, ◌+◌, ◌-◌, ◌/◌, ◌∷◌}
@@ -8,19 +7,21 @@ use Rattle.tc_form_values.specs.declared.form.Form.{Form}
 use Rattle.tc_form_values.specs.declared.form.Form.TheVariants as form
 use Rattle.tc_form_values.specs.declared.form.Number.TheVariants as number
 use Rattle.tc_schema.specs.Json.{kind_example}
-use Rattle.tc_schema.specs.Notes.{Note, first_note, names_at, notes_at, other_notes}
-use Rattle.tc_schema.specs.declared.notes.Named.{Named}
-use Rattle.tc_schema.specs.declared.notes.Noted.{Noted}
+use Rattle.tc_schema.specs.Notes.{Note, note_of}
 use Rattle.tc_schema.specs.Texts.{Member, deepest, form_text, members_of, times, around}
+use Rattle.tc_schema.specs.declared.notes.Note.{Note as CodeNote}
+use Rattle.tc_units.specs.Names.{CodeName}
+use Rattle.tc_units.specs.Units.{number_text}
+use Rattle.tc_units.specs.declared.unit.Unit.{Unit}
 
 -- a line: two blanks for each level, a name, its description, and the kernel's name, where it has one
 abbrev pub text_line : ℕ → List ℕ → List ℕ → List ℕ → List ℕ
 text_line level name said kernel = times level (codes "  ") ++ (name ++ (said ++ (around (codes " (") kernel (codes ")") ++ codes "\n")))
 
 -- numbers and their names
-abbrev pub named_lines : ℕ → List Named → List ℕ
-named_lines level [] = []
-named_lines level (x ∷ xs) = text_line level x.name.now (codes " = " ++ x.number.now) x.kernel.now ++ named_lines level xs
+abbrev pub named_lines : ℕ → Unit → List CodeName → List ℕ
+named_lines level unit [] = []
+named_lines level unit (x ∷ xs) = text_line level x.name.now (codes " = " ++ number_text unit x.number) x.kernel.now ++ named_lines level unit xs
 
 -- how many numbers a signed form has; 0 for others
 abbrev pub signed_of : Form → ℕ
@@ -60,26 +61,28 @@ alone (One f) = Some f
 alone p = None
 
 -- `Inner` explains what is within a form
-module _ (Inner : Form → List ℕ) (names : List (Bor (List Named))) where
-  -- each member in a line, and below it the names of its numbers or bits, and what is within
-  abbrev pub members_text : ℕ → ℕ → List Member → List Note → List ℕ
-  members_text level all [] notes = []
-  members_text level all (m ∷ ms) notes =
-      member_line level all m (first_note notes)
-      ++ (named_lines (level + 1) (names_at names (first_note notes).names) ++ (Inner m.form ++ members_text level all ms (other_notes notes)))
+module _ (Inner : Form → List ℕ) (notes : List CodeNote) where
+  -- a member of the part at a place in a line, below it the names of its numbers or bits, and behind them a text
+  abbrev pub member_text : ℕ → ℕ → Member → Note → List ℕ → List ℕ
+  member_text level all m note behind = member_line level all m note ++ (named_lines (level + 1) note.numbers note.names ++ behind)
 
-  abbrev pub part_text : ℕ → ℕ → Part → List Note → Option Form → List ℕ
-  part_text level all p notes (Some f) = Inner f
-  part_text level all p notes None = members_text level all (members_of p) notes
+  -- each member, and what is within it
+  abbrev pub members_text : ℕ → ℕ → ℕ → List Member → List ℕ
+  members_text level all place [] = []
+  members_text level all place (m ∷ ms) = member_text level all m (note_of notes place m.name) (Inner m.form ++ members_text level all place ms)
 
-  abbrev pub text_at : Table → List Noted → ℕ → ℕ → Option ℕ → List ℕ
-  text_at table notes level all None = []
-  text_at table notes level all (Some i) = part_text level all (table i) (notes_at notes i) (alone (table i))
+  abbrev pub part_text : ℕ → ℕ → ℕ → Part → Option Form → List ℕ
+  part_text level all place p (Some f) = Inner f
+  part_text level all place p None = members_text level all place (members_of p)
+
+  abbrev pub text_at : Table → ℕ → ℕ → Option ℕ → List ℕ
+  text_at table level all None = []
+  text_at table level all (Some i) = part_text level all i (table i) (alone (table i))
 
 -- what is within a form, at most so deep
-abbrev pub explained : Table → List Noted → List (Bor (List Named)) → ℕ → Form → List ℕ
-explained table notes names zero f = []
-explained table notes names (suc n) f = text_at (explained table notes names n) names table notes (deepest - n) (signed_of f) (place_in f)
+abbrev pub explained : Table → List CodeNote → ℕ → Form → List ℕ
+explained table notes zero f = []
+explained table notes (suc n) f = text_at (explained table notes n) notes table (deepest - n) (signed_of f) (place_in f)
 
 -- ---- kinds
 
@@ -93,7 +96,7 @@ rows_of_kind [] kind = None
 rows_of_kind (x ∷ xs) kind = if bytes_eq x.kind kind then Some x.rows else rows_of_kind xs kind
 
 -- a kind of the list at a place: what its attributes are, and an example
-abbrev pub kind_text : Table → List Noted → List (Bor (List Named)) → ℕ → List ℕ → List ℕ
-kind_text table notes names place kind =
-    option_map_or (λ rows. kind ++ (codes "\n" ++ (explained table notes names deepest (form.List rows) ++ kind_example table kind rows)))
+abbrev pub kind_text : Table → List CodeNote → ℕ → List ℕ → List ℕ
+kind_text table notes place kind =
+    option_map_or (λ rows. kind ++ (codes "\n" ++ (explained table notes deepest (form.List rows) ++ kind_example table kind rows)))
     (rows_of_kind (kinds_of (table place)) kind) []

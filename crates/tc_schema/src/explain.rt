@@ -4,37 +4,36 @@ ghost use Rattle.std.specs.Prelude.{OnOk, is_some, ◌++◌, ◌-◌, ◌≡◌,
 ghost use Rattle.tc_form_values.specs.Tables.{kinds_view, part_view};
 ghost use Rattle.tc_schema.specs.Explained.{alone, explained, kind_text, kinds_of, member_line, members_text, named_lines, place_in};
 ghost use Rattle.tc_schema.specs.Explained.{rows_of_kind, signed_of, signed_text, value_text};
-ghost use Rattle.tc_schema.specs.Notes.{note_view, notes_at};
+ghost use Rattle.tc_schema.specs.Notes.{note_view};
 ghost use Rattle.tc_schema.specs.Texts.{deepest, member_view, members_of};
 
 use crate::json::put_example;
-use crate::notes::{Left, Named, Note, Noted, first_note, names_at, notes_at};
+use crate::notes::{Note, note_of};
 use crate::texts::{DEEPEST, Done, Member, first_member, put, put_around, put_form, put_times};
 use std::alloc::{AllocError, Allocator};
 use tc_form_values::{Form, KindRows, Number, Part, Tables};
-use tc_units::{Unit, put_number};
+use tc_units::{Name, Unit, put_number};
 
 // Where a form is explained: by this table and what is known beside it, with so many levels left.
 #[derive(Clone, Copy)]
 struct At<'a, T> {
     table: T,
-    notes: &'a [Noted<'static>],
-    names: &'a [&'static [Named<'static>]],
+    notes: &'a [Note],
     depth: u8,
 }
 
 // A line for each number and its name.
-fn put_named<A: Allocator>(out: &mut Vec<u8, A>, level: u8, names: &[Named<'_>]) -> Done
-    ensures { OnOk result (out.new.items ≡ out.old.items ++ named_lines level names.now) }
+fn put_named<A: Allocator>(out: &mut Vec<u8, A>, level: u8, unit: Unit, names: &[Name<'_>]) -> Done
+    ensures { OnOk result (out.new.items ≡ out.old.items ++ named_lines level unit names.now) }
 {
     if let Some((first, others)) = names.split_first() {
         put_times(out, "  ", level as usize)?;
         put(out, first.name)?;
         put(out, " = ")?;
-        put(out, first.number)?;
+        put_number(out, unit, first.number)?;
         put_around(out, " (", first.kernel, ")")?;
         put(out, "\n")?;
-        put_named(out, level, others)?;
+        put_named(out, level, unit, others)?;
     }
     Ok(())
 }
@@ -79,13 +78,7 @@ fn put_value<A: Allocator>(out: &mut Vec<u8, A>, all: u64, of: Member, unit: &st
 }
 
 // A line for a member: its name, its value, and the kernel's name.
-fn put_line<A: Allocator>(
-    out: &mut Vec<u8, A>,
-    level: u8,
-    all: u64,
-    of: Member,
-    note: Note<'_>,
-) -> Done
+fn put_line<A: Allocator>(out: &mut Vec<u8, A>, level: u8, all: u64, of: Member, note: Note) -> Done
     ensures { OnOk result (out.new.items ≡ out.old.items ++ member_line level all (member_view of) (note_view note.entry)) }
 {
     put_times(out, "  ", level as usize)?;
@@ -121,7 +114,7 @@ fn alone(part: Part<'static>) -> Option<Form>
 #[cycle(explain)]
 fn explain_form<T: Tables, A: Allocator>(out: &mut Vec<u8, A>, at: &At<'_, T>, form: Form) -> Done
     requires { at.now.depth ≤ 12 }
-    ensures { OnOk result (out.new.items ≡ out.old.items ++ explained (T.parts_of at.now.table) at.now.notes.now at.now.names.now at.now.depth form) }
+    ensures { OnOk result (out.new.items ≡ out.old.items ++ explained (T.parts_of at.now.table) at.now.notes.now at.now.depth form) }
 {
     let depth = match at.depth.checked_sub(1) {
         Some(depth) => depth,
@@ -134,7 +127,6 @@ fn explain_form<T: Tables, A: Allocator>(out: &mut Vec<u8, A>, at: &At<'_, T>, f
     let inner = At {
         table: at.table,
         notes: at.notes,
-        names: at.names,
         depth,
     };
     match alone(at.table.part(place)) {
@@ -153,21 +145,17 @@ fn explain_members<T: Tables, A: Allocator>(
 ) -> Done
     requires { at.now.depth ≤ 12 }
     ensures { OnOk result (out.new.items ≡ out.old.items ++
-        members_text (explained (T.parts_of at.now.table) at.now.notes.now at.now.names.now at.now.depth) at.now.names.now
-        (deepest - at.now.depth) all (members_of (T.parts_of at.now.table place)) (notes_at at.now.notes.now place)) }
+        members_text (explained (T.parts_of at.now.table) at.now.notes.now at.now.depth) at.now.notes.now
+        (deepest - at.now.depth) all place (members_of (T.parts_of at.now.table place))) }
 {
     let level = DEEPEST - at.depth;
     let mut left = at.table.part(place);
-    let mut behind = Left {
-        notes: notes_at(at.notes, place),
-    };
     while let Some((member, others)) = first_member(left) {
-        let (note, after) = first_note(behind);
+        let note = note_of(at.notes, place, member.name);
         put_line(out, level, all, member, note)?;
-        put_named(out, level + 1, names_at(at.names, note.names))?;
+        put_named(out, level + 1, note.numbers, note.names)?;
         explain_form(out, at, member.form)?;
         left = others;
-        behind = after;
     }
     Ok(())
 }
@@ -200,19 +188,17 @@ fn rows_of_kind(kinds: &[KindRows<'_>], kind: &str) -> Option<usize>
 /// kind.
 pub fn put_kind<T: Tables, A: Allocator>(
     table: T,
-    notes: &[Noted<'static>],
-    names: &[&'static [Named<'static>]],
+    notes: &[Note],
     place: usize,
     kind: &str,
     out: &mut Vec<u8, A>,
 ) -> Result<(), AllocError>
-    ensures { OnOk result (out.new.items ≡ out.old.items ++ kind_text (T.parts_of table) notes.now names.now place kind.now) }
+    ensures { OnOk result (out.new.items ≡ out.old.items ++ kind_text (T.parts_of table) notes.now place kind.now) }
 {
     if let Some(rows) = rows_of_kind(kinds_of(table, place), kind) {
         let at = At {
             table,
             notes,
-            names,
             depth: DEEPEST,
         };
         put(out, kind)?;

@@ -4,11 +4,9 @@
 
 mod explain;
 mod json;
-mod kinds;
 mod notes;
 mod texts;
 
 pub use explain::{kinds_of, knows_kind, put_kind};
 pub use json::put_schema;
-pub use kinds::{LISTS, PLACES};
-pub use notes::{Named, Note, Noted, all_names, notes_at_places};
+pub use notes::{Note, unit_in_words};

@@ -1,111 +1,70 @@
-//! What is known of the members of a part beside their names and forms.
+//! What is known of the members of parts beside their names in JSON and their forms.
 
-ghost use Rattle.std.specs.Prelude.{◌≡◌};
-ghost use Rattle.tc_schema.specs.Notes.{first_note, names_at, note_view, note_views, notes_at, other_notes};
+ghost use Rattle.std.specs.Prelude.{bytes_eq, ◌&&◌, ◌==◌, ◌≡◌};
+ghost use Rattle.tc_schema.specs.Notes.{note_of, note_view};
 
-use crate::kinds::{NAMES, names_of, notes_of};
-use std::alloc::{AllocError, Allocator};
+use tc_units::{Name, Unit};
 
-/// A named number, or a bit of a flag word.
+/// A member of a part: what the kernel calls it, what it counts, and the names of its numbers.
 #[derive(Clone, Copy)]
-pub struct Named<'a> {
-    /// The number, as it is written.
-    pub number: &'a str,
-    /// The name.
-    pub name: &'a str,
-    /// The kernel's name.
-    pub kernel: &'a str,
-}
-
-/// What is known of a member.
-#[derive(Clone, Copy)]
-pub struct Note<'a> {
-    /// The kernel's name; empty where it has none.
-    pub kernel: &'a str,
-    /// What it counts, in words; empty where that isn't known.
-    pub unit: &'a str,
-    /// The place of the names of its numbers or bits, beside those of the table; 0 where it has none.
-    pub names: usize,
-}
-
-/// What is known of the members of a part, in their order.
-#[derive(Clone, Copy)]
-pub struct Noted<'a> {
+pub struct Note {
     /// The place of the part.
     pub place: usize,
-    /// A note for each member.
-    pub notes: &'a [Note<'a>],
+    /// The name in JSON.
+    pub member: &'static str,
+    /// The kernel's name; empty if there is none.
+    pub kernel: &'static str,
+    /// What it counts, in words; empty if nothing in particular.
+    pub unit: &'static str,
+    /// The names of its numbers or bits.
+    pub names: &'static [Name<'static>],
+    /// How these numbers are written.
+    pub numbers: Unit,
 }
 
-const NO_NOTE: Note<'static> = Note {
+const NO_NOTE: Note = Note {
+    place: 0,
+    member: "",
     kernel: "",
     unit: "",
-    names: 0,
+    names: &[],
+    numbers: Unit::Plain,
 };
 
-// The names at a place.
-pub(crate) fn names_at(
-    names: &[&'static [Named<'static>]],
-    place: usize,
-) -> &'static [Named<'static>]
-    ensures { result.now ≡ names_at names.now place }
+fn is_of(note: &Note, place: usize, member: &str) -> bool
+    ensures { result ≡ (note.now.place == place) && bytes_eq note.now.member.now member.now }
 {
-    if let Some(it) = names.get(place) {
-        return *it;
-    }
-    &[]
+    note.place == place && note.member == member
 }
 
-// The notes of the part at a place.
-pub(crate) fn notes_at(notes: &[Noted<'static>], place: usize) -> &'static [Note<'static>]
-    ensures { note_views result.now ≡ notes_at notes.now place }
+// The first note of a member of the part at a place.
+pub(crate) fn note_of(notes: &[Note], place: usize, member: &str) -> Note
+    ensures { note_view result ≡ note_of notes.now place member.now }
 {
-    if let Some((it, others)) = notes.split_first() {
-        if it.place == place {
-            return it.notes;
-        }
-        return notes_at(others, place);
-    }
-    &[]
-}
-
-/// The notes of members that are left.
-#[derive(Clone, Copy)]
-pub(crate) struct Left {
-    pub(crate) notes: &'static [Note<'static>],
-}
-
-// The note of the first member, and those of the others.
-pub(crate) fn first_note(left: Left) -> (Note<'static>, Left)
-    ensures first { note_view result.0 ≡ first_note (note_views left.notes.now) }
-    ensures others { note_views result.1.notes.now ≡ other_notes (note_views left.notes.now) }
-{
-    match left.notes.split_first() {
-        Some((first, others)) => (*first, Left { notes: others }),
-        None => (NO_NOTE, left),
+    match notes.split_first() {
+        Some((it, _)) if is_of(it, place, member) => *it,
+        Some((_, others)) => note_of(others, place, member),
+        None => NO_NOTE,
     }
 }
 
-/// The notes of the parts at these places.
-pub fn notes_at_places<A: Allocator>(
-    alloc: A,
-    places: &[usize],
-) -> Result<Vec<Noted<'static>, A>, AllocError> {
-    let mut out = Vec::new(alloc);
-    for place in places {
-        out.push(Noted {
-            place: *place,
-            notes: notes_of(*place),
-        })?;
+/// What a number in this unit counts, in words; empty if nothing in particular.
+pub fn unit_in_words(unit: Unit) -> &'static str {
+    match unit {
+        Unit::Bytes => "bytes",
+        Unit::Packets => "packets",
+        Unit::BytesPerSecond => "bytes a second",
+        Unit::PacketsPerSecond => "packets a second",
+        Unit::KilobitsPerSecond => "1000 bits a second",
+        Unit::Nanoseconds => "nanoseconds",
+        Unit::Microseconds => "microseconds",
+        Unit::Milliseconds => "milliseconds",
+        Unit::Seconds => "seconds",
+        Unit::Ticks => "ticks of 64 ns",
+        Unit::ClockTicks => "hundredths of a second",
+        Unit::Percent => "percent",
+        Unit::Probability => "probability, 2^-32 each",
+        Unit::Power => "exponent of 2",
+        Unit::Plain | Unit::Hex | Unit::LongHex | Unit::NetworkHex | Unit::U32Handle => "",
     }
-    Ok(out)
-}
-
-/// All names that notes have, by their places.
-pub fn all_names<A: Allocator>(alloc: A) -> Result<Vec<&'static [Named<'static>], A>, AllocError> {
-    let mut out = Vec::new(alloc);
-    for place in 0..=NAMES {
-        out.push(names_of(place))?;
-    }
-    Ok(out)
 }

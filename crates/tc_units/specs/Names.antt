@@ -1,8 +1,9 @@
 -- Names of numbers.
+use Rattle.std.specs.Borrow.{Bor}
 use Rattle.std.specs.Prelude.{List, None, Option, Some, [], bytes_eq, if◌then◌else◌, map, ℕ, ◌++◌, ◌==◌, ◌∷◌}
 use Rattle.tc_units.specs.Numerals.{bracketed}
 use Rattle.tc_units.specs.Units.{number_text}
-use Rattle.tc_units.specs.declared.names.Name.{Name as CodeName}
+use Rattle.tc_units.specs.declared.names.NameOf.{NameOf}
 use Rattle.tc_units.specs.declared.unit.Unit.{Unit}
 
 pub record Name : Type 0 where
@@ -27,10 +28,21 @@ abbrev pub number_of : List Name → List ℕ → Option ℕ
 number_of [] name = None
 number_of (x ∷ xs) name = if bytes_eq x.name name then Some x.number else number_of xs name
 
--- ---- what the code's values say
+-- ---- the code's values
+
+abbrev pub CodeName : Type 0
+CodeName = NameOf (Bor (List ℕ))
 
 abbrev pub name_view : CodeName → Name
 name_view x = record { number = x.number; name = x.name.now }
 
 abbrev pub names_view : List CodeName → List Name
 names_view xs = map name_view xs
+
+-- ---- the same values in a constant of the code, where a reference is another type
+
+abbrev pub ConstName : Type 0
+ConstName = NameOf (record { now : List ℕ })
+
+abbrev pub const_name_view : ConstName → Name
+const_name_view x = record { number = x.number; name = x.name.now }

@@ -26,7 +26,7 @@ mod units;
 mod values;
 
 pub use flags::put_flags;
-pub use names::{Name, name_of, number_of, put_named};
+pub use names::{Name, NameOf, name_of, number_of, put_named};
 pub use numerals::{put_decimal, put_hex};
 pub use prefix::prefix_of;
 pub use unit::Unit;

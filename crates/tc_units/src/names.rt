@@ -7,14 +7,20 @@ use crate::unit::Unit;
 use crate::units::put_number;
 use std::alloc::{AllocError, Allocator};
 
-/// A number, or a bit of a flag word, and its name.
+/// A number, or a bit of a flag word, and its name. It is generic in its texts: specs can cite a constant of a generic type, and of none that
+/// has a lifetime.
 #[derive(Clone, Copy)]
-pub struct Name<'a> {
+pub struct NameOf<N> {
     /// The number; a bit is a power of two.
     pub number: u64,
     /// The name.
-    pub name: &'a str,
+    pub name: N,
+    /// The kernel's name, for explanations; empty if there is none. Values are shown without it.
+    pub kernel: N,
 }
+
+/// A number, or a bit of a flag word, and its name.
+pub type Name<'a> = NameOf<&'a str>;
 
 /// The first name of a number.
 pub fn name_of<'a>(names: &[Name<'a>], n: u64) -> Option<&'a str>

@@ -1,17 +1,17 @@
 //! The kinds that the tables have.
 
+use crate::notes::{notes_of_kinds, places_of_kinds};
 use std::alloc::{AllocError, Allocator};
 use std::fmt;
-use tc_kinds::{ACTION_MESSAGE, TC_MESSAGE, TcTables};
-use tc_schema::{
-    LISTS, Named, Noted, PLACES, all_names, kinds_of, knows_kind, notes_at_places, put_kind,
-    put_schema,
-};
+use tc_kinds::{ACTION_LIST, ACTION_MESSAGE, TC_LIST, TC_MESSAGE, TcTables};
+use tc_schema::{Note, kinds_of, knows_kind, put_kind, put_schema};
+
+/// The places of the lists with kinds: of qdiscs and filters, and of actions.
+const LISTS: [usize; 2] = [TC_LIST, ACTION_LIST];
 
 /// True of a kind that a table has.
 pub(crate) fn is_known(kind: &str) -> bool {
-    let [first, second] = LISTS;
-    knows_kind(TcTables, first, kind) || knows_kind(TcTables, second, kind)
+    knows_kind(TcTables, TC_LIST, kind) || knows_kind(TcTables, ACTION_LIST, kind)
 }
 
 /// Writes all kinds, one a line.
@@ -31,34 +31,27 @@ pub fn explain<A: Allocator + Copy>(
     kind: &str,
     out: &mut Vec<u8, A>,
 ) -> Result<(), AllocError> {
-    let notes = notes_at_places(alloc, &PLACES)?;
-    explain_by(alloc, notes.as_slice(), kind, out)
-}
-
-fn explain_by<A: Allocator + Copy>(
-    alloc: A,
-    notes: &[Noted<'static>],
-    kind: &str,
-    out: &mut Vec<u8, A>,
-) -> Result<(), AllocError> {
-    let names = all_names(alloc)?;
-    put_kinds(notes, names.as_slice(), kind, out)
+    let notes = notes_of_kinds(alloc)?;
+    put_kinds(notes.as_slice(), kind, out)
 }
 
 // Puts what both lists of kinds have of one.
 fn put_kinds<A: Allocator>(
-    notes: &[Noted<'static>],
-    names: &[&'static [Named<'static>]],
+    notes: &[Note],
     kind: &str,
     out: &mut Vec<u8, A>,
 ) -> Result<(), AllocError> {
     for place in &LISTS {
-        put_kind(TcTables, notes, names, *place, kind, out)?;
+        put_kind(TcTables, notes, *place, kind, out)?;
     }
     Ok(())
 }
 
 /// Puts the JSON Schema of a line.
-pub(crate) fn put_schema_of_line<A: Allocator>(out: &mut Vec<u8, A>) -> Result<(), AllocError> {
-    put_schema(TcTables, &PLACES, TC_MESSAGE, ACTION_MESSAGE, out)
+pub(crate) fn put_schema_of_line<A: Allocator + Copy>(
+    alloc: A,
+    out: &mut Vec<u8, A>,
+) -> Result<(), AllocError> {
+    let places = places_of_kinds(alloc)?;
+    put_schema(TcTables, places.as_slice(), TC_MESSAGE, ACTION_MESSAGE, out)
 }

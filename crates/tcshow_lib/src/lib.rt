@@ -20,6 +20,7 @@ mod line;
 mod lines;
 mod links;
 pub mod names;
+mod notes;
 mod notice;
 mod output;
 pub mod packets;

@@ -95,7 +95,7 @@ fn perform<R: AllocGlobal + Files + Input + Print, E: Write>(
 
 fn print_schema<R: AllocGlobal + Print, E: Write>(rt: &R, errors: &mut E) -> u8 {
     let mut text = Vec::new(rt.alloc());
-    match put_schema_of_line(&mut text) {
+    match put_schema_of_line(rt.alloc(), &mut text) {
         Ok(()) => print(rt, text.as_slice(), errors),
         Err(_) => complain(errors, NO_MEMORY, 3),
     }

@@ -213,18 +213,22 @@ static FLAGS: [Name<'static>; 4] = [
     Name {
         number: 1,
         name: "skip_hw",
+        kernel: "",
     },
     Name {
         number: 2,
         name: "skip_sw",
+        kernel: "",
     },
     Name {
         number: 4,
         name: "in_hw",
+        kernel: "",
     },
     Name {
         number: 8,
         name: "not_in_hw",
+        kernel: "",
     },
 ];
 
@@ -242,6 +246,7 @@ fn is_protocol(alloc: Global, n: u64, text: &str) -> bool {
     let names = [Name {
         number: 0x0800,
         name: "ip",
+        kernel: "",
     }];
     let mut out = Vec::new(alloc);
     match put_named(&mut out, Unit::LongHex, &names, n) {

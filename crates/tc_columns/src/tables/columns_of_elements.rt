@@ -1,50 +1,32 @@
 //! The columns of `kinds/elements`. Written by `kinds/columns`.
 
-ghost use Rattle.std.specs.Prelude.{◌≡◌};
+ghost use Rattle.std.specs.Prelude.{map, ◌≡◌};
+ghost use Rattle.tc_columns.specs.Arrays.{columns_of_elements};
 ghost use Rattle.tc_lines.specs.Columns.{columns_view};
-ghost use Rattle.tc_columns.specs.Tables.ColumnsOfElements.{columns_of_elements_100, columns_of_elements};
 
 use tc_lines::{Column, How};
 
-// what an array holds
 #[rattlefmt::skip]
-const ELEMENT_CHOICE_EMATCH: [Column<'static>; 2] = [
-    Column { key: "tab", name: "match", how: How::Plain },
-    Column { key: "attributes", name: "attributes", how: How::Below(1802) },
+static COLUMNS_OF_ELEMENTS: [&'static [Column<'static>]; 7] = [
+    &[], &[],
+    &[ // 506, what an array holds
+        Column { key: "tab", name: "match", how: How::Plain, kernel: "" },
+        Column { key: "attributes", name: "attributes", how: How::Below(530), kernel: "" },
+    ],
+    &[ // 507, what an array holds
+        Column { key: "tab", name: "action", how: How::Plain, kernel: "" },
+        Column { key: "attributes", name: "attributes", how: How::Below(0), kernel: "" },
+    ],
+    &[], &[],
+    &[ // 510, what an array holds
+        Column { key: "tab", name: "tin", how: How::Plain, kernel: "" },
+        Column { key: "attributes", name: "attributes", how: How::Below(866), kernel: "" },
+    ],
 ];
 
-// what an array holds
-#[rattlefmt::skip]
-const ELEMENT_OWN_ACTION: [Column<'static>; 2] = [
-    Column { key: "tab", name: "action", how: How::Plain },
-    Column { key: "attributes", name: "attributes", how: How::Below(0) },
-];
-
-// what an array holds
-#[rattlefmt::skip]
-const ELEMENT_LIST_CAKE_TIN_STATS: [Column<'static>; 2] = [
-    Column { key: "tab", name: "tin", how: How::Plain },
-    Column { key: "attributes", name: "attributes", how: How::Below(3614) },
-];
-
-#[tactic(auto, unfolding(crate::specs::Tables::ColumnsOfElements::columns_of_elements_100))]
-pub(crate) fn columns_of_elements_100(place: usize) -> &'static [Column<'static>]
-    ensures { columns_view result.now ≡ columns_of_elements_100 place }
+#[tactic(auto, unfolding(crate::specs::Arrays::columns_of_elements))]
+pub(crate) fn columns_of_elements() -> &'static [&'static [Column<'static>]]
+    ensures { map (λ x. columns_view x.now) result.now ≡ columns_of_elements }
 {
-    match place {
-        1202 => &ELEMENT_CHOICE_EMATCH,
-        1203 => &ELEMENT_OWN_ACTION,
-        1206 => &ELEMENT_LIST_CAKE_TIN_STATS,
-        _ => &[],
-    }
-}
-
-#[tactic(auto, unfolding(crate::specs::Tables::ColumnsOfElements::columns_of_elements))]
-pub(crate) fn columns_of_elements(place: usize) -> &'static [Column<'static>]
-    ensures { columns_view result.now ≡ columns_of_elements place }
-{
-    match place / 12 {
-        100 => columns_of_elements_100(place),
-        _ => &[],
-    }
+    &COLUMNS_OF_ELEMENTS
 }

@@ -1,236 +1,135 @@
 //! The columns of `kinds/ematch`. Written by `kinds/columns`.
 
-ghost use Rattle.std.specs.Prelude.{◌≡◌};
+ghost use Rattle.std.specs.Prelude.{map, ◌≡◌};
+ghost use Rattle.tc_columns.specs.Arrays.{columns_of_ematch};
 ghost use Rattle.tc_lines.specs.Columns.{columns_view};
-ghost use Rattle.tc_columns.specs.Tables.ColumnsOfEmatch.{columns_of_ematch_150, columns_of_ematch_151, columns_of_ematch};
 
 use tc_lines::{Column, How};
 use tc_units::Unit;
 
-// `list ematch_tree`
 #[rattlefmt::skip]
-const LIST_EMATCH_TREE: [Column<'static>; 2] = [
-    Column { key: "Hdr", name: "hdr", how: How::Within(1801) },
-    Column { key: "List", name: "list", how: How::Within(1202) },
+static COLUMNS_OF_EMATCH: [&'static [Column<'static>]; 22] = [
+    &[ // 528, `list ematch_tree`
+        Column { key: "Hdr", name: "hdr", how: How::Within(529), kernel: "TCA_EMATCH_TREE_HDR" },
+        Column { key: "List", name: "list", how: How::Within(506), kernel: "TCA_EMATCH_TREE_LIST" },
+    ],
+    &[ // 529, `struct tcf_ematch_tree_hdr`
+        Column { key: "nmatches", name: "nmatches", how: How::Plain, kernel: "" },
+        Column { key: "progid", name: "progid", how: How::Plain, kernel: "" },
+    ],
+    &[ // 530, `choice ematch`
+        Column { key: "Container", name: "container", how: How::Within(531), kernel: "" },
+        Column { key: "Cmp", name: "cmp", how: How::Within(532), kernel: "" },
+        Column { key: "Nbyte", name: "nbyte", how: How::Within(534), kernel: "" },
+        Column { key: "U32", name: "u32", how: How::Within(536), kernel: "" },
+        Column { key: "Meta", name: "meta", how: How::Within(537), kernel: "" },
+        Column { key: "Text", name: "text", how: How::Within(542), kernel: "" },
+        Column { key: "Canid", name: "canid", how: How::Within(544), kernel: "" },
+        Column { key: "Ipset", name: "ipset", how: How::Within(546), kernel: "" },
+        Column { key: "Ipt", name: "ipt", how: How::Within(548), kernel: "" },
+    ],
+    &[ // 531, `struct ematch_container`
+        Column { key: "flags", name: "flags", how: How::Flags(24029), kernel: "" },
+        Column { key: "padding", name: "padding", how: How::Plain, kernel: "" },
+        Column { key: "first", name: "first", how: How::Plain, kernel: "" },
+    ],
+    &[ // 532, `struct ematch_cmp`
+        Column { key: "flags", name: "flags", how: How::Flags(24029), kernel: "" },
+        Column { key: "padding", name: "padding", how: How::Plain, kernel: "" },
+        Column { key: "match", name: "match", how: How::Within(533), kernel: "" },
+    ],
+    &[ // 533, `struct tcf_em_cmp`
+        Column { key: "val", name: "val", how: How::Number(Unit::Hex), kernel: "" },
+        Column { key: "mask", name: "mask", how: How::Number(Unit::Hex), kernel: "" },
+        Column { key: "off", name: "off", how: How::Number(Unit::Bytes), kernel: "" },
+        Column { key: "align_flags", name: "align_flags", how: How::Named(Unit::Hex, 24030), kernel: "" },
+        Column { key: "layer_opnd", name: "layer_opnd", how: How::Named(Unit::Hex, 24031), kernel: "" },
+    ],
+    &[ // 534, `struct ematch_nbyte`
+        Column { key: "flags", name: "flags", how: How::Flags(24029), kernel: "" },
+        Column { key: "padding", name: "padding", how: How::Plain, kernel: "" },
+        Column { key: "match", name: "match", how: How::Within(535), kernel: "" },
+        Column { key: "needle", name: "needle", how: How::Plain, kernel: "" },
+    ],
+    &[ // 535, `struct tcf_em_nbyte`
+        Column { key: "off", name: "off", how: How::Number(Unit::Bytes), kernel: "" },
+        Column { key: "len_layer", name: "len_layer", how: How::Plain, kernel: "" },
+    ],
+    &[ // 536, `struct ematch_u32`
+        Column { key: "flags", name: "flags", how: How::Flags(24029), kernel: "" },
+        Column { key: "padding", name: "padding", how: How::Plain, kernel: "" },
+        Column { key: "match", name: "match", how: How::Within(794), kernel: "" },
+    ],
+    &[ // 537, `struct ematch_meta`
+        Column { key: "flags", name: "flags", how: How::Flags(24029), kernel: "" },
+        Column { key: "padding", name: "padding", how: How::Plain, kernel: "" },
+        Column { key: "attributes", name: "attributes", how: How::Through(538), kernel: "" },
+    ],
+    &[ // 538, `list em_meta`
+        Column { key: "Hdr", name: "hdr", how: How::Within(539), kernel: "TCA_EM_META_HDR" },
+        Column { key: "Lvalue", name: "lvalue", how: How::Plain, kernel: "TCA_EM_META_LVALUE" },
+        Column { key: "Rvalue", name: "rvalue", how: How::Plain, kernel: "TCA_EM_META_RVALUE" },
+    ],
+    &[ // 539, `struct tcf_meta_hdr`
+        Column { key: "left", name: "left", how: How::Within(540), kernel: "" },
+        Column { key: "right", name: "right", how: How::Within(540), kernel: "" },
+    ],
+    &[ // 540, `struct tcf_meta_val`
+        Column { key: "kind", name: "kind", how: How::Number(Unit::Hex), kernel: "" },
+        Column { key: "shift", name: "shift", how: How::Plain, kernel: "" },
+        Column { key: "op", name: "op", how: How::Text(541), kernel: "" },
+    ],
+    &[],
+    &[ // 542, `struct ematch_text`
+        Column { key: "flags", name: "flags", how: How::Flags(24029), kernel: "" },
+        Column { key: "padding", name: "padding", how: How::Plain, kernel: "" },
+        Column { key: "match", name: "match", how: How::Within(543), kernel: "" },
+        Column { key: "pattern", name: "pattern", how: How::Plain, kernel: "" },
+    ],
+    &[ // 543, `struct tcf_em_text`
+        Column { key: "algo", name: "algo", how: How::Plain, kernel: "" },
+        Column { key: "from_offset", name: "from_offset", how: How::Number(Unit::Bytes), kernel: "" },
+        Column { key: "to_offset", name: "to_offset", how: How::Number(Unit::Bytes), kernel: "" },
+        Column { key: "pattern_len", name: "pattern_len", how: How::Number(Unit::Bytes), kernel: "" },
+        Column { key: "layers", name: "layers", how: How::Plain, kernel: "" },
+        Column { key: "pad", name: "pad", how: How::Plain, kernel: "" },
+    ],
+    &[ // 544, `struct ematch_canid`
+        Column { key: "flags", name: "flags", how: How::Flags(24029), kernel: "" },
+        Column { key: "padding", name: "padding", how: How::Plain, kernel: "" },
+        Column { key: "match", name: "match", how: How::Elements(545), kernel: "" },
+    ],
+    &[ // 545, `struct can_filter`
+        Column { key: "can_id", name: "can_id", how: How::Number(Unit::Hex), kernel: "" },
+        Column { key: "can_mask", name: "can_mask", how: How::Number(Unit::Hex), kernel: "" },
+    ],
+    &[ // 546, `struct ematch_ipset`
+        Column { key: "flags", name: "flags", how: How::Flags(24029), kernel: "" },
+        Column { key: "padding", name: "padding", how: How::Plain, kernel: "" },
+        Column { key: "match", name: "match", how: How::Within(547), kernel: "" },
+    ],
+    &[ // 547, `struct xt_set_info`
+        Column { key: "index", name: "index", how: How::Plain, kernel: "" },
+        Column { key: "dim", name: "dim", how: How::Plain, kernel: "" },
+        Column { key: "flags", name: "flags", how: How::Plain, kernel: "" },
+    ],
+    &[ // 548, `struct ematch_ipt`
+        Column { key: "flags", name: "flags", how: How::Flags(24029), kernel: "" },
+        Column { key: "padding", name: "padding", how: How::Plain, kernel: "" },
+        Column { key: "attributes", name: "attributes", how: How::Through(549), kernel: "" },
+    ],
+    &[ // 549, `list em_ipt`
+        Column { key: "Hook", name: "hook", how: How::Plain, kernel: "TCA_EM_IPT_HOOK" },
+        Column { key: "MatchName", name: "match_name", how: How::Plain, kernel: "TCA_EM_IPT_MATCH_NAME" },
+        Column { key: "MatchRevision", name: "match_revision", how: How::Plain, kernel: "TCA_EM_IPT_MATCH_REVISION" },
+        Column { key: "Nfproto", name: "nfproto", how: How::Plain, kernel: "TCA_EM_IPT_NFPROTO" },
+        Column { key: "MatchData", name: "match_data", how: How::Plain, kernel: "TCA_EM_IPT_MATCH_DATA" },
+    ],
 ];
 
-// `struct tcf_ematch_tree_hdr`
-#[rattlefmt::skip]
-const STRUCT_TCF_EMATCH_TREE_HDR: [Column<'static>; 2] = [
-    Column { key: "nmatches", name: "nmatches", how: How::Plain },
-    Column { key: "progid", name: "progid", how: How::Plain },
-];
-
-// `choice ematch`
-#[rattlefmt::skip]
-const CHOICE_EMATCH: [Column<'static>; 9] = [
-    Column { key: "Container", name: "container", how: How::Within(1803) },
-    Column { key: "Cmp", name: "cmp", how: How::Within(1804) },
-    Column { key: "Nbyte", name: "nbyte", how: How::Within(1806) },
-    Column { key: "U32", name: "u32", how: How::Within(1808) },
-    Column { key: "Meta", name: "meta", how: How::Within(1809) },
-    Column { key: "Text", name: "text", how: How::Within(1814) },
-    Column { key: "Canid", name: "canid", how: How::Within(1816) },
-    Column { key: "Ipset", name: "ipset", how: How::Within(1818) },
-    Column { key: "Ipt", name: "ipt", how: How::Within(1820) },
-];
-
-// `struct ematch_container`
-#[rattlefmt::skip]
-const STRUCT_EMATCH_CONTAINER: [Column<'static>; 3] = [
-    Column { key: "flags", name: "flags", how: How::Flags(24013) },
-    Column { key: "padding", name: "padding", how: How::Plain },
-    Column { key: "first", name: "first", how: How::Plain },
-];
-
-// `struct ematch_cmp`
-#[rattlefmt::skip]
-const STRUCT_EMATCH_CMP: [Column<'static>; 3] = [
-    Column { key: "flags", name: "flags", how: How::Flags(24013) },
-    Column { key: "padding", name: "padding", how: How::Plain },
-    Column { key: "match", name: "match", how: How::Within(1805) },
-];
-
-// `struct tcf_em_cmp`
-#[rattlefmt::skip]
-const STRUCT_TCF_EM_CMP: [Column<'static>; 5] = [
-    Column { key: "val", name: "val", how: How::Number(Unit::Hex) },
-    Column { key: "mask", name: "mask", how: How::Number(Unit::Hex) },
-    Column { key: "off", name: "off", how: How::Number(Unit::Bytes) },
-    Column { key: "align_flags", name: "align_flags", how: How::Named(Unit::Hex, 24014) },
-    Column { key: "layer_opnd", name: "layer_opnd", how: How::Named(Unit::Hex, 24015) },
-];
-
-// `struct ematch_nbyte`
-#[rattlefmt::skip]
-const STRUCT_EMATCH_NBYTE: [Column<'static>; 4] = [
-    Column { key: "flags", name: "flags", how: How::Flags(24013) },
-    Column { key: "padding", name: "padding", how: How::Plain },
-    Column { key: "match", name: "match", how: How::Within(1807) },
-    Column { key: "needle", name: "needle", how: How::Plain },
-];
-
-// `struct tcf_em_nbyte`
-#[rattlefmt::skip]
-const STRUCT_TCF_EM_NBYTE: [Column<'static>; 2] = [
-    Column { key: "off", name: "off", how: How::Number(Unit::Bytes) },
-    Column { key: "len_layer", name: "len_layer", how: How::Plain },
-];
-
-// `struct ematch_u32`
-#[rattlefmt::skip]
-const STRUCT_EMATCH_U32: [Column<'static>; 3] = [
-    Column { key: "flags", name: "flags", how: How::Flags(24013) },
-    Column { key: "padding", name: "padding", how: How::Plain },
-    Column { key: "match", name: "match", how: How::Within(2522) },
-];
-
-// `struct ematch_meta`
-#[rattlefmt::skip]
-const STRUCT_EMATCH_META: [Column<'static>; 3] = [
-    Column { key: "flags", name: "flags", how: How::Flags(24013) },
-    Column { key: "padding", name: "padding", how: How::Plain },
-    Column { key: "attributes", name: "attributes", how: How::Through(1810) },
-];
-
-// `list em_meta`
-#[rattlefmt::skip]
-const LIST_EM_META: [Column<'static>; 3] = [
-    Column { key: "Hdr", name: "hdr", how: How::Within(1811) },
-    Column { key: "Lvalue", name: "lvalue", how: How::Plain },
-    Column { key: "Rvalue", name: "rvalue", how: How::Plain },
-];
-
-// `struct tcf_meta_hdr`
-#[rattlefmt::skip]
-const STRUCT_TCF_META_HDR: [Column<'static>; 2] = [
-    Column { key: "left", name: "left", how: How::Within(1812) },
-    Column { key: "right", name: "right", how: How::Within(1812) },
-];
-
-#[tactic(auto, unfolding(crate::specs::Tables::ColumnsOfEmatch::columns_of_ematch_150))]
-pub(crate) fn columns_of_ematch_150(place: usize) -> &'static [Column<'static>]
-    ensures { columns_view result.now ≡ columns_of_ematch_150 place }
+#[tactic(auto, unfolding(crate::specs::Arrays::columns_of_ematch))]
+pub(crate) fn columns_of_ematch() -> &'static [&'static [Column<'static>]]
+    ensures { map (λ x. columns_view x.now) result.now ≡ columns_of_ematch }
 {
-    match place {
-        1800 => &LIST_EMATCH_TREE,
-        1801 => &STRUCT_TCF_EMATCH_TREE_HDR,
-        1802 => &CHOICE_EMATCH,
-        1803 => &STRUCT_EMATCH_CONTAINER,
-        1804 => &STRUCT_EMATCH_CMP,
-        1805 => &STRUCT_TCF_EM_CMP,
-        1806 => &STRUCT_EMATCH_NBYTE,
-        1807 => &STRUCT_TCF_EM_NBYTE,
-        1808 => &STRUCT_EMATCH_U32,
-        1809 => &STRUCT_EMATCH_META,
-        1810 => &LIST_EM_META,
-        1811 => &STRUCT_TCF_META_HDR,
-        _ => &[],
-    }
-}
-
-// `struct tcf_meta_val`
-#[rattlefmt::skip]
-const STRUCT_TCF_META_VAL: [Column<'static>; 3] = [
-    Column { key: "kind", name: "kind", how: How::Number(Unit::Hex) },
-    Column { key: "shift", name: "shift", how: How::Plain },
-    Column { key: "op", name: "op", how: How::Text(1813, 13813) },
-];
-
-// `struct ematch_text`
-#[rattlefmt::skip]
-const STRUCT_EMATCH_TEXT: [Column<'static>; 4] = [
-    Column { key: "flags", name: "flags", how: How::Flags(24013) },
-    Column { key: "padding", name: "padding", how: How::Plain },
-    Column { key: "match", name: "match", how: How::Within(1815) },
-    Column { key: "pattern", name: "pattern", how: How::Plain },
-];
-
-// `struct tcf_em_text`
-#[rattlefmt::skip]
-const STRUCT_TCF_EM_TEXT: [Column<'static>; 6] = [
-    Column { key: "algo", name: "algo", how: How::Plain },
-    Column { key: "from_offset", name: "from_offset", how: How::Number(Unit::Bytes) },
-    Column { key: "to_offset", name: "to_offset", how: How::Number(Unit::Bytes) },
-    Column { key: "pattern_len", name: "pattern_len", how: How::Number(Unit::Bytes) },
-    Column { key: "layers", name: "layers", how: How::Plain },
-    Column { key: "pad", name: "pad", how: How::Plain },
-];
-
-// `struct ematch_canid`
-#[rattlefmt::skip]
-const STRUCT_EMATCH_CANID: [Column<'static>; 3] = [
-    Column { key: "flags", name: "flags", how: How::Flags(24013) },
-    Column { key: "padding", name: "padding", how: How::Plain },
-    Column { key: "match", name: "match", how: How::Elements(1817) },
-];
-
-// `struct can_filter`
-#[rattlefmt::skip]
-const STRUCT_CAN_FILTER: [Column<'static>; 2] = [
-    Column { key: "can_id", name: "can_id", how: How::Number(Unit::Hex) },
-    Column { key: "can_mask", name: "can_mask", how: How::Number(Unit::Hex) },
-];
-
-// `struct ematch_ipset`
-#[rattlefmt::skip]
-const STRUCT_EMATCH_IPSET: [Column<'static>; 3] = [
-    Column { key: "flags", name: "flags", how: How::Flags(24013) },
-    Column { key: "padding", name: "padding", how: How::Plain },
-    Column { key: "match", name: "match", how: How::Within(1819) },
-];
-
-// `struct xt_set_info`
-#[rattlefmt::skip]
-const STRUCT_XT_SET_INFO: [Column<'static>; 3] = [
-    Column { key: "index", name: "index", how: How::Plain },
-    Column { key: "dim", name: "dim", how: How::Plain },
-    Column { key: "flags", name: "flags", how: How::Plain },
-];
-
-// `struct ematch_ipt`
-#[rattlefmt::skip]
-const STRUCT_EMATCH_IPT: [Column<'static>; 3] = [
-    Column { key: "flags", name: "flags", how: How::Flags(24013) },
-    Column { key: "padding", name: "padding", how: How::Plain },
-    Column { key: "attributes", name: "attributes", how: How::Through(1821) },
-];
-
-// `list em_ipt`
-#[rattlefmt::skip]
-const LIST_EM_IPT: [Column<'static>; 5] = [
-    Column { key: "Hook", name: "hook", how: How::Plain },
-    Column { key: "MatchName", name: "match_name", how: How::Plain },
-    Column { key: "MatchRevision", name: "match_revision", how: How::Plain },
-    Column { key: "Nfproto", name: "nfproto", how: How::Plain },
-    Column { key: "MatchData", name: "match_data", how: How::Plain },
-];
-
-#[tactic(auto, unfolding(crate::specs::Tables::ColumnsOfEmatch::columns_of_ematch_151))]
-pub(crate) fn columns_of_ematch_151(place: usize) -> &'static [Column<'static>]
-    ensures { columns_view result.now ≡ columns_of_ematch_151 place }
-{
-    match place {
-        1812 => &STRUCT_TCF_META_VAL,
-        1814 => &STRUCT_EMATCH_TEXT,
-        1815 => &STRUCT_TCF_EM_TEXT,
-        1816 => &STRUCT_EMATCH_CANID,
-        1817 => &STRUCT_CAN_FILTER,
-        1818 => &STRUCT_EMATCH_IPSET,
-        1819 => &STRUCT_XT_SET_INFO,
-        1820 => &STRUCT_EMATCH_IPT,
-        1821 => &LIST_EM_IPT,
-        _ => &[],
-    }
-}
-
-#[tactic(auto, unfolding(crate::specs::Tables::ColumnsOfEmatch::columns_of_ematch))]
-pub(crate) fn columns_of_ematch(place: usize) -> &'static [Column<'static>]
-    ensures { columns_view result.now ≡ columns_of_ematch place }
-{
-    match place / 12 {
-        150 => columns_of_ematch_150(place),
-        151 => columns_of_ematch_151(place),
-        _ => &[],
-    }
+    &COLUMNS_OF_EMATCH
 }

@@ -1,2060 +1,1405 @@
 //! The columns of `kinds/qdiscs`. Written by `kinds/columns`.
 
-ghost use Rattle.std.specs.Prelude.{◌≡◌};
+ghost use Rattle.std.specs.Prelude.{map, ◌≡◌};
+ghost use Rattle.tc_columns.specs.Arrays.{columns_of_qdiscs_atm, columns_of_qdiscs_cake, columns_of_qdiscs_cbq, columns_of_qdiscs_cbs};
+ghost use Rattle.tc_columns.specs.Arrays.{columns_of_qdiscs_choke, columns_of_qdiscs_codel, columns_of_qdiscs_drr, columns_of_qdiscs_dsmark};
+ghost use Rattle.tc_columns.specs.Arrays.{columns_of_qdiscs_etf, columns_of_qdiscs_ets, columns_of_qdiscs_fifo, columns_of_qdiscs_fq};
+ghost use Rattle.tc_columns.specs.Arrays.{columns_of_qdiscs_fq_codel, columns_of_qdiscs_fq_pie, columns_of_qdiscs_gred, columns_of_qdiscs_hfsc};
+ghost use Rattle.tc_columns.specs.Arrays.{columns_of_qdiscs_hhf, columns_of_qdiscs_htb, columns_of_qdiscs_ingress, columns_of_qdiscs_mqprio};
+ghost use Rattle.tc_columns.specs.Arrays.{columns_of_qdiscs_multiq, columns_of_qdiscs_netem, columns_of_qdiscs_none, columns_of_qdiscs_pie};
+ghost use Rattle.tc_columns.specs.Arrays.{columns_of_qdiscs_plug, columns_of_qdiscs_prio, columns_of_qdiscs_qfq, columns_of_qdiscs_red};
+ghost use Rattle.tc_columns.specs.Arrays.{columns_of_qdiscs_sfb, columns_of_qdiscs_sfq, columns_of_qdiscs_skbprio, columns_of_qdiscs_taprio};
+ghost use Rattle.tc_columns.specs.Arrays.{columns_of_qdiscs_tbf};
 ghost use Rattle.tc_lines.specs.Columns.{columns_view};
-ghost use Rattle.tc_columns.specs.Tables.ColumnsOfQdiscs.{columns_of_qdiscs_300, columns_of_qdiscs_301, columns_of_qdiscs_302, columns_of_qdiscs_303};
-ghost use Rattle.tc_columns.specs.Tables.ColumnsOfQdiscs.{columns_of_qdiscs_304, columns_of_qdiscs_305, columns_of_qdiscs_306, columns_of_qdiscs_307};
-ghost use Rattle.tc_columns.specs.Tables.ColumnsOfQdiscs.{columns_of_qdiscs_308, columns_of_qdiscs_309, columns_of_qdiscs_310, columns_of_qdiscs_311};
-ghost use Rattle.tc_columns.specs.Tables.ColumnsOfQdiscs.{columns_of_qdiscs_312, columns_of_qdiscs_313, columns_of_qdiscs_314, columns_of_qdiscs_315};
-ghost use Rattle.tc_columns.specs.Tables.ColumnsOfQdiscs.{columns_of_qdiscs_316, columns_of_qdiscs_317, columns_of_qdiscs_318, columns_of_qdiscs_319};
-ghost use Rattle.tc_columns.specs.Tables.ColumnsOfQdiscs.{columns_of_qdiscs_320, columns_of_qdiscs_321, columns_of_qdiscs_322, columns_of_qdiscs_323};
-ghost use Rattle.tc_columns.specs.Tables.ColumnsOfQdiscs.{columns_of_qdiscs_324, columns_of_qdiscs_325, columns_of_qdiscs_326, columns_of_qdiscs_327};
-ghost use Rattle.tc_columns.specs.Tables.ColumnsOfQdiscs.{columns_of_qdiscs_328, columns_of_qdiscs_329, columns_of_qdiscs_330, columns_of_qdiscs_331};
-ghost use Rattle.tc_columns.specs.Tables.ColumnsOfQdiscs.{columns_of_qdiscs_332, columns_of_qdiscs};
 
 use tc_lines::{Column, How};
 use tc_units::Unit;
 
-// `list atm`
 #[rattlefmt::skip]
-const LIST_ATM_IN_ATM: [Column<'static>; 7] = [
-    Column { key: "Atm", name: "atm", how: How::Through(3600) },
-    Column { key: "Fd", name: "fd", how: How::Plain },
-    Column { key: "Ptr", name: "ptr", how: How::Plain },
-    Column { key: "Hdr", name: "hdr", how: How::Plain },
-    Column { key: "Excess", name: "excess", how: How::Plain },
-    Column { key: "Addr", name: "addr", how: How::Plain },
-    Column { key: "State", name: "state", how: How::Plain },
+static COLUMNS_OF_QDISCS_ATM: [&'static [Column<'static>]; 2] = [
+    &[ // 840, `list atm`
+        Column { key: "Atm", name: "atm", how: How::Through(840), kernel: "" },
+        Column { key: "Fd", name: "fd", how: How::Plain, kernel: "TCA_ATM_FD" },
+        Column { key: "Ptr", name: "ptr", how: How::Plain, kernel: "TCA_ATM_PTR" },
+        Column { key: "Hdr", name: "hdr", how: How::Plain, kernel: "TCA_ATM_HDR" },
+        Column { key: "Excess", name: "excess", how: How::Plain, kernel: "TCA_ATM_EXCESS" },
+        Column { key: "Addr", name: "addr", how: How::Plain, kernel: "TCA_ATM_ADDR" },
+        Column { key: "State", name: "state", how: How::Plain, kernel: "TCA_ATM_STATE" },
+    ],
+    &[ // 841, `list tc`: the rows of atm
+        Column { key: "Options", name: "options", how: How::Within(840), kernel: "TCA_OPTIONS" },
+        Column { key: "Xstats", name: "xstats", how: How::Within(822), kernel: "TCA_XSTATS" },
+    ],
 ];
 
-// `list tc`: the rows of atm
-#[rattlefmt::skip]
-const LIST_TC_QDISC_ATM: [Column<'static>; 2] = [
-    Column { key: "Options", name: "options", how: How::Within(3600) },
-    Column { key: "Xstats", name: "xstats", how: How::Within(3006) },
-];
-
-#[tactic(auto, unfolding(crate::specs::Tables::ColumnsOfQdiscs::columns_of_qdiscs_300))]
-pub(crate) fn columns_of_qdiscs_300(place: usize) -> &'static [Column<'static>]
-    ensures { columns_view result.now ≡ columns_of_qdiscs_300 place }
+#[tactic(auto, unfolding(crate::specs::Arrays::columns_of_qdiscs_atm))]
+pub(crate) fn columns_of_qdiscs_atm() -> &'static [&'static [Column<'static>]]
+    ensures { map (λ x. columns_view x.now) result.now ≡ columns_of_qdiscs_atm }
 {
-    match place {
-        3600 => &LIST_ATM_IN_ATM,
-        3601 => &LIST_TC_QDISC_ATM,
-        _ => &[],
-    }
+    &COLUMNS_OF_QDISCS_ATM
 }
 
-// `list cake`
 #[rattlefmt::skip]
-const LIST_CAKE_IN_CAKE: [Column<'static>; 19] = [
-    Column { key: "Cake", name: "cake", how: How::Through(3612) },
-    Column { key: "Pad", name: "pad", how: How::Hidden },
-    Column { key: "BaseRate64", name: "base_rate64", how: How::Number(Unit::BytesPerSecond) },
-    Column { key: "DiffservMode", name: "diffserv_mode", how: How::Text(3615, 15615) },
-    Column { key: "Atm", name: "atm", how: How::Text(3616, 15616) },
-    Column { key: "FlowMode", name: "flow_mode", how: How::Text(3617, 15617) },
-    Column { key: "Overhead", name: "overhead", how: How::Number(Unit::Bytes) },
-    Column { key: "Rtt", name: "rtt", how: How::Number(Unit::Microseconds) },
-    Column { key: "Target", name: "target", how: How::Number(Unit::Microseconds) },
-    Column { key: "Autorate", name: "autorate", how: How::Plain },
-    Column { key: "Memory", name: "memory", how: How::Number(Unit::Bytes) },
-    Column { key: "Nat", name: "nat", how: How::Plain },
-    Column { key: "Raw", name: "raw", how: How::Plain },
-    Column { key: "Wash", name: "wash", how: How::Plain },
-    Column { key: "Mpu", name: "mpu", how: How::Number(Unit::Bytes) },
-    Column { key: "Ingress", name: "ingress", how: How::Plain },
-    Column { key: "AckFilter", name: "ack_filter", how: How::Text(3618, 15618) },
-    Column { key: "SplitGso", name: "split_gso", how: How::Plain },
-    Column { key: "Fwmark", name: "fwmark", how: How::Number(Unit::Hex) },
+static COLUMNS_OF_QDISCS_CAKE: [&'static [Column<'static>]; 10] = [
+    &[ // 864, `list cake`
+        Column { key: "Cake", name: "cake", how: How::Through(864), kernel: "" },
+        Column { key: "Pad", name: "pad", how: How::Hidden, kernel: "TCA_CAKE_PAD" },
+        Column { key: "BaseRate64", name: "base_rate64", how: How::Number(Unit::BytesPerSecond), kernel: "TCA_CAKE_BASE_RATE64" },
+        Column { key: "DiffservMode", name: "diffserv_mode", how: How::Text(867), kernel: "TCA_CAKE_DIFFSERV_MODE" },
+        Column { key: "Atm", name: "atm", how: How::Text(868), kernel: "TCA_CAKE_ATM" },
+        Column { key: "FlowMode", name: "flow_mode", how: How::Text(869), kernel: "TCA_CAKE_FLOW_MODE" },
+        Column { key: "Overhead", name: "overhead", how: How::Number(Unit::Bytes), kernel: "TCA_CAKE_OVERHEAD" },
+        Column { key: "Rtt", name: "rtt", how: How::Number(Unit::Microseconds), kernel: "TCA_CAKE_RTT" },
+        Column { key: "Target", name: "target", how: How::Number(Unit::Microseconds), kernel: "TCA_CAKE_TARGET" },
+        Column { key: "Autorate", name: "autorate", how: How::Plain, kernel: "TCA_CAKE_AUTORATE" },
+        Column { key: "Memory", name: "memory", how: How::Number(Unit::Bytes), kernel: "TCA_CAKE_MEMORY" },
+        Column { key: "Nat", name: "nat", how: How::Plain, kernel: "TCA_CAKE_NAT" },
+        Column { key: "Raw", name: "raw", how: How::Plain, kernel: "TCA_CAKE_RAW" },
+        Column { key: "Wash", name: "wash", how: How::Plain, kernel: "TCA_CAKE_WASH" },
+        Column { key: "Mpu", name: "mpu", how: How::Number(Unit::Bytes), kernel: "TCA_CAKE_MPU" },
+        Column { key: "Ingress", name: "ingress", how: How::Plain, kernel: "TCA_CAKE_INGRESS" },
+        Column { key: "AckFilter", name: "ack_filter", how: How::Text(870), kernel: "TCA_CAKE_ACK_FILTER" },
+        Column { key: "SplitGso", name: "split_gso", how: How::Plain, kernel: "TCA_CAKE_SPLIT_GSO" },
+        Column { key: "Fwmark", name: "fwmark", how: How::Number(Unit::Hex), kernel: "TCA_CAKE_FWMARK" },
+    ],
+    &[ // 865, `list cake_stats`
+        Column { key: "Pad", name: "pad", how: How::Hidden, kernel: "TCA_CAKE_STATS_PAD" },
+        Column { key: "CapacityEstimate64", name: "capacity_estimate64", how: How::Number(Unit::BytesPerSecond), kernel: "TCA_CAKE_STATS_CAPACITY_ESTIMATE64" },
+        Column { key: "MemoryLimit", name: "memory_limit", how: How::Number(Unit::Bytes), kernel: "TCA_CAKE_STATS_MEMORY_LIMIT" },
+        Column { key: "MemoryUsed", name: "memory_used", how: How::Number(Unit::Bytes), kernel: "TCA_CAKE_STATS_MEMORY_USED" },
+        Column { key: "AvgNetoff", name: "avg_netoff", how: How::Number(Unit::Bytes), kernel: "TCA_CAKE_STATS_AVG_NETOFF" },
+        Column { key: "MinNetlen", name: "min_netlen", how: How::Number(Unit::Bytes), kernel: "TCA_CAKE_STATS_MIN_NETLEN" },
+        Column { key: "MaxNetlen", name: "max_netlen", how: How::Number(Unit::Bytes), kernel: "TCA_CAKE_STATS_MAX_NETLEN" },
+        Column { key: "MinAdjlen", name: "min_adjlen", how: How::Number(Unit::Bytes), kernel: "TCA_CAKE_STATS_MIN_ADJLEN" },
+        Column { key: "MaxAdjlen", name: "max_adjlen", how: How::Number(Unit::Bytes), kernel: "TCA_CAKE_STATS_MAX_ADJLEN" },
+        Column { key: "TinStats", name: "tin_stats", how: How::Within(510), kernel: "TCA_CAKE_STATS_TIN_STATS" },
+        Column { key: "Deficit", name: "deficit", how: How::Plain, kernel: "TCA_CAKE_STATS_DEFICIT" },
+        Column { key: "CobaltCount", name: "cobalt_count", how: How::Plain, kernel: "TCA_CAKE_STATS_COBALT_COUNT" },
+        Column { key: "Dropping", name: "dropping", how: How::Plain, kernel: "TCA_CAKE_STATS_DROPPING" },
+        Column { key: "DropNextUs", name: "drop_next_us", how: How::Number(Unit::Microseconds), kernel: "TCA_CAKE_STATS_DROP_NEXT_US" },
+        Column { key: "PDrop", name: "pdrop", how: How::Plain, kernel: "TCA_CAKE_STATS_P_DROP" },
+        Column { key: "BlueTimerUs", name: "blue_timer_us", how: How::Number(Unit::Microseconds), kernel: "TCA_CAKE_STATS_BLUE_TIMER_US" },
+    ],
+    &[ // 866, `list cake_tin_stats`
+        Column { key: "Pad", name: "pad", how: How::Hidden, kernel: "TCA_CAKE_TIN_STATS_PAD" },
+        Column { key: "SentPackets", name: "sent_packets", how: How::Number(Unit::Packets), kernel: "TCA_CAKE_TIN_STATS_SENT_PACKETS" },
+        Column { key: "SentBytes64", name: "sent_bytes64", how: How::Number(Unit::Bytes), kernel: "TCA_CAKE_TIN_STATS_SENT_BYTES64" },
+        Column { key: "DroppedPackets", name: "dropped_packets", how: How::Number(Unit::Packets), kernel: "TCA_CAKE_TIN_STATS_DROPPED_PACKETS" },
+        Column { key: "DroppedBytes64", name: "dropped_bytes64", how: How::Number(Unit::Bytes), kernel: "TCA_CAKE_TIN_STATS_DROPPED_BYTES64" },
+        Column { key: "AcksDroppedPackets", name: "acks_dropped_packets", how: How::Number(Unit::Packets), kernel: "TCA_CAKE_TIN_STATS_ACKS_DROPPED_PACKETS" },
+        Column { key: "AcksDroppedBytes64", name: "acks_dropped_bytes64", how: How::Number(Unit::Bytes), kernel: "TCA_CAKE_TIN_STATS_ACKS_DROPPED_BYTES64" },
+        Column { key: "EcnMarkedPackets", name: "ecn_marked_packets", how: How::Number(Unit::Packets), kernel: "TCA_CAKE_TIN_STATS_ECN_MARKED_PACKETS" },
+        Column { key: "EcnMarkedBytes64", name: "ecn_marked_bytes64", how: How::Number(Unit::Bytes), kernel: "TCA_CAKE_TIN_STATS_ECN_MARKED_BYTES64" },
+        Column { key: "BacklogPackets", name: "backlog_packets", how: How::Number(Unit::Packets), kernel: "TCA_CAKE_TIN_STATS_BACKLOG_PACKETS" },
+        Column { key: "BacklogBytes", name: "backlog_bytes", how: How::Number(Unit::Bytes), kernel: "TCA_CAKE_TIN_STATS_BACKLOG_BYTES" },
+        Column { key: "ThresholdRate64", name: "threshold_rate64", how: How::Number(Unit::BytesPerSecond), kernel: "TCA_CAKE_TIN_STATS_THRESHOLD_RATE64" },
+        Column { key: "TargetUs", name: "target_us", how: How::Number(Unit::Microseconds), kernel: "TCA_CAKE_TIN_STATS_TARGET_US" },
+        Column { key: "IntervalUs", name: "interval_us", how: How::Number(Unit::Microseconds), kernel: "TCA_CAKE_TIN_STATS_INTERVAL_US" },
+        Column { key: "WayIndirectHits", name: "way_indirect_hits", how: How::Plain, kernel: "TCA_CAKE_TIN_STATS_WAY_INDIRECT_HITS" },
+        Column { key: "WayMisses", name: "way_misses", how: How::Plain, kernel: "TCA_CAKE_TIN_STATS_WAY_MISSES" },
+        Column { key: "WayCollisions", name: "way_collisions", how: How::Plain, kernel: "TCA_CAKE_TIN_STATS_WAY_COLLISIONS" },
+        Column { key: "PeakDelayUs", name: "peak_delay_us", how: How::Number(Unit::Microseconds), kernel: "TCA_CAKE_TIN_STATS_PEAK_DELAY_US" },
+        Column { key: "AvgDelayUs", name: "avg_delay_us", how: How::Number(Unit::Microseconds), kernel: "TCA_CAKE_TIN_STATS_AVG_DELAY_US" },
+        Column { key: "BaseDelayUs", name: "base_delay_us", how: How::Number(Unit::Microseconds), kernel: "TCA_CAKE_TIN_STATS_BASE_DELAY_US" },
+        Column { key: "SparseFlows", name: "sparse_flows", how: How::Plain, kernel: "TCA_CAKE_TIN_STATS_SPARSE_FLOWS" },
+        Column { key: "BulkFlows", name: "bulk_flows", how: How::Plain, kernel: "TCA_CAKE_TIN_STATS_BULK_FLOWS" },
+        Column { key: "UnresponsiveFlows", name: "unresponsive_flows", how: How::Plain, kernel: "TCA_CAKE_TIN_STATS_UNRESPONSIVE_FLOWS" },
+        Column { key: "MaxSkblen", name: "max_skblen", how: How::Number(Unit::Bytes), kernel: "TCA_CAKE_TIN_STATS_MAX_SKBLEN" },
+        Column { key: "FlowQuantum", name: "flow_quantum", how: How::Number(Unit::Bytes), kernel: "TCA_CAKE_TIN_STATS_FLOW_QUANTUM" },
+    ],
+    &[], &[], &[], &[],
+    &[ // 871, the statistics of cake
+        Column { key: "Cake", name: "cake", how: How::Through(865), kernel: "" },
+    ],
+    &[ // 872, `list tc`: the rows of cake
+        Column { key: "Options", name: "options", how: How::Within(864), kernel: "TCA_OPTIONS" },
+        Column { key: "Xstats", name: "xstats", how: How::Within(871), kernel: "TCA_XSTATS" },
+    ],
+    &[ // 873, `list stats`: the rows of cake
+        Column { key: "App", name: "app", how: How::Within(871), kernel: "TCA_STATS_APP" },
+    ],
 ];
 
-// `list cake_stats`
-#[rattlefmt::skip]
-const LIST_CAKE_STATS: [Column<'static>; 16] = [
-    Column { key: "Pad", name: "pad", how: How::Hidden },
-    Column { key: "CapacityEstimate64", name: "capacity_estimate64", how: How::Number(Unit::BytesPerSecond) },
-    Column { key: "MemoryLimit", name: "memory_limit", how: How::Number(Unit::Bytes) },
-    Column { key: "MemoryUsed", name: "memory_used", how: How::Number(Unit::Bytes) },
-    Column { key: "AvgNetoff", name: "avg_netoff", how: How::Number(Unit::Bytes) },
-    Column { key: "MinNetlen", name: "min_netlen", how: How::Number(Unit::Bytes) },
-    Column { key: "MaxNetlen", name: "max_netlen", how: How::Number(Unit::Bytes) },
-    Column { key: "MinAdjlen", name: "min_adjlen", how: How::Number(Unit::Bytes) },
-    Column { key: "MaxAdjlen", name: "max_adjlen", how: How::Number(Unit::Bytes) },
-    Column { key: "TinStats", name: "tin_stats", how: How::Within(1206) },
-    Column { key: "Deficit", name: "deficit", how: How::Plain },
-    Column { key: "CobaltCount", name: "cobalt_count", how: How::Plain },
-    Column { key: "Dropping", name: "dropping", how: How::Plain },
-    Column { key: "DropNextUs", name: "drop_next_us", how: How::Number(Unit::Microseconds) },
-    Column { key: "PDrop", name: "pdrop", how: How::Plain },
-    Column { key: "BlueTimerUs", name: "blue_timer_us", how: How::Number(Unit::Microseconds) },
-];
-
-// `list cake_tin_stats`
-#[rattlefmt::skip]
-const LIST_CAKE_TIN_STATS: [Column<'static>; 25] = [
-    Column { key: "Pad", name: "pad", how: How::Hidden },
-    Column { key: "SentPackets", name: "sent_packets", how: How::Number(Unit::Packets) },
-    Column { key: "SentBytes64", name: "sent_bytes64", how: How::Number(Unit::Bytes) },
-    Column { key: "DroppedPackets", name: "dropped_packets", how: How::Number(Unit::Packets) },
-    Column { key: "DroppedBytes64", name: "dropped_bytes64", how: How::Number(Unit::Bytes) },
-    Column { key: "AcksDroppedPackets", name: "acks_dropped_packets", how: How::Number(Unit::Packets) },
-    Column { key: "AcksDroppedBytes64", name: "acks_dropped_bytes64", how: How::Number(Unit::Bytes) },
-    Column { key: "EcnMarkedPackets", name: "ecn_marked_packets", how: How::Number(Unit::Packets) },
-    Column { key: "EcnMarkedBytes64", name: "ecn_marked_bytes64", how: How::Number(Unit::Bytes) },
-    Column { key: "BacklogPackets", name: "backlog_packets", how: How::Number(Unit::Packets) },
-    Column { key: "BacklogBytes", name: "backlog_bytes", how: How::Number(Unit::Bytes) },
-    Column { key: "ThresholdRate64", name: "threshold_rate64", how: How::Number(Unit::BytesPerSecond) },
-    Column { key: "TargetUs", name: "target_us", how: How::Number(Unit::Microseconds) },
-    Column { key: "IntervalUs", name: "interval_us", how: How::Number(Unit::Microseconds) },
-    Column { key: "WayIndirectHits", name: "way_indirect_hits", how: How::Plain },
-    Column { key: "WayMisses", name: "way_misses", how: How::Plain },
-    Column { key: "WayCollisions", name: "way_collisions", how: How::Plain },
-    Column { key: "PeakDelayUs", name: "peak_delay_us", how: How::Number(Unit::Microseconds) },
-    Column { key: "AvgDelayUs", name: "avg_delay_us", how: How::Number(Unit::Microseconds) },
-    Column { key: "BaseDelayUs", name: "base_delay_us", how: How::Number(Unit::Microseconds) },
-    Column { key: "SparseFlows", name: "sparse_flows", how: How::Plain },
-    Column { key: "BulkFlows", name: "bulk_flows", how: How::Plain },
-    Column { key: "UnresponsiveFlows", name: "unresponsive_flows", how: How::Plain },
-    Column { key: "MaxSkblen", name: "max_skblen", how: How::Number(Unit::Bytes) },
-    Column { key: "FlowQuantum", name: "flow_quantum", how: How::Number(Unit::Bytes) },
-];
-
-// the statistics of cake
-#[rattlefmt::skip]
-const STATISTICS_QDISC_CAKE: [Column<'static>; 1] = [
-    Column { key: "Cake", name: "cake", how: How::Through(3613) },
-];
-
-// `list tc`: the rows of cake
-#[rattlefmt::skip]
-const LIST_TC_QDISC_CAKE: [Column<'static>; 2] = [
-    Column { key: "Options", name: "options", how: How::Within(3612) },
-    Column { key: "Xstats", name: "xstats", how: How::Within(3619) },
-];
-
-// `list stats`: the rows of cake
-#[rattlefmt::skip]
-const LIST_STATS_QDISC_CAKE: [Column<'static>; 1] = [
-    Column { key: "App", name: "app", how: How::Within(3619) },
-];
-
-#[tactic(auto, unfolding(crate::specs::Tables::ColumnsOfQdiscs::columns_of_qdiscs_301))]
-pub(crate) fn columns_of_qdiscs_301(place: usize) -> &'static [Column<'static>]
-    ensures { columns_view result.now ≡ columns_of_qdiscs_301 place }
+#[tactic(auto, unfolding(crate::specs::Arrays::columns_of_qdiscs_cake))]
+pub(crate) fn columns_of_qdiscs_cake() -> &'static [&'static [Column<'static>]]
+    ensures { map (λ x. columns_view x.now) result.now ≡ columns_of_qdiscs_cake }
 {
-    match place {
-        3612 => &LIST_CAKE_IN_CAKE,
-        3613 => &LIST_CAKE_STATS,
-        3614 => &LIST_CAKE_TIN_STATS,
-        3619 => &STATISTICS_QDISC_CAKE,
-        3620 => &LIST_TC_QDISC_CAKE,
-        3621 => &LIST_STATS_QDISC_CAKE,
-        _ => &[],
-    }
+    &COLUMNS_OF_QDISCS_CAKE
 }
 
-// `list cbq`
 #[rattlefmt::skip]
-const LIST_CBQ_IN_CBQ: [Column<'static>; 8] = [
-    Column { key: "Cbq", name: "cbq", how: How::Through(3624) },
-    Column { key: "Lssopt", name: "lssopt", how: How::Within(3626) },
-    Column { key: "Wrropt", name: "wrropt", how: How::Within(3627) },
-    Column { key: "Fopt", name: "fopt", how: How::Within(3628) },
-    Column { key: "OvlStrategy", name: "ovl_strategy", how: How::Within(3629) },
-    Column { key: "Rate", name: "rate", how: How::Within(4200) },
-    Column { key: "Rtab", name: "rtab", how: How::Plain },
-    Column { key: "Police", name: "police", how: How::Within(3630) },
+static COLUMNS_OF_QDISCS_CBQ: [&'static [Column<'static>]; 10] = [
+    &[ // 888, `list cbq`
+        Column { key: "Cbq", name: "cbq", how: How::Through(888), kernel: "" },
+        Column { key: "Lssopt", name: "lssopt", how: How::Within(890), kernel: "TCA_CBQ_LSSOPT" },
+        Column { key: "Wrropt", name: "wrropt", how: How::Within(891), kernel: "TCA_CBQ_WRROPT" },
+        Column { key: "Fopt", name: "fopt", how: How::Within(892), kernel: "TCA_CBQ_FOPT" },
+        Column { key: "OvlStrategy", name: "ovl_strategy", how: How::Within(893), kernel: "TCA_CBQ_OVL_STRATEGY" },
+        Column { key: "Rate", name: "rate", how: How::Within(1632), kernel: "TCA_CBQ_RATE" },
+        Column { key: "Rtab", name: "rtab", how: How::Plain, kernel: "TCA_CBQ_RTAB" },
+        Column { key: "Police", name: "police", how: How::Within(894), kernel: "TCA_CBQ_POLICE" },
+    ],
+    &[ // 889, `struct tc_cbq_xstats`
+        Column { key: "borrows", name: "borrows", how: How::Plain, kernel: "" },
+        Column { key: "overactions", name: "overactions", how: How::Plain, kernel: "" },
+        Column { key: "avgidle", name: "avgidle", how: How::Plain, kernel: "" },
+        Column { key: "undertime", name: "undertime", how: How::Plain, kernel: "" },
+    ],
+    &[ // 890, `struct tc_cbq_lssopt`
+        Column { key: "change", name: "change", how: How::Flags(24103), kernel: "" },
+        Column { key: "flags", name: "flags", how: How::Flags(24104), kernel: "" },
+        Column { key: "ewma_log", name: "ewma_log", how: How::Plain, kernel: "" },
+        Column { key: "level", name: "level", how: How::Plain, kernel: "" },
+        Column { key: "maxidle", name: "maxidle", how: How::Plain, kernel: "" },
+        Column { key: "minidle", name: "minidle", how: How::Plain, kernel: "" },
+        Column { key: "offtime", name: "offtime", how: How::Plain, kernel: "" },
+        Column { key: "avpkt", name: "avpkt", how: How::Plain, kernel: "" },
+    ],
+    &[ // 891, `struct tc_cbq_wrropt`
+        Column { key: "flags", name: "flags", how: How::Plain, kernel: "" },
+        Column { key: "priority", name: "priority", how: How::Plain, kernel: "" },
+        Column { key: "cpriority", name: "cpriority", how: How::Plain, kernel: "" },
+        Column { key: "__reserved", name: "__reserved", how: How::Plain, kernel: "" },
+        Column { key: "allot", name: "allot", how: How::Plain, kernel: "" },
+        Column { key: "weight", name: "weight", how: How::Plain, kernel: "" },
+    ],
+    &[ // 892, `struct tc_cbq_fopt`
+        Column { key: "split", name: "split", how: How::Number(Unit::Hex), kernel: "" },
+        Column { key: "defmap", name: "defmap", how: How::Number(Unit::Hex), kernel: "" },
+        Column { key: "defchange", name: "defchange", how: How::Number(Unit::Hex), kernel: "" },
+    ],
+    &[ // 893, `struct tc_cbq_ovl`
+        Column { key: "strategy", name: "strategy", how: How::Plain, kernel: "" },
+        Column { key: "priority2", name: "priority2", how: How::Plain, kernel: "" },
+        Column { key: "pad", name: "pad", how: How::Plain, kernel: "" },
+        Column { key: "penalty", name: "penalty", how: How::Plain, kernel: "" },
+    ],
+    &[ // 894, `struct tc_cbq_police`
+        Column { key: "police", name: "police", how: How::Plain, kernel: "" },
+        Column { key: "__res1", name: "__res1", how: How::Plain, kernel: "" },
+        Column { key: "__res2", name: "__res2", how: How::Plain, kernel: "" },
+    ],
+    &[ // 895, the statistics of cbq
+        Column { key: "Cbq", name: "cbq", how: How::Through(889), kernel: "" },
+    ],
+    &[ // 896, `list tc`: the rows of cbq
+        Column { key: "Options", name: "options", how: How::Within(888), kernel: "TCA_OPTIONS" },
+        Column { key: "Xstats", name: "xstats", how: How::Within(895), kernel: "TCA_XSTATS" },
+    ],
+    &[ // 897, `list stats`: the rows of cbq
+        Column { key: "App", name: "app", how: How::Within(895), kernel: "TCA_STATS_APP" },
+    ],
 ];
 
-// `struct tc_cbq_xstats`
-#[rattlefmt::skip]
-const STRUCT_TC_CBQ_XSTATS: [Column<'static>; 4] = [
-    Column { key: "borrows", name: "borrows", how: How::Plain },
-    Column { key: "overactions", name: "overactions", how: How::Plain },
-    Column { key: "avgidle", name: "avgidle", how: How::Plain },
-    Column { key: "undertime", name: "undertime", how: How::Plain },
-];
-
-// `struct tc_cbq_lssopt`
-#[rattlefmt::skip]
-const STRUCT_TC_CBQ_LSSOPT: [Column<'static>; 8] = [
-    Column { key: "change", name: "change", how: How::Flags(24029) },
-    Column { key: "flags", name: "flags", how: How::Flags(24030) },
-    Column { key: "ewma_log", name: "ewma_log", how: How::Plain },
-    Column { key: "level", name: "level", how: How::Plain },
-    Column { key: "maxidle", name: "maxidle", how: How::Plain },
-    Column { key: "minidle", name: "minidle", how: How::Plain },
-    Column { key: "offtime", name: "offtime", how: How::Plain },
-    Column { key: "avpkt", name: "avpkt", how: How::Plain },
-];
-
-// `struct tc_cbq_wrropt`
-#[rattlefmt::skip]
-const STRUCT_TC_CBQ_WRROPT: [Column<'static>; 6] = [
-    Column { key: "flags", name: "flags", how: How::Plain },
-    Column { key: "priority", name: "priority", how: How::Plain },
-    Column { key: "cpriority", name: "cpriority", how: How::Plain },
-    Column { key: "__reserved", name: "__reserved", how: How::Plain },
-    Column { key: "allot", name: "allot", how: How::Plain },
-    Column { key: "weight", name: "weight", how: How::Plain },
-];
-
-// `struct tc_cbq_fopt`
-#[rattlefmt::skip]
-const STRUCT_TC_CBQ_FOPT: [Column<'static>; 3] = [
-    Column { key: "split", name: "split", how: How::Number(Unit::Hex) },
-    Column { key: "defmap", name: "defmap", how: How::Number(Unit::Hex) },
-    Column { key: "defchange", name: "defchange", how: How::Number(Unit::Hex) },
-];
-
-// `struct tc_cbq_ovl`
-#[rattlefmt::skip]
-const STRUCT_TC_CBQ_OVL: [Column<'static>; 4] = [
-    Column { key: "strategy", name: "strategy", how: How::Plain },
-    Column { key: "priority2", name: "priority2", how: How::Plain },
-    Column { key: "pad", name: "pad", how: How::Plain },
-    Column { key: "penalty", name: "penalty", how: How::Plain },
-];
-
-// `struct tc_cbq_police`
-#[rattlefmt::skip]
-const STRUCT_TC_CBQ_POLICE: [Column<'static>; 3] = [
-    Column { key: "police", name: "police", how: How::Plain },
-    Column { key: "__res1", name: "__res1", how: How::Plain },
-    Column { key: "__res2", name: "__res2", how: How::Plain },
-];
-
-// the statistics of cbq
-#[rattlefmt::skip]
-const STATISTICS_QDISC_CBQ: [Column<'static>; 1] = [
-    Column { key: "Cbq", name: "cbq", how: How::Through(3625) },
-];
-
-// `list tc`: the rows of cbq
-#[rattlefmt::skip]
-const LIST_TC_QDISC_CBQ: [Column<'static>; 2] = [
-    Column { key: "Options", name: "options", how: How::Within(3624) },
-    Column { key: "Xstats", name: "xstats", how: How::Within(3631) },
-];
-
-// `list stats`: the rows of cbq
-#[rattlefmt::skip]
-const LIST_STATS_QDISC_CBQ: [Column<'static>; 1] = [
-    Column { key: "App", name: "app", how: How::Within(3631) },
-];
-
-#[tactic(auto, unfolding(crate::specs::Tables::ColumnsOfQdiscs::columns_of_qdiscs_302))]
-pub(crate) fn columns_of_qdiscs_302(place: usize) -> &'static [Column<'static>]
-    ensures { columns_view result.now ≡ columns_of_qdiscs_302 place }
+#[tactic(auto, unfolding(crate::specs::Arrays::columns_of_qdiscs_cbq))]
+pub(crate) fn columns_of_qdiscs_cbq() -> &'static [&'static [Column<'static>]]
+    ensures { map (λ x. columns_view x.now) result.now ≡ columns_of_qdiscs_cbq }
 {
-    match place {
-        3624 => &LIST_CBQ_IN_CBQ,
-        3625 => &STRUCT_TC_CBQ_XSTATS,
-        3626 => &STRUCT_TC_CBQ_LSSOPT,
-        3627 => &STRUCT_TC_CBQ_WRROPT,
-        3628 => &STRUCT_TC_CBQ_FOPT,
-        3629 => &STRUCT_TC_CBQ_OVL,
-        3630 => &STRUCT_TC_CBQ_POLICE,
-        3631 => &STATISTICS_QDISC_CBQ,
-        3632 => &LIST_TC_QDISC_CBQ,
-        3633 => &LIST_STATS_QDISC_CBQ,
-        _ => &[],
-    }
+    &COLUMNS_OF_QDISCS_CBQ
 }
 
-// `list cbs`
 #[rattlefmt::skip]
-const LIST_CBS_IN_CBS: [Column<'static>; 2] = [
-    Column { key: "Cbs", name: "cbs", how: How::Through(3636) },
-    Column { key: "Parms", name: "parms", how: How::Within(3637) },
+static COLUMNS_OF_QDISCS_CBS: [&'static [Column<'static>]; 3] = [
+    &[ // 912, `list cbs`
+        Column { key: "Cbs", name: "cbs", how: How::Through(912), kernel: "" },
+        Column { key: "Parms", name: "parms", how: How::Within(913), kernel: "TCA_CBS_PARMS" },
+    ],
+    &[ // 913, `struct tc_cbs_qopt`
+        Column { key: "offload", name: "offload", how: How::Plain, kernel: "" },
+        Column { key: "_pad", name: "_pad", how: How::Plain, kernel: "" },
+        Column { key: "hicredit", name: "hicredit", how: How::Number(Unit::Bytes), kernel: "" },
+        Column { key: "locredit", name: "locredit", how: How::Number(Unit::Bytes), kernel: "" },
+        Column { key: "idleslope", name: "idleslope", how: How::Number(Unit::KilobitsPerSecond), kernel: "" },
+        Column { key: "sendslope", name: "sendslope", how: How::Number(Unit::KilobitsPerSecond), kernel: "" },
+    ],
+    &[ // 914, `list tc`: the rows of cbs
+        Column { key: "Options", name: "options", how: How::Within(912), kernel: "TCA_OPTIONS" },
+        Column { key: "Xstats", name: "xstats", how: How::Within(822), kernel: "TCA_XSTATS" },
+    ],
 ];
 
-// `struct tc_cbs_qopt`
-#[rattlefmt::skip]
-const STRUCT_TC_CBS_QOPT: [Column<'static>; 6] = [
-    Column { key: "offload", name: "offload", how: How::Plain },
-    Column { key: "_pad", name: "_pad", how: How::Plain },
-    Column { key: "hicredit", name: "hicredit", how: How::Number(Unit::Bytes) },
-    Column { key: "locredit", name: "locredit", how: How::Number(Unit::Bytes) },
-    Column { key: "idleslope", name: "idleslope", how: How::Number(Unit::KilobitsPerSecond) },
-    Column { key: "sendslope", name: "sendslope", how: How::Number(Unit::KilobitsPerSecond) },
-];
-
-// `list tc`: the rows of cbs
-#[rattlefmt::skip]
-const LIST_TC_QDISC_CBS: [Column<'static>; 2] = [
-    Column { key: "Options", name: "options", how: How::Within(3636) },
-    Column { key: "Xstats", name: "xstats", how: How::Within(3006) },
-];
-
-#[tactic(auto, unfolding(crate::specs::Tables::ColumnsOfQdiscs::columns_of_qdiscs_303))]
-pub(crate) fn columns_of_qdiscs_303(place: usize) -> &'static [Column<'static>]
-    ensures { columns_view result.now ≡ columns_of_qdiscs_303 place }
+#[tactic(auto, unfolding(crate::specs::Arrays::columns_of_qdiscs_cbs))]
+pub(crate) fn columns_of_qdiscs_cbs() -> &'static [&'static [Column<'static>]]
+    ensures { map (λ x. columns_view x.now) result.now ≡ columns_of_qdiscs_cbs }
 {
-    match place {
-        3636 => &LIST_CBS_IN_CBS,
-        3637 => &STRUCT_TC_CBS_QOPT,
-        3638 => &LIST_TC_QDISC_CBS,
-        _ => &[],
-    }
+    &COLUMNS_OF_QDISCS_CBS
 }
 
-// `list choke`
 #[rattlefmt::skip]
-const LIST_CHOKE_IN_CHOKE: [Column<'static>; 4] = [
-    Column { key: "Choke", name: "choke", how: How::Through(3648) },
-    Column { key: "Parms", name: "parms", how: How::Within(3649) },
-    Column { key: "Stab", name: "stab", how: How::Plain },
-    Column { key: "MaxP", name: "max_p", how: How::Number(Unit::Probability) },
+static COLUMNS_OF_QDISCS_CHOKE: [&'static [Column<'static>]; 6] = [
+    &[ // 936, `list choke`
+        Column { key: "Choke", name: "choke", how: How::Through(936), kernel: "" },
+        Column { key: "Parms", name: "parms", how: How::Within(937), kernel: "TCA_CHOKE_PARMS" },
+        Column { key: "Stab", name: "stab", how: How::Plain, kernel: "TCA_CHOKE_STAB" },
+        Column { key: "MaxP", name: "max_p", how: How::Number(Unit::Probability), kernel: "TCA_CHOKE_MAX_P" },
+    ],
+    &[ // 937, `struct tc_red_qopt_packets`
+        Column { key: "limit", name: "limit", how: How::Number(Unit::Packets), kernel: "" },
+        Column { key: "qth_min", name: "qth_min", how: How::Number(Unit::Packets), kernel: "" },
+        Column { key: "qth_max", name: "qth_max", how: How::Number(Unit::Packets), kernel: "" },
+        Column { key: "Wlog", name: "Wlog", how: How::Number(Unit::Power), kernel: "" },
+        Column { key: "Plog", name: "Plog", how: How::Number(Unit::Power), kernel: "" },
+        Column { key: "Scell_log", name: "Scell_log", how: How::Number(Unit::Power), kernel: "" },
+        Column { key: "flags", name: "flags", how: How::Flags(24105), kernel: "" },
+    ],
+    &[ // 938, `struct tc_choke_xstats`
+        Column { key: "early", name: "early", how: How::Plain, kernel: "" },
+        Column { key: "pdrop", name: "pdrop", how: How::Plain, kernel: "" },
+        Column { key: "other", name: "other", how: How::Plain, kernel: "" },
+        Column { key: "marked", name: "marked", how: How::Plain, kernel: "" },
+        Column { key: "matched", name: "matched", how: How::Plain, kernel: "" },
+    ],
+    &[ // 939, the statistics of choke
+        Column { key: "Choke", name: "choke", how: How::Through(938), kernel: "" },
+    ],
+    &[ // 940, `list tc`: the rows of choke
+        Column { key: "Options", name: "options", how: How::Within(936), kernel: "TCA_OPTIONS" },
+        Column { key: "Xstats", name: "xstats", how: How::Within(939), kernel: "TCA_XSTATS" },
+    ],
+    &[ // 941, `list stats`: the rows of choke
+        Column { key: "App", name: "app", how: How::Within(939), kernel: "TCA_STATS_APP" },
+    ],
 ];
 
-// `struct tc_red_qopt_packets`
-#[rattlefmt::skip]
-const STRUCT_TC_RED_QOPT_PACKETS: [Column<'static>; 7] = [
-    Column { key: "limit", name: "limit", how: How::Number(Unit::Packets) },
-    Column { key: "qth_min", name: "qth_min", how: How::Number(Unit::Packets) },
-    Column { key: "qth_max", name: "qth_max", how: How::Number(Unit::Packets) },
-    Column { key: "Wlog", name: "Wlog", how: How::Number(Unit::Power) },
-    Column { key: "Plog", name: "Plog", how: How::Number(Unit::Power) },
-    Column { key: "Scell_log", name: "Scell_log", how: How::Number(Unit::Power) },
-    Column { key: "flags", name: "flags", how: How::Flags(24031) },
-];
-
-// `struct tc_choke_xstats`
-#[rattlefmt::skip]
-const STRUCT_TC_CHOKE_XSTATS: [Column<'static>; 5] = [
-    Column { key: "early", name: "early", how: How::Plain },
-    Column { key: "pdrop", name: "pdrop", how: How::Plain },
-    Column { key: "other", name: "other", how: How::Plain },
-    Column { key: "marked", name: "marked", how: How::Plain },
-    Column { key: "matched", name: "matched", how: How::Plain },
-];
-
-// the statistics of choke
-#[rattlefmt::skip]
-const STATISTICS_QDISC_CHOKE: [Column<'static>; 1] = [
-    Column { key: "Choke", name: "choke", how: How::Through(3650) },
-];
-
-// `list tc`: the rows of choke
-#[rattlefmt::skip]
-const LIST_TC_QDISC_CHOKE: [Column<'static>; 2] = [
-    Column { key: "Options", name: "options", how: How::Within(3648) },
-    Column { key: "Xstats", name: "xstats", how: How::Within(3651) },
-];
-
-// `list stats`: the rows of choke
-#[rattlefmt::skip]
-const LIST_STATS_QDISC_CHOKE: [Column<'static>; 1] = [
-    Column { key: "App", name: "app", how: How::Within(3651) },
-];
-
-#[tactic(auto, unfolding(crate::specs::Tables::ColumnsOfQdiscs::columns_of_qdiscs_304))]
-pub(crate) fn columns_of_qdiscs_304(place: usize) -> &'static [Column<'static>]
-    ensures { columns_view result.now ≡ columns_of_qdiscs_304 place }
+#[tactic(auto, unfolding(crate::specs::Arrays::columns_of_qdiscs_choke))]
+pub(crate) fn columns_of_qdiscs_choke() -> &'static [&'static [Column<'static>]]
+    ensures { map (λ x. columns_view x.now) result.now ≡ columns_of_qdiscs_choke }
 {
-    match place {
-        3648 => &LIST_CHOKE_IN_CHOKE,
-        3649 => &STRUCT_TC_RED_QOPT_PACKETS,
-        3650 => &STRUCT_TC_CHOKE_XSTATS,
-        3651 => &STATISTICS_QDISC_CHOKE,
-        3652 => &LIST_TC_QDISC_CHOKE,
-        3653 => &LIST_STATS_QDISC_CHOKE,
-        _ => &[],
-    }
+    &COLUMNS_OF_QDISCS_CHOKE
 }
 
-// `list codel`
 #[rattlefmt::skip]
-const LIST_CODEL_IN_CODEL: [Column<'static>; 6] = [
-    Column { key: "Codel", name: "codel", how: How::Through(3660) },
-    Column { key: "Target", name: "target", how: How::Number(Unit::Microseconds) },
-    Column { key: "Limit", name: "limit", how: How::Number(Unit::Packets) },
-    Column { key: "Interval", name: "interval", how: How::Number(Unit::Microseconds) },
-    Column { key: "Ecn", name: "ecn", how: How::Plain },
-    Column { key: "CeThreshold", name: "ce_threshold", how: How::Number(Unit::Microseconds) },
+static COLUMNS_OF_QDISCS_CODEL: [&'static [Column<'static>]; 5] = [
+    &[ // 960, `list codel`
+        Column { key: "Codel", name: "codel", how: How::Through(960), kernel: "" },
+        Column { key: "Target", name: "target", how: How::Number(Unit::Microseconds), kernel: "TCA_CODEL_TARGET" },
+        Column { key: "Limit", name: "limit", how: How::Number(Unit::Packets), kernel: "TCA_CODEL_LIMIT" },
+        Column { key: "Interval", name: "interval", how: How::Number(Unit::Microseconds), kernel: "TCA_CODEL_INTERVAL" },
+        Column { key: "Ecn", name: "ecn", how: How::Plain, kernel: "TCA_CODEL_ECN" },
+        Column { key: "CeThreshold", name: "ce_threshold", how: How::Number(Unit::Microseconds), kernel: "TCA_CODEL_CE_THRESHOLD" },
+    ],
+    &[ // 961, `struct tc_codel_xstats`
+        Column { key: "maxpacket", name: "maxpacket", how: How::Plain, kernel: "" },
+        Column { key: "count", name: "count", how: How::Plain, kernel: "" },
+        Column { key: "lastcount", name: "lastcount", how: How::Plain, kernel: "" },
+        Column { key: "ldelay", name: "ldelay", how: How::Number(Unit::Microseconds), kernel: "" },
+        Column { key: "drop_next", name: "drop_next", how: How::Number(Unit::Microseconds), kernel: "" },
+        Column { key: "drop_overlimit", name: "drop_overlimit", how: How::Plain, kernel: "" },
+        Column { key: "ecn_mark", name: "ecn_mark", how: How::Plain, kernel: "" },
+        Column { key: "dropping", name: "dropping", how: How::Plain, kernel: "" },
+        Column { key: "ce_mark", name: "ce_mark", how: How::Plain, kernel: "" },
+    ],
+    &[ // 962, the statistics of codel
+        Column { key: "Codel", name: "codel", how: How::Through(961), kernel: "" },
+    ],
+    &[ // 963, `list tc`: the rows of codel
+        Column { key: "Options", name: "options", how: How::Within(960), kernel: "TCA_OPTIONS" },
+        Column { key: "Xstats", name: "xstats", how: How::Within(962), kernel: "TCA_XSTATS" },
+    ],
+    &[ // 964, `list stats`: the rows of codel
+        Column { key: "App", name: "app", how: How::Within(962), kernel: "TCA_STATS_APP" },
+    ],
 ];
 
-// `struct tc_codel_xstats`
-#[rattlefmt::skip]
-const STRUCT_TC_CODEL_XSTATS: [Column<'static>; 9] = [
-    Column { key: "maxpacket", name: "maxpacket", how: How::Plain },
-    Column { key: "count", name: "count", how: How::Plain },
-    Column { key: "lastcount", name: "lastcount", how: How::Plain },
-    Column { key: "ldelay", name: "ldelay", how: How::Number(Unit::Microseconds) },
-    Column { key: "drop_next", name: "drop_next", how: How::Number(Unit::Microseconds) },
-    Column { key: "drop_overlimit", name: "drop_overlimit", how: How::Plain },
-    Column { key: "ecn_mark", name: "ecn_mark", how: How::Plain },
-    Column { key: "dropping", name: "dropping", how: How::Plain },
-    Column { key: "ce_mark", name: "ce_mark", how: How::Plain },
-];
-
-// the statistics of codel
-#[rattlefmt::skip]
-const STATISTICS_QDISC_CODEL: [Column<'static>; 1] = [
-    Column { key: "Codel", name: "codel", how: How::Through(3661) },
-];
-
-// `list tc`: the rows of codel
-#[rattlefmt::skip]
-const LIST_TC_QDISC_CODEL: [Column<'static>; 2] = [
-    Column { key: "Options", name: "options", how: How::Within(3660) },
-    Column { key: "Xstats", name: "xstats", how: How::Within(3662) },
-];
-
-// `list stats`: the rows of codel
-#[rattlefmt::skip]
-const LIST_STATS_QDISC_CODEL: [Column<'static>; 1] = [
-    Column { key: "App", name: "app", how: How::Within(3662) },
-];
-
-#[tactic(auto, unfolding(crate::specs::Tables::ColumnsOfQdiscs::columns_of_qdiscs_305))]
-pub(crate) fn columns_of_qdiscs_305(place: usize) -> &'static [Column<'static>]
-    ensures { columns_view result.now ≡ columns_of_qdiscs_305 place }
+#[tactic(auto, unfolding(crate::specs::Arrays::columns_of_qdiscs_codel))]
+pub(crate) fn columns_of_qdiscs_codel() -> &'static [&'static [Column<'static>]]
+    ensures { map (λ x. columns_view x.now) result.now ≡ columns_of_qdiscs_codel }
 {
-    match place {
-        3660 => &LIST_CODEL_IN_CODEL,
-        3661 => &STRUCT_TC_CODEL_XSTATS,
-        3662 => &STATISTICS_QDISC_CODEL,
-        3663 => &LIST_TC_QDISC_CODEL,
-        3664 => &LIST_STATS_QDISC_CODEL,
-        _ => &[],
-    }
+    &COLUMNS_OF_QDISCS_CODEL
 }
 
-// `list drr`
 #[rattlefmt::skip]
-const LIST_DRR_IN_DRR: [Column<'static>; 2] = [
-    Column { key: "Drr", name: "drr", how: How::Through(3672) },
-    Column { key: "Quantum", name: "quantum", how: How::Number(Unit::Bytes) },
+static COLUMNS_OF_QDISCS_DRR: [&'static [Column<'static>]; 5] = [
+    &[ // 984, `list drr`
+        Column { key: "Drr", name: "drr", how: How::Through(984), kernel: "" },
+        Column { key: "Quantum", name: "quantum", how: How::Number(Unit::Bytes), kernel: "TCA_DRR_QUANTUM" },
+    ],
+    &[ // 985, `struct tc_drr_stats`
+        Column { key: "deficit", name: "deficit", how: How::Plain, kernel: "" },
+    ],
+    &[ // 986, the statistics of drr
+        Column { key: "Drr", name: "drr", how: How::Through(985), kernel: "" },
+    ],
+    &[ // 987, `list tc`: the rows of drr
+        Column { key: "Options", name: "options", how: How::Within(984), kernel: "TCA_OPTIONS" },
+        Column { key: "Xstats", name: "xstats", how: How::Within(986), kernel: "TCA_XSTATS" },
+    ],
+    &[ // 988, `list stats`: the rows of drr
+        Column { key: "App", name: "app", how: How::Within(986), kernel: "TCA_STATS_APP" },
+    ],
 ];
 
-// `struct tc_drr_stats`
-#[rattlefmt::skip]
-const STRUCT_TC_DRR_STATS: [Column<'static>; 1] = [
-    Column { key: "deficit", name: "deficit", how: How::Plain },
-];
-
-// the statistics of drr
-#[rattlefmt::skip]
-const STATISTICS_QDISC_DRR: [Column<'static>; 1] = [
-    Column { key: "Drr", name: "drr", how: How::Through(3673) },
-];
-
-// `list tc`: the rows of drr
-#[rattlefmt::skip]
-const LIST_TC_QDISC_DRR: [Column<'static>; 2] = [
-    Column { key: "Options", name: "options", how: How::Within(3672) },
-    Column { key: "Xstats", name: "xstats", how: How::Within(3674) },
-];
-
-// `list stats`: the rows of drr
-#[rattlefmt::skip]
-const LIST_STATS_QDISC_DRR: [Column<'static>; 1] = [
-    Column { key: "App", name: "app", how: How::Within(3674) },
-];
-
-#[tactic(auto, unfolding(crate::specs::Tables::ColumnsOfQdiscs::columns_of_qdiscs_306))]
-pub(crate) fn columns_of_qdiscs_306(place: usize) -> &'static [Column<'static>]
-    ensures { columns_view result.now ≡ columns_of_qdiscs_306 place }
+#[tactic(auto, unfolding(crate::specs::Arrays::columns_of_qdiscs_drr))]
+pub(crate) fn columns_of_qdiscs_drr() -> &'static [&'static [Column<'static>]]
+    ensures { map (λ x. columns_view x.now) result.now ≡ columns_of_qdiscs_drr }
 {
-    match place {
-        3672 => &LIST_DRR_IN_DRR,
-        3673 => &STRUCT_TC_DRR_STATS,
-        3674 => &STATISTICS_QDISC_DRR,
-        3675 => &LIST_TC_QDISC_DRR,
-        3676 => &LIST_STATS_QDISC_DRR,
-        _ => &[],
-    }
+    &COLUMNS_OF_QDISCS_DRR
 }
 
-// `list dsmark`
 #[rattlefmt::skip]
-const LIST_DSMARK_IN_DSMARK: [Column<'static>; 6] = [
-    Column { key: "Dsmark", name: "dsmark", how: How::Through(3684) },
-    Column { key: "Indices", name: "indices", how: How::Plain },
-    Column { key: "DefaultIndex", name: "default_index", how: How::Plain },
-    Column { key: "SetTcIndex", name: "set_tc_index", how: How::Plain },
-    Column { key: "Mask", name: "mask", how: How::Number(Unit::Hex) },
-    Column { key: "Value", name: "value", how: How::Number(Unit::Hex) },
+static COLUMNS_OF_QDISCS_DSMARK: [&'static [Column<'static>]; 2] = [
+    &[ // 1008, `list dsmark`
+        Column { key: "Dsmark", name: "dsmark", how: How::Through(1008), kernel: "" },
+        Column { key: "Indices", name: "indices", how: How::Plain, kernel: "TCA_DSMARK_INDICES" },
+        Column { key: "DefaultIndex", name: "default_index", how: How::Plain, kernel: "TCA_DSMARK_DEFAULT_INDEX" },
+        Column { key: "SetTcIndex", name: "set_tc_index", how: How::Plain, kernel: "TCA_DSMARK_SET_TC_INDEX" },
+        Column { key: "Mask", name: "mask", how: How::Number(Unit::Hex), kernel: "TCA_DSMARK_MASK" },
+        Column { key: "Value", name: "value", how: How::Number(Unit::Hex), kernel: "TCA_DSMARK_VALUE" },
+    ],
+    &[ // 1009, `list tc`: the rows of dsmark
+        Column { key: "Options", name: "options", how: How::Within(1008), kernel: "TCA_OPTIONS" },
+        Column { key: "Xstats", name: "xstats", how: How::Within(822), kernel: "TCA_XSTATS" },
+    ],
 ];
 
-// `list tc`: the rows of dsmark
-#[rattlefmt::skip]
-const LIST_TC_QDISC_DSMARK: [Column<'static>; 2] = [
-    Column { key: "Options", name: "options", how: How::Within(3684) },
-    Column { key: "Xstats", name: "xstats", how: How::Within(3006) },
-];
-
-#[tactic(auto, unfolding(crate::specs::Tables::ColumnsOfQdiscs::columns_of_qdiscs_307))]
-pub(crate) fn columns_of_qdiscs_307(place: usize) -> &'static [Column<'static>]
-    ensures { columns_view result.now ≡ columns_of_qdiscs_307 place }
+#[tactic(auto, unfolding(crate::specs::Arrays::columns_of_qdiscs_dsmark))]
+pub(crate) fn columns_of_qdiscs_dsmark() -> &'static [&'static [Column<'static>]]
+    ensures { map (λ x. columns_view x.now) result.now ≡ columns_of_qdiscs_dsmark }
 {
-    match place {
-        3684 => &LIST_DSMARK_IN_DSMARK,
-        3685 => &LIST_TC_QDISC_DSMARK,
-        _ => &[],
-    }
+    &COLUMNS_OF_QDISCS_DSMARK
 }
 
-// `list etf`
 #[rattlefmt::skip]
-const LIST_ETF_IN_ETF: [Column<'static>; 2] = [
-    Column { key: "Etf", name: "etf", how: How::Through(3696) },
-    Column { key: "Parms", name: "parms", how: How::Within(3697) },
+static COLUMNS_OF_QDISCS_ETF: [&'static [Column<'static>]; 3] = [
+    &[ // 1032, `list etf`
+        Column { key: "Etf", name: "etf", how: How::Through(1032), kernel: "" },
+        Column { key: "Parms", name: "parms", how: How::Within(1033), kernel: "TCA_ETF_PARMS" },
+    ],
+    &[ // 1033, `struct tc_etf_qopt`
+        Column { key: "delta", name: "delta", how: How::Number(Unit::Nanoseconds), kernel: "" },
+        Column { key: "clockid", name: "clockid", how: How::Named(Unit::Plain, 24005), kernel: "" },
+        Column { key: "flags", name: "flags", how: How::Flags(24106), kernel: "" },
+    ],
+    &[ // 1034, `list tc`: the rows of etf
+        Column { key: "Options", name: "options", how: How::Within(1032), kernel: "TCA_OPTIONS" },
+        Column { key: "Xstats", name: "xstats", how: How::Within(822), kernel: "TCA_XSTATS" },
+    ],
 ];
 
-// `struct tc_etf_qopt`
-#[rattlefmt::skip]
-const STRUCT_TC_ETF_QOPT: [Column<'static>; 3] = [
-    Column { key: "delta", name: "delta", how: How::Number(Unit::Nanoseconds) },
-    Column { key: "clockid", name: "clockid", how: How::Named(Unit::Plain, 24005) },
-    Column { key: "flags", name: "flags", how: How::Flags(24032) },
-];
-
-// `list tc`: the rows of etf
-#[rattlefmt::skip]
-const LIST_TC_QDISC_ETF: [Column<'static>; 2] = [
-    Column { key: "Options", name: "options", how: How::Within(3696) },
-    Column { key: "Xstats", name: "xstats", how: How::Within(3006) },
-];
-
-#[tactic(auto, unfolding(crate::specs::Tables::ColumnsOfQdiscs::columns_of_qdiscs_308))]
-pub(crate) fn columns_of_qdiscs_308(place: usize) -> &'static [Column<'static>]
-    ensures { columns_view result.now ≡ columns_of_qdiscs_308 place }
+#[tactic(auto, unfolding(crate::specs::Arrays::columns_of_qdiscs_etf))]
+pub(crate) fn columns_of_qdiscs_etf() -> &'static [&'static [Column<'static>]]
+    ensures { map (λ x. columns_view x.now) result.now ≡ columns_of_qdiscs_etf }
 {
-    match place {
-        3696 => &LIST_ETF_IN_ETF,
-        3697 => &STRUCT_TC_ETF_QOPT,
-        3698 => &LIST_TC_QDISC_ETF,
-        _ => &[],
-    }
+    &COLUMNS_OF_QDISCS_ETF
 }
 
-// `list ets`
 #[rattlefmt::skip]
-const LIST_ETS_IN_ETS: [Column<'static>; 7] = [
-    Column { key: "Ets", name: "ets", how: How::Through(3708) },
-    Column { key: "Nbands", name: "nbands", how: How::Plain },
-    Column { key: "Nstrict", name: "nstrict", how: How::Plain },
-    Column { key: "Quanta", name: "quanta", how: How::Within(3709) },
-    Column { key: "QuantaBand", name: "quanta_band", how: How::Number(Unit::Bytes) },
-    Column { key: "Priomap", name: "priomap", how: How::Within(3710) },
-    Column { key: "PriomapBand", name: "priomap_band", how: How::Plain },
+static COLUMNS_OF_QDISCS_ETS: [&'static [Column<'static>]; 4] = [
+    &[ // 1056, `list ets`
+        Column { key: "Ets", name: "ets", how: How::Through(1056), kernel: "" },
+        Column { key: "Nbands", name: "nbands", how: How::Plain, kernel: "TCA_ETS_NBANDS" },
+        Column { key: "Nstrict", name: "nstrict", how: How::Plain, kernel: "TCA_ETS_NSTRICT" },
+        Column { key: "Quanta", name: "quanta", how: How::Within(1057), kernel: "TCA_ETS_QUANTA" },
+        Column { key: "QuantaBand", name: "quanta_band", how: How::Number(Unit::Bytes), kernel: "TCA_ETS_QUANTA_BAND" },
+        Column { key: "Priomap", name: "priomap", how: How::Within(1058), kernel: "TCA_ETS_PRIOMAP" },
+        Column { key: "PriomapBand", name: "priomap_band", how: How::Plain, kernel: "TCA_ETS_PRIOMAP_BAND" },
+    ],
+    &[ // 1057, `list ets_quanta`
+        Column { key: "QuantaBand", name: "quanta_band", how: How::Number(Unit::Bytes), kernel: "TCA_ETS_QUANTA_BAND" },
+    ],
+    &[ // 1058, `list ets_priomap`
+        Column { key: "PriomapBand", name: "priomap_band", how: How::Plain, kernel: "TCA_ETS_PRIOMAP_BAND" },
+    ],
+    &[ // 1059, `list tc`: the rows of ets
+        Column { key: "Options", name: "options", how: How::Within(1056), kernel: "TCA_OPTIONS" },
+        Column { key: "Xstats", name: "xstats", how: How::Within(822), kernel: "TCA_XSTATS" },
+    ],
 ];
 
-// `list ets_quanta`
-#[rattlefmt::skip]
-const LIST_ETS_QUANTA: [Column<'static>; 1] = [
-    Column { key: "QuantaBand", name: "quanta_band", how: How::Number(Unit::Bytes) },
-];
-
-// `list ets_priomap`
-#[rattlefmt::skip]
-const LIST_ETS_PRIOMAP: [Column<'static>; 1] = [
-    Column { key: "PriomapBand", name: "priomap_band", how: How::Plain },
-];
-
-// `list tc`: the rows of ets
-#[rattlefmt::skip]
-const LIST_TC_QDISC_ETS: [Column<'static>; 2] = [
-    Column { key: "Options", name: "options", how: How::Within(3708) },
-    Column { key: "Xstats", name: "xstats", how: How::Within(3006) },
-];
-
-#[tactic(auto, unfolding(crate::specs::Tables::ColumnsOfQdiscs::columns_of_qdiscs_309))]
-pub(crate) fn columns_of_qdiscs_309(place: usize) -> &'static [Column<'static>]
-    ensures { columns_view result.now ≡ columns_of_qdiscs_309 place }
+#[tactic(auto, unfolding(crate::specs::Arrays::columns_of_qdiscs_ets))]
+pub(crate) fn columns_of_qdiscs_ets() -> &'static [&'static [Column<'static>]]
+    ensures { map (λ x. columns_view x.now) result.now ≡ columns_of_qdiscs_ets }
 {
-    match place {
-        3708 => &LIST_ETS_IN_ETS,
-        3709 => &LIST_ETS_QUANTA,
-        3710 => &LIST_ETS_PRIOMAP,
-        3711 => &LIST_TC_QDISC_ETS,
-        _ => &[],
-    }
+    &COLUMNS_OF_QDISCS_ETS
 }
 
-// `struct tc_fifo_qopt`
 #[rattlefmt::skip]
-const STRUCT_TC_FIFO_QOPT: [Column<'static>; 1] = [
-    Column { key: "limit", name: "limit", how: How::Number(Unit::Bytes) },
+static COLUMNS_OF_QDISCS_FIFO: [&'static [Column<'static>]; 4] = [
+    &[ // 1080, `struct tc_fifo_qopt`
+        Column { key: "limit", name: "limit", how: How::Number(Unit::Bytes), kernel: "" },
+    ],
+    &[ // 1081, `struct tc_fifo_qopt_packets`
+        Column { key: "limit", name: "limit", how: How::Number(Unit::Packets), kernel: "" },
+    ],
+    &[ // 1082, `list tc`: the rows of pfifo, pfifo_head_drop
+        Column { key: "Options", name: "options", how: How::Within(1081), kernel: "TCA_OPTIONS" },
+        Column { key: "Xstats", name: "xstats", how: How::Within(822), kernel: "TCA_XSTATS" },
+    ],
+    &[ // 1083, `list tc`: the rows of bfifo
+        Column { key: "Options", name: "options", how: How::Within(1080), kernel: "TCA_OPTIONS" },
+        Column { key: "Xstats", name: "xstats", how: How::Within(822), kernel: "TCA_XSTATS" },
+    ],
 ];
 
-// `struct tc_fifo_qopt_packets`
-#[rattlefmt::skip]
-const STRUCT_TC_FIFO_QOPT_PACKETS: [Column<'static>; 1] = [
-    Column { key: "limit", name: "limit", how: How::Number(Unit::Packets) },
-];
-
-// `list tc`: the rows of pfifo, pfifo_head_drop
-#[rattlefmt::skip]
-const LIST_TC_QDISC_PFIFO: [Column<'static>; 2] = [
-    Column { key: "Options", name: "options", how: How::Within(3721) },
-    Column { key: "Xstats", name: "xstats", how: How::Within(3006) },
-];
-
-// `list tc`: the rows of bfifo
-#[rattlefmt::skip]
-const LIST_TC_QDISC_BFIFO: [Column<'static>; 2] = [
-    Column { key: "Options", name: "options", how: How::Within(3720) },
-    Column { key: "Xstats", name: "xstats", how: How::Within(3006) },
-];
-
-#[tactic(auto, unfolding(crate::specs::Tables::ColumnsOfQdiscs::columns_of_qdiscs_310))]
-pub(crate) fn columns_of_qdiscs_310(place: usize) -> &'static [Column<'static>]
-    ensures { columns_view result.now ≡ columns_of_qdiscs_310 place }
+#[tactic(auto, unfolding(crate::specs::Arrays::columns_of_qdiscs_fifo))]
+pub(crate) fn columns_of_qdiscs_fifo() -> &'static [&'static [Column<'static>]]
+    ensures { map (λ x. columns_view x.now) result.now ≡ columns_of_qdiscs_fifo }
 {
-    match place {
-        3720 => &STRUCT_TC_FIFO_QOPT,
-        3721 => &STRUCT_TC_FIFO_QOPT_PACKETS,
-        3722 => &LIST_TC_QDISC_PFIFO,
-        3723 => &LIST_TC_QDISC_BFIFO,
-        _ => &[],
-    }
+    &COLUMNS_OF_QDISCS_FIFO
 }
 
-// `list fq`
 #[rattlefmt::skip]
-const LIST_FQ_IN_FQ: [Column<'static>; 18] = [
-    Column { key: "Fq", name: "fq", how: How::Through(3732) },
-    Column { key: "Plimit", name: "plimit", how: How::Number(Unit::Packets) },
-    Column { key: "FlowPlimit", name: "flow_plimit", how: How::Number(Unit::Packets) },
-    Column { key: "Quantum", name: "quantum", how: How::Number(Unit::Bytes) },
-    Column { key: "InitialQuantum", name: "initial_quantum", how: How::Number(Unit::Bytes) },
-    Column { key: "RateEnable", name: "rate_enable", how: How::Plain },
-    Column { key: "FlowDefaultRate", name: "flow_default_rate", how: How::Number(Unit::BytesPerSecond) },
-    Column { key: "FlowMaxRate", name: "flow_max_rate", how: How::Number(Unit::BytesPerSecond) },
-    Column { key: "BucketsLog", name: "buckets_log", how: How::Number(Unit::Power) },
-    Column { key: "FlowRefillDelay", name: "flow_refill_delay", how: How::Number(Unit::Microseconds) },
-    Column { key: "OrphanMask", name: "orphan_mask", how: How::Number(Unit::Hex) },
-    Column { key: "LowRateThreshold", name: "low_rate_threshold", how: How::Number(Unit::BytesPerSecond) },
-    Column { key: "CeThreshold", name: "ce_threshold", how: How::Number(Unit::Microseconds) },
-    Column { key: "TimerSlack", name: "timer_slack", how: How::Number(Unit::Nanoseconds) },
-    Column { key: "Horizon", name: "horizon", how: How::Number(Unit::Microseconds) },
-    Column { key: "HorizonDrop", name: "horizon_drop", how: How::Plain },
-    Column { key: "Priomap", name: "priomap", how: How::Within(3902) },
-    Column { key: "Weights", name: "weights", how: How::Plain },
+static COLUMNS_OF_QDISCS_FQ: [&'static [Column<'static>]; 6] = [
+    &[ // 1104, `list fq`
+        Column { key: "Fq", name: "fq", how: How::Through(1104), kernel: "" },
+        Column { key: "Plimit", name: "plimit", how: How::Number(Unit::Packets), kernel: "TCA_FQ_PLIMIT" },
+        Column { key: "FlowPlimit", name: "flow_plimit", how: How::Number(Unit::Packets), kernel: "TCA_FQ_FLOW_PLIMIT" },
+        Column { key: "Quantum", name: "quantum", how: How::Number(Unit::Bytes), kernel: "TCA_FQ_QUANTUM" },
+        Column { key: "InitialQuantum", name: "initial_quantum", how: How::Number(Unit::Bytes), kernel: "TCA_FQ_INITIAL_QUANTUM" },
+        Column { key: "RateEnable", name: "rate_enable", how: How::Plain, kernel: "TCA_FQ_RATE_ENABLE" },
+        Column { key: "FlowDefaultRate", name: "flow_default_rate", how: How::Number(Unit::BytesPerSecond), kernel: "TCA_FQ_FLOW_DEFAULT_RATE" },
+        Column { key: "FlowMaxRate", name: "flow_max_rate", how: How::Number(Unit::BytesPerSecond), kernel: "TCA_FQ_FLOW_MAX_RATE" },
+        Column { key: "BucketsLog", name: "buckets_log", how: How::Number(Unit::Power), kernel: "TCA_FQ_BUCKETS_LOG" },
+        Column { key: "FlowRefillDelay", name: "flow_refill_delay", how: How::Number(Unit::Microseconds), kernel: "TCA_FQ_FLOW_REFILL_DELAY" },
+        Column { key: "OrphanMask", name: "orphan_mask", how: How::Number(Unit::Hex), kernel: "TCA_FQ_ORPHAN_MASK" },
+        Column { key: "LowRateThreshold", name: "low_rate_threshold", how: How::Number(Unit::BytesPerSecond), kernel: "TCA_FQ_LOW_RATE_THRESHOLD" },
+        Column { key: "CeThreshold", name: "ce_threshold", how: How::Number(Unit::Microseconds), kernel: "TCA_FQ_CE_THRESHOLD" },
+        Column { key: "TimerSlack", name: "timer_slack", how: How::Number(Unit::Nanoseconds), kernel: "TCA_FQ_TIMER_SLACK" },
+        Column { key: "Horizon", name: "horizon", how: How::Number(Unit::Microseconds), kernel: "TCA_FQ_HORIZON" },
+        Column { key: "HorizonDrop", name: "horizon_drop", how: How::Plain, kernel: "TCA_FQ_HORIZON_DROP" },
+        Column { key: "Priomap", name: "priomap", how: How::Within(1442), kernel: "TCA_FQ_PRIOMAP" },
+        Column { key: "Weights", name: "weights", how: How::Plain, kernel: "TCA_FQ_WEIGHTS" },
+    ],
+    &[ // 1105, `struct tc_fq_qd_stats`
+        Column { key: "gc_flows", name: "gc_flows", how: How::Plain, kernel: "" },
+        Column { key: "highprio_packets", name: "highprio_packets", how: How::Plain, kernel: "" },
+        Column { key: "tcp_retrans", name: "tcp_retrans", how: How::Plain, kernel: "" },
+        Column { key: "throttled", name: "throttled", how: How::Plain, kernel: "" },
+        Column { key: "flows_plimit", name: "flows_plimit", how: How::Plain, kernel: "" },
+        Column { key: "pkts_too_long", name: "pkts_too_long", how: How::Plain, kernel: "" },
+        Column { key: "allocation_errors", name: "allocation_errors", how: How::Plain, kernel: "" },
+        Column { key: "time_next_delayed_flow", name: "time_next_delayed_flow", how: How::Number(Unit::Nanoseconds), kernel: "" },
+        Column { key: "flows", name: "flows", how: How::Plain, kernel: "" },
+        Column { key: "inactive_flows", name: "inactive_flows", how: How::Plain, kernel: "" },
+        Column { key: "throttled_flows", name: "throttled_flows", how: How::Plain, kernel: "" },
+        Column { key: "unthrottle_latency_ns", name: "unthrottle_latency_ns", how: How::Number(Unit::Nanoseconds), kernel: "" },
+        Column { key: "ce_mark", name: "ce_mark", how: How::Plain, kernel: "" },
+        Column { key: "horizon_drops", name: "horizon_drops", how: How::Plain, kernel: "" },
+        Column { key: "horizon_caps", name: "horizon_caps", how: How::Plain, kernel: "" },
+        Column { key: "since_6_7", name: "since_6_7", how: How::Elements(1106), kernel: "" },
+    ],
+    &[ // 1106, `struct fq_stats_6_7`
+        Column { key: "fastpath_packets", name: "fastpath_packets", how: How::Plain, kernel: "" },
+        Column { key: "band_drops", name: "band_drops", how: How::Plain, kernel: "" },
+        Column { key: "band_pkt_count", name: "band_pkt_count", how: How::Plain, kernel: "" },
+        Column { key: "pad", name: "pad", how: How::Plain, kernel: "" },
+    ],
+    &[ // 1107, the statistics of fq
+        Column { key: "Fq", name: "fq", how: How::Through(1105), kernel: "" },
+    ],
+    &[ // 1108, `list tc`: the rows of fq
+        Column { key: "Options", name: "options", how: How::Within(1104), kernel: "TCA_OPTIONS" },
+        Column { key: "Xstats", name: "xstats", how: How::Within(1107), kernel: "TCA_XSTATS" },
+    ],
+    &[ // 1109, `list stats`: the rows of fq
+        Column { key: "App", name: "app", how: How::Within(1107), kernel: "TCA_STATS_APP" },
+    ],
 ];
 
-// `struct tc_fq_qd_stats`
-#[rattlefmt::skip]
-const STRUCT_TC_FQ_QD_STATS: [Column<'static>; 16] = [
-    Column { key: "gc_flows", name: "gc_flows", how: How::Plain },
-    Column { key: "highprio_packets", name: "highprio_packets", how: How::Plain },
-    Column { key: "tcp_retrans", name: "tcp_retrans", how: How::Plain },
-    Column { key: "throttled", name: "throttled", how: How::Plain },
-    Column { key: "flows_plimit", name: "flows_plimit", how: How::Plain },
-    Column { key: "pkts_too_long", name: "pkts_too_long", how: How::Plain },
-    Column { key: "allocation_errors", name: "allocation_errors", how: How::Plain },
-    Column { key: "time_next_delayed_flow", name: "time_next_delayed_flow", how: How::Number(Unit::Nanoseconds) },
-    Column { key: "flows", name: "flows", how: How::Plain },
-    Column { key: "inactive_flows", name: "inactive_flows", how: How::Plain },
-    Column { key: "throttled_flows", name: "throttled_flows", how: How::Plain },
-    Column { key: "unthrottle_latency_ns", name: "unthrottle_latency_ns", how: How::Number(Unit::Nanoseconds) },
-    Column { key: "ce_mark", name: "ce_mark", how: How::Plain },
-    Column { key: "horizon_drops", name: "horizon_drops", how: How::Plain },
-    Column { key: "horizon_caps", name: "horizon_caps", how: How::Plain },
-    Column { key: "since_6_7", name: "since_6_7", how: How::Elements(3734) },
-];
-
-// `struct fq_stats_6_7`
-#[rattlefmt::skip]
-const STRUCT_FQ_STATS_6_7: [Column<'static>; 4] = [
-    Column { key: "fastpath_packets", name: "fastpath_packets", how: How::Plain },
-    Column { key: "band_drops", name: "band_drops", how: How::Plain },
-    Column { key: "band_pkt_count", name: "band_pkt_count", how: How::Plain },
-    Column { key: "pad", name: "pad", how: How::Plain },
-];
-
-// the statistics of fq
-#[rattlefmt::skip]
-const STATISTICS_QDISC_FQ: [Column<'static>; 1] = [
-    Column { key: "Fq", name: "fq", how: How::Through(3733) },
-];
-
-// `list tc`: the rows of fq
-#[rattlefmt::skip]
-const LIST_TC_QDISC_FQ: [Column<'static>; 2] = [
-    Column { key: "Options", name: "options", how: How::Within(3732) },
-    Column { key: "Xstats", name: "xstats", how: How::Within(3735) },
-];
-
-// `list stats`: the rows of fq
-#[rattlefmt::skip]
-const LIST_STATS_QDISC_FQ: [Column<'static>; 1] = [
-    Column { key: "App", name: "app", how: How::Within(3735) },
-];
-
-#[tactic(auto, unfolding(crate::specs::Tables::ColumnsOfQdiscs::columns_of_qdiscs_311))]
-pub(crate) fn columns_of_qdiscs_311(place: usize) -> &'static [Column<'static>]
-    ensures { columns_view result.now ≡ columns_of_qdiscs_311 place }
+#[tactic(auto, unfolding(crate::specs::Arrays::columns_of_qdiscs_fq))]
+pub(crate) fn columns_of_qdiscs_fq() -> &'static [&'static [Column<'static>]]
+    ensures { map (λ x. columns_view x.now) result.now ≡ columns_of_qdiscs_fq }
 {
-    match place {
-        3732 => &LIST_FQ_IN_FQ,
-        3733 => &STRUCT_TC_FQ_QD_STATS,
-        3734 => &STRUCT_FQ_STATS_6_7,
-        3735 => &STATISTICS_QDISC_FQ,
-        3736 => &LIST_TC_QDISC_FQ,
-        3737 => &LIST_STATS_QDISC_FQ,
-        _ => &[],
-    }
+    &COLUMNS_OF_QDISCS_FQ
 }
 
-// `list fq_codel`
 #[rattlefmt::skip]
-const LIST_FQ_CODEL_IN_FQCODEL: [Column<'static>; 12] = [
-    Column { key: "FqCodel", name: "fq_codel", how: How::Through(3744) },
-    Column { key: "Target", name: "target", how: How::Number(Unit::Microseconds) },
-    Column { key: "Limit", name: "limit", how: How::Number(Unit::Packets) },
-    Column { key: "Interval", name: "interval", how: How::Number(Unit::Microseconds) },
-    Column { key: "Ecn", name: "ecn", how: How::Plain },
-    Column { key: "Flows", name: "flows", how: How::Plain },
-    Column { key: "Quantum", name: "quantum", how: How::Number(Unit::Bytes) },
-    Column { key: "CeThreshold", name: "ce_threshold", how: How::Number(Unit::Microseconds) },
-    Column { key: "DropBatchSize", name: "drop_batch_size", how: How::Number(Unit::Packets) },
-    Column { key: "MemoryLimit", name: "memory_limit", how: How::Number(Unit::Bytes) },
-    Column { key: "CeThresholdSelector", name: "ce_threshold_selector", how: How::Number(Unit::Hex) },
-    Column { key: "CeThresholdMask", name: "ce_threshold_mask", how: How::Number(Unit::Hex) },
+static COLUMNS_OF_QDISCS_FQ_CODEL: [&'static [Column<'static>]; 7] = [
+    &[ // 1128, `list fq_codel`
+        Column { key: "FqCodel", name: "fq_codel", how: How::Through(1128), kernel: "" },
+        Column { key: "Target", name: "target", how: How::Number(Unit::Microseconds), kernel: "TCA_FQ_CODEL_TARGET" },
+        Column { key: "Limit", name: "limit", how: How::Number(Unit::Packets), kernel: "TCA_FQ_CODEL_LIMIT" },
+        Column { key: "Interval", name: "interval", how: How::Number(Unit::Microseconds), kernel: "TCA_FQ_CODEL_INTERVAL" },
+        Column { key: "Ecn", name: "ecn", how: How::Plain, kernel: "TCA_FQ_CODEL_ECN" },
+        Column { key: "Flows", name: "flows", how: How::Plain, kernel: "TCA_FQ_CODEL_FLOWS" },
+        Column { key: "Quantum", name: "quantum", how: How::Number(Unit::Bytes), kernel: "TCA_FQ_CODEL_QUANTUM" },
+        Column { key: "CeThreshold", name: "ce_threshold", how: How::Number(Unit::Microseconds), kernel: "TCA_FQ_CODEL_CE_THRESHOLD" },
+        Column { key: "DropBatchSize", name: "drop_batch_size", how: How::Number(Unit::Packets), kernel: "TCA_FQ_CODEL_DROP_BATCH_SIZE" },
+        Column { key: "MemoryLimit", name: "memory_limit", how: How::Number(Unit::Bytes), kernel: "TCA_FQ_CODEL_MEMORY_LIMIT" },
+        Column { key: "CeThresholdSelector", name: "ce_threshold_selector", how: How::Number(Unit::Hex), kernel: "TCA_FQ_CODEL_CE_THRESHOLD_SELECTOR" },
+        Column { key: "CeThresholdMask", name: "ce_threshold_mask", how: How::Number(Unit::Hex), kernel: "TCA_FQ_CODEL_CE_THRESHOLD_MASK" },
+    ],
+    &[ // 1129, `choice tc_fq_codel_xstats`
+        Column { key: "Qdisc", name: "qdisc", how: How::Through(1130), kernel: "" },
+        Column { key: "Class", name: "class", how: How::Through(1131), kernel: "" },
+    ],
+    &[ // 1130, `struct tc_fq_codel_qd_stats`
+        Column { key: "maxpacket", name: "maxpacket", how: How::Number(Unit::Bytes), kernel: "" },
+        Column { key: "drop_overlimit", name: "drop_overlimit", how: How::Number(Unit::Packets), kernel: "" },
+        Column { key: "ecn_mark", name: "ecn_mark", how: How::Number(Unit::Packets), kernel: "" },
+        Column { key: "new_flow_count", name: "new_flow_count", how: How::Plain, kernel: "" },
+        Column { key: "new_flows_len", name: "new_flows_len", how: How::Plain, kernel: "" },
+        Column { key: "old_flows_len", name: "old_flows_len", how: How::Plain, kernel: "" },
+        Column { key: "ce_mark", name: "ce_mark", how: How::Number(Unit::Packets), kernel: "" },
+        Column { key: "memory_usage", name: "memory_usage", how: How::Number(Unit::Bytes), kernel: "" },
+        Column { key: "drop_overmemory", name: "drop_overmemory", how: How::Number(Unit::Packets), kernel: "" },
+    ],
+    &[ // 1131, `struct tc_fq_codel_cl_stats`
+        Column { key: "deficit", name: "deficit", how: How::Number(Unit::Bytes), kernel: "" },
+        Column { key: "ldelay", name: "ldelay", how: How::Number(Unit::Microseconds), kernel: "" },
+        Column { key: "count", name: "count", how: How::Plain, kernel: "" },
+        Column { key: "lastcount", name: "lastcount", how: How::Plain, kernel: "" },
+        Column { key: "dropping", name: "dropping", how: How::Plain, kernel: "" },
+        Column { key: "drop_next", name: "drop_next", how: How::Number(Unit::Microseconds), kernel: "" },
+    ],
+    &[ // 1132, the statistics of fq_codel
+        Column { key: "FqCodel", name: "fq_codel", how: How::Through(1129), kernel: "" },
+    ],
+    &[ // 1133, `list tc`: the rows of fq_codel
+        Column { key: "Options", name: "options", how: How::Within(1128), kernel: "TCA_OPTIONS" },
+        Column { key: "Xstats", name: "xstats", how: How::Within(1132), kernel: "TCA_XSTATS" },
+    ],
+    &[ // 1134, `list stats`: the rows of fq_codel
+        Column { key: "App", name: "app", how: How::Within(1132), kernel: "TCA_STATS_APP" },
+    ],
 ];
 
-// `choice tc_fq_codel_xstats`
-#[rattlefmt::skip]
-const CHOICE_TC_FQ_CODEL_XSTATS: [Column<'static>; 2] = [
-    Column { key: "Qdisc", name: "qdisc", how: How::Through(3746) },
-    Column { key: "Class", name: "class", how: How::Through(3747) },
-];
-
-// `struct tc_fq_codel_qd_stats`
-#[rattlefmt::skip]
-const STRUCT_TC_FQ_CODEL_QD_STATS: [Column<'static>; 9] = [
-    Column { key: "maxpacket", name: "maxpacket", how: How::Number(Unit::Bytes) },
-    Column { key: "drop_overlimit", name: "drop_overlimit", how: How::Number(Unit::Packets) },
-    Column { key: "ecn_mark", name: "ecn_mark", how: How::Number(Unit::Packets) },
-    Column { key: "new_flow_count", name: "new_flow_count", how: How::Plain },
-    Column { key: "new_flows_len", name: "new_flows_len", how: How::Plain },
-    Column { key: "old_flows_len", name: "old_flows_len", how: How::Plain },
-    Column { key: "ce_mark", name: "ce_mark", how: How::Number(Unit::Packets) },
-    Column { key: "memory_usage", name: "memory_usage", how: How::Number(Unit::Bytes) },
-    Column { key: "drop_overmemory", name: "drop_overmemory", how: How::Number(Unit::Packets) },
-];
-
-// `struct tc_fq_codel_cl_stats`
-#[rattlefmt::skip]
-const STRUCT_TC_FQ_CODEL_CL_STATS: [Column<'static>; 6] = [
-    Column { key: "deficit", name: "deficit", how: How::Number(Unit::Bytes) },
-    Column { key: "ldelay", name: "ldelay", how: How::Number(Unit::Microseconds) },
-    Column { key: "count", name: "count", how: How::Plain },
-    Column { key: "lastcount", name: "lastcount", how: How::Plain },
-    Column { key: "dropping", name: "dropping", how: How::Plain },
-    Column { key: "drop_next", name: "drop_next", how: How::Number(Unit::Microseconds) },
-];
-
-// the statistics of fq_codel
-#[rattlefmt::skip]
-const STATISTICS_QDISC_FQ_CODEL: [Column<'static>; 1] = [
-    Column { key: "FqCodel", name: "fq_codel", how: How::Through(3745) },
-];
-
-// `list tc`: the rows of fq_codel
-#[rattlefmt::skip]
-const LIST_TC_QDISC_FQ_CODEL: [Column<'static>; 2] = [
-    Column { key: "Options", name: "options", how: How::Within(3744) },
-    Column { key: "Xstats", name: "xstats", how: How::Within(3748) },
-];
-
-// `list stats`: the rows of fq_codel
-#[rattlefmt::skip]
-const LIST_STATS_QDISC_FQ_CODEL: [Column<'static>; 1] = [
-    Column { key: "App", name: "app", how: How::Within(3748) },
-];
-
-#[tactic(auto, unfolding(crate::specs::Tables::ColumnsOfQdiscs::columns_of_qdiscs_312))]
-pub(crate) fn columns_of_qdiscs_312(place: usize) -> &'static [Column<'static>]
-    ensures { columns_view result.now ≡ columns_of_qdiscs_312 place }
+#[tactic(auto, unfolding(crate::specs::Arrays::columns_of_qdiscs_fq_codel))]
+pub(crate) fn columns_of_qdiscs_fq_codel() -> &'static [&'static [Column<'static>]]
+    ensures { map (λ x. columns_view x.now) result.now ≡ columns_of_qdiscs_fq_codel }
 {
-    match place {
-        3744 => &LIST_FQ_CODEL_IN_FQCODEL,
-        3745 => &CHOICE_TC_FQ_CODEL_XSTATS,
-        3746 => &STRUCT_TC_FQ_CODEL_QD_STATS,
-        3747 => &STRUCT_TC_FQ_CODEL_CL_STATS,
-        3748 => &STATISTICS_QDISC_FQ_CODEL,
-        3749 => &LIST_TC_QDISC_FQ_CODEL,
-        3750 => &LIST_STATS_QDISC_FQ_CODEL,
-        _ => &[],
-    }
+    &COLUMNS_OF_QDISCS_FQ_CODEL
 }
 
-// `list fq_pie`
 #[rattlefmt::skip]
-const LIST_FQ_PIE_IN_FQPIE: [Column<'static>; 13] = [
-    Column { key: "FqPie", name: "fq_pie", how: How::Through(3756) },
-    Column { key: "Limit", name: "limit", how: How::Number(Unit::Packets) },
-    Column { key: "Flows", name: "flows", how: How::Plain },
-    Column { key: "Target", name: "target", how: How::Number(Unit::Microseconds) },
-    Column { key: "Tupdate", name: "tupdate", how: How::Number(Unit::Microseconds) },
-    Column { key: "Alpha", name: "alpha", how: How::Plain },
-    Column { key: "Beta", name: "beta", how: How::Plain },
-    Column { key: "Quantum", name: "quantum", how: How::Number(Unit::Bytes) },
-    Column { key: "MemoryLimit", name: "memory_limit", how: How::Number(Unit::Bytes) },
-    Column { key: "EcnProb", name: "ecn_prob", how: How::Number(Unit::Percent) },
-    Column { key: "Ecn", name: "ecn", how: How::Plain },
-    Column { key: "Bytemode", name: "bytemode", how: How::Plain },
-    Column { key: "DqRateEstimator", name: "dq_rate_estimator", how: How::Plain },
+static COLUMNS_OF_QDISCS_FQ_PIE: [&'static [Column<'static>]; 5] = [
+    &[ // 1152, `list fq_pie`
+        Column { key: "FqPie", name: "fq_pie", how: How::Through(1152), kernel: "" },
+        Column { key: "Limit", name: "limit", how: How::Number(Unit::Packets), kernel: "TCA_FQ_PIE_LIMIT" },
+        Column { key: "Flows", name: "flows", how: How::Plain, kernel: "TCA_FQ_PIE_FLOWS" },
+        Column { key: "Target", name: "target", how: How::Number(Unit::Microseconds), kernel: "TCA_FQ_PIE_TARGET" },
+        Column { key: "Tupdate", name: "tupdate", how: How::Number(Unit::Microseconds), kernel: "TCA_FQ_PIE_TUPDATE" },
+        Column { key: "Alpha", name: "alpha", how: How::Plain, kernel: "TCA_FQ_PIE_ALPHA" },
+        Column { key: "Beta", name: "beta", how: How::Plain, kernel: "TCA_FQ_PIE_BETA" },
+        Column { key: "Quantum", name: "quantum", how: How::Number(Unit::Bytes), kernel: "TCA_FQ_PIE_QUANTUM" },
+        Column { key: "MemoryLimit", name: "memory_limit", how: How::Number(Unit::Bytes), kernel: "TCA_FQ_PIE_MEMORY_LIMIT" },
+        Column { key: "EcnProb", name: "ecn_prob", how: How::Number(Unit::Percent), kernel: "TCA_FQ_PIE_ECN_PROB" },
+        Column { key: "Ecn", name: "ecn", how: How::Plain, kernel: "TCA_FQ_PIE_ECN" },
+        Column { key: "Bytemode", name: "bytemode", how: How::Plain, kernel: "TCA_FQ_PIE_BYTEMODE" },
+        Column { key: "DqRateEstimator", name: "dq_rate_estimator", how: How::Plain, kernel: "TCA_FQ_PIE_DQ_RATE_ESTIMATOR" },
+    ],
+    &[ // 1153, `struct tc_fq_pie_xstats`
+        Column { key: "packets_in", name: "packets_in", how: How::Plain, kernel: "" },
+        Column { key: "dropped", name: "dropped", how: How::Plain, kernel: "" },
+        Column { key: "overlimit", name: "overlimit", how: How::Plain, kernel: "" },
+        Column { key: "overmemory", name: "overmemory", how: How::Plain, kernel: "" },
+        Column { key: "ecn_mark", name: "ecn_mark", how: How::Plain, kernel: "" },
+        Column { key: "new_flow_count", name: "new_flow_count", how: How::Plain, kernel: "" },
+        Column { key: "new_flows_len", name: "new_flows_len", how: How::Plain, kernel: "" },
+        Column { key: "old_flows_len", name: "old_flows_len", how: How::Plain, kernel: "" },
+        Column { key: "memory_usage", name: "memory_usage", how: How::Plain, kernel: "" },
+    ],
+    &[ // 1154, the statistics of fq_pie
+        Column { key: "FqPie", name: "fq_pie", how: How::Through(1153), kernel: "" },
+    ],
+    &[ // 1155, `list tc`: the rows of fq_pie
+        Column { key: "Options", name: "options", how: How::Within(1152), kernel: "TCA_OPTIONS" },
+        Column { key: "Xstats", name: "xstats", how: How::Within(1154), kernel: "TCA_XSTATS" },
+    ],
+    &[ // 1156, `list stats`: the rows of fq_pie
+        Column { key: "App", name: "app", how: How::Within(1154), kernel: "TCA_STATS_APP" },
+    ],
 ];
 
-// `struct tc_fq_pie_xstats`
-#[rattlefmt::skip]
-const STRUCT_TC_FQ_PIE_XSTATS: [Column<'static>; 9] = [
-    Column { key: "packets_in", name: "packets_in", how: How::Plain },
-    Column { key: "dropped", name: "dropped", how: How::Plain },
-    Column { key: "overlimit", name: "overlimit", how: How::Plain },
-    Column { key: "overmemory", name: "overmemory", how: How::Plain },
-    Column { key: "ecn_mark", name: "ecn_mark", how: How::Plain },
-    Column { key: "new_flow_count", name: "new_flow_count", how: How::Plain },
-    Column { key: "new_flows_len", name: "new_flows_len", how: How::Plain },
-    Column { key: "old_flows_len", name: "old_flows_len", how: How::Plain },
-    Column { key: "memory_usage", name: "memory_usage", how: How::Plain },
-];
-
-// the statistics of fq_pie
-#[rattlefmt::skip]
-const STATISTICS_QDISC_FQ_PIE: [Column<'static>; 1] = [
-    Column { key: "FqPie", name: "fq_pie", how: How::Through(3757) },
-];
-
-// `list tc`: the rows of fq_pie
-#[rattlefmt::skip]
-const LIST_TC_QDISC_FQ_PIE: [Column<'static>; 2] = [
-    Column { key: "Options", name: "options", how: How::Within(3756) },
-    Column { key: "Xstats", name: "xstats", how: How::Within(3758) },
-];
-
-// `list stats`: the rows of fq_pie
-#[rattlefmt::skip]
-const LIST_STATS_QDISC_FQ_PIE: [Column<'static>; 1] = [
-    Column { key: "App", name: "app", how: How::Within(3758) },
-];
-
-#[tactic(auto, unfolding(crate::specs::Tables::ColumnsOfQdiscs::columns_of_qdiscs_313))]
-pub(crate) fn columns_of_qdiscs_313(place: usize) -> &'static [Column<'static>]
-    ensures { columns_view result.now ≡ columns_of_qdiscs_313 place }
+#[tactic(auto, unfolding(crate::specs::Arrays::columns_of_qdiscs_fq_pie))]
+pub(crate) fn columns_of_qdiscs_fq_pie() -> &'static [&'static [Column<'static>]]
+    ensures { map (λ x. columns_view x.now) result.now ≡ columns_of_qdiscs_fq_pie }
 {
-    match place {
-        3756 => &LIST_FQ_PIE_IN_FQPIE,
-        3757 => &STRUCT_TC_FQ_PIE_XSTATS,
-        3758 => &STATISTICS_QDISC_FQ_PIE,
-        3759 => &LIST_TC_QDISC_FQ_PIE,
-        3760 => &LIST_STATS_QDISC_FQ_PIE,
-        _ => &[],
-    }
+    &COLUMNS_OF_QDISCS_FQ_PIE
 }
 
-// `list gred`
 #[rattlefmt::skip]
-const LIST_GRED_IN_GRED: [Column<'static>; 7] = [
-    Column { key: "Gred", name: "gred", how: How::Through(3768) },
-    Column { key: "Parms", name: "parms", how: How::Elements(3769) },
-    Column { key: "Stab", name: "stab", how: How::Plain },
-    Column { key: "Dps", name: "dps", how: How::Within(3770) },
-    Column { key: "MaxP", name: "max_p", how: How::Number(Unit::Probability) },
-    Column { key: "Limit", name: "limit", how: How::Number(Unit::Bytes) },
-    Column { key: "VqList", name: "vq_list", how: How::Within(3771) },
+static COLUMNS_OF_QDISCS_GRED: [&'static [Column<'static>]; 6] = [
+    &[ // 1176, `list gred`
+        Column { key: "Gred", name: "gred", how: How::Through(1176), kernel: "" },
+        Column { key: "Parms", name: "parms", how: How::Elements(1177), kernel: "TCA_GRED_PARMS" },
+        Column { key: "Stab", name: "stab", how: How::Plain, kernel: "TCA_GRED_STAB" },
+        Column { key: "Dps", name: "dps", how: How::Within(1178), kernel: "TCA_GRED_DPS" },
+        Column { key: "MaxP", name: "max_p", how: How::Number(Unit::Probability), kernel: "TCA_GRED_MAX_P" },
+        Column { key: "Limit", name: "limit", how: How::Number(Unit::Bytes), kernel: "TCA_GRED_LIMIT" },
+        Column { key: "VqList", name: "vq_list", how: How::Within(1179), kernel: "TCA_GRED_VQ_LIST" },
+    ],
+    &[ // 1177, `struct tc_gred_qopt`
+        Column { key: "limit", name: "limit", how: How::Number(Unit::Bytes), kernel: "" },
+        Column { key: "qth_min", name: "qth_min", how: How::Number(Unit::Bytes), kernel: "" },
+        Column { key: "qth_max", name: "qth_max", how: How::Number(Unit::Bytes), kernel: "" },
+        Column { key: "DP", name: "DP", how: How::Plain, kernel: "" },
+        Column { key: "backlog", name: "backlog", how: How::Number(Unit::Bytes), kernel: "" },
+        Column { key: "qave", name: "qave", how: How::Number(Unit::Bytes), kernel: "" },
+        Column { key: "forced", name: "forced", how: How::Number(Unit::Packets), kernel: "" },
+        Column { key: "early", name: "early", how: How::Number(Unit::Packets), kernel: "" },
+        Column { key: "other", name: "other", how: How::Number(Unit::Packets), kernel: "" },
+        Column { key: "pdrop", name: "pdrop", how: How::Number(Unit::Packets), kernel: "" },
+        Column { key: "Wlog", name: "Wlog", how: How::Number(Unit::Power), kernel: "" },
+        Column { key: "Plog", name: "Plog", how: How::Number(Unit::Power), kernel: "" },
+        Column { key: "Scell_log", name: "Scell_log", how: How::Number(Unit::Power), kernel: "" },
+        Column { key: "prio", name: "prio", how: How::Plain, kernel: "" },
+        Column { key: "packets", name: "packets", how: How::Number(Unit::Packets), kernel: "" },
+        Column { key: "bytesin", name: "bytesin", how: How::Number(Unit::Bytes), kernel: "" },
+    ],
+    &[ // 1178, `struct tc_gred_sopt`
+        Column { key: "DPs", name: "DPs", how: How::Plain, kernel: "" },
+        Column { key: "def_DP", name: "def_DP", how: How::Plain, kernel: "" },
+        Column { key: "grio", name: "grio", how: How::Plain, kernel: "" },
+        Column { key: "flags", name: "flags", how: How::Flags(24105), kernel: "" },
+        Column { key: "pad1", name: "pad1", how: How::Plain, kernel: "" },
+    ],
+    &[ // 1179, `list gred_vq_list`
+        Column { key: "Entry", name: "entry", how: How::Within(1180), kernel: "TCA_GRED_VQ_ENTRY" },
+    ],
+    &[ // 1180, `list gred_vq`
+        Column { key: "Pad", name: "pad", how: How::Hidden, kernel: "TCA_GRED_VQ_PAD" },
+        Column { key: "Dp", name: "dp", how: How::Plain, kernel: "TCA_GRED_VQ_DP" },
+        Column { key: "StatBytes", name: "stat_bytes", how: How::Number(Unit::Bytes), kernel: "TCA_GRED_VQ_STAT_BYTES" },
+        Column { key: "StatPackets", name: "stat_packets", how: How::Number(Unit::Packets), kernel: "TCA_GRED_VQ_STAT_PACKETS" },
+        Column { key: "StatBacklog", name: "stat_backlog", how: How::Number(Unit::Bytes), kernel: "TCA_GRED_VQ_STAT_BACKLOG" },
+        Column { key: "StatProbDrop", name: "stat_prob_drop", how: How::Number(Unit::Packets), kernel: "TCA_GRED_VQ_STAT_PROB_DROP" },
+        Column { key: "StatProbMark", name: "stat_prob_mark", how: How::Number(Unit::Packets), kernel: "TCA_GRED_VQ_STAT_PROB_MARK" },
+        Column { key: "StatForcedDrop", name: "stat_forced_drop", how: How::Number(Unit::Packets), kernel: "TCA_GRED_VQ_STAT_FORCED_DROP" },
+        Column { key: "StatForcedMark", name: "stat_forced_mark", how: How::Number(Unit::Packets), kernel: "TCA_GRED_VQ_STAT_FORCED_MARK" },
+        Column { key: "StatPdrop", name: "stat_pdrop", how: How::Number(Unit::Packets), kernel: "TCA_GRED_VQ_STAT_PDROP" },
+        Column { key: "StatOther", name: "stat_other", how: How::Number(Unit::Packets), kernel: "TCA_GRED_VQ_STAT_OTHER" },
+        Column { key: "Flags", name: "flags", how: How::Flags(24105), kernel: "TCA_GRED_VQ_FLAGS" },
+    ],
+    &[ // 1181, `list tc`: the rows of gred
+        Column { key: "Options", name: "options", how: How::Within(1176), kernel: "TCA_OPTIONS" },
+        Column { key: "Xstats", name: "xstats", how: How::Within(822), kernel: "TCA_XSTATS" },
+    ],
 ];
 
-// `struct tc_gred_qopt`
-#[rattlefmt::skip]
-const STRUCT_TC_GRED_QOPT: [Column<'static>; 16] = [
-    Column { key: "limit", name: "limit", how: How::Number(Unit::Bytes) },
-    Column { key: "qth_min", name: "qth_min", how: How::Number(Unit::Bytes) },
-    Column { key: "qth_max", name: "qth_max", how: How::Number(Unit::Bytes) },
-    Column { key: "DP", name: "DP", how: How::Plain },
-    Column { key: "backlog", name: "backlog", how: How::Number(Unit::Bytes) },
-    Column { key: "qave", name: "qave", how: How::Number(Unit::Bytes) },
-    Column { key: "forced", name: "forced", how: How::Number(Unit::Packets) },
-    Column { key: "early", name: "early", how: How::Number(Unit::Packets) },
-    Column { key: "other", name: "other", how: How::Number(Unit::Packets) },
-    Column { key: "pdrop", name: "pdrop", how: How::Number(Unit::Packets) },
-    Column { key: "Wlog", name: "Wlog", how: How::Number(Unit::Power) },
-    Column { key: "Plog", name: "Plog", how: How::Number(Unit::Power) },
-    Column { key: "Scell_log", name: "Scell_log", how: How::Number(Unit::Power) },
-    Column { key: "prio", name: "prio", how: How::Plain },
-    Column { key: "packets", name: "packets", how: How::Number(Unit::Packets) },
-    Column { key: "bytesin", name: "bytesin", how: How::Number(Unit::Bytes) },
-];
-
-// `struct tc_gred_sopt`
-#[rattlefmt::skip]
-const STRUCT_TC_GRED_SOPT: [Column<'static>; 5] = [
-    Column { key: "DPs", name: "DPs", how: How::Plain },
-    Column { key: "def_DP", name: "def_DP", how: How::Plain },
-    Column { key: "grio", name: "grio", how: How::Plain },
-    Column { key: "flags", name: "flags", how: How::Flags(24031) },
-    Column { key: "pad1", name: "pad1", how: How::Plain },
-];
-
-// `list gred_vq_list`
-#[rattlefmt::skip]
-const LIST_GRED_VQ_LIST: [Column<'static>; 1] = [
-    Column { key: "Entry", name: "entry", how: How::Within(3772) },
-];
-
-// `list gred_vq`
-#[rattlefmt::skip]
-const LIST_GRED_VQ: [Column<'static>; 12] = [
-    Column { key: "Pad", name: "pad", how: How::Hidden },
-    Column { key: "Dp", name: "dp", how: How::Plain },
-    Column { key: "StatBytes", name: "stat_bytes", how: How::Number(Unit::Bytes) },
-    Column { key: "StatPackets", name: "stat_packets", how: How::Number(Unit::Packets) },
-    Column { key: "StatBacklog", name: "stat_backlog", how: How::Number(Unit::Bytes) },
-    Column { key: "StatProbDrop", name: "stat_prob_drop", how: How::Number(Unit::Packets) },
-    Column { key: "StatProbMark", name: "stat_prob_mark", how: How::Number(Unit::Packets) },
-    Column { key: "StatForcedDrop", name: "stat_forced_drop", how: How::Number(Unit::Packets) },
-    Column { key: "StatForcedMark", name: "stat_forced_mark", how: How::Number(Unit::Packets) },
-    Column { key: "StatPdrop", name: "stat_pdrop", how: How::Number(Unit::Packets) },
-    Column { key: "StatOther", name: "stat_other", how: How::Number(Unit::Packets) },
-    Column { key: "Flags", name: "flags", how: How::Flags(24031) },
-];
-
-// `list tc`: the rows of gred
-#[rattlefmt::skip]
-const LIST_TC_QDISC_GRED: [Column<'static>; 2] = [
-    Column { key: "Options", name: "options", how: How::Within(3768) },
-    Column { key: "Xstats", name: "xstats", how: How::Within(3006) },
-];
-
-#[tactic(auto, unfolding(crate::specs::Tables::ColumnsOfQdiscs::columns_of_qdiscs_314))]
-pub(crate) fn columns_of_qdiscs_314(place: usize) -> &'static [Column<'static>]
-    ensures { columns_view result.now ≡ columns_of_qdiscs_314 place }
+#[tactic(auto, unfolding(crate::specs::Arrays::columns_of_qdiscs_gred))]
+pub(crate) fn columns_of_qdiscs_gred() -> &'static [&'static [Column<'static>]]
+    ensures { map (λ x. columns_view x.now) result.now ≡ columns_of_qdiscs_gred }
 {
-    match place {
-        3768 => &LIST_GRED_IN_GRED,
-        3769 => &STRUCT_TC_GRED_QOPT,
-        3770 => &STRUCT_TC_GRED_SOPT,
-        3771 => &LIST_GRED_VQ_LIST,
-        3772 => &LIST_GRED_VQ,
-        3773 => &LIST_TC_QDISC_GRED,
-        _ => &[],
-    }
+    &COLUMNS_OF_QDISCS_GRED
 }
 
-// `choice hfsc`
 #[rattlefmt::skip]
-const CHOICE_HFSC: [Column<'static>; 2] = [
-    Column { key: "Qdisc", name: "qdisc", how: How::Through(3781) },
-    Column { key: "Class", name: "class", how: How::Through(3782) },
+static COLUMNS_OF_QDISCS_HFSC: [&'static [Column<'static>]; 8] = [
+    &[ // 1200, `choice hfsc`
+        Column { key: "Qdisc", name: "qdisc", how: How::Through(1201), kernel: "" },
+        Column { key: "Class", name: "class", how: How::Through(1202), kernel: "" },
+    ],
+    &[ // 1201, `struct tc_hfsc_qopt`
+        Column { key: "defcls", name: "defcls", how: How::Number(Unit::Hex), kernel: "" },
+    ],
+    &[ // 1202, `list hfsc`
+        Column { key: "Hfsc", name: "hfsc", how: How::Through(1202), kernel: "" },
+        Column { key: "Rsc", name: "rsc", how: How::Within(1203), kernel: "TCA_HFSC_RSC" },
+        Column { key: "Fsc", name: "fsc", how: How::Within(1203), kernel: "TCA_HFSC_FSC" },
+        Column { key: "Usc", name: "usc", how: How::Within(1203), kernel: "TCA_HFSC_USC" },
+    ],
+    &[ // 1203, `struct tc_service_curve`
+        Column { key: "m1", name: "m1", how: How::Number(Unit::BytesPerSecond), kernel: "" },
+        Column { key: "d", name: "d", how: How::Number(Unit::Microseconds), kernel: "" },
+        Column { key: "m2", name: "m2", how: How::Number(Unit::BytesPerSecond), kernel: "" },
+    ],
+    &[ // 1204, `struct tc_hfsc_stats`
+        Column { key: "work", name: "work", how: How::Number(Unit::Bytes), kernel: "" },
+        Column { key: "rtwork", name: "rtwork", how: How::Number(Unit::Bytes), kernel: "" },
+        Column { key: "period", name: "period", how: How::Plain, kernel: "" },
+        Column { key: "level", name: "level", how: How::Plain, kernel: "" },
+    ],
+    &[ // 1205, the statistics of hfsc
+        Column { key: "Hfsc", name: "hfsc", how: How::Through(1204), kernel: "" },
+    ],
+    &[ // 1206, `list tc`: the rows of hfsc
+        Column { key: "Options", name: "options", how: How::Within(1200), kernel: "TCA_OPTIONS" },
+        Column { key: "Xstats", name: "xstats", how: How::Within(1205), kernel: "TCA_XSTATS" },
+    ],
+    &[ // 1207, `list stats`: the rows of hfsc
+        Column { key: "App", name: "app", how: How::Within(1205), kernel: "TCA_STATS_APP" },
+    ],
 ];
 
-// `struct tc_hfsc_qopt`
-#[rattlefmt::skip]
-const STRUCT_TC_HFSC_QOPT: [Column<'static>; 1] = [
-    Column { key: "defcls", name: "defcls", how: How::Number(Unit::Hex) },
-];
-
-// `list hfsc`
-#[rattlefmt::skip]
-const LIST_HFSC_IN_HFSC: [Column<'static>; 4] = [
-    Column { key: "Hfsc", name: "hfsc", how: How::Through(3782) },
-    Column { key: "Rsc", name: "rsc", how: How::Within(3783) },
-    Column { key: "Fsc", name: "fsc", how: How::Within(3783) },
-    Column { key: "Usc", name: "usc", how: How::Within(3783) },
-];
-
-// `struct tc_service_curve`
-#[rattlefmt::skip]
-const STRUCT_TC_SERVICE_CURVE: [Column<'static>; 3] = [
-    Column { key: "m1", name: "m1", how: How::Number(Unit::BytesPerSecond) },
-    Column { key: "d", name: "d", how: How::Number(Unit::Microseconds) },
-    Column { key: "m2", name: "m2", how: How::Number(Unit::BytesPerSecond) },
-];
-
-// `struct tc_hfsc_stats`
-#[rattlefmt::skip]
-const STRUCT_TC_HFSC_STATS: [Column<'static>; 4] = [
-    Column { key: "work", name: "work", how: How::Number(Unit::Bytes) },
-    Column { key: "rtwork", name: "rtwork", how: How::Number(Unit::Bytes) },
-    Column { key: "period", name: "period", how: How::Plain },
-    Column { key: "level", name: "level", how: How::Plain },
-];
-
-// the statistics of hfsc
-#[rattlefmt::skip]
-const STATISTICS_QDISC_HFSC: [Column<'static>; 1] = [
-    Column { key: "Hfsc", name: "hfsc", how: How::Through(3784) },
-];
-
-// `list tc`: the rows of hfsc
-#[rattlefmt::skip]
-const LIST_TC_QDISC_HFSC: [Column<'static>; 2] = [
-    Column { key: "Options", name: "options", how: How::Within(3780) },
-    Column { key: "Xstats", name: "xstats", how: How::Within(3785) },
-];
-
-// `list stats`: the rows of hfsc
-#[rattlefmt::skip]
-const LIST_STATS_QDISC_HFSC: [Column<'static>; 1] = [
-    Column { key: "App", name: "app", how: How::Within(3785) },
-];
-
-#[tactic(auto, unfolding(crate::specs::Tables::ColumnsOfQdiscs::columns_of_qdiscs_315))]
-pub(crate) fn columns_of_qdiscs_315(place: usize) -> &'static [Column<'static>]
-    ensures { columns_view result.now ≡ columns_of_qdiscs_315 place }
+#[tactic(auto, unfolding(crate::specs::Arrays::columns_of_qdiscs_hfsc))]
+pub(crate) fn columns_of_qdiscs_hfsc() -> &'static [&'static [Column<'static>]]
+    ensures { map (λ x. columns_view x.now) result.now ≡ columns_of_qdiscs_hfsc }
 {
-    match place {
-        3780 => &CHOICE_HFSC,
-        3781 => &STRUCT_TC_HFSC_QOPT,
-        3782 => &LIST_HFSC_IN_HFSC,
-        3783 => &STRUCT_TC_SERVICE_CURVE,
-        3784 => &STRUCT_TC_HFSC_STATS,
-        3785 => &STATISTICS_QDISC_HFSC,
-        3786 => &LIST_TC_QDISC_HFSC,
-        3787 => &LIST_STATS_QDISC_HFSC,
-        _ => &[],
-    }
+    &COLUMNS_OF_QDISCS_HFSC
 }
 
-// `list hhf`
 #[rattlefmt::skip]
-const LIST_HHF_IN_HHF: [Column<'static>; 8] = [
-    Column { key: "Hhf", name: "hhf", how: How::Through(3792) },
-    Column { key: "BacklogLimit", name: "backlog_limit", how: How::Number(Unit::Packets) },
-    Column { key: "Quantum", name: "quantum", how: How::Number(Unit::Bytes) },
-    Column { key: "HhFlowsLimit", name: "hh_flows_limit", how: How::Plain },
-    Column { key: "ResetTimeout", name: "reset_timeout", how: How::Number(Unit::Microseconds) },
-    Column { key: "AdmitBytes", name: "admit_bytes", how: How::Number(Unit::Bytes) },
-    Column { key: "EvictTimeout", name: "evict_timeout", how: How::Number(Unit::Microseconds) },
-    Column { key: "NonHhWeight", name: "non_hh_weight", how: How::Plain },
+static COLUMNS_OF_QDISCS_HHF: [&'static [Column<'static>]; 5] = [
+    &[ // 1224, `list hhf`
+        Column { key: "Hhf", name: "hhf", how: How::Through(1224), kernel: "" },
+        Column { key: "BacklogLimit", name: "backlog_limit", how: How::Number(Unit::Packets), kernel: "TCA_HHF_BACKLOG_LIMIT" },
+        Column { key: "Quantum", name: "quantum", how: How::Number(Unit::Bytes), kernel: "TCA_HHF_QUANTUM" },
+        Column { key: "HhFlowsLimit", name: "hh_flows_limit", how: How::Plain, kernel: "TCA_HHF_HH_FLOWS_LIMIT" },
+        Column { key: "ResetTimeout", name: "reset_timeout", how: How::Number(Unit::Microseconds), kernel: "TCA_HHF_RESET_TIMEOUT" },
+        Column { key: "AdmitBytes", name: "admit_bytes", how: How::Number(Unit::Bytes), kernel: "TCA_HHF_ADMIT_BYTES" },
+        Column { key: "EvictTimeout", name: "evict_timeout", how: How::Number(Unit::Microseconds), kernel: "TCA_HHF_EVICT_TIMEOUT" },
+        Column { key: "NonHhWeight", name: "non_hh_weight", how: How::Plain, kernel: "TCA_HHF_NON_HH_WEIGHT" },
+    ],
+    &[ // 1225, `struct tc_hhf_xstats`
+        Column { key: "drop_overlimit", name: "drop_overlimit", how: How::Plain, kernel: "" },
+        Column { key: "hh_overlimit", name: "hh_overlimit", how: How::Plain, kernel: "" },
+        Column { key: "hh_tot_count", name: "hh_tot_count", how: How::Plain, kernel: "" },
+        Column { key: "hh_cur_count", name: "hh_cur_count", how: How::Plain, kernel: "" },
+    ],
+    &[ // 1226, the statistics of hhf
+        Column { key: "Hhf", name: "hhf", how: How::Through(1225), kernel: "" },
+    ],
+    &[ // 1227, `list tc`: the rows of hhf
+        Column { key: "Options", name: "options", how: How::Within(1224), kernel: "TCA_OPTIONS" },
+        Column { key: "Xstats", name: "xstats", how: How::Within(1226), kernel: "TCA_XSTATS" },
+    ],
+    &[ // 1228, `list stats`: the rows of hhf
+        Column { key: "App", name: "app", how: How::Within(1226), kernel: "TCA_STATS_APP" },
+    ],
 ];
 
-// `struct tc_hhf_xstats`
-#[rattlefmt::skip]
-const STRUCT_TC_HHF_XSTATS: [Column<'static>; 4] = [
-    Column { key: "drop_overlimit", name: "drop_overlimit", how: How::Plain },
-    Column { key: "hh_overlimit", name: "hh_overlimit", how: How::Plain },
-    Column { key: "hh_tot_count", name: "hh_tot_count", how: How::Plain },
-    Column { key: "hh_cur_count", name: "hh_cur_count", how: How::Plain },
-];
-
-// the statistics of hhf
-#[rattlefmt::skip]
-const STATISTICS_QDISC_HHF: [Column<'static>; 1] = [
-    Column { key: "Hhf", name: "hhf", how: How::Through(3793) },
-];
-
-// `list tc`: the rows of hhf
-#[rattlefmt::skip]
-const LIST_TC_QDISC_HHF: [Column<'static>; 2] = [
-    Column { key: "Options", name: "options", how: How::Within(3792) },
-    Column { key: "Xstats", name: "xstats", how: How::Within(3794) },
-];
-
-// `list stats`: the rows of hhf
-#[rattlefmt::skip]
-const LIST_STATS_QDISC_HHF: [Column<'static>; 1] = [
-    Column { key: "App", name: "app", how: How::Within(3794) },
-];
-
-#[tactic(auto, unfolding(crate::specs::Tables::ColumnsOfQdiscs::columns_of_qdiscs_316))]
-pub(crate) fn columns_of_qdiscs_316(place: usize) -> &'static [Column<'static>]
-    ensures { columns_view result.now ≡ columns_of_qdiscs_316 place }
+#[tactic(auto, unfolding(crate::specs::Arrays::columns_of_qdiscs_hhf))]
+pub(crate) fn columns_of_qdiscs_hhf() -> &'static [&'static [Column<'static>]]
+    ensures { map (λ x. columns_view x.now) result.now ≡ columns_of_qdiscs_hhf }
 {
-    match place {
-        3792 => &LIST_HHF_IN_HHF,
-        3793 => &STRUCT_TC_HHF_XSTATS,
-        3794 => &STATISTICS_QDISC_HHF,
-        3795 => &LIST_TC_QDISC_HHF,
-        3796 => &LIST_STATS_QDISC_HHF,
-        _ => &[],
-    }
+    &COLUMNS_OF_QDISCS_HHF
 }
 
-// `list htb`
 #[rattlefmt::skip]
-const LIST_HTB_IN_HTB: [Column<'static>; 10] = [
-    Column { key: "Htb", name: "htb", how: How::Through(3804) },
-    Column { key: "Parms", name: "parms", how: How::Within(3806) },
-    Column { key: "Init", name: "init", how: How::Within(3807) },
-    Column { key: "Ctab", name: "ctab", how: How::Plain },
-    Column { key: "Rtab", name: "rtab", how: How::Plain },
-    Column { key: "DirectQlen", name: "direct_qlen", how: How::Number(Unit::Packets) },
-    Column { key: "Rate64", name: "rate64", how: How::Number(Unit::BytesPerSecond) },
-    Column { key: "Ceil64", name: "ceil64", how: How::Number(Unit::BytesPerSecond) },
-    Column { key: "Pad", name: "pad", how: How::Hidden },
-    Column { key: "Offload", name: "offload", how: How::Plain },
+static COLUMNS_OF_QDISCS_HTB: [&'static [Column<'static>]; 7] = [
+    &[ // 1248, `list htb`
+        Column { key: "Htb", name: "htb", how: How::Through(1248), kernel: "" },
+        Column { key: "Parms", name: "parms", how: How::Within(1250), kernel: "TCA_HTB_PARMS" },
+        Column { key: "Init", name: "init", how: How::Within(1251), kernel: "TCA_HTB_INIT" },
+        Column { key: "Ctab", name: "ctab", how: How::Plain, kernel: "TCA_HTB_CTAB" },
+        Column { key: "Rtab", name: "rtab", how: How::Plain, kernel: "TCA_HTB_RTAB" },
+        Column { key: "DirectQlen", name: "direct_qlen", how: How::Number(Unit::Packets), kernel: "TCA_HTB_DIRECT_QLEN" },
+        Column { key: "Rate64", name: "rate64", how: How::Number(Unit::BytesPerSecond), kernel: "TCA_HTB_RATE64" },
+        Column { key: "Ceil64", name: "ceil64", how: How::Number(Unit::BytesPerSecond), kernel: "TCA_HTB_CEIL64" },
+        Column { key: "Pad", name: "pad", how: How::Hidden, kernel: "TCA_HTB_PAD" },
+        Column { key: "Offload", name: "offload", how: How::Plain, kernel: "TCA_HTB_OFFLOAD" },
+    ],
+    &[ // 1249, `struct tc_htb_xstats`
+        Column { key: "lends", name: "lends", how: How::Plain, kernel: "" },
+        Column { key: "borrows", name: "borrows", how: How::Plain, kernel: "" },
+        Column { key: "giants", name: "giants", how: How::Plain, kernel: "" },
+        Column { key: "tokens", name: "tokens", how: How::Number(Unit::Ticks), kernel: "" },
+        Column { key: "ctokens", name: "ctokens", how: How::Number(Unit::Ticks), kernel: "" },
+    ],
+    &[ // 1250, `struct tc_htb_opt`
+        Column { key: "rate", name: "rate", how: How::Within(1632), kernel: "" },
+        Column { key: "ceil", name: "ceil", how: How::Within(1632), kernel: "" },
+        Column { key: "buffer", name: "buffer", how: How::Number(Unit::Ticks), kernel: "" },
+        Column { key: "cbuffer", name: "cbuffer", how: How::Number(Unit::Ticks), kernel: "" },
+        Column { key: "quantum", name: "quantum", how: How::Number(Unit::Bytes), kernel: "" },
+        Column { key: "level", name: "level", how: How::Plain, kernel: "" },
+        Column { key: "prio", name: "prio", how: How::Plain, kernel: "" },
+    ],
+    &[ // 1251, `struct tc_htb_glob`
+        Column { key: "version", name: "version", how: How::Plain, kernel: "" },
+        Column { key: "rate2quantum", name: "rate2quantum", how: How::Plain, kernel: "" },
+        Column { key: "defcls", name: "defcls", how: How::Number(Unit::Hex), kernel: "" },
+        Column { key: "debug", name: "debug", how: How::Plain, kernel: "" },
+        Column { key: "direct_pkts", name: "direct_pkts", how: How::Plain, kernel: "" },
+    ],
+    &[ // 1252, the statistics of htb
+        Column { key: "Htb", name: "htb", how: How::Through(1249), kernel: "" },
+    ],
+    &[ // 1253, `list tc`: the rows of htb
+        Column { key: "Options", name: "options", how: How::Within(1248), kernel: "TCA_OPTIONS" },
+        Column { key: "Xstats", name: "xstats", how: How::Within(1252), kernel: "TCA_XSTATS" },
+    ],
+    &[ // 1254, `list stats`: the rows of htb
+        Column { key: "App", name: "app", how: How::Within(1252), kernel: "TCA_STATS_APP" },
+    ],
 ];
 
-// `struct tc_htb_xstats`
-#[rattlefmt::skip]
-const STRUCT_TC_HTB_XSTATS: [Column<'static>; 5] = [
-    Column { key: "lends", name: "lends", how: How::Plain },
-    Column { key: "borrows", name: "borrows", how: How::Plain },
-    Column { key: "giants", name: "giants", how: How::Plain },
-    Column { key: "tokens", name: "tokens", how: How::Number(Unit::Ticks) },
-    Column { key: "ctokens", name: "ctokens", how: How::Number(Unit::Ticks) },
-];
-
-// `struct tc_htb_opt`
-#[rattlefmt::skip]
-const STRUCT_TC_HTB_OPT: [Column<'static>; 7] = [
-    Column { key: "rate", name: "rate", how: How::Within(4200) },
-    Column { key: "ceil", name: "ceil", how: How::Within(4200) },
-    Column { key: "buffer", name: "buffer", how: How::Number(Unit::Ticks) },
-    Column { key: "cbuffer", name: "cbuffer", how: How::Number(Unit::Ticks) },
-    Column { key: "quantum", name: "quantum", how: How::Number(Unit::Bytes) },
-    Column { key: "level", name: "level", how: How::Plain },
-    Column { key: "prio", name: "prio", how: How::Plain },
-];
-
-// `struct tc_htb_glob`
-#[rattlefmt::skip]
-const STRUCT_TC_HTB_GLOB: [Column<'static>; 5] = [
-    Column { key: "version", name: "version", how: How::Plain },
-    Column { key: "rate2quantum", name: "rate2quantum", how: How::Plain },
-    Column { key: "defcls", name: "defcls", how: How::Number(Unit::Hex) },
-    Column { key: "debug", name: "debug", how: How::Plain },
-    Column { key: "direct_pkts", name: "direct_pkts", how: How::Plain },
-];
-
-// the statistics of htb
-#[rattlefmt::skip]
-const STATISTICS_QDISC_HTB: [Column<'static>; 1] = [
-    Column { key: "Htb", name: "htb", how: How::Through(3805) },
-];
-
-// `list tc`: the rows of htb
-#[rattlefmt::skip]
-const LIST_TC_QDISC_HTB: [Column<'static>; 2] = [
-    Column { key: "Options", name: "options", how: How::Within(3804) },
-    Column { key: "Xstats", name: "xstats", how: How::Within(3808) },
-];
-
-// `list stats`: the rows of htb
-#[rattlefmt::skip]
-const LIST_STATS_QDISC_HTB: [Column<'static>; 1] = [
-    Column { key: "App", name: "app", how: How::Within(3808) },
-];
-
-#[tactic(auto, unfolding(crate::specs::Tables::ColumnsOfQdiscs::columns_of_qdiscs_317))]
-pub(crate) fn columns_of_qdiscs_317(place: usize) -> &'static [Column<'static>]
-    ensures { columns_view result.now ≡ columns_of_qdiscs_317 place }
+#[tactic(auto, unfolding(crate::specs::Arrays::columns_of_qdiscs_htb))]
+pub(crate) fn columns_of_qdiscs_htb() -> &'static [&'static [Column<'static>]]
+    ensures { map (λ x. columns_view x.now) result.now ≡ columns_of_qdiscs_htb }
 {
-    match place {
-        3804 => &LIST_HTB_IN_HTB,
-        3805 => &STRUCT_TC_HTB_XSTATS,
-        3806 => &STRUCT_TC_HTB_OPT,
-        3807 => &STRUCT_TC_HTB_GLOB,
-        3808 => &STATISTICS_QDISC_HTB,
-        3809 => &LIST_TC_QDISC_HTB,
-        3810 => &LIST_STATS_QDISC_HTB,
-        _ => &[],
-    }
+    &COLUMNS_OF_QDISCS_HTB
 }
 
-// `list ingress`
 #[rattlefmt::skip]
-const LIST_INGRESS_IN_INGRESS: [Column<'static>; 1] = [
-    Column { key: "Ingress", name: "ingress", how: How::Through(3816) },
+static COLUMNS_OF_QDISCS_INGRESS: [&'static [Column<'static>]; 2] = [
+    &[ // 1272, `list ingress`
+        Column { key: "Ingress", name: "ingress", how: How::Through(1272), kernel: "" },
+    ],
+    &[ // 1273, `list tc`: the rows of ingress
+        Column { key: "Options", name: "options", how: How::Within(1272), kernel: "TCA_OPTIONS" },
+        Column { key: "Xstats", name: "xstats", how: How::Within(822), kernel: "TCA_XSTATS" },
+    ],
 ];
 
-// `list tc`: the rows of ingress
-#[rattlefmt::skip]
-const LIST_TC_QDISC_INGRESS: [Column<'static>; 2] = [
-    Column { key: "Options", name: "options", how: How::Within(3816) },
-    Column { key: "Xstats", name: "xstats", how: How::Within(3006) },
-];
-
-#[tactic(auto, unfolding(crate::specs::Tables::ColumnsOfQdiscs::columns_of_qdiscs_318))]
-pub(crate) fn columns_of_qdiscs_318(place: usize) -> &'static [Column<'static>]
-    ensures { columns_view result.now ≡ columns_of_qdiscs_318 place }
+#[tactic(auto, unfolding(crate::specs::Arrays::columns_of_qdiscs_ingress))]
+pub(crate) fn columns_of_qdiscs_ingress() -> &'static [&'static [Column<'static>]]
+    ensures { map (λ x. columns_view x.now) result.now ≡ columns_of_qdiscs_ingress }
 {
-    match place {
-        3816 => &LIST_INGRESS_IN_INGRESS,
-        3817 => &LIST_TC_QDISC_INGRESS,
-        _ => &[],
-    }
+    &COLUMNS_OF_QDISCS_INGRESS
 }
 
-// `struct mqprio_options`
 #[rattlefmt::skip]
-const STRUCT_MQPRIO_OPTIONS: [Column<'static>; 7] = [
-    Column { key: "num_tc", name: "num_tc", how: How::Plain },
-    Column { key: "prio_tc_map", name: "prio_tc_map", how: How::Plain },
-    Column { key: "hw", name: "hw", how: How::Plain },
-    Column { key: "count", name: "count", how: How::Plain },
-    Column { key: "offset", name: "offset", how: How::Plain },
-    Column { key: "padding", name: "padding", how: How::Plain },
-    Column { key: "attributes", name: "attributes", how: How::Through(3830) },
+static COLUMNS_OF_QDISCS_MQPRIO: [&'static [Column<'static>]; 9] = [
+    &[ // 1296, `struct mqprio_options`
+        Column { key: "num_tc", name: "num_tc", how: How::Plain, kernel: "" },
+        Column { key: "prio_tc_map", name: "prio_tc_map", how: How::Plain, kernel: "" },
+        Column { key: "hw", name: "hw", how: How::Plain, kernel: "" },
+        Column { key: "count", name: "count", how: How::Plain, kernel: "" },
+        Column { key: "offset", name: "offset", how: How::Plain, kernel: "" },
+        Column { key: "padding", name: "padding", how: How::Plain, kernel: "" },
+        Column { key: "attributes", name: "attributes", how: How::Through(1298), kernel: "" },
+    ],
+    &[ // 1297, `struct tc_mqprio_qopt`
+        Column { key: "num_tc", name: "num_tc", how: How::Plain, kernel: "" },
+        Column { key: "prio_tc_map", name: "prio_tc_map", how: How::Plain, kernel: "" },
+        Column { key: "hw", name: "hw", how: How::Plain, kernel: "" },
+        Column { key: "count", name: "count", how: How::Plain, kernel: "" },
+        Column { key: "offset", name: "offset", how: How::Plain, kernel: "" },
+    ],
+    &[ // 1298, `list mqprio`
+        Column { key: "Mode", name: "mode", how: How::Text(1299), kernel: "TCA_MQPRIO_MODE" },
+        Column { key: "Shaper", name: "shaper", how: How::Text(1300), kernel: "TCA_MQPRIO_SHAPER" },
+        Column { key: "MinRate64", name: "min_rate64", how: How::Within(1301), kernel: "TCA_MQPRIO_MIN_RATE64" },
+        Column { key: "MaxRate64", name: "max_rate64", how: How::Within(1302), kernel: "TCA_MQPRIO_MAX_RATE64" },
+        Column { key: "TcEntry", name: "tc_entry", how: How::Within(1303), kernel: "TCA_MQPRIO_TC_ENTRY" },
+    ],
+    &[], &[],
+    &[ // 1301, `list mqprio_min_rate`
+        Column { key: "MinRate64", name: "min_rate64", how: How::Number(Unit::BytesPerSecond), kernel: "TCA_MQPRIO_MIN_RATE64" },
+    ],
+    &[ // 1302, `list mqprio_max_rate`
+        Column { key: "MaxRate64", name: "max_rate64", how: How::Number(Unit::BytesPerSecond), kernel: "TCA_MQPRIO_MAX_RATE64" },
+    ],
+    &[ // 1303, `list mqprio_tc_entry`
+        Column { key: "Index", name: "index", how: How::Plain, kernel: "TCA_MQPRIO_TC_ENTRY_INDEX" },
+        Column { key: "Fp", name: "fp", how: How::Text(1638), kernel: "TCA_MQPRIO_TC_ENTRY_FP" },
+    ],
+    &[ // 1304, `list tc`: the rows of mqprio
+        Column { key: "Options", name: "options", how: How::Within(1296), kernel: "TCA_OPTIONS" },
+        Column { key: "Xstats", name: "xstats", how: How::Within(822), kernel: "TCA_XSTATS" },
+    ],
 ];
 
-// `struct tc_mqprio_qopt`
-#[rattlefmt::skip]
-const STRUCT_TC_MQPRIO_QOPT: [Column<'static>; 5] = [
-    Column { key: "num_tc", name: "num_tc", how: How::Plain },
-    Column { key: "prio_tc_map", name: "prio_tc_map", how: How::Plain },
-    Column { key: "hw", name: "hw", how: How::Plain },
-    Column { key: "count", name: "count", how: How::Plain },
-    Column { key: "offset", name: "offset", how: How::Plain },
-];
-
-// `list mqprio`
-#[rattlefmt::skip]
-const LIST_MQPRIO: [Column<'static>; 5] = [
-    Column { key: "Mode", name: "mode", how: How::Text(3831, 15831) },
-    Column { key: "Shaper", name: "shaper", how: How::Text(3832, 15832) },
-    Column { key: "MinRate64", name: "min_rate64", how: How::Within(3833) },
-    Column { key: "MaxRate64", name: "max_rate64", how: How::Within(3834) },
-    Column { key: "TcEntry", name: "tc_entry", how: How::Within(3835) },
-];
-
-// `list mqprio_min_rate`
-#[rattlefmt::skip]
-const LIST_MQPRIO_MIN_RATE: [Column<'static>; 1] = [
-    Column { key: "MinRate64", name: "min_rate64", how: How::Number(Unit::BytesPerSecond) },
-];
-
-// `list mqprio_max_rate`
-#[rattlefmt::skip]
-const LIST_MQPRIO_MAX_RATE: [Column<'static>; 1] = [
-    Column { key: "MaxRate64", name: "max_rate64", how: How::Number(Unit::BytesPerSecond) },
-];
-
-// `list mqprio_tc_entry`
-#[rattlefmt::skip]
-const LIST_MQPRIO_TC_ENTRY: [Column<'static>; 2] = [
-    Column { key: "Index", name: "index", how: How::Plain },
-    Column { key: "Fp", name: "fp", how: How::Text(4206, 16206) },
-];
-
-// `list tc`: the rows of mqprio
-#[rattlefmt::skip]
-const LIST_TC_QDISC_MQPRIO: [Column<'static>; 2] = [
-    Column { key: "Options", name: "options", how: How::Within(3828) },
-    Column { key: "Xstats", name: "xstats", how: How::Within(3006) },
-];
-
-#[tactic(auto, unfolding(crate::specs::Tables::ColumnsOfQdiscs::columns_of_qdiscs_319))]
-pub(crate) fn columns_of_qdiscs_319(place: usize) -> &'static [Column<'static>]
-    ensures { columns_view result.now ≡ columns_of_qdiscs_319 place }
+#[tactic(auto, unfolding(crate::specs::Arrays::columns_of_qdiscs_mqprio))]
+pub(crate) fn columns_of_qdiscs_mqprio() -> &'static [&'static [Column<'static>]]
+    ensures { map (λ x. columns_view x.now) result.now ≡ columns_of_qdiscs_mqprio }
 {
-    match place {
-        3828 => &STRUCT_MQPRIO_OPTIONS,
-        3829 => &STRUCT_TC_MQPRIO_QOPT,
-        3830 => &LIST_MQPRIO,
-        3833 => &LIST_MQPRIO_MIN_RATE,
-        3834 => &LIST_MQPRIO_MAX_RATE,
-        3835 => &LIST_MQPRIO_TC_ENTRY,
-        3836 => &LIST_TC_QDISC_MQPRIO,
-        _ => &[],
-    }
+    &COLUMNS_OF_QDISCS_MQPRIO
 }
 
-// `struct tc_multiq_qopt`
 #[rattlefmt::skip]
-const STRUCT_TC_MULTIQ_QOPT: [Column<'static>; 2] = [
-    Column { key: "bands", name: "bands", how: How::Plain },
-    Column { key: "max_bands", name: "max_bands", how: How::Plain },
+static COLUMNS_OF_QDISCS_MULTIQ: [&'static [Column<'static>]; 2] = [
+    &[ // 1320, `struct tc_multiq_qopt`
+        Column { key: "bands", name: "bands", how: How::Plain, kernel: "" },
+        Column { key: "max_bands", name: "max_bands", how: How::Plain, kernel: "" },
+    ],
+    &[ // 1321, `list tc`: the rows of multiq
+        Column { key: "Options", name: "options", how: How::Within(1320), kernel: "TCA_OPTIONS" },
+        Column { key: "Xstats", name: "xstats", how: How::Within(822), kernel: "TCA_XSTATS" },
+    ],
 ];
 
-// `list tc`: the rows of multiq
-#[rattlefmt::skip]
-const LIST_TC_QDISC_MULTIQ: [Column<'static>; 2] = [
-    Column { key: "Options", name: "options", how: How::Within(3840) },
-    Column { key: "Xstats", name: "xstats", how: How::Within(3006) },
-];
-
-#[tactic(auto, unfolding(crate::specs::Tables::ColumnsOfQdiscs::columns_of_qdiscs_320))]
-pub(crate) fn columns_of_qdiscs_320(place: usize) -> &'static [Column<'static>]
-    ensures { columns_view result.now ≡ columns_of_qdiscs_320 place }
+#[tactic(auto, unfolding(crate::specs::Arrays::columns_of_qdiscs_multiq))]
+pub(crate) fn columns_of_qdiscs_multiq() -> &'static [&'static [Column<'static>]]
+    ensures { map (λ x. columns_view x.now) result.now ≡ columns_of_qdiscs_multiq }
 {
-    match place {
-        3840 => &STRUCT_TC_MULTIQ_QOPT,
-        3841 => &LIST_TC_QDISC_MULTIQ,
-        _ => &[],
-    }
+    &COLUMNS_OF_QDISCS_MULTIQ
 }
 
-// `struct tc_netem_qopt`
 #[rattlefmt::skip]
-const STRUCT_TC_NETEM_QOPT: [Column<'static>; 7] = [
-    Column { key: "latency", name: "latency", how: How::Number(Unit::Ticks) },
-    Column { key: "limit", name: "limit", how: How::Number(Unit::Packets) },
-    Column { key: "loss", name: "loss", how: How::Number(Unit::Probability) },
-    Column { key: "gap", name: "gap", how: How::Number(Unit::Packets) },
-    Column { key: "duplicate", name: "duplicate", how: How::Number(Unit::Probability) },
-    Column { key: "jitter", name: "jitter", how: How::Number(Unit::Ticks) },
-    Column { key: "attributes", name: "attributes", how: How::Through(3853) },
+static COLUMNS_OF_QDISCS_NETEM: [&'static [Column<'static>]; 11] = [
+    &[ // 1344, `struct tc_netem_qopt`
+        Column { key: "latency", name: "latency", how: How::Number(Unit::Ticks), kernel: "" },
+        Column { key: "limit", name: "limit", how: How::Number(Unit::Packets), kernel: "" },
+        Column { key: "loss", name: "loss", how: How::Number(Unit::Probability), kernel: "" },
+        Column { key: "gap", name: "gap", how: How::Number(Unit::Packets), kernel: "" },
+        Column { key: "duplicate", name: "duplicate", how: How::Number(Unit::Probability), kernel: "" },
+        Column { key: "jitter", name: "jitter", how: How::Number(Unit::Ticks), kernel: "" },
+        Column { key: "attributes", name: "attributes", how: How::Through(1345), kernel: "" },
+    ],
+    &[ // 1345, `list netem`
+        Column { key: "Corr", name: "corr", how: How::Within(1346), kernel: "TCA_NETEM_CORR" },
+        Column { key: "DelayDist", name: "delay_dist", how: How::Plain, kernel: "TCA_NETEM_DELAY_DIST" },
+        Column { key: "Reorder", name: "reorder", how: How::Within(1347), kernel: "TCA_NETEM_REORDER" },
+        Column { key: "Corrupt", name: "corrupt", how: How::Within(1348), kernel: "TCA_NETEM_CORRUPT" },
+        Column { key: "Loss", name: "loss", how: How::Within(1349), kernel: "TCA_NETEM_LOSS" },
+        Column { key: "Rate", name: "rate", how: How::Within(1352), kernel: "TCA_NETEM_RATE" },
+        Column { key: "Ecn", name: "ecn", how: How::Plain, kernel: "TCA_NETEM_ECN" },
+        Column { key: "Rate64", name: "rate64", how: How::Number(Unit::BytesPerSecond), kernel: "TCA_NETEM_RATE64" },
+        Column { key: "Pad", name: "pad", how: How::Hidden, kernel: "TCA_NETEM_PAD" },
+        Column { key: "Latency64", name: "latency64", how: How::Number(Unit::Nanoseconds), kernel: "TCA_NETEM_LATENCY64" },
+        Column { key: "Jitter64", name: "jitter64", how: How::Number(Unit::Nanoseconds), kernel: "TCA_NETEM_JITTER64" },
+        Column { key: "Slot", name: "slot", how: How::Within(1353), kernel: "TCA_NETEM_SLOT" },
+        Column { key: "SlotDist", name: "slot_dist", how: How::Plain, kernel: "TCA_NETEM_SLOT_DIST" },
+        Column { key: "PrngSeed", name: "prng_seed", how: How::Plain, kernel: "TCA_NETEM_PRNG_SEED" },
+    ],
+    &[ // 1346, `struct tc_netem_corr`
+        Column { key: "delay_corr", name: "delay_corr", how: How::Number(Unit::Probability), kernel: "" },
+        Column { key: "loss_corr", name: "loss_corr", how: How::Number(Unit::Probability), kernel: "" },
+        Column { key: "dup_corr", name: "dup_corr", how: How::Number(Unit::Probability), kernel: "" },
+    ],
+    &[ // 1347, `struct tc_netem_reorder`
+        Column { key: "probability", name: "probability", how: How::Number(Unit::Probability), kernel: "" },
+        Column { key: "correlation", name: "correlation", how: How::Number(Unit::Probability), kernel: "" },
+    ],
+    &[ // 1348, `struct tc_netem_corrupt`
+        Column { key: "probability", name: "probability", how: How::Number(Unit::Probability), kernel: "" },
+        Column { key: "correlation", name: "correlation", how: How::Number(Unit::Probability), kernel: "" },
+    ],
+    &[ // 1349, `list netem_loss`
+        Column { key: "Gi", name: "gi", how: How::Within(1350), kernel: "NETEM_LOSS_GI" },
+        Column { key: "Ge", name: "ge", how: How::Within(1351), kernel: "NETEM_LOSS_GE" },
+    ],
+    &[ // 1350, `struct tc_netem_gimodel`
+        Column { key: "p13", name: "p13", how: How::Number(Unit::Probability), kernel: "" },
+        Column { key: "p31", name: "p31", how: How::Number(Unit::Probability), kernel: "" },
+        Column { key: "p32", name: "p32", how: How::Number(Unit::Probability), kernel: "" },
+        Column { key: "p14", name: "p14", how: How::Number(Unit::Probability), kernel: "" },
+        Column { key: "p23", name: "p23", how: How::Number(Unit::Probability), kernel: "" },
+    ],
+    &[ // 1351, `struct tc_netem_gemodel`
+        Column { key: "p", name: "p", how: How::Number(Unit::Probability), kernel: "" },
+        Column { key: "r", name: "r", how: How::Number(Unit::Probability), kernel: "" },
+        Column { key: "h", name: "h", how: How::Number(Unit::Probability), kernel: "" },
+        Column { key: "k1", name: "k1", how: How::Number(Unit::Probability), kernel: "" },
+    ],
+    &[ // 1352, `struct tc_netem_rate`
+        Column { key: "rate", name: "rate", how: How::Number(Unit::BytesPerSecond), kernel: "" },
+        Column { key: "packet_overhead", name: "packet_overhead", how: How::Number(Unit::Bytes), kernel: "" },
+        Column { key: "cell_size", name: "cell_size", how: How::Number(Unit::Bytes), kernel: "" },
+        Column { key: "cell_overhead", name: "cell_overhead", how: How::Number(Unit::Bytes), kernel: "" },
+    ],
+    &[ // 1353, `struct tc_netem_slot`
+        Column { key: "min_delay", name: "min_delay", how: How::Number(Unit::Nanoseconds), kernel: "" },
+        Column { key: "max_delay", name: "max_delay", how: How::Number(Unit::Nanoseconds), kernel: "" },
+        Column { key: "max_packets", name: "max_packets", how: How::Number(Unit::Packets), kernel: "" },
+        Column { key: "max_bytes", name: "max_bytes", how: How::Number(Unit::Bytes), kernel: "" },
+        Column { key: "dist_delay", name: "dist_delay", how: How::Number(Unit::Nanoseconds), kernel: "" },
+        Column { key: "dist_jitter", name: "dist_jitter", how: How::Number(Unit::Nanoseconds), kernel: "" },
+    ],
+    &[ // 1354, `list tc`: the rows of netem
+        Column { key: "Options", name: "options", how: How::Within(1344), kernel: "TCA_OPTIONS" },
+        Column { key: "Xstats", name: "xstats", how: How::Within(822), kernel: "TCA_XSTATS" },
+    ],
 ];
 
-// `list netem`
-#[rattlefmt::skip]
-const LIST_NETEM: [Column<'static>; 14] = [
-    Column { key: "Corr", name: "corr", how: How::Within(3854) },
-    Column { key: "DelayDist", name: "delay_dist", how: How::Plain },
-    Column { key: "Reorder", name: "reorder", how: How::Within(3855) },
-    Column { key: "Corrupt", name: "corrupt", how: How::Within(3856) },
-    Column { key: "Loss", name: "loss", how: How::Within(3857) },
-    Column { key: "Rate", name: "rate", how: How::Within(3860) },
-    Column { key: "Ecn", name: "ecn", how: How::Plain },
-    Column { key: "Rate64", name: "rate64", how: How::Number(Unit::BytesPerSecond) },
-    Column { key: "Pad", name: "pad", how: How::Hidden },
-    Column { key: "Latency64", name: "latency64", how: How::Number(Unit::Nanoseconds) },
-    Column { key: "Jitter64", name: "jitter64", how: How::Number(Unit::Nanoseconds) },
-    Column { key: "Slot", name: "slot", how: How::Within(3861) },
-    Column { key: "SlotDist", name: "slot_dist", how: How::Plain },
-    Column { key: "PrngSeed", name: "prng_seed", how: How::Plain },
-];
-
-// `struct tc_netem_corr`
-#[rattlefmt::skip]
-const STRUCT_TC_NETEM_CORR: [Column<'static>; 3] = [
-    Column { key: "delay_corr", name: "delay_corr", how: How::Number(Unit::Probability) },
-    Column { key: "loss_corr", name: "loss_corr", how: How::Number(Unit::Probability) },
-    Column { key: "dup_corr", name: "dup_corr", how: How::Number(Unit::Probability) },
-];
-
-// `struct tc_netem_reorder`
-#[rattlefmt::skip]
-const STRUCT_TC_NETEM_REORDER: [Column<'static>; 2] = [
-    Column { key: "probability", name: "probability", how: How::Number(Unit::Probability) },
-    Column { key: "correlation", name: "correlation", how: How::Number(Unit::Probability) },
-];
-
-// `struct tc_netem_corrupt`
-#[rattlefmt::skip]
-const STRUCT_TC_NETEM_CORRUPT: [Column<'static>; 2] = [
-    Column { key: "probability", name: "probability", how: How::Number(Unit::Probability) },
-    Column { key: "correlation", name: "correlation", how: How::Number(Unit::Probability) },
-];
-
-// `list netem_loss`
-#[rattlefmt::skip]
-const LIST_NETEM_LOSS: [Column<'static>; 2] = [
-    Column { key: "Gi", name: "gi", how: How::Within(3858) },
-    Column { key: "Ge", name: "ge", how: How::Within(3859) },
-];
-
-// `struct tc_netem_gimodel`
-#[rattlefmt::skip]
-const STRUCT_TC_NETEM_GIMODEL: [Column<'static>; 5] = [
-    Column { key: "p13", name: "p13", how: How::Number(Unit::Probability) },
-    Column { key: "p31", name: "p31", how: How::Number(Unit::Probability) },
-    Column { key: "p32", name: "p32", how: How::Number(Unit::Probability) },
-    Column { key: "p14", name: "p14", how: How::Number(Unit::Probability) },
-    Column { key: "p23", name: "p23", how: How::Number(Unit::Probability) },
-];
-
-// `struct tc_netem_gemodel`
-#[rattlefmt::skip]
-const STRUCT_TC_NETEM_GEMODEL: [Column<'static>; 4] = [
-    Column { key: "p", name: "p", how: How::Number(Unit::Probability) },
-    Column { key: "r", name: "r", how: How::Number(Unit::Probability) },
-    Column { key: "h", name: "h", how: How::Number(Unit::Probability) },
-    Column { key: "k1", name: "k1", how: How::Number(Unit::Probability) },
-];
-
-// `struct tc_netem_rate`
-#[rattlefmt::skip]
-const STRUCT_TC_NETEM_RATE: [Column<'static>; 4] = [
-    Column { key: "rate", name: "rate", how: How::Number(Unit::BytesPerSecond) },
-    Column { key: "packet_overhead", name: "packet_overhead", how: How::Number(Unit::Bytes) },
-    Column { key: "cell_size", name: "cell_size", how: How::Number(Unit::Bytes) },
-    Column { key: "cell_overhead", name: "cell_overhead", how: How::Number(Unit::Bytes) },
-];
-
-// `struct tc_netem_slot`
-#[rattlefmt::skip]
-const STRUCT_TC_NETEM_SLOT: [Column<'static>; 6] = [
-    Column { key: "min_delay", name: "min_delay", how: How::Number(Unit::Nanoseconds) },
-    Column { key: "max_delay", name: "max_delay", how: How::Number(Unit::Nanoseconds) },
-    Column { key: "max_packets", name: "max_packets", how: How::Number(Unit::Packets) },
-    Column { key: "max_bytes", name: "max_bytes", how: How::Number(Unit::Bytes) },
-    Column { key: "dist_delay", name: "dist_delay", how: How::Number(Unit::Nanoseconds) },
-    Column { key: "dist_jitter", name: "dist_jitter", how: How::Number(Unit::Nanoseconds) },
-];
-
-// `list tc`: the rows of netem
-#[rattlefmt::skip]
-const LIST_TC_QDISC_NETEM: [Column<'static>; 2] = [
-    Column { key: "Options", name: "options", how: How::Within(3852) },
-    Column { key: "Xstats", name: "xstats", how: How::Within(3006) },
-];
-
-#[tactic(auto, unfolding(crate::specs::Tables::ColumnsOfQdiscs::columns_of_qdiscs_321))]
-pub(crate) fn columns_of_qdiscs_321(place: usize) -> &'static [Column<'static>]
-    ensures { columns_view result.now ≡ columns_of_qdiscs_321 place }
+#[tactic(auto, unfolding(crate::specs::Arrays::columns_of_qdiscs_netem))]
+pub(crate) fn columns_of_qdiscs_netem() -> &'static [&'static [Column<'static>]]
+    ensures { map (λ x. columns_view x.now) result.now ≡ columns_of_qdiscs_netem }
 {
-    match place {
-        3852 => &STRUCT_TC_NETEM_QOPT,
-        3853 => &LIST_NETEM,
-        3854 => &STRUCT_TC_NETEM_CORR,
-        3855 => &STRUCT_TC_NETEM_REORDER,
-        3856 => &STRUCT_TC_NETEM_CORRUPT,
-        3857 => &LIST_NETEM_LOSS,
-        3858 => &STRUCT_TC_NETEM_GIMODEL,
-        3859 => &STRUCT_TC_NETEM_GEMODEL,
-        3860 => &STRUCT_TC_NETEM_RATE,
-        3861 => &STRUCT_TC_NETEM_SLOT,
-        3862 => &LIST_TC_QDISC_NETEM,
-        _ => &[],
-    }
+    &COLUMNS_OF_QDISCS_NETEM
 }
 
-// `list no_options`
 #[rattlefmt::skip]
-const LIST_NO_OPTIONS_IN_CLSACT: [Column<'static>; 1] = [
-    Column { key: "Clsact", name: "clsact", how: How::Through(3865) },
+static COLUMNS_OF_QDISCS_NONE: [&'static [Column<'static>]; 4] = [
+    &[ // 1368, `list no_options`
+    ],
+    &[ // 1369, `list no_options`
+        Column { key: "Clsact", name: "clsact", how: How::Through(1369), kernel: "" },
+    ],
+    &[ // 1370, `list tc`: the rows of noop, noqueue, blackhole, mq, teql0
+        Column { key: "Options", name: "options", how: How::Within(1368), kernel: "TCA_OPTIONS" },
+        Column { key: "Xstats", name: "xstats", how: How::Within(822), kernel: "TCA_XSTATS" },
+    ],
+    &[ // 1371, `list tc`: the rows of clsact
+        Column { key: "Options", name: "options", how: How::Within(1369), kernel: "TCA_OPTIONS" },
+        Column { key: "Xstats", name: "xstats", how: How::Within(822), kernel: "TCA_XSTATS" },
+    ],
 ];
 
-// `list tc`: the rows of noop, noqueue, blackhole, mq, teql0
-#[rattlefmt::skip]
-const LIST_TC_QDISC_NOOP: [Column<'static>; 2] = [
-    Column { key: "Options", name: "options", how: How::Within(3864) },
-    Column { key: "Xstats", name: "xstats", how: How::Within(3006) },
-];
-
-// `list tc`: the rows of clsact
-#[rattlefmt::skip]
-const LIST_TC_QDISC_CLSACT: [Column<'static>; 2] = [
-    Column { key: "Options", name: "options", how: How::Within(3865) },
-    Column { key: "Xstats", name: "xstats", how: How::Within(3006) },
-];
-
-#[tactic(auto, unfolding(crate::specs::Tables::ColumnsOfQdiscs::columns_of_qdiscs_322))]
-pub(crate) fn columns_of_qdiscs_322(place: usize) -> &'static [Column<'static>]
-    ensures { columns_view result.now ≡ columns_of_qdiscs_322 place }
+#[tactic(auto, unfolding(crate::specs::Arrays::columns_of_qdiscs_none))]
+pub(crate) fn columns_of_qdiscs_none() -> &'static [&'static [Column<'static>]]
+    ensures { map (λ x. columns_view x.now) result.now ≡ columns_of_qdiscs_none }
 {
-    match place {
-        3864 => &[],
-        3865 => &LIST_NO_OPTIONS_IN_CLSACT,
-        3866 => &LIST_TC_QDISC_NOOP,
-        3867 => &LIST_TC_QDISC_CLSACT,
-        _ => &[],
-    }
+    &COLUMNS_OF_QDISCS_NONE
 }
 
-// `list pie`
 #[rattlefmt::skip]
-const LIST_PIE_IN_PIE: [Column<'static>; 9] = [
-    Column { key: "Pie", name: "pie", how: How::Through(3876) },
-    Column { key: "Target", name: "target", how: How::Number(Unit::Microseconds) },
-    Column { key: "Limit", name: "limit", how: How::Number(Unit::Packets) },
-    Column { key: "Tupdate", name: "tupdate", how: How::Number(Unit::Microseconds) },
-    Column { key: "Alpha", name: "alpha", how: How::Plain },
-    Column { key: "Beta", name: "beta", how: How::Plain },
-    Column { key: "Ecn", name: "ecn", how: How::Plain },
-    Column { key: "Bytemode", name: "bytemode", how: How::Plain },
-    Column { key: "DqRateEstimator", name: "dq_rate_estimator", how: How::Plain },
+static COLUMNS_OF_QDISCS_PIE: [&'static [Column<'static>]; 5] = [
+    &[ // 1392, `list pie`
+        Column { key: "Pie", name: "pie", how: How::Through(1392), kernel: "" },
+        Column { key: "Target", name: "target", how: How::Number(Unit::Microseconds), kernel: "TCA_PIE_TARGET" },
+        Column { key: "Limit", name: "limit", how: How::Number(Unit::Packets), kernel: "TCA_PIE_LIMIT" },
+        Column { key: "Tupdate", name: "tupdate", how: How::Number(Unit::Microseconds), kernel: "TCA_PIE_TUPDATE" },
+        Column { key: "Alpha", name: "alpha", how: How::Plain, kernel: "TCA_PIE_ALPHA" },
+        Column { key: "Beta", name: "beta", how: How::Plain, kernel: "TCA_PIE_BETA" },
+        Column { key: "Ecn", name: "ecn", how: How::Plain, kernel: "TCA_PIE_ECN" },
+        Column { key: "Bytemode", name: "bytemode", how: How::Plain, kernel: "TCA_PIE_BYTEMODE" },
+        Column { key: "DqRateEstimator", name: "dq_rate_estimator", how: How::Plain, kernel: "TCA_PIE_DQ_RATE_ESTIMATOR" },
+    ],
+    &[ // 1393, `struct tc_pie_xstats`
+        Column { key: "prob", name: "prob", how: How::Plain, kernel: "" },
+        Column { key: "delay", name: "delay", how: How::Number(Unit::Microseconds), kernel: "" },
+        Column { key: "avg_dq_rate", name: "avg_dq_rate", how: How::Number(Unit::BytesPerSecond), kernel: "" },
+        Column { key: "dq_rate_estimating", name: "dq_rate_estimating", how: How::Plain, kernel: "" },
+        Column { key: "packets_in", name: "packets_in", how: How::Plain, kernel: "" },
+        Column { key: "dropped", name: "dropped", how: How::Plain, kernel: "" },
+        Column { key: "overlimit", name: "overlimit", how: How::Plain, kernel: "" },
+        Column { key: "maxq", name: "maxq", how: How::Plain, kernel: "" },
+        Column { key: "ecn_mark", name: "ecn_mark", how: How::Plain, kernel: "" },
+    ],
+    &[ // 1394, the statistics of pie
+        Column { key: "Pie", name: "pie", how: How::Through(1393), kernel: "" },
+    ],
+    &[ // 1395, `list tc`: the rows of pie
+        Column { key: "Options", name: "options", how: How::Within(1392), kernel: "TCA_OPTIONS" },
+        Column { key: "Xstats", name: "xstats", how: How::Within(1394), kernel: "TCA_XSTATS" },
+    ],
+    &[ // 1396, `list stats`: the rows of pie
+        Column { key: "App", name: "app", how: How::Within(1394), kernel: "TCA_STATS_APP" },
+    ],
 ];
 
-// `struct tc_pie_xstats`
-#[rattlefmt::skip]
-const STRUCT_TC_PIE_XSTATS: [Column<'static>; 9] = [
-    Column { key: "prob", name: "prob", how: How::Plain },
-    Column { key: "delay", name: "delay", how: How::Number(Unit::Microseconds) },
-    Column { key: "avg_dq_rate", name: "avg_dq_rate", how: How::Number(Unit::BytesPerSecond) },
-    Column { key: "dq_rate_estimating", name: "dq_rate_estimating", how: How::Plain },
-    Column { key: "packets_in", name: "packets_in", how: How::Plain },
-    Column { key: "dropped", name: "dropped", how: How::Plain },
-    Column { key: "overlimit", name: "overlimit", how: How::Plain },
-    Column { key: "maxq", name: "maxq", how: How::Plain },
-    Column { key: "ecn_mark", name: "ecn_mark", how: How::Plain },
-];
-
-// the statistics of pie
-#[rattlefmt::skip]
-const STATISTICS_QDISC_PIE: [Column<'static>; 1] = [
-    Column { key: "Pie", name: "pie", how: How::Through(3877) },
-];
-
-// `list tc`: the rows of pie
-#[rattlefmt::skip]
-const LIST_TC_QDISC_PIE: [Column<'static>; 2] = [
-    Column { key: "Options", name: "options", how: How::Within(3876) },
-    Column { key: "Xstats", name: "xstats", how: How::Within(3878) },
-];
-
-// `list stats`: the rows of pie
-#[rattlefmt::skip]
-const LIST_STATS_QDISC_PIE: [Column<'static>; 1] = [
-    Column { key: "App", name: "app", how: How::Within(3878) },
-];
-
-#[tactic(auto, unfolding(crate::specs::Tables::ColumnsOfQdiscs::columns_of_qdiscs_323))]
-pub(crate) fn columns_of_qdiscs_323(place: usize) -> &'static [Column<'static>]
-    ensures { columns_view result.now ≡ columns_of_qdiscs_323 place }
+#[tactic(auto, unfolding(crate::specs::Arrays::columns_of_qdiscs_pie))]
+pub(crate) fn columns_of_qdiscs_pie() -> &'static [&'static [Column<'static>]]
+    ensures { map (λ x. columns_view x.now) result.now ≡ columns_of_qdiscs_pie }
 {
-    match place {
-        3876 => &LIST_PIE_IN_PIE,
-        3877 => &STRUCT_TC_PIE_XSTATS,
-        3878 => &STATISTICS_QDISC_PIE,
-        3879 => &LIST_TC_QDISC_PIE,
-        3880 => &LIST_STATS_QDISC_PIE,
-        _ => &[],
-    }
+    &COLUMNS_OF_QDISCS_PIE
 }
 
-// `struct tc_plug_qopt`
 #[rattlefmt::skip]
-const STRUCT_TC_PLUG_QOPT: [Column<'static>; 2] = [
-    Column { key: "action", name: "action", how: How::Text(3889, 15889) },
-    Column { key: "limit", name: "limit", how: How::Number(Unit::Bytes) },
+static COLUMNS_OF_QDISCS_PLUG: [&'static [Column<'static>]; 3] = [
+    &[ // 1416, `struct tc_plug_qopt`
+        Column { key: "action", name: "action", how: How::Text(1417), kernel: "" },
+        Column { key: "limit", name: "limit", how: How::Number(Unit::Bytes), kernel: "" },
+    ],
+    &[],
+    &[ // 1418, `list tc`: the rows of plug
+        Column { key: "Options", name: "options", how: How::Within(1416), kernel: "TCA_OPTIONS" },
+        Column { key: "Xstats", name: "xstats", how: How::Within(822), kernel: "TCA_XSTATS" },
+    ],
 ];
 
-// `list tc`: the rows of plug
-#[rattlefmt::skip]
-const LIST_TC_QDISC_PLUG: [Column<'static>; 2] = [
-    Column { key: "Options", name: "options", how: How::Within(3888) },
-    Column { key: "Xstats", name: "xstats", how: How::Within(3006) },
-];
-
-#[tactic(auto, unfolding(crate::specs::Tables::ColumnsOfQdiscs::columns_of_qdiscs_324))]
-pub(crate) fn columns_of_qdiscs_324(place: usize) -> &'static [Column<'static>]
-    ensures { columns_view result.now ≡ columns_of_qdiscs_324 place }
+#[tactic(auto, unfolding(crate::specs::Arrays::columns_of_qdiscs_plug))]
+pub(crate) fn columns_of_qdiscs_plug() -> &'static [&'static [Column<'static>]]
+    ensures { map (λ x. columns_view x.now) result.now ≡ columns_of_qdiscs_plug }
 {
-    match place {
-        3888 => &STRUCT_TC_PLUG_QOPT,
-        3890 => &LIST_TC_QDISC_PLUG,
-        _ => &[],
-    }
+    &COLUMNS_OF_QDISCS_PLUG
 }
 
-// `struct prio_options`
 #[rattlefmt::skip]
-const STRUCT_PRIO_OPTIONS: [Column<'static>; 3] = [
-    Column { key: "bands", name: "bands", how: How::Plain },
-    Column { key: "priomap", name: "priomap", how: How::Plain },
-    Column { key: "attributes", name: "attributes", how: How::Through(3901) },
+static COLUMNS_OF_QDISCS_PRIO: [&'static [Column<'static>]; 5] = [
+    &[ // 1440, `struct prio_options`
+        Column { key: "bands", name: "bands", how: How::Plain, kernel: "" },
+        Column { key: "priomap", name: "priomap", how: How::Plain, kernel: "" },
+        Column { key: "attributes", name: "attributes", how: How::Through(1441), kernel: "" },
+    ],
+    &[ // 1441, `list prio`
+        Column { key: "Options", name: "options", how: How::Within(1441), kernel: "TCA_OPTIONS" },
+    ],
+    &[ // 1442, `struct tc_prio_qopt`
+        Column { key: "bands", name: "bands", how: How::Plain, kernel: "" },
+        Column { key: "priomap", name: "priomap", how: How::Plain, kernel: "" },
+    ],
+    &[ // 1443, `list tc`: the rows of prio, rr
+        Column { key: "Options", name: "options", how: How::Within(1440), kernel: "TCA_OPTIONS" },
+        Column { key: "Xstats", name: "xstats", how: How::Within(822), kernel: "TCA_XSTATS" },
+    ],
+    &[ // 1444, `list tc`: the rows of pfifo_fast
+        Column { key: "Options", name: "options", how: How::Within(1442), kernel: "TCA_OPTIONS" },
+        Column { key: "Xstats", name: "xstats", how: How::Within(822), kernel: "TCA_XSTATS" },
+    ],
 ];
 
-// `list prio`
-#[rattlefmt::skip]
-const LIST_PRIO: [Column<'static>; 1] = [
-    Column { key: "Options", name: "options", how: How::Within(3901) },
-];
-
-// `struct tc_prio_qopt`
-#[rattlefmt::skip]
-const STRUCT_TC_PRIO_QOPT: [Column<'static>; 2] = [
-    Column { key: "bands", name: "bands", how: How::Plain },
-    Column { key: "priomap", name: "priomap", how: How::Plain },
-];
-
-// `list tc`: the rows of prio, rr
-#[rattlefmt::skip]
-const LIST_TC_QDISC_PRIO: [Column<'static>; 2] = [
-    Column { key: "Options", name: "options", how: How::Within(3900) },
-    Column { key: "Xstats", name: "xstats", how: How::Within(3006) },
-];
-
-// `list tc`: the rows of pfifo_fast
-#[rattlefmt::skip]
-const LIST_TC_QDISC_PFIFO_FAST: [Column<'static>; 2] = [
-    Column { key: "Options", name: "options", how: How::Within(3902) },
-    Column { key: "Xstats", name: "xstats", how: How::Within(3006) },
-];
-
-#[tactic(auto, unfolding(crate::specs::Tables::ColumnsOfQdiscs::columns_of_qdiscs_325))]
-pub(crate) fn columns_of_qdiscs_325(place: usize) -> &'static [Column<'static>]
-    ensures { columns_view result.now ≡ columns_of_qdiscs_325 place }
+#[tactic(auto, unfolding(crate::specs::Arrays::columns_of_qdiscs_prio))]
+pub(crate) fn columns_of_qdiscs_prio() -> &'static [&'static [Column<'static>]]
+    ensures { map (λ x. columns_view x.now) result.now ≡ columns_of_qdiscs_prio }
 {
-    match place {
-        3900 => &STRUCT_PRIO_OPTIONS,
-        3901 => &LIST_PRIO,
-        3902 => &STRUCT_TC_PRIO_QOPT,
-        3903 => &LIST_TC_QDISC_PRIO,
-        3904 => &LIST_TC_QDISC_PFIFO_FAST,
-        _ => &[],
-    }
+    &COLUMNS_OF_QDISCS_PRIO
 }
 
-// `list qfq`
 #[rattlefmt::skip]
-const LIST_QFQ_IN_QFQ: [Column<'static>; 3] = [
-    Column { key: "Qfq", name: "qfq", how: How::Through(3912) },
-    Column { key: "Weight", name: "weight", how: How::Plain },
-    Column { key: "Lmax", name: "lmax", how: How::Number(Unit::Bytes) },
+static COLUMNS_OF_QDISCS_QFQ: [&'static [Column<'static>]; 5] = [
+    &[ // 1464, `list qfq`
+        Column { key: "Qfq", name: "qfq", how: How::Through(1464), kernel: "" },
+        Column { key: "Weight", name: "weight", how: How::Plain, kernel: "TCA_QFQ_WEIGHT" },
+        Column { key: "Lmax", name: "lmax", how: How::Number(Unit::Bytes), kernel: "TCA_QFQ_LMAX" },
+    ],
+    &[ // 1465, `struct tc_qfq_stats`
+        Column { key: "weight", name: "weight", how: How::Plain, kernel: "" },
+        Column { key: "lmax", name: "lmax", how: How::Number(Unit::Bytes), kernel: "" },
+    ],
+    &[ // 1466, the statistics of qfq
+        Column { key: "Qfq", name: "qfq", how: How::Through(1465), kernel: "" },
+    ],
+    &[ // 1467, `list tc`: the rows of qfq
+        Column { key: "Options", name: "options", how: How::Within(1464), kernel: "TCA_OPTIONS" },
+        Column { key: "Xstats", name: "xstats", how: How::Within(1466), kernel: "TCA_XSTATS" },
+    ],
+    &[ // 1468, `list stats`: the rows of qfq
+        Column { key: "App", name: "app", how: How::Within(1466), kernel: "TCA_STATS_APP" },
+    ],
 ];
 
-// `struct tc_qfq_stats`
-#[rattlefmt::skip]
-const STRUCT_TC_QFQ_STATS: [Column<'static>; 2] = [
-    Column { key: "weight", name: "weight", how: How::Plain },
-    Column { key: "lmax", name: "lmax", how: How::Number(Unit::Bytes) },
-];
-
-// the statistics of qfq
-#[rattlefmt::skip]
-const STATISTICS_QDISC_QFQ: [Column<'static>; 1] = [
-    Column { key: "Qfq", name: "qfq", how: How::Through(3913) },
-];
-
-// `list tc`: the rows of qfq
-#[rattlefmt::skip]
-const LIST_TC_QDISC_QFQ: [Column<'static>; 2] = [
-    Column { key: "Options", name: "options", how: How::Within(3912) },
-    Column { key: "Xstats", name: "xstats", how: How::Within(3914) },
-];
-
-// `list stats`: the rows of qfq
-#[rattlefmt::skip]
-const LIST_STATS_QDISC_QFQ: [Column<'static>; 1] = [
-    Column { key: "App", name: "app", how: How::Within(3914) },
-];
-
-#[tactic(auto, unfolding(crate::specs::Tables::ColumnsOfQdiscs::columns_of_qdiscs_326))]
-pub(crate) fn columns_of_qdiscs_326(place: usize) -> &'static [Column<'static>]
-    ensures { columns_view result.now ≡ columns_of_qdiscs_326 place }
+#[tactic(auto, unfolding(crate::specs::Arrays::columns_of_qdiscs_qfq))]
+pub(crate) fn columns_of_qdiscs_qfq() -> &'static [&'static [Column<'static>]]
+    ensures { map (λ x. columns_view x.now) result.now ≡ columns_of_qdiscs_qfq }
 {
-    match place {
-        3912 => &LIST_QFQ_IN_QFQ,
-        3913 => &STRUCT_TC_QFQ_STATS,
-        3914 => &STATISTICS_QDISC_QFQ,
-        3915 => &LIST_TC_QDISC_QFQ,
-        3916 => &LIST_STATS_QDISC_QFQ,
-        _ => &[],
-    }
+    &COLUMNS_OF_QDISCS_QFQ
 }
 
-// `list red`
 #[rattlefmt::skip]
-const LIST_RED_IN_RED: [Column<'static>; 7] = [
-    Column { key: "Red", name: "red", how: How::Through(3924) },
-    Column { key: "Parms", name: "parms", how: How::Within(3925) },
-    Column { key: "Stab", name: "stab", how: How::Plain },
-    Column { key: "MaxP", name: "max_p", how: How::Number(Unit::Probability) },
-    Column { key: "Flags", name: "flags", how: How::Within(3926) },
-    Column { key: "EarlyDropBlock", name: "early_drop_block", how: How::Plain },
-    Column { key: "MarkBlock", name: "mark_block", how: How::Plain },
+static COLUMNS_OF_QDISCS_RED: [&'static [Column<'static>]; 7] = [
+    &[ // 1488, `list red`
+        Column { key: "Red", name: "red", how: How::Through(1488), kernel: "" },
+        Column { key: "Parms", name: "parms", how: How::Within(1489), kernel: "TCA_RED_PARMS" },
+        Column { key: "Stab", name: "stab", how: How::Plain, kernel: "TCA_RED_STAB" },
+        Column { key: "MaxP", name: "max_p", how: How::Number(Unit::Probability), kernel: "TCA_RED_MAX_P" },
+        Column { key: "Flags", name: "flags", how: How::Within(1490), kernel: "TCA_RED_FLAGS" },
+        Column { key: "EarlyDropBlock", name: "early_drop_block", how: How::Plain, kernel: "TCA_RED_EARLY_DROP_BLOCK" },
+        Column { key: "MarkBlock", name: "mark_block", how: How::Plain, kernel: "TCA_RED_MARK_BLOCK" },
+    ],
+    &[ // 1489, `struct tc_red_qopt`
+        Column { key: "limit", name: "limit", how: How::Number(Unit::Bytes), kernel: "" },
+        Column { key: "qth_min", name: "qth_min", how: How::Number(Unit::Bytes), kernel: "" },
+        Column { key: "qth_max", name: "qth_max", how: How::Number(Unit::Bytes), kernel: "" },
+        Column { key: "Wlog", name: "Wlog", how: How::Number(Unit::Power), kernel: "" },
+        Column { key: "Plog", name: "Plog", how: How::Number(Unit::Power), kernel: "" },
+        Column { key: "Scell_log", name: "Scell_log", how: How::Number(Unit::Power), kernel: "" },
+        Column { key: "flags", name: "flags", how: How::Flags(24105), kernel: "" },
+    ],
+    &[ // 1490, `struct tca_red_flags`
+        Column { key: "value", name: "value", how: How::Flags(24105), kernel: "" },
+        Column { key: "selector", name: "selector", how: How::Flags(24105), kernel: "" },
+    ],
+    &[ // 1491, `struct tc_red_xstats`
+        Column { key: "early", name: "early", how: How::Number(Unit::Packets), kernel: "" },
+        Column { key: "pdrop", name: "pdrop", how: How::Number(Unit::Packets), kernel: "" },
+        Column { key: "other", name: "other", how: How::Number(Unit::Packets), kernel: "" },
+        Column { key: "marked", name: "marked", how: How::Number(Unit::Packets), kernel: "" },
+    ],
+    &[ // 1492, the statistics of red
+        Column { key: "Red", name: "red", how: How::Through(1491), kernel: "" },
+    ],
+    &[ // 1493, `list tc`: the rows of red
+        Column { key: "Options", name: "options", how: How::Within(1488), kernel: "TCA_OPTIONS" },
+        Column { key: "Xstats", name: "xstats", how: How::Within(1492), kernel: "TCA_XSTATS" },
+    ],
+    &[ // 1494, `list stats`: the rows of red
+        Column { key: "App", name: "app", how: How::Within(1492), kernel: "TCA_STATS_APP" },
+    ],
 ];
 
-// `struct tc_red_qopt`
-#[rattlefmt::skip]
-const STRUCT_TC_RED_QOPT: [Column<'static>; 7] = [
-    Column { key: "limit", name: "limit", how: How::Number(Unit::Bytes) },
-    Column { key: "qth_min", name: "qth_min", how: How::Number(Unit::Bytes) },
-    Column { key: "qth_max", name: "qth_max", how: How::Number(Unit::Bytes) },
-    Column { key: "Wlog", name: "Wlog", how: How::Number(Unit::Power) },
-    Column { key: "Plog", name: "Plog", how: How::Number(Unit::Power) },
-    Column { key: "Scell_log", name: "Scell_log", how: How::Number(Unit::Power) },
-    Column { key: "flags", name: "flags", how: How::Flags(24031) },
-];
-
-// `struct tca_red_flags`
-#[rattlefmt::skip]
-const STRUCT_TCA_RED_FLAGS: [Column<'static>; 2] = [
-    Column { key: "value", name: "value", how: How::Flags(24031) },
-    Column { key: "selector", name: "selector", how: How::Flags(24031) },
-];
-
-// `struct tc_red_xstats`
-#[rattlefmt::skip]
-const STRUCT_TC_RED_XSTATS: [Column<'static>; 4] = [
-    Column { key: "early", name: "early", how: How::Number(Unit::Packets) },
-    Column { key: "pdrop", name: "pdrop", how: How::Number(Unit::Packets) },
-    Column { key: "other", name: "other", how: How::Number(Unit::Packets) },
-    Column { key: "marked", name: "marked", how: How::Number(Unit::Packets) },
-];
-
-// the statistics of red
-#[rattlefmt::skip]
-const STATISTICS_QDISC_RED: [Column<'static>; 1] = [
-    Column { key: "Red", name: "red", how: How::Through(3927) },
-];
-
-// `list tc`: the rows of red
-#[rattlefmt::skip]
-const LIST_TC_QDISC_RED: [Column<'static>; 2] = [
-    Column { key: "Options", name: "options", how: How::Within(3924) },
-    Column { key: "Xstats", name: "xstats", how: How::Within(3928) },
-];
-
-// `list stats`: the rows of red
-#[rattlefmt::skip]
-const LIST_STATS_QDISC_RED: [Column<'static>; 1] = [
-    Column { key: "App", name: "app", how: How::Within(3928) },
-];
-
-#[tactic(auto, unfolding(crate::specs::Tables::ColumnsOfQdiscs::columns_of_qdiscs_327))]
-pub(crate) fn columns_of_qdiscs_327(place: usize) -> &'static [Column<'static>]
-    ensures { columns_view result.now ≡ columns_of_qdiscs_327 place }
+#[tactic(auto, unfolding(crate::specs::Arrays::columns_of_qdiscs_red))]
+pub(crate) fn columns_of_qdiscs_red() -> &'static [&'static [Column<'static>]]
+    ensures { map (λ x. columns_view x.now) result.now ≡ columns_of_qdiscs_red }
 {
-    match place {
-        3924 => &LIST_RED_IN_RED,
-        3925 => &STRUCT_TC_RED_QOPT,
-        3926 => &STRUCT_TCA_RED_FLAGS,
-        3927 => &STRUCT_TC_RED_XSTATS,
-        3928 => &STATISTICS_QDISC_RED,
-        3929 => &LIST_TC_QDISC_RED,
-        3930 => &LIST_STATS_QDISC_RED,
-        _ => &[],
-    }
+    &COLUMNS_OF_QDISCS_RED
 }
 
-// `list sfb`
 #[rattlefmt::skip]
-const LIST_SFB_IN_SFB: [Column<'static>; 2] = [
-    Column { key: "Sfb", name: "sfb", how: How::Through(3936) },
-    Column { key: "Parms", name: "parms", how: How::Within(3938) },
+static COLUMNS_OF_QDISCS_SFB: [&'static [Column<'static>]; 6] = [
+    &[ // 1512, `list sfb`
+        Column { key: "Sfb", name: "sfb", how: How::Through(1512), kernel: "" },
+        Column { key: "Parms", name: "parms", how: How::Within(1514), kernel: "TCA_SFB_PARMS" },
+    ],
+    &[ // 1513, `struct tc_sfb_xstats`
+        Column { key: "earlydrop", name: "earlydrop", how: How::Plain, kernel: "" },
+        Column { key: "penaltydrop", name: "penaltydrop", how: How::Plain, kernel: "" },
+        Column { key: "bucketdrop", name: "bucketdrop", how: How::Plain, kernel: "" },
+        Column { key: "queuedrop", name: "queuedrop", how: How::Plain, kernel: "" },
+        Column { key: "childdrop", name: "childdrop", how: How::Plain, kernel: "" },
+        Column { key: "marked", name: "marked", how: How::Plain, kernel: "" },
+        Column { key: "maxqlen", name: "maxqlen", how: How::Number(Unit::Packets), kernel: "" },
+        Column { key: "maxprob", name: "maxprob", how: How::Plain, kernel: "" },
+        Column { key: "avgprob", name: "avgprob", how: How::Plain, kernel: "" },
+    ],
+    &[ // 1514, `struct tc_sfb_qopt`
+        Column { key: "rehash_interval", name: "rehash_interval", how: How::Number(Unit::Milliseconds), kernel: "" },
+        Column { key: "warmup_time", name: "warmup_time", how: How::Number(Unit::Milliseconds), kernel: "" },
+        Column { key: "max", name: "max", how: How::Number(Unit::Packets), kernel: "" },
+        Column { key: "bin_size", name: "bin_size", how: How::Number(Unit::Packets), kernel: "" },
+        Column { key: "increment", name: "increment", how: How::Plain, kernel: "" },
+        Column { key: "decrement", name: "decrement", how: How::Plain, kernel: "" },
+        Column { key: "limit", name: "limit", how: How::Number(Unit::Packets), kernel: "" },
+        Column { key: "penalty_rate", name: "penalty_rate", how: How::Number(Unit::PacketsPerSecond), kernel: "" },
+        Column { key: "penalty_burst", name: "penalty_burst", how: How::Number(Unit::Packets), kernel: "" },
+    ],
+    &[ // 1515, the statistics of sfb
+        Column { key: "Sfb", name: "sfb", how: How::Through(1513), kernel: "" },
+    ],
+    &[ // 1516, `list tc`: the rows of sfb
+        Column { key: "Options", name: "options", how: How::Within(1512), kernel: "TCA_OPTIONS" },
+        Column { key: "Xstats", name: "xstats", how: How::Within(1515), kernel: "TCA_XSTATS" },
+    ],
+    &[ // 1517, `list stats`: the rows of sfb
+        Column { key: "App", name: "app", how: How::Within(1515), kernel: "TCA_STATS_APP" },
+    ],
 ];
 
-// `struct tc_sfb_xstats`
-#[rattlefmt::skip]
-const STRUCT_TC_SFB_XSTATS: [Column<'static>; 9] = [
-    Column { key: "earlydrop", name: "earlydrop", how: How::Plain },
-    Column { key: "penaltydrop", name: "penaltydrop", how: How::Plain },
-    Column { key: "bucketdrop", name: "bucketdrop", how: How::Plain },
-    Column { key: "queuedrop", name: "queuedrop", how: How::Plain },
-    Column { key: "childdrop", name: "childdrop", how: How::Plain },
-    Column { key: "marked", name: "marked", how: How::Plain },
-    Column { key: "maxqlen", name: "maxqlen", how: How::Number(Unit::Packets) },
-    Column { key: "maxprob", name: "maxprob", how: How::Plain },
-    Column { key: "avgprob", name: "avgprob", how: How::Plain },
-];
-
-// `struct tc_sfb_qopt`
-#[rattlefmt::skip]
-const STRUCT_TC_SFB_QOPT: [Column<'static>; 9] = [
-    Column { key: "rehash_interval", name: "rehash_interval", how: How::Number(Unit::Milliseconds) },
-    Column { key: "warmup_time", name: "warmup_time", how: How::Number(Unit::Milliseconds) },
-    Column { key: "max", name: "max", how: How::Number(Unit::Packets) },
-    Column { key: "bin_size", name: "bin_size", how: How::Number(Unit::Packets) },
-    Column { key: "increment", name: "increment", how: How::Plain },
-    Column { key: "decrement", name: "decrement", how: How::Plain },
-    Column { key: "limit", name: "limit", how: How::Number(Unit::Packets) },
-    Column { key: "penalty_rate", name: "penalty_rate", how: How::Number(Unit::PacketsPerSecond) },
-    Column { key: "penalty_burst", name: "penalty_burst", how: How::Number(Unit::Packets) },
-];
-
-// the statistics of sfb
-#[rattlefmt::skip]
-const STATISTICS_QDISC_SFB: [Column<'static>; 1] = [
-    Column { key: "Sfb", name: "sfb", how: How::Through(3937) },
-];
-
-// `list tc`: the rows of sfb
-#[rattlefmt::skip]
-const LIST_TC_QDISC_SFB: [Column<'static>; 2] = [
-    Column { key: "Options", name: "options", how: How::Within(3936) },
-    Column { key: "Xstats", name: "xstats", how: How::Within(3939) },
-];
-
-// `list stats`: the rows of sfb
-#[rattlefmt::skip]
-const LIST_STATS_QDISC_SFB: [Column<'static>; 1] = [
-    Column { key: "App", name: "app", how: How::Within(3939) },
-];
-
-#[tactic(auto, unfolding(crate::specs::Tables::ColumnsOfQdiscs::columns_of_qdiscs_328))]
-pub(crate) fn columns_of_qdiscs_328(place: usize) -> &'static [Column<'static>]
-    ensures { columns_view result.now ≡ columns_of_qdiscs_328 place }
+#[tactic(auto, unfolding(crate::specs::Arrays::columns_of_qdiscs_sfb))]
+pub(crate) fn columns_of_qdiscs_sfb() -> &'static [&'static [Column<'static>]]
+    ensures { map (λ x. columns_view x.now) result.now ≡ columns_of_qdiscs_sfb }
 {
-    match place {
-        3936 => &LIST_SFB_IN_SFB,
-        3937 => &STRUCT_TC_SFB_XSTATS,
-        3938 => &STRUCT_TC_SFB_QOPT,
-        3939 => &STATISTICS_QDISC_SFB,
-        3940 => &LIST_TC_QDISC_SFB,
-        3941 => &LIST_STATS_QDISC_SFB,
-        _ => &[],
-    }
+    &COLUMNS_OF_QDISCS_SFB
 }
 
-// `choice sfq`
 #[rattlefmt::skip]
-const CHOICE_SFQ: [Column<'static>; 2] = [
-    Column { key: "Qopt", name: "qopt", how: How::Through(3949) },
-    Column { key: "QoptV1", name: "qopt_v1", how: How::Through(3950) },
+static COLUMNS_OF_QDISCS_SFQ: [&'static [Column<'static>]; 8] = [
+    &[ // 1536, `choice sfq`
+        Column { key: "Qopt", name: "qopt", how: How::Through(1537), kernel: "" },
+        Column { key: "QoptV1", name: "qopt_v1", how: How::Through(1538), kernel: "" },
+    ],
+    &[ // 1537, `struct tc_sfq_qopt`
+        Column { key: "quantum", name: "quantum", how: How::Number(Unit::Bytes), kernel: "" },
+        Column { key: "perturb_period", name: "perturb_period", how: How::Number(Unit::Seconds), kernel: "" },
+        Column { key: "limit", name: "limit", how: How::Number(Unit::Packets), kernel: "" },
+        Column { key: "divisor", name: "divisor", how: How::Plain, kernel: "" },
+        Column { key: "flows", name: "flows", how: How::Plain, kernel: "" },
+    ],
+    &[ // 1538, `struct tc_sfq_qopt_v1`
+        Column { key: "v0", name: "v0", how: How::Within(1537), kernel: "" },
+        Column { key: "depth", name: "depth", how: How::Number(Unit::Packets), kernel: "" },
+        Column { key: "headdrop", name: "headdrop", how: How::Plain, kernel: "" },
+        Column { key: "limit", name: "limit", how: How::Number(Unit::Bytes), kernel: "" },
+        Column { key: "qth_min", name: "qth_min", how: How::Number(Unit::Bytes), kernel: "" },
+        Column { key: "qth_max", name: "qth_max", how: How::Number(Unit::Bytes), kernel: "" },
+        Column { key: "Wlog", name: "Wlog", how: How::Number(Unit::Power), kernel: "" },
+        Column { key: "Plog", name: "Plog", how: How::Number(Unit::Power), kernel: "" },
+        Column { key: "Scell_log", name: "Scell_log", how: How::Number(Unit::Power), kernel: "" },
+        Column { key: "flags", name: "flags", how: How::Flags(24105), kernel: "" },
+        Column { key: "max_P", name: "max_P", how: How::Number(Unit::Probability), kernel: "" },
+        Column { key: "stats", name: "stats", how: How::Within(1539), kernel: "" },
+    ],
+    &[ // 1539, `struct tc_sfqred_stats`
+        Column { key: "prob_drop", name: "prob_drop", how: How::Number(Unit::Packets), kernel: "" },
+        Column { key: "forced_drop", name: "forced_drop", how: How::Number(Unit::Packets), kernel: "" },
+        Column { key: "prob_mark", name: "prob_mark", how: How::Number(Unit::Packets), kernel: "" },
+        Column { key: "forced_mark", name: "forced_mark", how: How::Number(Unit::Packets), kernel: "" },
+        Column { key: "prob_mark_head", name: "prob_mark_head", how: How::Number(Unit::Packets), kernel: "" },
+        Column { key: "forced_mark_head", name: "forced_mark_head", how: How::Number(Unit::Packets), kernel: "" },
+    ],
+    &[ // 1540, `struct tc_sfq_xstats`
+        Column { key: "allot", name: "allot", how: How::Number(Unit::Bytes), kernel: "" },
+    ],
+    &[ // 1541, the statistics of sfq
+        Column { key: "Sfq", name: "sfq", how: How::Through(1540), kernel: "" },
+    ],
+    &[ // 1542, `list tc`: the rows of sfq
+        Column { key: "Options", name: "options", how: How::Within(1536), kernel: "TCA_OPTIONS" },
+        Column { key: "Xstats", name: "xstats", how: How::Within(1541), kernel: "TCA_XSTATS" },
+    ],
+    &[ // 1543, `list stats`: the rows of sfq
+        Column { key: "App", name: "app", how: How::Within(1541), kernel: "TCA_STATS_APP" },
+    ],
 ];
 
-// `struct tc_sfq_qopt`
-#[rattlefmt::skip]
-const STRUCT_TC_SFQ_QOPT: [Column<'static>; 5] = [
-    Column { key: "quantum", name: "quantum", how: How::Number(Unit::Bytes) },
-    Column { key: "perturb_period", name: "perturb_period", how: How::Number(Unit::Seconds) },
-    Column { key: "limit", name: "limit", how: How::Number(Unit::Packets) },
-    Column { key: "divisor", name: "divisor", how: How::Plain },
-    Column { key: "flows", name: "flows", how: How::Plain },
-];
-
-// `struct tc_sfq_qopt_v1`
-#[rattlefmt::skip]
-const STRUCT_TC_SFQ_QOPT_V1: [Column<'static>; 12] = [
-    Column { key: "v0", name: "v0", how: How::Within(3949) },
-    Column { key: "depth", name: "depth", how: How::Number(Unit::Packets) },
-    Column { key: "headdrop", name: "headdrop", how: How::Plain },
-    Column { key: "limit", name: "limit", how: How::Number(Unit::Bytes) },
-    Column { key: "qth_min", name: "qth_min", how: How::Number(Unit::Bytes) },
-    Column { key: "qth_max", name: "qth_max", how: How::Number(Unit::Bytes) },
-    Column { key: "Wlog", name: "Wlog", how: How::Number(Unit::Power) },
-    Column { key: "Plog", name: "Plog", how: How::Number(Unit::Power) },
-    Column { key: "Scell_log", name: "Scell_log", how: How::Number(Unit::Power) },
-    Column { key: "flags", name: "flags", how: How::Flags(24031) },
-    Column { key: "max_P", name: "max_P", how: How::Number(Unit::Probability) },
-    Column { key: "stats", name: "stats", how: How::Within(3951) },
-];
-
-// `struct tc_sfqred_stats`
-#[rattlefmt::skip]
-const STRUCT_TC_SFQRED_STATS: [Column<'static>; 6] = [
-    Column { key: "prob_drop", name: "prob_drop", how: How::Number(Unit::Packets) },
-    Column { key: "forced_drop", name: "forced_drop", how: How::Number(Unit::Packets) },
-    Column { key: "prob_mark", name: "prob_mark", how: How::Number(Unit::Packets) },
-    Column { key: "forced_mark", name: "forced_mark", how: How::Number(Unit::Packets) },
-    Column { key: "prob_mark_head", name: "prob_mark_head", how: How::Number(Unit::Packets) },
-    Column { key: "forced_mark_head", name: "forced_mark_head", how: How::Number(Unit::Packets) },
-];
-
-// `struct tc_sfq_xstats`
-#[rattlefmt::skip]
-const STRUCT_TC_SFQ_XSTATS: [Column<'static>; 1] = [
-    Column { key: "allot", name: "allot", how: How::Number(Unit::Bytes) },
-];
-
-// the statistics of sfq
-#[rattlefmt::skip]
-const STATISTICS_QDISC_SFQ: [Column<'static>; 1] = [
-    Column { key: "Sfq", name: "sfq", how: How::Through(3952) },
-];
-
-// `list tc`: the rows of sfq
-#[rattlefmt::skip]
-const LIST_TC_QDISC_SFQ: [Column<'static>; 2] = [
-    Column { key: "Options", name: "options", how: How::Within(3948) },
-    Column { key: "Xstats", name: "xstats", how: How::Within(3953) },
-];
-
-// `list stats`: the rows of sfq
-#[rattlefmt::skip]
-const LIST_STATS_QDISC_SFQ: [Column<'static>; 1] = [
-    Column { key: "App", name: "app", how: How::Within(3953) },
-];
-
-#[tactic(auto, unfolding(crate::specs::Tables::ColumnsOfQdiscs::columns_of_qdiscs_329))]
-pub(crate) fn columns_of_qdiscs_329(place: usize) -> &'static [Column<'static>]
-    ensures { columns_view result.now ≡ columns_of_qdiscs_329 place }
+#[tactic(auto, unfolding(crate::specs::Arrays::columns_of_qdiscs_sfq))]
+pub(crate) fn columns_of_qdiscs_sfq() -> &'static [&'static [Column<'static>]]
+    ensures { map (λ x. columns_view x.now) result.now ≡ columns_of_qdiscs_sfq }
 {
-    match place {
-        3948 => &CHOICE_SFQ,
-        3949 => &STRUCT_TC_SFQ_QOPT,
-        3950 => &STRUCT_TC_SFQ_QOPT_V1,
-        3951 => &STRUCT_TC_SFQRED_STATS,
-        3952 => &STRUCT_TC_SFQ_XSTATS,
-        3953 => &STATISTICS_QDISC_SFQ,
-        3954 => &LIST_TC_QDISC_SFQ,
-        3955 => &LIST_STATS_QDISC_SFQ,
-        _ => &[],
-    }
+    &COLUMNS_OF_QDISCS_SFQ
 }
 
-// `struct tc_skbprio_qopt`
 #[rattlefmt::skip]
-const STRUCT_TC_SKBPRIO_QOPT: [Column<'static>; 1] = [
-    Column { key: "limit", name: "limit", how: How::Number(Unit::Packets) },
+static COLUMNS_OF_QDISCS_SKBPRIO: [&'static [Column<'static>]; 2] = [
+    &[ // 1560, `struct tc_skbprio_qopt`
+        Column { key: "limit", name: "limit", how: How::Number(Unit::Packets), kernel: "" },
+    ],
+    &[ // 1561, `list tc`: the rows of skbprio
+        Column { key: "Options", name: "options", how: How::Within(1560), kernel: "TCA_OPTIONS" },
+        Column { key: "Xstats", name: "xstats", how: How::Within(822), kernel: "TCA_XSTATS" },
+    ],
 ];
 
-// `list tc`: the rows of skbprio
-#[rattlefmt::skip]
-const LIST_TC_QDISC_SKBPRIO: [Column<'static>; 2] = [
-    Column { key: "Options", name: "options", how: How::Within(3960) },
-    Column { key: "Xstats", name: "xstats", how: How::Within(3006) },
-];
-
-#[tactic(auto, unfolding(crate::specs::Tables::ColumnsOfQdiscs::columns_of_qdiscs_330))]
-pub(crate) fn columns_of_qdiscs_330(place: usize) -> &'static [Column<'static>]
-    ensures { columns_view result.now ≡ columns_of_qdiscs_330 place }
+#[tactic(auto, unfolding(crate::specs::Arrays::columns_of_qdiscs_skbprio))]
+pub(crate) fn columns_of_qdiscs_skbprio() -> &'static [&'static [Column<'static>]]
+    ensures { map (λ x. columns_view x.now) result.now ≡ columns_of_qdiscs_skbprio }
 {
-    match place {
-        3960 => &STRUCT_TC_SKBPRIO_QOPT,
-        3961 => &LIST_TC_QDISC_SKBPRIO,
-        _ => &[],
-    }
+    &COLUMNS_OF_QDISCS_SKBPRIO
 }
 
-// `list taprio`
 #[rattlefmt::skip]
-const LIST_TAPRIO: [Column<'static>; 12] = [
-    Column { key: "Priomap", name: "priomap", how: How::Within(3829) },
-    Column { key: "SchedEntryList", name: "sched_entry_list", how: How::Within(3974) },
-    Column { key: "SchedBaseTime", name: "sched_base_time", how: How::Number(Unit::Nanoseconds) },
-    Column { key: "SchedSingleEntry", name: "sched_single_entry", how: How::Within(3975) },
-    Column { key: "SchedClockid", name: "sched_clockid", how: How::Named(Unit::Plain, 24005) },
-    Column { key: "Pad", name: "pad", how: How::Hidden },
-    Column { key: "AdminSched", name: "admin_sched", how: How::Within(3972) },
-    Column { key: "SchedCycleTime", name: "sched_cycle_time", how: How::Number(Unit::Nanoseconds) },
-    Column { key: "SchedCycleTimeExtension", name: "sched_cycle_time_extension", how: How::Number(Unit::Nanoseconds) },
-    Column { key: "Flags", name: "flags", how: How::Flags(24033) },
-    Column { key: "TxtimeDelay", name: "txtime_delay", how: How::Number(Unit::Nanoseconds) },
-    Column { key: "TcEntry", name: "tc_entry", how: How::Within(3977) },
+static COLUMNS_OF_QDISCS_TAPRIO: [&'static [Column<'static>]; 10] = [
+    &[ // 1584, `list taprio`
+        Column { key: "Priomap", name: "priomap", how: How::Within(1297), kernel: "TCA_TAPRIO_ATTR_PRIOMAP" },
+        Column { key: "SchedEntryList", name: "sched_entry_list", how: How::Within(1586), kernel: "TCA_TAPRIO_ATTR_SCHED_ENTRY_LIST" },
+        Column { key: "SchedBaseTime", name: "sched_base_time", how: How::Number(Unit::Nanoseconds), kernel: "TCA_TAPRIO_ATTR_SCHED_BASE_TIME" },
+        Column { key: "SchedSingleEntry", name: "sched_single_entry", how: How::Within(1587), kernel: "TCA_TAPRIO_ATTR_SCHED_SINGLE_ENTRY" },
+        Column { key: "SchedClockid", name: "sched_clockid", how: How::Named(Unit::Plain, 24005), kernel: "TCA_TAPRIO_ATTR_SCHED_CLOCKID" },
+        Column { key: "Pad", name: "pad", how: How::Hidden, kernel: "TCA_TAPRIO_PAD" },
+        Column { key: "AdminSched", name: "admin_sched", how: How::Within(1584), kernel: "TCA_TAPRIO_ATTR_ADMIN_SCHED" },
+        Column { key: "SchedCycleTime", name: "sched_cycle_time", how: How::Number(Unit::Nanoseconds), kernel: "TCA_TAPRIO_ATTR_SCHED_CYCLE_TIME" },
+        Column { key: "SchedCycleTimeExtension", name: "sched_cycle_time_extension", how: How::Number(Unit::Nanoseconds), kernel: "TCA_TAPRIO_ATTR_SCHED_CYCLE_TIME_EXTENSION" },
+        Column { key: "Flags", name: "flags", how: How::Flags(24107), kernel: "TCA_TAPRIO_ATTR_FLAGS" },
+        Column { key: "TxtimeDelay", name: "txtime_delay", how: How::Number(Unit::Nanoseconds), kernel: "TCA_TAPRIO_ATTR_TXTIME_DELAY" },
+        Column { key: "TcEntry", name: "tc_entry", how: How::Within(1589), kernel: "TCA_TAPRIO_ATTR_TC_ENTRY" },
+    ],
+    &[ // 1585, `list taprio`
+        Column { key: "Taprio", name: "taprio", how: How::Through(1585), kernel: "" },
+        Column { key: "Priomap", name: "priomap", how: How::Within(1297), kernel: "TCA_TAPRIO_ATTR_PRIOMAP" },
+        Column { key: "SchedEntryList", name: "sched_entry_list", how: How::Within(1586), kernel: "TCA_TAPRIO_ATTR_SCHED_ENTRY_LIST" },
+        Column { key: "SchedBaseTime", name: "sched_base_time", how: How::Number(Unit::Nanoseconds), kernel: "TCA_TAPRIO_ATTR_SCHED_BASE_TIME" },
+        Column { key: "SchedSingleEntry", name: "sched_single_entry", how: How::Within(1587), kernel: "TCA_TAPRIO_ATTR_SCHED_SINGLE_ENTRY" },
+        Column { key: "SchedClockid", name: "sched_clockid", how: How::Named(Unit::Plain, 24005), kernel: "TCA_TAPRIO_ATTR_SCHED_CLOCKID" },
+        Column { key: "Pad", name: "pad", how: How::Hidden, kernel: "TCA_TAPRIO_PAD" },
+        Column { key: "AdminSched", name: "admin_sched", how: How::Within(1584), kernel: "TCA_TAPRIO_ATTR_ADMIN_SCHED" },
+        Column { key: "SchedCycleTime", name: "sched_cycle_time", how: How::Number(Unit::Nanoseconds), kernel: "TCA_TAPRIO_ATTR_SCHED_CYCLE_TIME" },
+        Column { key: "SchedCycleTimeExtension", name: "sched_cycle_time_extension", how: How::Number(Unit::Nanoseconds), kernel: "TCA_TAPRIO_ATTR_SCHED_CYCLE_TIME_EXTENSION" },
+        Column { key: "Flags", name: "flags", how: How::Flags(24107), kernel: "TCA_TAPRIO_ATTR_FLAGS" },
+        Column { key: "TxtimeDelay", name: "txtime_delay", how: How::Number(Unit::Nanoseconds), kernel: "TCA_TAPRIO_ATTR_TXTIME_DELAY" },
+        Column { key: "TcEntry", name: "tc_entry", how: How::Within(1589), kernel: "TCA_TAPRIO_ATTR_TC_ENTRY" },
+    ],
+    &[ // 1586, `list taprio_entry_list`
+        Column { key: "Entry", name: "entry", how: How::Within(1587), kernel: "TCA_TAPRIO_SCHED_ENTRY" },
+    ],
+    &[ // 1587, `list taprio_entry`
+        Column { key: "Index", name: "index", how: How::Plain, kernel: "TCA_TAPRIO_SCHED_ENTRY_INDEX" },
+        Column { key: "Cmd", name: "cmd", how: How::Text(1588), kernel: "TCA_TAPRIO_SCHED_ENTRY_CMD" },
+        Column { key: "GateMask", name: "gate_mask", how: How::Number(Unit::Hex), kernel: "TCA_TAPRIO_SCHED_ENTRY_GATE_MASK" },
+        Column { key: "Interval", name: "interval", how: How::Number(Unit::Nanoseconds), kernel: "TCA_TAPRIO_SCHED_ENTRY_INTERVAL" },
+    ],
+    &[],
+    &[ // 1589, `list taprio_tc_entry`
+        Column { key: "Index", name: "index", how: How::Plain, kernel: "TCA_TAPRIO_TC_ENTRY_INDEX" },
+        Column { key: "MaxSdu", name: "max_sdu", how: How::Number(Unit::Bytes), kernel: "TCA_TAPRIO_TC_ENTRY_MAX_SDU" },
+        Column { key: "Fp", name: "fp", how: How::Text(1638), kernel: "TCA_TAPRIO_TC_ENTRY_FP" },
+    ],
+    &[ // 1590, `list taprio_stats`
+        Column { key: "Pad", name: "pad", how: How::Hidden, kernel: "TCA_TAPRIO_OFFLOAD_STATS_PAD" },
+        Column { key: "WindowDrops", name: "window_drops", how: How::Number(Unit::Packets), kernel: "TCA_TAPRIO_OFFLOAD_STATS_WINDOW_DROPS" },
+        Column { key: "TxOverruns", name: "tx_overruns", how: How::Number(Unit::Packets), kernel: "TCA_TAPRIO_OFFLOAD_STATS_TX_OVERRUNS" },
+    ],
+    &[ // 1591, the statistics of taprio
+        Column { key: "Taprio", name: "taprio", how: How::Through(1590), kernel: "" },
+    ],
+    &[ // 1592, `list tc`: the rows of taprio
+        Column { key: "Options", name: "options", how: How::Within(1585), kernel: "TCA_OPTIONS" },
+        Column { key: "Xstats", name: "xstats", how: How::Within(1591), kernel: "TCA_XSTATS" },
+    ],
+    &[ // 1593, `list stats`: the rows of taprio
+        Column { key: "App", name: "app", how: How::Within(1591), kernel: "TCA_STATS_APP" },
+    ],
 ];
 
-// `list taprio`
-#[rattlefmt::skip]
-const LIST_TAPRIO_IN_TAPRIO: [Column<'static>; 13] = [
-    Column { key: "Taprio", name: "taprio", how: How::Through(3973) },
-    Column { key: "Priomap", name: "priomap", how: How::Within(3829) },
-    Column { key: "SchedEntryList", name: "sched_entry_list", how: How::Within(3974) },
-    Column { key: "SchedBaseTime", name: "sched_base_time", how: How::Number(Unit::Nanoseconds) },
-    Column { key: "SchedSingleEntry", name: "sched_single_entry", how: How::Within(3975) },
-    Column { key: "SchedClockid", name: "sched_clockid", how: How::Named(Unit::Plain, 24005) },
-    Column { key: "Pad", name: "pad", how: How::Hidden },
-    Column { key: "AdminSched", name: "admin_sched", how: How::Within(3972) },
-    Column { key: "SchedCycleTime", name: "sched_cycle_time", how: How::Number(Unit::Nanoseconds) },
-    Column { key: "SchedCycleTimeExtension", name: "sched_cycle_time_extension", how: How::Number(Unit::Nanoseconds) },
-    Column { key: "Flags", name: "flags", how: How::Flags(24033) },
-    Column { key: "TxtimeDelay", name: "txtime_delay", how: How::Number(Unit::Nanoseconds) },
-    Column { key: "TcEntry", name: "tc_entry", how: How::Within(3977) },
-];
-
-// `list taprio_entry_list`
-#[rattlefmt::skip]
-const LIST_TAPRIO_ENTRY_LIST: [Column<'static>; 1] = [
-    Column { key: "Entry", name: "entry", how: How::Within(3975) },
-];
-
-// `list taprio_entry`
-#[rattlefmt::skip]
-const LIST_TAPRIO_ENTRY: [Column<'static>; 4] = [
-    Column { key: "Index", name: "index", how: How::Plain },
-    Column { key: "Cmd", name: "cmd", how: How::Text(3976, 15976) },
-    Column { key: "GateMask", name: "gate_mask", how: How::Number(Unit::Hex) },
-    Column { key: "Interval", name: "interval", how: How::Number(Unit::Nanoseconds) },
-];
-
-// `list taprio_tc_entry`
-#[rattlefmt::skip]
-const LIST_TAPRIO_TC_ENTRY: [Column<'static>; 3] = [
-    Column { key: "Index", name: "index", how: How::Plain },
-    Column { key: "MaxSdu", name: "max_sdu", how: How::Number(Unit::Bytes) },
-    Column { key: "Fp", name: "fp", how: How::Text(4206, 16206) },
-];
-
-// `list taprio_stats`
-#[rattlefmt::skip]
-const LIST_TAPRIO_STATS: [Column<'static>; 3] = [
-    Column { key: "Pad", name: "pad", how: How::Hidden },
-    Column { key: "WindowDrops", name: "window_drops", how: How::Number(Unit::Packets) },
-    Column { key: "TxOverruns", name: "tx_overruns", how: How::Number(Unit::Packets) },
-];
-
-// the statistics of taprio
-#[rattlefmt::skip]
-const STATISTICS_QDISC_TAPRIO: [Column<'static>; 1] = [
-    Column { key: "Taprio", name: "taprio", how: How::Through(3978) },
-];
-
-// `list tc`: the rows of taprio
-#[rattlefmt::skip]
-const LIST_TC_QDISC_TAPRIO: [Column<'static>; 2] = [
-    Column { key: "Options", name: "options", how: How::Within(3973) },
-    Column { key: "Xstats", name: "xstats", how: How::Within(3979) },
-];
-
-// `list stats`: the rows of taprio
-#[rattlefmt::skip]
-const LIST_STATS_QDISC_TAPRIO: [Column<'static>; 1] = [
-    Column { key: "App", name: "app", how: How::Within(3979) },
-];
-
-#[tactic(auto, unfolding(crate::specs::Tables::ColumnsOfQdiscs::columns_of_qdiscs_331))]
-pub(crate) fn columns_of_qdiscs_331(place: usize) -> &'static [Column<'static>]
-    ensures { columns_view result.now ≡ columns_of_qdiscs_331 place }
+#[tactic(auto, unfolding(crate::specs::Arrays::columns_of_qdiscs_taprio))]
+pub(crate) fn columns_of_qdiscs_taprio() -> &'static [&'static [Column<'static>]]
+    ensures { map (λ x. columns_view x.now) result.now ≡ columns_of_qdiscs_taprio }
 {
-    match place {
-        3972 => &LIST_TAPRIO,
-        3973 => &LIST_TAPRIO_IN_TAPRIO,
-        3974 => &LIST_TAPRIO_ENTRY_LIST,
-        3975 => &LIST_TAPRIO_ENTRY,
-        3977 => &LIST_TAPRIO_TC_ENTRY,
-        3978 => &LIST_TAPRIO_STATS,
-        3979 => &STATISTICS_QDISC_TAPRIO,
-        3980 => &LIST_TC_QDISC_TAPRIO,
-        3981 => &LIST_STATS_QDISC_TAPRIO,
-        _ => &[],
-    }
+    &COLUMNS_OF_QDISCS_TAPRIO
 }
 
-// `list tbf`
 #[rattlefmt::skip]
-const LIST_TBF_IN_TBF: [Column<'static>; 9] = [
-    Column { key: "Tbf", name: "tbf", how: How::Through(3984) },
-    Column { key: "Parms", name: "parms", how: How::Within(3985) },
-    Column { key: "Rtab", name: "rtab", how: How::Plain },
-    Column { key: "Ptab", name: "ptab", how: How::Plain },
-    Column { key: "Rate64", name: "rate64", how: How::Number(Unit::BytesPerSecond) },
-    Column { key: "Prate64", name: "prate64", how: How::Number(Unit::BytesPerSecond) },
-    Column { key: "Burst", name: "burst", how: How::Number(Unit::Bytes) },
-    Column { key: "Pburst", name: "pburst", how: How::Number(Unit::Bytes) },
-    Column { key: "Pad", name: "pad", how: How::Hidden },
+static COLUMNS_OF_QDISCS_TBF: [&'static [Column<'static>]; 3] = [
+    &[ // 1608, `list tbf`
+        Column { key: "Tbf", name: "tbf", how: How::Through(1608), kernel: "" },
+        Column { key: "Parms", name: "parms", how: How::Within(1609), kernel: "TCA_TBF_PARMS" },
+        Column { key: "Rtab", name: "rtab", how: How::Plain, kernel: "TCA_TBF_RTAB" },
+        Column { key: "Ptab", name: "ptab", how: How::Plain, kernel: "TCA_TBF_PTAB" },
+        Column { key: "Rate64", name: "rate64", how: How::Number(Unit::BytesPerSecond), kernel: "TCA_TBF_RATE64" },
+        Column { key: "Prate64", name: "prate64", how: How::Number(Unit::BytesPerSecond), kernel: "TCA_TBF_PRATE64" },
+        Column { key: "Burst", name: "burst", how: How::Number(Unit::Bytes), kernel: "TCA_TBF_BURST" },
+        Column { key: "Pburst", name: "pburst", how: How::Number(Unit::Bytes), kernel: "TCA_TBF_PBURST" },
+        Column { key: "Pad", name: "pad", how: How::Hidden, kernel: "TCA_TBF_PAD" },
+    ],
+    &[ // 1609, `struct tc_tbf_qopt`
+        Column { key: "rate", name: "rate", how: How::Within(1632), kernel: "" },
+        Column { key: "peakrate", name: "peakrate", how: How::Within(1632), kernel: "" },
+        Column { key: "limit", name: "limit", how: How::Number(Unit::Bytes), kernel: "" },
+        Column { key: "buffer", name: "buffer", how: How::Number(Unit::Ticks), kernel: "" },
+        Column { key: "mtu", name: "mtu", how: How::Number(Unit::Ticks), kernel: "" },
+    ],
+    &[ // 1610, `list tc`: the rows of tbf
+        Column { key: "Options", name: "options", how: How::Within(1608), kernel: "TCA_OPTIONS" },
+        Column { key: "Xstats", name: "xstats", how: How::Within(822), kernel: "TCA_XSTATS" },
+    ],
 ];
 
-// `struct tc_tbf_qopt`
-#[rattlefmt::skip]
-const STRUCT_TC_TBF_QOPT: [Column<'static>; 5] = [
-    Column { key: "rate", name: "rate", how: How::Within(4200) },
-    Column { key: "peakrate", name: "peakrate", how: How::Within(4200) },
-    Column { key: "limit", name: "limit", how: How::Number(Unit::Bytes) },
-    Column { key: "buffer", name: "buffer", how: How::Number(Unit::Ticks) },
-    Column { key: "mtu", name: "mtu", how: How::Number(Unit::Ticks) },
-];
-
-// `list tc`: the rows of tbf
-#[rattlefmt::skip]
-const LIST_TC_QDISC_TBF: [Column<'static>; 2] = [
-    Column { key: "Options", name: "options", how: How::Within(3984) },
-    Column { key: "Xstats", name: "xstats", how: How::Within(3006) },
-];
-
-#[tactic(auto, unfolding(crate::specs::Tables::ColumnsOfQdiscs::columns_of_qdiscs_332))]
-pub(crate) fn columns_of_qdiscs_332(place: usize) -> &'static [Column<'static>]
-    ensures { columns_view result.now ≡ columns_of_qdiscs_332 place }
+#[tactic(auto, unfolding(crate::specs::Arrays::columns_of_qdiscs_tbf))]
+pub(crate) fn columns_of_qdiscs_tbf() -> &'static [&'static [Column<'static>]]
+    ensures { map (λ x. columns_view x.now) result.now ≡ columns_of_qdiscs_tbf }
 {
-    match place {
-        3984 => &LIST_TBF_IN_TBF,
-        3985 => &STRUCT_TC_TBF_QOPT,
-        3986 => &LIST_TC_QDISC_TBF,
-        _ => &[],
-    }
-}
-
-#[tactic(auto, unfolding(crate::specs::Tables::ColumnsOfQdiscs::columns_of_qdiscs))]
-pub(crate) fn columns_of_qdiscs(place: usize) -> &'static [Column<'static>]
-    ensures { columns_view result.now ≡ columns_of_qdiscs place }
-{
-    match place / 12 {
-        300 => columns_of_qdiscs_300(place),
-        301 => columns_of_qdiscs_301(place),
-        302 => columns_of_qdiscs_302(place),
-        303 => columns_of_qdiscs_303(place),
-        304 => columns_of_qdiscs_304(place),
-        305 => columns_of_qdiscs_305(place),
-        306 => columns_of_qdiscs_306(place),
-        307 => columns_of_qdiscs_307(place),
-        308 => columns_of_qdiscs_308(place),
-        309 => columns_of_qdiscs_309(place),
-        310 => columns_of_qdiscs_310(place),
-        311 => columns_of_qdiscs_311(place),
-        312 => columns_of_qdiscs_312(place),
-        313 => columns_of_qdiscs_313(place),
-        314 => columns_of_qdiscs_314(place),
-        315 => columns_of_qdiscs_315(place),
-        316 => columns_of_qdiscs_316(place),
-        317 => columns_of_qdiscs_317(place),
-        318 => columns_of_qdiscs_318(place),
-        319 => columns_of_qdiscs_319(place),
-        320 => columns_of_qdiscs_320(place),
-        321 => columns_of_qdiscs_321(place),
-        322 => columns_of_qdiscs_322(place),
-        323 => columns_of_qdiscs_323(place),
-        324 => columns_of_qdiscs_324(place),
-        325 => columns_of_qdiscs_325(place),
-        326 => columns_of_qdiscs_326(place),
-        327 => columns_of_qdiscs_327(place),
-        328 => columns_of_qdiscs_328(place),
-        329 => columns_of_qdiscs_329(place),
-        330 => columns_of_qdiscs_330(place),
-        331 => columns_of_qdiscs_331(place),
-        332 => columns_of_qdiscs_332(place),
-        _ => &[],
-    }
+    &COLUMNS_OF_QDISCS_TBF
 }

@@ -1,79 +1,52 @@
 //! The columns of `kinds/shared`. Written by `kinds/columns`.
 
-ghost use Rattle.std.specs.Prelude.{◌≡◌};
+ghost use Rattle.std.specs.Prelude.{map, ◌≡◌};
+ghost use Rattle.tc_columns.specs.Arrays.{columns_of_shared};
 ghost use Rattle.tc_lines.specs.Columns.{columns_view};
-ghost use Rattle.tc_columns.specs.Tables.ColumnsOfShared.{columns_of_shared_350, columns_of_shared};
 
 use tc_lines::{Column, How};
 use tc_units::Unit;
 
-// `struct tc_ratespec`
 #[rattlefmt::skip]
-const STRUCT_TC_RATESPEC: [Column<'static>; 6] = [
-    Column { key: "cell_log", name: "cell_log", how: How::Number(Unit::Power) },
-    Column { key: "linklayer", name: "linklayer", how: How::Text(4201, 16201) },
-    Column { key: "overhead", name: "overhead", how: How::Number(Unit::Bytes) },
-    Column { key: "cell_align", name: "cell_align", how: How::Plain },
-    Column { key: "mpu", name: "mpu", how: How::Number(Unit::Bytes) },
-    Column { key: "rate", name: "rate", how: How::Number(Unit::BytesPerSecond) },
+static COLUMNS_OF_SHARED: [&'static [Column<'static>]; 6] = [
+    &[ // 1632, `struct tc_ratespec`
+        Column { key: "cell_log", name: "cell_log", how: How::Number(Unit::Power), kernel: "" },
+        Column { key: "linklayer", name: "linklayer", how: How::Text(1633), kernel: "" },
+        Column { key: "overhead", name: "overhead", how: How::Number(Unit::Bytes), kernel: "" },
+        Column { key: "cell_align", name: "cell_align", how: How::Plain, kernel: "" },
+        Column { key: "mpu", name: "mpu", how: How::Number(Unit::Bytes), kernel: "" },
+        Column { key: "rate", name: "rate", how: How::Number(Unit::BytesPerSecond), kernel: "" },
+    ],
+    &[],
+    &[ // 1634, `list stab`
+        Column { key: "Base", name: "base", how: How::Within(1635), kernel: "TCA_STAB_BASE" },
+        Column { key: "Data", name: "data", how: How::Plain, kernel: "TCA_STAB_DATA" },
+    ],
+    &[ // 1635, `struct tc_sizespec`
+        Column { key: "cell_log", name: "cell_log", how: How::Number(Unit::Power), kernel: "" },
+        Column { key: "size_log", name: "size_log", how: How::Number(Unit::Power), kernel: "" },
+        Column { key: "cell_align", name: "cell_align", how: How::Plain, kernel: "" },
+        Column { key: "overhead", name: "overhead", how: How::Number(Unit::Bytes), kernel: "" },
+        Column { key: "linklayer", name: "linklayer", how: How::Text(1633), kernel: "" },
+        Column { key: "mpu", name: "mpu", how: How::Number(Unit::Bytes), kernel: "" },
+        Column { key: "mtu", name: "mtu", how: How::Number(Unit::Bytes), kernel: "" },
+        Column { key: "tsize", name: "tsize", how: How::Plain, kernel: "" },
+    ],
+    &[ // 1636, `struct tc_estimator`
+        Column { key: "interval", name: "interval", how: How::Number(Unit::Power), kernel: "" },
+        Column { key: "ewma_log", name: "ewma_log", how: How::Number(Unit::Power), kernel: "" },
+    ],
+    &[ // 1637, `struct sock_filter`
+        Column { key: "code", name: "code", how: How::Number(Unit::Hex), kernel: "" },
+        Column { key: "jt", name: "jt", how: How::Plain, kernel: "" },
+        Column { key: "jf", name: "jf", how: How::Plain, kernel: "" },
+        Column { key: "k", name: "k", how: How::Number(Unit::Hex), kernel: "" },
+    ],
 ];
 
-// `list stab`
-#[rattlefmt::skip]
-const LIST_STAB: [Column<'static>; 2] = [
-    Column { key: "Base", name: "base", how: How::Within(4203) },
-    Column { key: "Data", name: "data", how: How::Plain },
-];
-
-// `struct tc_sizespec`
-#[rattlefmt::skip]
-const STRUCT_TC_SIZESPEC: [Column<'static>; 8] = [
-    Column { key: "cell_log", name: "cell_log", how: How::Number(Unit::Power) },
-    Column { key: "size_log", name: "size_log", how: How::Number(Unit::Power) },
-    Column { key: "cell_align", name: "cell_align", how: How::Plain },
-    Column { key: "overhead", name: "overhead", how: How::Number(Unit::Bytes) },
-    Column { key: "linklayer", name: "linklayer", how: How::Text(4201, 16201) },
-    Column { key: "mpu", name: "mpu", how: How::Number(Unit::Bytes) },
-    Column { key: "mtu", name: "mtu", how: How::Number(Unit::Bytes) },
-    Column { key: "tsize", name: "tsize", how: How::Plain },
-];
-
-// `struct tc_estimator`
-#[rattlefmt::skip]
-const STRUCT_TC_ESTIMATOR: [Column<'static>; 2] = [
-    Column { key: "interval", name: "interval", how: How::Number(Unit::Power) },
-    Column { key: "ewma_log", name: "ewma_log", how: How::Number(Unit::Power) },
-];
-
-// `struct sock_filter`
-#[rattlefmt::skip]
-const STRUCT_SOCK_FILTER: [Column<'static>; 4] = [
-    Column { key: "code", name: "code", how: How::Number(Unit::Hex) },
-    Column { key: "jt", name: "jt", how: How::Plain },
-    Column { key: "jf", name: "jf", how: How::Plain },
-    Column { key: "k", name: "k", how: How::Number(Unit::Hex) },
-];
-
-#[tactic(auto, unfolding(crate::specs::Tables::ColumnsOfShared::columns_of_shared_350))]
-pub(crate) fn columns_of_shared_350(place: usize) -> &'static [Column<'static>]
-    ensures { columns_view result.now ≡ columns_of_shared_350 place }
+#[tactic(auto, unfolding(crate::specs::Arrays::columns_of_shared))]
+pub(crate) fn columns_of_shared() -> &'static [&'static [Column<'static>]]
+    ensures { map (λ x. columns_view x.now) result.now ≡ columns_of_shared }
 {
-    match place {
-        4200 => &STRUCT_TC_RATESPEC,
-        4202 => &LIST_STAB,
-        4203 => &STRUCT_TC_SIZESPEC,
-        4204 => &STRUCT_TC_ESTIMATOR,
-        4205 => &STRUCT_SOCK_FILTER,
-        _ => &[],
-    }
-}
-
-#[tactic(auto, unfolding(crate::specs::Tables::ColumnsOfShared::columns_of_shared))]
-pub(crate) fn columns_of_shared(place: usize) -> &'static [Column<'static>]
-    ensures { columns_view result.now ≡ columns_of_shared place }
-{
-    match place / 12 {
-        350 => columns_of_shared_350(place),
-        _ => &[],
-    }
+    &COLUMNS_OF_SHARED
 }

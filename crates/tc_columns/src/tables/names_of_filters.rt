@@ -1,69 +1,38 @@
 //! The names of `kinds/filters`. Written by `kinds/columns`.
 
-ghost use Rattle.std.specs.Prelude.{◌≡◌};
+ghost use Rattle.std.specs.Prelude.{map, ◌≡◌};
+ghost use Rattle.tc_columns.specs.Arrays.{names_of_filters_flow, names_of_filters_u32};
 ghost use Rattle.tc_units.specs.Names.{names_view};
-ghost use Rattle.tc_columns.specs.Tables.NamesOfFilters.{names_of_filters_203, names_of_filters_210, names_of_filters_1203, names_of_filters};
 
 use tc_units::Name;
 
-// `enum flow_mode`
 #[rattlefmt::skip]
-const ENUM_FLOW_MODE: [Name<'static>; 2] = [
-    Name { number: 0, name: "Map" },
-    Name { number: 1, name: "Hash" },
+static NAMES_OF_FILTERS_FLOW: [&'static [Name<'static>]; 2] = [
+    &[],
+    &[ // 625, `enum flow_mode` for people
+        Name { number: 0, name: "map", kernel: "FLOW_MODE_MAP" },
+        Name { number: 1, name: "hash", kernel: "FLOW_MODE_HASH" },
+    ],
 ];
 
-#[tactic(auto, unfolding(crate::specs::Tables::NamesOfFilters::names_of_filters_203))]
-pub(crate) fn names_of_filters_203(place: usize) -> &'static [Name<'static>]
-    ensures { names_view result.now ≡ names_of_filters_203 place }
+#[tactic(auto, unfolding(crate::specs::Arrays::names_of_filters_flow))]
+pub(crate) fn names_of_filters_flow() -> &'static [&'static [Name<'static>]]
+    ensures { map (λ x. names_view x.now) result.now ≡ names_of_filters_flow }
 {
-    match place {
-        2437 => &ENUM_FLOW_MODE,
-        _ => &[],
-    }
+    &NAMES_OF_FILTERS_FLOW
 }
 
-// what each is called
 #[rattlefmt::skip]
-const EACH_KEY_2522: [Name<'static>; 1] = [
-    Name { number: 0, name: "key" },
+static NAMES_OF_FILTERS_U32: [&'static [Name<'static>]; 3] = [
+    &[], &[],
+    &[ // 794, what each is called
+        Name { number: 0, name: "key", kernel: "" },
+    ],
 ];
 
-#[tactic(auto, unfolding(crate::specs::Tables::NamesOfFilters::names_of_filters_210))]
-pub(crate) fn names_of_filters_210(place: usize) -> &'static [Name<'static>]
-    ensures { names_view result.now ≡ names_of_filters_210 place }
+#[tactic(auto, unfolding(crate::specs::Arrays::names_of_filters_u32))]
+pub(crate) fn names_of_filters_u32() -> &'static [&'static [Name<'static>]]
+    ensures { map (λ x. names_view x.now) result.now ≡ names_of_filters_u32 }
 {
-    match place {
-        2522 => &EACH_KEY_2522,
-        _ => &[],
-    }
-}
-
-// `enum flow_mode` for people
-#[rattlefmt::skip]
-const ENUM_FLOW_MODE_FOR_PEOPLE: [Name<'static>; 2] = [
-    Name { number: 0, name: "map" },
-    Name { number: 1, name: "hash" },
-];
-
-#[tactic(auto, unfolding(crate::specs::Tables::NamesOfFilters::names_of_filters_1203))]
-pub(crate) fn names_of_filters_1203(place: usize) -> &'static [Name<'static>]
-    ensures { names_view result.now ≡ names_of_filters_1203 place }
-{
-    match place {
-        14437 => &ENUM_FLOW_MODE_FOR_PEOPLE,
-        _ => &[],
-    }
-}
-
-#[tactic(auto, unfolding(crate::specs::Tables::NamesOfFilters::names_of_filters))]
-pub(crate) fn names_of_filters(place: usize) -> &'static [Name<'static>]
-    ensures { names_view result.now ≡ names_of_filters place }
-{
-    match place / 12 {
-        203 => names_of_filters_203(place),
-        210 => names_of_filters_210(place),
-        1203 => names_of_filters_1203(place),
-        _ => &[],
-    }
+    &NAMES_OF_FILTERS_U32
 }

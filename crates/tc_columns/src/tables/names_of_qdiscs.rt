@@ -1,288 +1,132 @@
 //! The names of `kinds/qdiscs`. Written by `kinds/columns`.
 
-ghost use Rattle.std.specs.Prelude.{◌≡◌};
+ghost use Rattle.std.specs.Prelude.{map, ◌≡◌};
+ghost use Rattle.tc_columns.specs.Arrays.{names_of_qdiscs_cake, names_of_qdiscs_fq, names_of_qdiscs_gred, names_of_qdiscs_mqprio, names_of_qdiscs_plug};
+ghost use Rattle.tc_columns.specs.Arrays.{names_of_qdiscs_taprio};
 ghost use Rattle.tc_units.specs.Names.{names_view};
-ghost use Rattle.tc_columns.specs.Tables.NamesOfQdiscs.{names_of_qdiscs_301, names_of_qdiscs_311, names_of_qdiscs_314, names_of_qdiscs_319};
-ghost use Rattle.tc_columns.specs.Tables.NamesOfQdiscs.{names_of_qdiscs_324, names_of_qdiscs_331, names_of_qdiscs_1301, names_of_qdiscs_1319};
-ghost use Rattle.tc_columns.specs.Tables.NamesOfQdiscs.{names_of_qdiscs_1324, names_of_qdiscs_1331, names_of_qdiscs};
 
 use tc_units::Name;
 
-// `enum cake_diffserv`
 #[rattlefmt::skip]
-const ENUM_CAKE_DIFFSERV: [Name<'static>; 5] = [
-    Name { number: 0, name: "Diffserv3" },
-    Name { number: 1, name: "Diffserv4" },
-    Name { number: 2, name: "Diffserv8" },
-    Name { number: 3, name: "Besteffort" },
-    Name { number: 4, name: "Precedence" },
+static NAMES_OF_QDISCS_CAKE: [&'static [Name<'static>]; 7] = [
+    &[], &[], &[],
+    &[ // 867, `enum cake_diffserv` for people
+        Name { number: 0, name: "diffserv3", kernel: "CAKE_DIFFSERV_DIFFSERV3" },
+        Name { number: 1, name: "diffserv4", kernel: "CAKE_DIFFSERV_DIFFSERV4" },
+        Name { number: 2, name: "diffserv8", kernel: "CAKE_DIFFSERV_DIFFSERV8" },
+        Name { number: 3, name: "besteffort", kernel: "CAKE_DIFFSERV_BESTEFFORT" },
+        Name { number: 4, name: "precedence", kernel: "CAKE_DIFFSERV_PRECEDENCE" },
+    ],
+    &[ // 868, `enum cake_atm` for people
+        Name { number: 0, name: "none", kernel: "CAKE_ATM_NONE" },
+        Name { number: 1, name: "atm", kernel: "CAKE_ATM_ATM" },
+        Name { number: 2, name: "ptm", kernel: "CAKE_ATM_PTM" },
+    ],
+    &[ // 869, `enum cake_flow` for people
+        Name { number: 0, name: "none", kernel: "CAKE_FLOW_NONE" },
+        Name { number: 1, name: "src_ip", kernel: "CAKE_FLOW_SRC_IP" },
+        Name { number: 2, name: "dst_ip", kernel: "CAKE_FLOW_DST_IP" },
+        Name { number: 3, name: "hosts", kernel: "CAKE_FLOW_HOSTS" },
+        Name { number: 4, name: "flows", kernel: "CAKE_FLOW_FLOWS" },
+        Name { number: 5, name: "dual_src", kernel: "CAKE_FLOW_DUAL_SRC" },
+        Name { number: 6, name: "dual_dst", kernel: "CAKE_FLOW_DUAL_DST" },
+        Name { number: 7, name: "triple", kernel: "CAKE_FLOW_TRIPLE" },
+    ],
+    &[ // 870, `enum cake_ack` for people
+        Name { number: 0, name: "none", kernel: "CAKE_ACK_NONE" },
+        Name { number: 1, name: "filter", kernel: "CAKE_ACK_FILTER" },
+        Name { number: 2, name: "aggressive", kernel: "CAKE_ACK_AGGRESSIVE" },
+    ],
 ];
 
-// `enum cake_atm`
-#[rattlefmt::skip]
-const ENUM_CAKE_ATM: [Name<'static>; 3] = [
-    Name { number: 0, name: "None" },
-    Name { number: 1, name: "Atm" },
-    Name { number: 2, name: "Ptm" },
-];
-
-// `enum cake_flow`
-#[rattlefmt::skip]
-const ENUM_CAKE_FLOW: [Name<'static>; 8] = [
-    Name { number: 0, name: "None" },
-    Name { number: 1, name: "SrcIp" },
-    Name { number: 2, name: "DstIp" },
-    Name { number: 3, name: "Hosts" },
-    Name { number: 4, name: "Flows" },
-    Name { number: 5, name: "DualSrc" },
-    Name { number: 6, name: "DualDst" },
-    Name { number: 7, name: "Triple" },
-];
-
-// `enum cake_ack`
-#[rattlefmt::skip]
-const ENUM_CAKE_ACK: [Name<'static>; 3] = [
-    Name { number: 0, name: "None" },
-    Name { number: 1, name: "Filter" },
-    Name { number: 2, name: "Aggressive" },
-];
-
-#[tactic(auto, unfolding(crate::specs::Tables::NamesOfQdiscs::names_of_qdiscs_301))]
-pub(crate) fn names_of_qdiscs_301(place: usize) -> &'static [Name<'static>]
-    ensures { names_view result.now ≡ names_of_qdiscs_301 place }
+#[tactic(auto, unfolding(crate::specs::Arrays::names_of_qdiscs_cake))]
+pub(crate) fn names_of_qdiscs_cake() -> &'static [&'static [Name<'static>]]
+    ensures { map (λ x. names_view x.now) result.now ≡ names_of_qdiscs_cake }
 {
-    match place {
-        3615 => &ENUM_CAKE_DIFFSERV,
-        3616 => &ENUM_CAKE_ATM,
-        3617 => &ENUM_CAKE_FLOW,
-        3618 => &ENUM_CAKE_ACK,
-        _ => &[],
-    }
+    &NAMES_OF_QDISCS_CAKE
 }
 
-// what each is called
 #[rattlefmt::skip]
-const EACH_SINCE_3734: [Name<'static>; 1] = [
-    Name { number: 0, name: "since" },
+static NAMES_OF_QDISCS_FQ: [&'static [Name<'static>]; 3] = [
+    &[], &[],
+    &[ // 1106, what each is called
+        Name { number: 0, name: "since", kernel: "" },
+    ],
 ];
 
-#[tactic(auto, unfolding(crate::specs::Tables::NamesOfQdiscs::names_of_qdiscs_311))]
-pub(crate) fn names_of_qdiscs_311(place: usize) -> &'static [Name<'static>]
-    ensures { names_view result.now ≡ names_of_qdiscs_311 place }
+#[tactic(auto, unfolding(crate::specs::Arrays::names_of_qdiscs_fq))]
+pub(crate) fn names_of_qdiscs_fq() -> &'static [&'static [Name<'static>]]
+    ensures { map (λ x. names_view x.now) result.now ≡ names_of_qdiscs_fq }
 {
-    match place {
-        3734 => &EACH_SINCE_3734,
-        _ => &[],
-    }
+    &NAMES_OF_QDISCS_FQ
 }
 
-// what each is called
 #[rattlefmt::skip]
-const EACH_QUEUE_3769: [Name<'static>; 1] = [
-    Name { number: 0, name: "queue" },
+static NAMES_OF_QDISCS_GRED: [&'static [Name<'static>]; 2] = [
+    &[],
+    &[ // 1177, what each is called
+        Name { number: 0, name: "queue", kernel: "" },
+    ],
 ];
 
-#[tactic(auto, unfolding(crate::specs::Tables::NamesOfQdiscs::names_of_qdiscs_314))]
-pub(crate) fn names_of_qdiscs_314(place: usize) -> &'static [Name<'static>]
-    ensures { names_view result.now ≡ names_of_qdiscs_314 place }
+#[tactic(auto, unfolding(crate::specs::Arrays::names_of_qdiscs_gred))]
+pub(crate) fn names_of_qdiscs_gred() -> &'static [&'static [Name<'static>]]
+    ensures { map (λ x. names_view x.now) result.now ≡ names_of_qdiscs_gred }
 {
-    match place {
-        3769 => &EACH_QUEUE_3769,
-        _ => &[],
-    }
+    &NAMES_OF_QDISCS_GRED
 }
 
-// `enum tc_mqprio_mode`
 #[rattlefmt::skip]
-const ENUM_TC_MQPRIO_MODE: [Name<'static>; 2] = [
-    Name { number: 0, name: "Dcb" },
-    Name { number: 1, name: "Channel" },
+static NAMES_OF_QDISCS_MQPRIO: [&'static [Name<'static>]; 5] = [
+    &[], &[], &[],
+    &[ // 1299, `enum tc_mqprio_mode` for people
+        Name { number: 0, name: "dcb", kernel: "TC_MQPRIO_MODE_DCB" },
+        Name { number: 1, name: "channel", kernel: "TC_MQPRIO_MODE_CHANNEL" },
+    ],
+    &[ // 1300, `enum tc_mqprio_shaper` for people
+        Name { number: 0, name: "dcb", kernel: "TC_MQPRIO_SHAPER_DCB" },
+        Name { number: 1, name: "bw_rate", kernel: "TC_MQPRIO_SHAPER_BW_RATE" },
+    ],
 ];
 
-// `enum tc_mqprio_shaper`
-#[rattlefmt::skip]
-const ENUM_TC_MQPRIO_SHAPER: [Name<'static>; 2] = [
-    Name { number: 0, name: "Dcb" },
-    Name { number: 1, name: "BwRate" },
-];
-
-#[tactic(auto, unfolding(crate::specs::Tables::NamesOfQdiscs::names_of_qdiscs_319))]
-pub(crate) fn names_of_qdiscs_319(place: usize) -> &'static [Name<'static>]
-    ensures { names_view result.now ≡ names_of_qdiscs_319 place }
+#[tactic(auto, unfolding(crate::specs::Arrays::names_of_qdiscs_mqprio))]
+pub(crate) fn names_of_qdiscs_mqprio() -> &'static [&'static [Name<'static>]]
+    ensures { map (λ x. names_view x.now) result.now ≡ names_of_qdiscs_mqprio }
 {
-    match place {
-        3831 => &ENUM_TC_MQPRIO_MODE,
-        3832 => &ENUM_TC_MQPRIO_SHAPER,
-        _ => &[],
-    }
+    &NAMES_OF_QDISCS_MQPRIO
 }
 
-// `enum tcq_plug`
 #[rattlefmt::skip]
-const ENUM_TCQ_PLUG: [Name<'static>; 4] = [
-    Name { number: 0, name: "Buffer" },
-    Name { number: 1, name: "ReleaseOne" },
-    Name { number: 2, name: "ReleaseIndefinite" },
-    Name { number: 3, name: "Limit" },
+static NAMES_OF_QDISCS_PLUG: [&'static [Name<'static>]; 2] = [
+    &[],
+    &[ // 1417, `enum tcq_plug` for people
+        Name { number: 0, name: "buffer", kernel: "TCQ_PLUG_BUFFER" },
+        Name { number: 1, name: "release_one", kernel: "TCQ_PLUG_RELEASE_ONE" },
+        Name { number: 2, name: "release_indefinite", kernel: "TCQ_PLUG_RELEASE_INDEFINITE" },
+        Name { number: 3, name: "limit", kernel: "TCQ_PLUG_LIMIT" },
+    ],
 ];
 
-#[tactic(auto, unfolding(crate::specs::Tables::NamesOfQdiscs::names_of_qdiscs_324))]
-pub(crate) fn names_of_qdiscs_324(place: usize) -> &'static [Name<'static>]
-    ensures { names_view result.now ≡ names_of_qdiscs_324 place }
+#[tactic(auto, unfolding(crate::specs::Arrays::names_of_qdiscs_plug))]
+pub(crate) fn names_of_qdiscs_plug() -> &'static [&'static [Name<'static>]]
+    ensures { map (λ x. names_view x.now) result.now ≡ names_of_qdiscs_plug }
 {
-    match place {
-        3889 => &ENUM_TCQ_PLUG,
-        _ => &[],
-    }
+    &NAMES_OF_QDISCS_PLUG
 }
 
-// `enum tc_taprio_cmd`
 #[rattlefmt::skip]
-const ENUM_TC_TAPRIO_CMD: [Name<'static>; 3] = [
-    Name { number: 0, name: "SetGates" },
-    Name { number: 1, name: "SetAndHold" },
-    Name { number: 2, name: "SetAndRelease" },
+static NAMES_OF_QDISCS_TAPRIO: [&'static [Name<'static>]; 5] = [
+    &[], &[], &[], &[],
+    &[ // 1588, `enum tc_taprio_cmd` for people
+        Name { number: 0, name: "set_gates", kernel: "TC_TAPRIO_CMD_SET_GATES" },
+        Name { number: 1, name: "set_and_hold", kernel: "TC_TAPRIO_CMD_SET_AND_HOLD" },
+        Name { number: 2, name: "set_and_release", kernel: "TC_TAPRIO_CMD_SET_AND_RELEASE" },
+    ],
 ];
 
-#[tactic(auto, unfolding(crate::specs::Tables::NamesOfQdiscs::names_of_qdiscs_331))]
-pub(crate) fn names_of_qdiscs_331(place: usize) -> &'static [Name<'static>]
-    ensures { names_view result.now ≡ names_of_qdiscs_331 place }
+#[tactic(auto, unfolding(crate::specs::Arrays::names_of_qdiscs_taprio))]
+pub(crate) fn names_of_qdiscs_taprio() -> &'static [&'static [Name<'static>]]
+    ensures { map (λ x. names_view x.now) result.now ≡ names_of_qdiscs_taprio }
 {
-    match place {
-        3976 => &ENUM_TC_TAPRIO_CMD,
-        _ => &[],
-    }
-}
-
-// `enum cake_diffserv` for people
-#[rattlefmt::skip]
-const ENUM_CAKE_DIFFSERV_FOR_PEOPLE: [Name<'static>; 5] = [
-    Name { number: 0, name: "diffserv3" },
-    Name { number: 1, name: "diffserv4" },
-    Name { number: 2, name: "diffserv8" },
-    Name { number: 3, name: "besteffort" },
-    Name { number: 4, name: "precedence" },
-];
-
-// `enum cake_atm` for people
-#[rattlefmt::skip]
-const ENUM_CAKE_ATM_FOR_PEOPLE: [Name<'static>; 3] = [
-    Name { number: 0, name: "none" },
-    Name { number: 1, name: "atm" },
-    Name { number: 2, name: "ptm" },
-];
-
-// `enum cake_flow` for people
-#[rattlefmt::skip]
-const ENUM_CAKE_FLOW_FOR_PEOPLE: [Name<'static>; 8] = [
-    Name { number: 0, name: "none" },
-    Name { number: 1, name: "src_ip" },
-    Name { number: 2, name: "dst_ip" },
-    Name { number: 3, name: "hosts" },
-    Name { number: 4, name: "flows" },
-    Name { number: 5, name: "dual_src" },
-    Name { number: 6, name: "dual_dst" },
-    Name { number: 7, name: "triple" },
-];
-
-// `enum cake_ack` for people
-#[rattlefmt::skip]
-const ENUM_CAKE_ACK_FOR_PEOPLE: [Name<'static>; 3] = [
-    Name { number: 0, name: "none" },
-    Name { number: 1, name: "filter" },
-    Name { number: 2, name: "aggressive" },
-];
-
-#[tactic(auto, unfolding(crate::specs::Tables::NamesOfQdiscs::names_of_qdiscs_1301))]
-pub(crate) fn names_of_qdiscs_1301(place: usize) -> &'static [Name<'static>]
-    ensures { names_view result.now ≡ names_of_qdiscs_1301 place }
-{
-    match place {
-        15615 => &ENUM_CAKE_DIFFSERV_FOR_PEOPLE,
-        15616 => &ENUM_CAKE_ATM_FOR_PEOPLE,
-        15617 => &ENUM_CAKE_FLOW_FOR_PEOPLE,
-        15618 => &ENUM_CAKE_ACK_FOR_PEOPLE,
-        _ => &[],
-    }
-}
-
-// `enum tc_mqprio_mode` for people
-#[rattlefmt::skip]
-const ENUM_TC_MQPRIO_MODE_FOR_PEOPLE: [Name<'static>; 2] = [
-    Name { number: 0, name: "dcb" },
-    Name { number: 1, name: "channel" },
-];
-
-// `enum tc_mqprio_shaper` for people
-#[rattlefmt::skip]
-const ENUM_TC_MQPRIO_SHAPER_FOR_PEOPLE: [Name<'static>; 2] = [
-    Name { number: 0, name: "dcb" },
-    Name { number: 1, name: "bw_rate" },
-];
-
-#[tactic(auto, unfolding(crate::specs::Tables::NamesOfQdiscs::names_of_qdiscs_1319))]
-pub(crate) fn names_of_qdiscs_1319(place: usize) -> &'static [Name<'static>]
-    ensures { names_view result.now ≡ names_of_qdiscs_1319 place }
-{
-    match place {
-        15831 => &ENUM_TC_MQPRIO_MODE_FOR_PEOPLE,
-        15832 => &ENUM_TC_MQPRIO_SHAPER_FOR_PEOPLE,
-        _ => &[],
-    }
-}
-
-// `enum tcq_plug` for people
-#[rattlefmt::skip]
-const ENUM_TCQ_PLUG_FOR_PEOPLE: [Name<'static>; 4] = [
-    Name { number: 0, name: "buffer" },
-    Name { number: 1, name: "release_one" },
-    Name { number: 2, name: "release_indefinite" },
-    Name { number: 3, name: "limit" },
-];
-
-#[tactic(auto, unfolding(crate::specs::Tables::NamesOfQdiscs::names_of_qdiscs_1324))]
-pub(crate) fn names_of_qdiscs_1324(place: usize) -> &'static [Name<'static>]
-    ensures { names_view result.now ≡ names_of_qdiscs_1324 place }
-{
-    match place {
-        15889 => &ENUM_TCQ_PLUG_FOR_PEOPLE,
-        _ => &[],
-    }
-}
-
-// `enum tc_taprio_cmd` for people
-#[rattlefmt::skip]
-const ENUM_TC_TAPRIO_CMD_FOR_PEOPLE: [Name<'static>; 3] = [
-    Name { number: 0, name: "set_gates" },
-    Name { number: 1, name: "set_and_hold" },
-    Name { number: 2, name: "set_and_release" },
-];
-
-#[tactic(auto, unfolding(crate::specs::Tables::NamesOfQdiscs::names_of_qdiscs_1331))]
-pub(crate) fn names_of_qdiscs_1331(place: usize) -> &'static [Name<'static>]
-    ensures { names_view result.now ≡ names_of_qdiscs_1331 place }
-{
-    match place {
-        15976 => &ENUM_TC_TAPRIO_CMD_FOR_PEOPLE,
-        _ => &[],
-    }
-}
-
-#[tactic(auto, unfolding(crate::specs::Tables::NamesOfQdiscs::names_of_qdiscs))]
-pub(crate) fn names_of_qdiscs(place: usize) -> &'static [Name<'static>]
-    ensures { names_view result.now ≡ names_of_qdiscs place }
-{
-    match place / 12 {
-        301 => names_of_qdiscs_301(place),
-        311 => names_of_qdiscs_311(place),
-        314 => names_of_qdiscs_314(place),
-        319 => names_of_qdiscs_319(place),
-        324 => names_of_qdiscs_324(place),
-        331 => names_of_qdiscs_331(place),
-        1301 => names_of_qdiscs_1301(place),
-        1319 => names_of_qdiscs_1319(place),
-        1324 => names_of_qdiscs_1324(place),
-        1331 => names_of_qdiscs_1331(place),
-        _ => &[],
-    }
+    &NAMES_OF_QDISCS_TAPRIO
 }

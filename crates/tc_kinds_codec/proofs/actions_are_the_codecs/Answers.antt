@@ -1,16 +1,12 @@
 use Rattle.std.proofs.Common.{refl}
-use Rattle.tc_kinds.specs.Parts.Message.{all_of_message, parts_of_message as message_parts}
-use Rattle.tc_kinds.specs.Parts.Action.{all_of_action, parts_of_action as action_parts}
-use Rattle.tc_kinds.specs.Parts.Elements.{all_of_elements, parts_of_elements as elements_parts}
-use Rattle.tc_kinds.specs.Parts.Actions.{all_of_actions}
-use Rattle.tc_kinds.specs.Parts.Actions.{parts_of_actions_mirred as mirred_parts}
-use Rattle.tc_kinds.specs.Parts.Actions.{parts_of_actions_nat as nat_parts}
-use Rattle.tc_kinds.specs.Parts.Actions.{parts_of_actions_tunnel_key as tunnel_parts}
-use Rattle.tc_kinds.specs.Table.{tc_tables}
+use Rattle.tc_kinds.specs.Parts.{parts_of_action, parts_of_actions_mirred, parts_of_actions_nat, parts_of_actions_tunnel_key}
+use Rattle.tc_kinds.specs.Parts.{parts_of_elements, parts_of_message}
+use Rattle.tc_kinds.specs.Table.{parts_from_0, parts_from_18, parts_from_36, parts_from_54, parts_of, tc_tables}
 use Rattle.tc_kinds_codec.proofs.actions_are_the_codecs.Goals as goal
 
 pub returns : goal.returns
-unfolding tc_tables all_of_message all_of_action all_of_elements all_of_actions message_parts action_parts elements_parts mirred_parts nat_parts tunnel_parts
+unfolding tc_tables parts_of parts_from_0 parts_from_18 parts_from_36 parts_from_54 parts_of_action parts_of_actions_mirred parts_of_actions_nat
+    parts_of_actions_tunnel_key parts_of_elements parts_of_message
 returns c = record {
   action = refl;
   layers = refl;

@@ -1,16 +1,12 @@
 use Rattle.std.proofs.Common.{refl}
-use Rattle.tc_kinds.specs.Parts.Message.{all_of_message, parts_of_message as message_parts}
-use Rattle.tc_kinds.specs.Parts.Elements.{all_of_elements, parts_of_elements as elements_parts}
-use Rattle.tc_kinds.specs.Parts.Filters.{all_of_filters}
-use Rattle.tc_kinds.specs.Parts.Filters.{parts_of_filters_flower as flower_parts}
-use Rattle.tc_kinds.specs.Parts.Filters.{parts_of_filters_u32 as u32_parts}
-use Rattle.tc_kinds.specs.Parts.Filters.{parts_of_filters_matchall as matchall_parts}
-use Rattle.tc_kinds.specs.Parts.Filters.{parts_of_filters_bpf as bpf_parts}
-use Rattle.tc_kinds.specs.Table.{tc_tables}
+use Rattle.tc_kinds.specs.Parts.{parts_of_elements, parts_of_filters_bpf, parts_of_filters_flower, parts_of_filters_matchall}
+use Rattle.tc_kinds.specs.Parts.{parts_of_filters_u32, parts_of_message}
+use Rattle.tc_kinds.specs.Table.{parts_from_0, parts_from_18, parts_from_36, parts_from_54, parts_of, tc_tables}
 use Rattle.tc_kinds_codec.proofs.filters_are_the_codecs.Goals as goal
 
 pub returns : goal.returns
-unfolding tc_tables all_of_message all_of_elements all_of_filters message_parts elements_parts flower_parts u32_parts matchall_parts bpf_parts
+unfolding tc_tables parts_of parts_from_0 parts_from_18 parts_from_36 parts_from_54 parts_of_elements parts_of_filters_bpf parts_of_filters_flower
+    parts_of_filters_matchall parts_of_filters_u32 parts_of_message
 returns c = record {
   flower = refl;
   mpls = refl;

@@ -1,11 +1,10 @@
 use Rattle.std.proofs.Common.{refl}
-use Rattle.tc_kinds.specs.Parts.Message.{all_of_message, parts_of_message as message_parts}
-use Rattle.tc_kinds.specs.Parts.Statistics.{all_of_statistics, parts_of_statistics as statistics_parts}
-use Rattle.tc_kinds.specs.Table.{tc_tables}
+use Rattle.tc_kinds.specs.Parts.{parts_of_message, parts_of_statistics}
+use Rattle.tc_kinds.specs.Table.{parts_from_0, parts_from_18, parts_from_36, parts_from_54, parts_of, tc_tables}
 use Rattle.tc_kinds_codec.proofs.messages_are_the_codecs.Goals as goal
 
 pub returns : goal.returns
-unfolding tc_tables all_of_message all_of_statistics message_parts statistics_parts
+unfolding tc_tables parts_of parts_from_0 parts_from_18 parts_from_36 parts_from_54 parts_of_message parts_of_statistics
 returns c = record {
   tc_constant = refl;
   action_constant = refl;

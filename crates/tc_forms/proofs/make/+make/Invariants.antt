@@ -2,7 +2,7 @@ use Rattle.tc_form_attributes.specs.AttributesMade.{each_under, listed_made}
 use Rattle.tc_forms.specs.Made.{make}
 use Rattle.tc_form_values.specs.Records.{each_made, fields_made}
 use Rattle.tc_form_values.specs.Tables.{fields_view}
-use Rattle.tc_form_values.specs.declared.form.Field.{Field as CodeField}
+use Rattle.tc_form_values.specs.Tables.{CodeField}
 use Rattle.serde_json.specs.Data.{Data}
 use denote.Text.{Utf8}
 use denote.Shadow.{shadow}

@@ -9,7 +9,7 @@ use Rattle.std.proofs.Common.{List, ℕ, ◌+◌, ◌*◌, ◌-◌, length, drop
 use Rattle.serde.specs.Event.{Event, Log}
 use Rattle.serde_json.specs.Data.{Data}
 use Rattle.tc_form_attributes.specs.Frames.{PaddedFrame}
-use Rattle.tc_form_values.specs.declared.form.Field.{Field as CodeField}
+use Rattle.tc_form_values.specs.Tables.{CodeField}
 use Rattle.tc_form_values.specs.Places.{rows_under}
 use Rattle.tc_form_attributes.specs.RowLists.{rows_in}
 use Rattle.tc_forms.proofs.show.+send.Given as goal

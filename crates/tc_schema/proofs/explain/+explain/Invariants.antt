@@ -1,7 +1,6 @@
 use Rattle.std.proofs.Common.{length, ◌*◌, ◌+◌, ◌++◌, ◌-◌, ◌≡◌}
 use Rattle.tc_form_values.specs.Tables.{part_view}
 use Rattle.tc_schema.specs.Explained.{explained, members_text}
-use Rattle.tc_schema.specs.Notes.{note_views}
 use Rattle.tc_schema.specs.Texts.{deepest, members_of}
 use Rattle.tc_schema.proofs.explain.+explain.Given as goal
 
@@ -17,7 +16,6 @@ decreases-explain_members-loop-member g l = length (members_of (part_view l.left
 -- what is to be appended from here is what was to be appended from the start
 abbrev pub invariant-explain_members-loop-member : goal.invariant-explain_members-loop-member
 invariant-explain_members-loop-member g l =
-    let Inner = explained (g.T.Tables.parts_of l.at.table) l.at.notes.now l.at.names.now l.at.depth in
-    let text = members_text Inner l.at.names.now (deepest - l.at.depth) l.all in
-    l.out.items ++ text (members_of (part_view l.left)) (note_views l.behind.notes.now)
-    ≡ l.initial.out.items ++ text (members_of (part_view l.initial.left)) (note_views l.initial.behind.notes.now)
+    let Inner = explained (g.T.Tables.parts_of l.at.table) l.at.notes.now l.at.depth in
+    let text = members_text Inner l.at.notes.now (deepest - l.at.depth) l.all l.place in
+    l.out.items ++ text (members_of (part_view l.left)) ≡ l.initial.out.items ++ text (members_of (part_view l.initial.left))

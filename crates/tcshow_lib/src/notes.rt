@@ -1,0 +1,104 @@
+//! What the columns tell of each member of the table, for explanations.
+
+use std::alloc::{AllocError, Allocator};
+use tc_columns::{KindColumns, Root};
+use tc_form_values::{Form, Part, Tables};
+use tc_kinds::{PLACES, TcTables};
+use tc_lines::{Column, Columns, How};
+use tc_schema::{Note, unit_in_words};
+use tc_units::{Name, Unit};
+
+// The columns of every part are the same whatever a message is about.
+const COLUMNS: KindColumns<'static> = KindColumns {
+    root: Root::Qdisc,
+    interfaces: &[],
+    all: true,
+};
+
+/// A note for each member of each part.
+pub(crate) fn notes_of_kinds<A: Allocator>(alloc: A) -> Result<Vec<Note, A>, AllocError> {
+    let mut notes = Vec::new(alloc);
+    for place in 0..PLACES {
+        push_notes(&mut notes, place)?;
+    }
+    Ok(notes)
+}
+
+/// The places that have parts.
+pub(crate) fn places_of_kinds<A: Allocator>(alloc: A) -> Result<Vec<usize, A>, AllocError> {
+    let mut places = Vec::new(alloc);
+    for place in 0..PLACES {
+        if !matches!(TcTables.part(place), Part::One(Form::Hex)) {
+            places.push(place)?;
+        }
+    }
+    Ok(places)
+}
+
+fn push_notes<A: Allocator>(notes: &mut Vec<Note, A>, place: usize) -> Result<(), AllocError> {
+    if let Part::Names(names) = TcTables.part(place) {
+        for name in names {
+            notes.push(note_of_name(place, name.name, name.number))?;
+        }
+        return Ok(());
+    }
+    for column in COLUMNS.columns(place) {
+        notes.push(note_of_column(place, *column))?;
+    }
+    Ok(())
+}
+
+fn note_of_name(place: usize, member: &'static str, number: u64) -> Note {
+    Note {
+        place,
+        member,
+        kernel: kernel_of(COLUMNS.names(place), number),
+        unit: "",
+        names: &[],
+        numbers: Unit::Plain,
+    }
+}
+
+// The kernel's name of a number.
+fn kernel_of(names: &[Name<'static>], number: u64) -> &'static str {
+    for name in names {
+        if name.number == number {
+            return name.kernel;
+        }
+    }
+    ""
+}
+
+fn note_of_column(place: usize, column: Column<'static>) -> Note {
+    let (unit, names, numbers) = match column.how {
+        How::Number(unit) => (unit_in_words(unit), 0, Unit::Plain),
+        How::Named(unit, names) => (unit_in_words(unit), names, unit_of_numbers(unit)),
+        How::Flags(names) => ("", names, Unit::Hex),
+        How::Interface => ("interface", 0, Unit::Plain),
+        _ => ("", 0, Unit::Plain),
+    };
+    Note {
+        place,
+        member: column.key,
+        kernel: column.kernel,
+        unit,
+        names: names_at(names),
+        numbers,
+    }
+}
+
+// The names at a place; none at 0.
+fn names_at(place: usize) -> &'static [Name<'static>] {
+    if place == 0 {
+        return &[];
+    }
+    COLUMNS.names(place)
+}
+
+// A number with a name is written in hex or decimal, whatever it counts.
+fn unit_of_numbers(unit: Unit) -> Unit {
+    match unit {
+        Unit::Hex | Unit::LongHex => Unit::Hex,
+        _ => Unit::Plain,
+    }
+}
