@@ -18,6 +18,10 @@ pub mod host;
 mod jsontext;
 #[path = "../../erase/shims/events.rs"]
 mod serde;
+#[cfg(target_os = "linux")]
+pub mod netlink;
+#[cfg(target_os = "linux")]
+pub mod shown;
 #[path = "../../erase/shims/small.rs"]
 mod small;
 #[path = "../../erase/shims/strict.rs"]
