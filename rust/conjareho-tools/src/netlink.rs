@@ -1,6 +1,7 @@
 //! Traffic control over route netlink: sockets, requests and their answers, dumps, interfaces and notifications.
 
 pub mod attributes;
+pub mod clear;
 pub mod devices;
 pub mod fault;
 pub mod kernel;
@@ -10,10 +11,11 @@ pub mod socket;
 pub mod state;
 pub mod transport;
 
+pub use clear::clear;
 pub use devices::{Device, Devices};
 pub use fault::{Fault, Refusal};
 pub use kernel::Kernel;
 pub use listener::{Heard, Listener, Notice};
 pub use socket::Socket;
-pub use state::{Dump, state_of};
+pub use state::{Dump, Objects, dump_of, state_of};
 pub use transport::Transport;

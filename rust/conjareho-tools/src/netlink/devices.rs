@@ -1,6 +1,6 @@
 //! Interfaces: their names and what else tells them apart, as the kernel of this network namespace has them.
 
-use super::attributes::{Attributes, attribute, put, text};
+use super::attributes::{Attributes, put, text};
 use super::fault::Fault;
 use super::kernel::Kernel;
 use super::message::{HEADER, NLM_F_DUMP, RTM_GETLINK, RTM_NEWLINK, header_of, request, u32_at};
@@ -113,6 +113,11 @@ impl Devices {
         self.0.iter().find(|device| device.index == index)
     }
 
+    /// The indices of all.
+    pub fn indices(&self) -> Vec<u32> {
+        self.0.iter().map(|device| device.index).collect()
+    }
+
     pub fn iter(&self) -> impl Iterator<Item = &Device> {
         self.0.iter()
     }
@@ -138,8 +143,3 @@ pub fn links<T: Transport>(kernel: &mut Kernel<T>) -> Result<Vec<Vec<u8>>, Fault
 }
 
 const MOST_TRIES: u32 = 8;
-
-/// The name that an `RTM_NEWLINK` gives its interface, if any.
-pub fn name_in(link: &[u8]) -> Result<Option<String>, Fault> {
-    Ok(attribute(link.get(HEADER + IFINFOMSG..).unwrap_or(&[]), IFLA_IFNAME)?.map(text))
-}

@@ -33,6 +33,14 @@ pub struct Objects {
 impl Objects {
     pub const ALL: Objects = Objects { qdiscs: true, classes: true, filters: true, chains: true, actions: true };
     pub const NONE: Objects = Objects { qdiscs: false, classes: false, filters: false, chains: false, actions: false };
+
+    fn are_below(self) -> bool {
+        self.filters || self.chains
+    }
+
+    fn are_of_interfaces(self) -> bool {
+        self.qdiscs || self.classes || self.are_below()
+    }
 }
 
 /// What interfaces have.
@@ -48,29 +56,32 @@ pub struct Dump {
 
 /// Dumps these interfaces whole, and again if one of them, a block of theirs or an action changed meanwhile.
 pub fn state_of<T: Transport, L: Transport>(kernel: &mut Kernel<T>, listener: &mut Listener<L>, interfaces: &[u32]) -> Result<Dump, Fault> {
-    dump_of(kernel, listener, Objects::ALL, interfaces)
+    dump_of(kernel, listener, Objects::ALL, Some(interfaces))
 }
 
-/// Dumps some objects of these interfaces; the kernel doesn't say that something changed during a dump of theirs, so the listener is asked.
+/// Dumps some objects of these interfaces, or of all. The kernel doesn't say that something changed during a dump of theirs, so the listener is
+/// asked.
 pub fn dump_of<T: Transport, L: Transport>(
     kernel: &mut Kernel<T>,
     listener: &mut Listener<L>,
     objects: Objects,
-    interfaces: &[u32],
+    interfaces: Option<&[u32]>,
 ) -> Result<Dump, Fault> {
     for _ in 0..MOST_TRIES {
         listener.heard()?;
         let before = Devices::of(kernel)?;
-        let dump = match dump_once(kernel, objects, interfaces) {
+        let all = before.indices();
+        let asked = interfaces.unwrap_or(&all);
+        let dump = match dump_once(kernel, objects, asked) {
             Err(Fault::Interrupted | Fault::Lost) => continue,
             dump => dump?,
         };
         let devices = Devices::of(kernel)?;
-        if let Some(gone) = interfaces.iter().find(|index| devices.at(**index).is_none()) {
+        if let Some(gone) = interfaces.and_then(|asked| asked.iter().find(|index| devices.at(**index).is_none())) {
             return Err(Fault::NoInterface(*gone));
         }
-        let are_same = interfaces.iter().all(|index| before.at(*index) == devices.at(*index));
-        if are_same && !listener.heard()?.is_change(interfaces, &dump.blocks) {
+        let are_same = asked.iter().all(|index| before.at(*index) == devices.at(*index));
+        if are_same && !listener.heard()?.is_change(asked, &dump.blocks) {
             return Ok(Dump { devices, ..dump });
         }
     }
@@ -79,20 +90,19 @@ pub fn dump_of<T: Transport, L: Transport>(
 
 fn dump_once<T: Transport>(kernel: &mut Kernel<T>, objects: Objects, interfaces: &[u32]) -> Result<Dump, Fault> {
     let mut dump = Dump::default();
-    let mut below = Vec::new();
     if objects.actions {
         dump.messages = actions(kernel)?;
     }
-    for index in interfaces {
+    let mut below = Vec::new();
+    for index in if objects.are_of_interfaces() { interfaces } else { &[] } {
         let mut tree = qdiscs(kernel, *index)?;
         for qdisc in &tree {
             dump.blocks.extend(blocks_in(qdisc)?);
         }
-        if objects.classes || objects.filters || objects.chains {
-            let classes = classes(kernel, *index, &tree)?;
-            tree.extend(classes);
+        if objects.classes || objects.are_below() {
+            tree.extend(classes(kernel, *index, &tree)?);
         }
-        for parent in if objects.filters || objects.chains { parents(&tree)? } else { Vec::new() } {
+        for parent in if objects.are_below() { parents(&tree)? } else { Vec::new() } {
             below.extend(below_parent(kernel, objects, *index, parent)?);
         }
         let is_asked = |kind| if kind == RTM_NEWQDISC { objects.qdiscs } else { objects.classes };
