@@ -2,7 +2,7 @@
 
 use crate::netlink::message::{Header, Messages, NLM_F_REQUEST, NLMSG_MIN_TYPE, RTM_NEWLINK, tcmsg_of};
 use crate::netlink::{Fault, Kernel, Transport};
-use crate::status::{Ending, Status, say};
+use crate::status::{Ending, Status};
 
 /// The requests of a stream, of which each can be sent.
 pub struct Stream<'a> {
@@ -38,16 +38,16 @@ impl<'a> Stream<'a> {
     }
 }
 
-/// Sends all requests, each once, and says of each that the kernel refuses why. Returns how many it refused. Ends at the first whose answer isn't
-/// known.
-pub fn send_all<T: Transport>(kernel: &mut Kernel<T>, stream: &Stream<'_>) -> Result<usize, Ending> {
+/// Sends all requests, each once, and tells `hear` of each that the kernel refuses why. Returns how many it refused. Ends at the first whose answer
+/// isn't known.
+pub fn send_all<T: Transport>(kernel: &mut Kernel<T>, stream: &Stream<'_>, hear: impl Fn(String)) -> Result<usize, Ending> {
     let mut refused = 0;
     for (number, header, message) in &stream.requests {
         match kernel.request(message) {
             Ok(_) => {}
             Err(Fault::Refused(refusal)) => {
                 refused += 1;
-                say("tcnl", format!("{}: {refusal}", place_of(*number, *header, message)));
+                hear(format!("{}: {refusal}", place_of(*number, *header, message)));
             }
             Err(fault) => {
                 let text = format!("{}: {fault}; it isn't known whether this was done, and those after it aren't sent", place_of(*number, *header, message));

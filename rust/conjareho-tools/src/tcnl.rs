@@ -4,7 +4,7 @@ use crate::netlink::devices::links;
 use crate::netlink::{Devices, Fault, Kernel, Listener, Objects, clear, dump_of};
 use crate::requests::{Stream, send_all};
 use crate::shown::stream_of;
-use crate::status::{Ending, Status, words_of};
+use crate::status::{Ending, Status, say, words_of};
 use ::clap::builder::NonEmptyStringValueParser;
 use ::clap::error::ErrorKind;
 use ::clap::{Arg, ArgAction, ArgMatches, Command};
@@ -143,7 +143,7 @@ fn send(words: &ArgMatches) -> Result<ExitCode, Ending> {
     std::io::stdin().lock().read_to_end(&mut bytes).map_err(|error| Ending::new(Status::Stream, format!("standard input: {error}")))?;
     let mut kernel = Kernel::open()?;
     let stream = Stream::of(&bytes, kernel.most(), words.get_flag("any"))?;
-    let refused = send_all(&mut kernel, &stream)?;
+    let refused = send_all(&mut kernel, &stream, |text| say("tcnl", text))?;
     Ok(ExitCode::from(u8::from(refused > 0)))
 }
 
