@@ -25,6 +25,8 @@ pub mod netlink;
 #[cfg(target_os = "linux")]
 pub mod requests;
 #[cfg(target_os = "linux")]
+mod restore;
+#[cfg(target_os = "linux")]
 pub mod save;
 #[cfg(target_os = "linux")]
 pub mod shown;
@@ -50,7 +52,7 @@ use user::memchr;
 include!(concat!(env!("OUT_DIR"), "/programs.rs"));
 
 #[cfg(target_os = "linux")]
-pub use {tcnl::tcnl, tcsave::tcsave};
+pub use {restore::tcrestore, tcnl::tcnl, tcsave::tcsave};
 
 use host::HostRuntime;
 use std::io::IsTerminal as _;
