@@ -107,3 +107,93 @@ fn word_in(value: &Value) -> Option<u32> {
     };
     u32::try_from(number).ok().filter(|number| *number != 0)
 }
+
+#[cfg(test)]
+mod tests {
+    use super::indices_in;
+    use crate::netlink::attributes::put;
+    use crate::netlink::message::{RTM_NEWACTION, RTM_NEWTFILTER, Tcmsg, request, tc_request};
+    use crate::shown::lines_of;
+    use ::serde_json::from_str;
+
+    const OPTIONS: u16 = 2;
+
+    // The indices in a message whose attributes are these.
+    fn indices(mut message: Vec<u8>, attributes: &[(u16, Vec<u8>)]) -> Vec<u32> {
+        for (kind, value) in attributes {
+            put(&mut message, *kind, value);
+        }
+        let len = message.len() as u32;
+        message[..4].copy_from_slice(&len.to_ne_bytes());
+        let shown = lines_of(&[message]).expect("a line");
+        indices_in(&from_str(&shown.lines[0]).expect("JSON")).into_iter().collect()
+    }
+
+    fn filter(index: i32) -> Vec<u8> {
+        tc_request(RTM_NEWTFILTER, 0, Tcmsg { index, handle: 1, parent: 9, info: 0x1_0008 })
+    }
+
+    fn nest(attributes: &[(u16, Vec<u8>)]) -> Vec<u8> {
+        let mut bytes = Vec::new();
+        for (kind, value) in attributes {
+            put(&mut bytes, *kind, value);
+        }
+        bytes
+    }
+
+    fn kind(name: &str) -> (u16, Vec<u8>) {
+        (1, [name.as_bytes(), &[0]].concat())
+    }
+
+    // The options of basic with an ematch `meta`.
+    fn meta(left: u16, right: u16, values: &[(u16, Vec<u8>)]) -> (u16, Vec<u8>) {
+        let side = |kind: u16| [&kind.to_ne_bytes()[..], &[0, 0]].concat();
+        let attributes = nest(&[&[(1, [side(left), side(right)].concat())], values].concat());
+        let ematch = [&[0, 0, 4, 0, 0, 0, 0, 0], &attributes[..]].concat();
+        let tree = nest(&[(1, vec![1, 0, 0, 0]), (2, nest(&[(1, ematch)]))]);
+        (OPTIONS, nest(&[(2, tree)]))
+    }
+
+    // The options of mirred, to an interface.
+    fn mirred(index: u32) -> Vec<u8> {
+        let mut parms = vec![0; 28];
+        parms[24..].copy_from_slice(&index.to_ne_bytes());
+        nest(&[kind("mirred"), (OPTIONS, nest(&[(2, parms)]))])
+    }
+
+    #[test]
+    fn header_and_block() {
+        assert_eq!(indices(filter(7), &[kind("u32")]), [7]);
+        assert!(indices(filter(-1), &[kind("u32")]).is_empty(), "a shared block");
+    }
+
+    #[test]
+    fn actions() {
+        let list = nest(&[(1, mirred(5)), (2, mirred(6))]);
+        // TCA_U32_ACT, TCA_BPF_ACT, TCA_FLOWER_ACT, TCA_BASIC_ACT
+        for (name, number) in [("u32", 7), ("bpf", 1), ("flower", 3), ("basic", 3)] {
+            assert_eq!(indices(filter(7), &[kind(name), (OPTIONS, nest(&[(number, list.clone())]))]), [5, 6, 7], "{name}");
+        }
+        assert_eq!(indices(request(RTM_NEWACTION, 0, &[0; 4]), &[(1, list)]), [5, 6]);
+    }
+
+    #[test]
+    fn route() {
+        assert_eq!(indices(filter(7), &[kind("route"), (OPTIONS, nest(&[(4, 3u32.to_ne_bytes().to_vec())]))]), [3, 7]);
+    }
+
+    #[test]
+    fn metadata() {
+        let number = |side: u16, index: u32| (side, index.to_ne_bytes().to_vec());
+        let found = |left, right, value: (u16, Vec<u8>)| indices(filter(7), &[kind("basic"), meta(left, right, &[value])]);
+        // TCF_META_ID_DEV, RTIIF and SK_BOUND_IF as numbers, beside a number
+        for id in [5, 15, 19] {
+            assert_eq!(found(0x1000 | id, 0x1000, number(3, 4)), [4, 7], "{id}");
+            assert_eq!(found(0x1000, 0x1000 | id, number(2, 4)), [4, 7], "{id} on the right");
+            assert_eq!(found(0x1000 | id, 0x1000, number(2, 4)), [7], "the mask of {id}");
+        }
+        assert_eq!(found(0x1000 | 5, 0x1000, (3, 4u64.to_ne_bytes().to_vec())), [4, 7], "of eight bytes");
+        assert_eq!(found(0x1000 | 6, 0x1000, number(3, 4)), [7], "a priority");
+        assert_eq!(found(5, 0, (3, b"wan\0".to_vec())), [7], "a name");
+    }
+}
