@@ -58,7 +58,11 @@ pub struct Dump {
 }
 
 /// Dumps these interfaces whole, and again if one of them, a block of theirs or an action changed meanwhile.
-pub fn state_of<T: Transport, L: Transport>(kernel: &mut Kernel<T>, listener: &mut Listener<L>, interfaces: &[u32]) -> Result<Dump, Fault> {
+pub fn state_of<T: Transport, L: Transport>(
+    kernel: &mut Kernel<T>,
+    listener: &mut Listener<L>,
+    interfaces: &[u32],
+) -> Result<Dump, Fault> {
     dump_of(kernel, listener, Objects::ALL, Some(interfaces))
 }
 
@@ -120,7 +124,13 @@ impl<T: Transport, L: Transport> Dumper<'_, T, L> {
     }
 
     // What an interface with these qdiscs has: qdiscs and classes, and what is below these.
-    fn dump_interface(&mut self, index: u32, qdiscs: Vec<Vec<u8>>, dump: &mut Dump, below: &mut Vec<Vec<u8>>) -> Result<(), Fault> {
+    fn dump_interface(
+        &mut self,
+        index: u32,
+        qdiscs: Vec<Vec<u8>>,
+        dump: &mut Dump,
+        below: &mut Vec<Vec<u8>>,
+    ) -> Result<(), Fault> {
         for qdisc in &qdiscs {
             dump.blocks.extend(blocks_in(qdisc)?);
         }
@@ -163,7 +173,8 @@ impl<T: Transport, L: Transport> Dumper<'_, T, L> {
                 continue;
             }
             let dumped = self.dump_tc(RTM_GETTCLASS, index, qdisc.handle)?;
-            let is_of_it = |class: &Vec<u8>| tcmsg_of(class).is_some_and(|class| class.handle & 0xffff_0000 == qdisc.handle);
+            let is_of_it =
+                |class: &Vec<u8>| tcmsg_of(class).is_some_and(|class| class.handle & 0xffff_0000 == qdisc.handle);
             classes.extend(dumped.into_iter().filter(is_of_it));
         }
         Ok(classes)
@@ -228,8 +239,26 @@ fn blocks_in(qdisc: &[u8]) -> Result<Vec<u32>, Fault> {
 // ---- Actions
 
 const ACTIONS: [&str; 20] = [
-    "gact", "mirred", "nat", "pedit", "police", "simple", "skbedit", "skbmod", "vlan", "tunnel_key", "csum", "connmark", "ct", "ctinfo", "bpf", "ife",
-    "sample", "mpls", "gate", "xt",
+    "gact",
+    "mirred",
+    "nat",
+    "pedit",
+    "police",
+    "simple",
+    "skbedit",
+    "skbmod",
+    "vlan",
+    "tunnel_key",
+    "csum",
+    "connmark",
+    "ct",
+    "ctinfo",
+    "bpf",
+    "ife",
+    "sample",
+    "mpls",
+    "gate",
+    "xt",
 ];
 
 const TCA_ACT_TAB: u16 = 1;
@@ -262,6 +291,10 @@ fn actions_request(kind: &str) -> Vec<u8> {
     put(&mut first, 1 | NLA_F_NESTED, &name);
     let mut body = vec![0; 4];
     put(&mut body, TCA_ACT_TAB | NLA_F_NESTED, &first);
-    put(&mut body, TCA_ROOT_FLAGS, &[TCA_FLAG_LARGE_DUMP_ON.to_ne_bytes(), TCA_FLAG_LARGE_DUMP_ON.to_ne_bytes()].concat());
+    put(
+        &mut body,
+        TCA_ROOT_FLAGS,
+        &[TCA_FLAG_LARGE_DUMP_ON.to_ne_bytes(), TCA_FLAG_LARGE_DUMP_ON.to_ne_bytes()].concat(),
+    );
     request(RTM_GETACTION, NLM_F_DUMP, &body)
 }
