@@ -282,8 +282,10 @@ fn without_sequences(lines: Vec<String>) -> Vec<String> {
 #[test]
 fn honest() {
     let lines = saved(Peer::new(1, Manners::default()), &[2, 3]).expect("nothing is broken");
-    // Five qdiscs, nineteen classes of htb and four of mq, a chain and a filter of the shared block; each once.
+    // Five qdiscs, nineteen classes of htb and four of mq, a chain and a filter of a shared block; each once.
     assert_eq!(lines.len(), 5 + 19 + 4 + 2);
+    let lines = saved(Peer::new(1, Manners::default()), &[2, 4]).expect("nothing is broken");
+    assert_eq!(lines.len(), 4 + 19 + 2 + 1, "the filter of the block that both have is there once");
 }
 
 #[test]

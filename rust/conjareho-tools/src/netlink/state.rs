@@ -79,7 +79,7 @@ pub fn dump_of<T: Transport, L: Transport>(
         let before = Devices::of(kernel)?;
         let all = before.indices();
         let asked = interfaces.unwrap_or(&all);
-        let mut dumper = Dumper { kernel, listener, objects, changes: Changes::default() };
+        let mut dumper = Dumper { kernel, listener, objects, changes: Changes::default(), blocks: BTreeSet::new() };
         let dump = match dumper.dump(asked) {
             Err(Fault::Interrupted | Fault::Lost) => continue,
             dump => dump?,
@@ -103,6 +103,8 @@ struct Dumper<'a, T, L> {
     listener: &'a mut Listener<L>,
     objects: Objects,
     changes: Changes,
+    // The shared blocks whose chains and filters were dumped: each interface that has a block shows them.
+    blocks: BTreeSet<u32>,
 }
 
 impl<T: Transport, L: Transport> Dumper<'_, T, L> {
@@ -139,7 +141,10 @@ impl<T: Transport, L: Transport> Dumper<'_, T, L> {
             tree.extend(self.classes(index, &tree)?);
         }
         for parent in if self.objects.are_below() { parents(&tree)? } else { Vec::new() } {
-            below.extend(self.below(index, parent)?);
+            let mut found = self.below(index, parent)?;
+            found.retain(|message| block_of(message).is_none_or(|block| !self.blocks.contains(&block)));
+            self.blocks.extend(found.iter().filter_map(|message| block_of(message)));
+            below.extend(found);
         }
         let is_asked = |kind| if kind == RTM_NEWQDISC { self.objects.qdiscs } else { self.objects.classes };
         dump.messages.extend(tree.into_iter().filter(|it| header_of(it).is_some_and(|header| is_asked(header.kind))));
@@ -218,6 +223,11 @@ fn parents(tree: &[Vec<u8>]) -> Result<Vec<u32>, Fault> {
         }
     }
     Ok(parents)
+}
+
+// The shared block that a chain or a filter is in, if any.
+fn block_of(message: &[u8]) -> Option<u32> {
+    tcmsg_of(message).filter(|tcmsg| tcmsg.index == MAGIC_BLOCK).map(|tcmsg| tcmsg.parent)
 }
 
 fn attributes_of(message: &[u8]) -> &[u8] {
