@@ -74,6 +74,7 @@ def action_of(data):
             verdict = int.from_bytes(payload[4:8] if kind == "police" else payload[8:12], "little")
             if (held, bound) == (1, 1):
                 payload = bytes(4) + payload[4:]
+            payload = payload[: places[1]] + bytes(4) + payload[places[1] + 4 :]  # refcnt counts its own request too
         if type_ != TIMES_OF.get(kind, 1) and payload:
             options.append((type_, payload))
     others = [it for it in attributes(data) if it[0] not in COUNTED_OF_ACTION and it[0] != 2]
@@ -187,7 +188,7 @@ class State:
                 out.append(f"{place}: {self.changes(one, two)}")
         for key in dict.fromkeys([*self.shared, *other.shared]):
             one, two = self.shared.get(key), other.shared.get(key)
-            if not one or not two or one[:5] != two[:5]:
+            if not one or not two or one.config != two.config:
                 what = "is gone" if not two else "is new" if not one else f"{one} → {two}"
                 out.append(f"action {key[0]} {key[1]}: {what}")
         one, two = self.ranks(), other.ranks()
