@@ -18,6 +18,24 @@ pub mod host;
 mod jsontext;
 #[path = "../../erase/shims/events.rs"]
 mod serde;
+#[cfg(target_os = "linux")]
+mod interfaces;
+#[cfg(target_os = "linux")]
+pub mod netlink;
+#[cfg(target_os = "linux")]
+pub mod requests;
+#[cfg(target_os = "linux")]
+mod restore;
+#[cfg(target_os = "linux")]
+pub mod save;
+#[cfg(target_os = "linux")]
+pub mod shown;
+#[cfg(target_os = "linux")]
+pub mod status;
+#[cfg(target_os = "linux")]
+mod tcnl;
+#[cfg(target_os = "linux")]
+mod tcsave;
 #[path = "../../erase/shims/small.rs"]
 mod small;
 #[path = "../../erase/shims/strict.rs"]
@@ -32,6 +50,9 @@ use user::memchr;
 
 // The erased crates, each a private module.
 include!(concat!(env!("OUT_DIR"), "/programs.rs"));
+
+#[cfg(target_os = "linux")]
+pub use {restore::tcrestore, tcnl::tcnl, tcsave::tcsave};
 
 use host::HostRuntime;
 use std::io::IsTerminal as _;

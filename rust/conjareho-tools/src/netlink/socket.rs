@@ -1,0 +1,84 @@
+//! A socket of route netlink.
+
+use super::transport::Transport;
+use netlink_options::{NetlinkOption, turn_on};
+use netlink_sys::{SocketAddr, protocols::NETLINK_ROUTE};
+use nix::libc::{MSG_PEEK, MSG_TRUNC};
+use nix::poll::{PollFd, PollFlags, poll};
+use nix::sys::socket::{getsockopt, setsockopt, sockopt};
+use std::io;
+use std::os::fd::AsRawFd;
+use std::time::Duration;
+
+/// `RTNLGRP_TC`: what changes in qdiscs, classes, filters, chains and actions.
+pub const RTNLGRP_TC: u32 = 4;
+/// The room for datagrams that come and go, in bytes.
+const ROOM: usize = 4 << 20;
+/// What the kernel keeps of the room for what is sent.
+const SEND_OVERHEAD: usize = 32;
+
+/// A socket of route netlink that speaks to the kernel of its network namespace.
+pub struct Socket {
+    socket: netlink_sys::Socket,
+    port: u32,
+}
+
+impl Socket {
+    /// A socket for requests and dumps.
+    pub fn open() -> io::Result<Socket> {
+        let mut socket = netlink_sys::Socket::new(NETLINK_ROUTE)?;
+        turn_on(&socket, NetlinkOption::ExtendedAcknowledgements)?;
+        turn_on(&socket, NetlinkOption::StrictChecks)?;
+        socket.set_cap_ack(true)?;
+        let fd = socket.as_raw_fd();
+        // With the rights for it as much as is wanted; else as much as the machine's limits allow.
+        if setsockopt(fd, sockopt::RcvBufForce, &ROOM).is_err() {
+            setsockopt(fd, sockopt::RcvBuf, &ROOM)?;
+        }
+        if setsockopt(fd, sockopt::SndBufForce, &ROOM).is_err() {
+            setsockopt(fd, sockopt::SndBuf, &ROOM)?;
+        }
+        let port = socket.bind_auto()?.port_number();
+        Ok(Socket { socket, port })
+    }
+
+    /// A socket that hears what changes in traffic control.
+    pub fn listening() -> io::Result<Socket> {
+        let mut socket = Socket::open()?;
+        socket.socket.add_membership(RTNLGRP_TC)?;
+        Ok(socket)
+    }
+
+    fn is_ready(&self, wait: Option<Duration>) -> io::Result<bool> {
+        let milliseconds = wait.map_or(-1, |wait| i32::try_from(wait.as_millis()).unwrap_or(i32::MAX));
+        Ok(poll(&mut [PollFd::new(self.socket.as_raw_fd(), PollFlags::POLLIN)], milliseconds)? > 0)
+    }
+}
+
+impl Transport for Socket {
+    fn port(&self) -> u32 {
+        self.port
+    }
+
+    fn most(&self) -> usize {
+        getsockopt(self.socket.as_raw_fd(), sockopt::SndBuf).map_or(0, |room: usize| room.saturating_sub(SEND_OVERHEAD))
+    }
+
+    fn send(&mut self, datagram: &[u8]) -> io::Result<usize> {
+        self.socket.send_to(datagram, &SocketAddr::new(0, 0), 0)
+    }
+
+    fn receive(&mut self, into: &mut Vec<u8>, wait: Option<Duration>) -> io::Result<u32> {
+        if !self.is_ready(wait)? {
+            return Err(io::ErrorKind::TimedOut.into());
+        }
+        into.clear();
+        let (len, _) = self.socket.recv_from(&mut &mut [0u8; 0][..], MSG_PEEK | MSG_TRUNC)?;
+        into.reserve(len);
+        let (received, sender) = self.socket.recv_from(into, MSG_TRUNC)?;
+        if received != into.len() {
+            return Err(io::Error::new(io::ErrorKind::InvalidData, "a datagram was cut"));
+        }
+        Ok(sender.port_number())
+    }
+}

@@ -1,0 +1,207 @@
+//! The file of a save: a head, a line of JSON for each object, and an end with their number.
+
+use ::serde_json::Value;
+use std::collections::BTreeMap;
+use std::fmt;
+
+/// The version of saves that is read: `save` of the head.
+const VERSION: u64 = 1;
+
+/// A save, as it was read.
+#[derive(Debug)]
+pub(crate) struct Save {
+    /// All of it.
+    pub(crate) text: String,
+    /// Its lines with their numbers, counted from 1; without blank ones, the head and the end.
+    pub(crate) lines: Vec<(usize, String)>,
+    /// What its head says. Saves of older versions have none.
+    pub(crate) head: Option<Head>,
+}
+
+/// What the head of a save says.
+#[derive(Debug)]
+pub(crate) struct Head {
+    /// The interfaces that were saved.
+    pub(crate) devs: Vec<Device>,
+    /// The name of each interface that the save has by index.
+    pub(crate) names: BTreeMap<i32, String>,
+}
+
+/// An interface, as it was when it was saved.
+#[derive(Clone, PartialEq, Eq, Debug)]
+pub(crate) struct Device {
+    pub(crate) name: String,
+    pub(crate) index: i32,
+    pub(crate) mac: Option<String>,
+    pub(crate) mtu: Option<u64>,
+    pub(crate) txqueuelen: Option<u64>,
+    /// The numbers of queues for sending and for receiving.
+    pub(crate) queues: Option<(u64, u64)>,
+}
+
+/// Why a file isn't taken for a save.
+#[derive(PartialEq, Eq, Debug)]
+pub(crate) enum FileError {
+    /// It has no line. The save of an interface without anything has a head and an end.
+    Empty,
+    /// It isn't UTF-8.
+    NoText,
+    /// Its head is of another version.
+    Version(u64),
+    /// Its head lacks this, or has something else in its place.
+    Head(&'static str),
+    /// A head that isn't the first line, by its number.
+    SecondHead(usize),
+    /// It has a head and no end.
+    NoEnd,
+    /// Its end isn't its last line, by its number.
+    LineBehind(usize),
+    /// Its end is neither a number nor `true`.
+    End,
+    /// Its end has another number of lines than there are.
+    Count { said: u64, found: usize },
+}
+
+impl fmt::Display for FileError {
+    fn fmt(&self, f: &mut fmt::Formatter<'_>) -> fmt::Result {
+        match self {
+            FileError::Empty => f.write_str("it is empty; the save of an interface without anything has a head and an end"),
+            FileError::NoText => f.write_str("it isn't UTF-8"),
+            FileError::Version(number) => write!(f, "a save of version {number}; this program reads version {VERSION}"),
+            FileError::Head(wanted) => write!(f, "line 1: the head lacks {wanted}"),
+            FileError::SecondHead(number) => write!(f, "line {number}: a second head"),
+            FileError::NoEnd => f.write_str("its end is missing: the save was cut"),
+            FileError::LineBehind(number) => write!(f, "line {number}: a line behind the end"),
+            FileError::End => f.write_str("its end is neither a number of lines nor true"),
+            FileError::Count { said, found } => {
+                write!(f, "its end counts {said} lines, and there are {found}: it was cut, or edited (an edited save ends with {{\"end\":true}})")
+            }
+        }
+    }
+}
+
+/// Reads a save. Its objects aren't looked at.
+pub(crate) fn read_save(bytes: &[u8]) -> Result<Save, FileError> {
+    let text = std::str::from_utf8(bytes).map_err(|_| FileError::NoText)?;
+    let mut lines: Vec<(usize, String)> = Vec::new();
+    let (mut head, mut end, mut is_first) = (None, None, true);
+    for (at, line) in text.lines().enumerate().filter(|(_, line)| !line.trim().is_empty()) {
+        if end.is_some() {
+            return Err(FileError::LineBehind(at + 1));
+        }
+        match mark_of(line) {
+            Some(Mark::Head(value)) if is_first => head = Some(head_of(&value)?),
+            Some(Mark::Head(_)) => return Err(FileError::SecondHead(at + 1)),
+            Some(Mark::End(value)) => end = Some(value),
+            None => lines.push((at + 1, line.to_string())),
+        }
+        is_first = false;
+    }
+    if is_first {
+        return Err(FileError::Empty);
+    }
+    check_end(head.is_some(), end, lines.len())?;
+    Ok(Save { text: text.to_string(), lines, head })
+}
+
+// A line that is no object.
+enum Mark {
+    Head(Value),
+    End(Value),
+}
+
+fn mark_of(line: &str) -> Option<Mark> {
+    if !line.contains("\"save\"") && !line.contains("\"end\"") {
+        return None;
+    }
+    let value: Value = ::serde_json::from_str(line).ok()?;
+    let object = value.as_object()?;
+    if object.contains_key("save") {
+        Some(Mark::Head(value))
+    } else {
+        let end = object.get("end").filter(|_| object.len() == 1)?;
+        Some(Mark::End(end.clone()))
+    }
+}
+
+fn check_end(has_head: bool, end: Option<Value>, found: usize) -> Result<(), FileError> {
+    match end {
+        None if has_head => Err(FileError::NoEnd),
+        None | Some(Value::Bool(true)) => Ok(()),
+        Some(value) => match value.as_u64() {
+            Some(said) if said == found as u64 => Ok(()),
+            Some(said) => Err(FileError::Count { said, found }),
+            None => Err(FileError::End),
+        },
+    }
+}
+
+fn head_of(value: &Value) -> Result<Head, FileError> {
+    match value["save"].as_u64() {
+        Some(VERSION) => {}
+        Some(number) => return Err(FileError::Version(number)),
+        None => return Err(FileError::Head("a version")),
+    }
+    let devs = value["devs"].as_object().ok_or(FileError::Head("devs"))?;
+    let devs = devs.iter().map(|(name, it)| device_of(name, it)).collect::<Option<Vec<_>>>().ok_or(FileError::Head("the index of an interface"))?;
+    let names = value["names"].as_object().ok_or(FileError::Head("names"))?;
+    let names = names.iter().map(|(index, name)| Some((index.parse().ok()?, name.as_str()?.to_string())));
+    let mut names = names.collect::<Option<BTreeMap<_, _>>>().ok_or(FileError::Head("names by index"))?;
+    for dev in &devs {
+        names.entry(dev.index).or_insert_with(|| dev.name.clone());
+    }
+    Ok(Head { devs, names })
+}
+
+fn device_of(name: &str, value: &Value) -> Option<Device> {
+    let queues = value["queues"].as_array().and_then(|them| Some((them.first()?.as_u64()?, them.get(1)?.as_u64()?)));
+    Some(Device {
+        name: name.to_string(),
+        index: i32::try_from(value["index"].as_i64()?).ok().filter(|index| *index > 0)?,
+        mac: value["mac"].as_str().map(str::to_string),
+        mtu: value["mtu"].as_u64(),
+        txqueuelen: value["txqueuelen"].as_u64(),
+        queues,
+    })
+}
+
+#[cfg(test)]
+mod tests {
+    use super::*;
+
+    const HEAD: &str = r#"{"save":1,"devs":{"wan":{"index":2,"mac":"02:00:00:00:00:01","mtu":1500,"txqueuelen":1000,"queues":[4,4]}},"names":{"2":"wan","3":"ids"}}"#;
+
+    fn error_of(text: &str) -> FileError {
+        read_save(text.as_bytes()).expect_err("refused")
+    }
+
+    #[test]
+    fn reads_a_head_and_counts_lines() {
+        let save = read_save(format!("{HEAD}\n{{\"a\":1}}\n\n{{\"b\":2}}\n{{\"end\":2}}\n").as_bytes()).expect("read");
+        let head = save.head.as_ref().expect("a head");
+        assert_eq!(head.devs[0].queues, Some((4, 4)));
+        assert_eq!(head.names[&3], "ids");
+        assert_eq!(save.lines, [(2, "{\"a\":1}".to_string()), (4, "{\"b\":2}".to_string())]);
+    }
+
+    #[test]
+    fn refuses_what_was_cut() {
+        assert_eq!(error_of(""), FileError::Empty);
+        assert_eq!(error_of(" \n\n"), FileError::Empty);
+        assert_eq!(error_of(HEAD), FileError::NoEnd);
+        assert_eq!(error_of(&format!("{HEAD}\n{{\"a\":1}}\n")), FileError::NoEnd);
+        assert_eq!(error_of(&format!("{HEAD}\n{{\"a\":1}}\n{{\"end\":2}}\n")), FileError::Count { said: 2, found: 1 });
+        assert_eq!(error_of(&format!("{HEAD}\n{{\"end\":0}}\n{{\"a\":1}}\n")), FileError::LineBehind(3));
+        assert_eq!(error_of(&format!("{HEAD}\n{HEAD}\n{{\"end\":0}}\n")), FileError::SecondHead(2));
+        assert_eq!(error_of(&format!("{HEAD}\n{{\"end\":\"2\"}}\n")), FileError::End);
+        assert_eq!(error_of("{\"save\":2}\n{\"end\":0}\n"), FileError::Version(2));
+        assert_eq!(read_save(b"\xff").expect_err("refused"), FileError::NoText);
+    }
+
+    #[test]
+    fn takes_an_edited_save_and_an_older_one() {
+        assert!(read_save(format!("{HEAD}\n{{\"a\":1}}\n{{\"end\":true}}\n").as_bytes()).is_ok());
+        assert!(read_save(format!("{HEAD}\n{{\"end\":0}}").as_bytes()).is_ok());
+        assert!(read_save(b"{\"a\":1}\n").expect("read").head.is_none());
+    }
+}

@@ -1,0 +1,205 @@
+//! The program tcrestore: makes again what tcsave saved.
+
+mod arguments;
+mod compare;
+mod file;
+mod hardware;
+mod messages;
+mod plan;
+mod prepare;
+mod sending;
+mod state;
+mod status;
+mod targets;
+#[cfg(test)]
+mod tests;
+mod world;
+
+use arguments::{Arguments, arguments_of};
+use compare::{Key, Objects, differences, objects_of};
+use plan::{Wanted, requests};
+use prepare::{Prepared, prepare};
+use sending::{PATIENCE, PAUSE, Sending};
+use status::Status;
+use world::{Stop, World};
+
+use crate::netlink::fault::Printable;
+use crate::netlink::{Fault, Kernel, Listener, Transport};
+use signal_hook::consts::{SIGHUP, SIGINT, SIGTERM};
+use std::fs;
+use std::io::{self, Read as _, Write as _};
+use std::process::ExitCode;
+use std::sync::Arc;
+use std::sync::atomic::{AtomicUsize, Ordering};
+use std::thread::sleep;
+use std::time::Instant;
+
+/// The signals that end it.
+const SIGNALS: [(i32, &str); 3] = [(SIGINT, "SIGINT"), (SIGTERM, "SIGTERM"), (SIGHUP, "SIGHUP")];
+/// How many differences are named.
+const MOST_NAMED: usize = 5;
+
+/// The whole program.
+pub fn tcrestore() -> ExitCode {
+    match arguments_of(std::env::args_os()) {
+        Ok(arguments) => obey(&arguments).into(),
+        Err(error) => {
+            let _ = error.print();
+            ExitCode::from(if error.use_stderr() { Status::Usage as u8 } else { 0 })
+        }
+    }
+}
+
+fn obey(arguments: &Arguments) -> Status {
+    let mut said = Vec::new();
+    let status = match open(arguments) {
+        Ok((file, kernel, listeners, caught)) => {
+            let signal = || SIGNALS.iter().find(|(number, _)| *number as usize == caught.load(Ordering::Relaxed)).map(|(_, name)| *name);
+            let [dumps, watch] = listeners;
+            restore(arguments, &file, &mut World::new(kernel, dumps, watch, &signal), &mut said)
+        }
+        Err(fault) => {
+            said.push(fault);
+            Status::Failed
+        }
+    };
+    // A terminal that nobody reads would hold up what is sent, so nothing is written before the end.
+    let text: String = said.iter().map(|line| format!("tcrestore: {}\n", Printable(line))).collect();
+    let _ = io::stderr().write_all(text.as_bytes());
+    status
+}
+
+type Opened = (Vec<u8>, Kernel, [Listener; 2], Arc<AtomicUsize>);
+
+fn open(arguments: &Arguments) -> Result<Opened, String> {
+    let file = read(arguments).map_err(|error| format!("{}: {error}", arguments.file_name()))?;
+    let said = |fault: Fault| fault.to_string();
+    let kernel = Kernel::open().map_err(said)?;
+    let listeners = [Listener::open().map_err(said)?, Listener::open().map_err(said)?];
+    let caught = Arc::new(AtomicUsize::new(0));
+    for (number, name) in SIGNALS {
+        signal_hook::flag::register_usize(number, Arc::clone(&caught), number as usize).map_err(|error| format!("{name}: {error}"))?;
+    }
+    Ok((file, kernel, listeners, caught))
+}
+
+fn read(arguments: &Arguments) -> io::Result<Vec<u8>> {
+    match &arguments.file {
+        Some(path) => fs::read(path),
+        None => {
+            let mut bytes = Vec::new();
+            io::stdin().read_to_end(&mut bytes)?;
+            Ok(bytes)
+        }
+    }
+}
+
+/// Restores a save. What is to be said is added to `said`.
+fn restore<T: Transport, L: Transport>(arguments: &Arguments, file: &[u8], world: &mut World<'_, T, L>, said: &mut Vec<String>) -> Status {
+    let prepared = match prepare(arguments, file, world, said) {
+        Ok(prepared) => prepared,
+        Err(ended) => {
+            said.extend(ended.said);
+            said.push("nothing is sent".to_string());
+            return ended.status;
+        }
+    };
+    let looked = world.check_signal().and_then(|()| world.check_devices(&prepared.place)).and_then(|()| world.look(&prepared.place, None));
+    if let Err(stop) = looked {
+        said.push(format!("{stop}; nothing is sent"));
+        return Status::NothingSent;
+    }
+    let mut sending = Sending::new(world, &prepared.place);
+    match carried_out(arguments, &prepared, &mut sending, said) {
+        Ok(()) if prepared.is_partial => Status::Partial,
+        Ok(()) => Status::Restored,
+        Err(stop) => {
+            said.push(stop.to_string());
+            ended(arguments, &prepared, &mut sending, &stop, said)
+        }
+    }
+}
+
+// Clears, sends all, and compares.
+fn carried_out<T: Transport, L: Transport>(
+    arguments: &Arguments,
+    prepared: &Prepared,
+    sending: &mut Sending<'_, '_, T, L>,
+    said: &mut Vec<String>,
+) -> Result<(), Stop> {
+    if arguments.clear {
+        sending.clear()?;
+    }
+    sending.send_all(&prepared.requests)?;
+    // Without --clear what was there stays; actions belong to no interface.
+    let after = same(sending, &prepared.wanted, &prepared.before, |key| !arguments.clear || key.is_action())?;
+    said.extend(hardware::lost(&prepared.save, &after));
+    Ok(())
+}
+
+// What is there, as a save; an error if it isn't what is wanted. What was deleted may live on for a time.
+fn same<T: Transport, L: Transport>(
+    sending: &mut Sending<'_, '_, T, L>,
+    wanted: &Objects,
+    before: &Objects,
+    may_stay: impl Fn(&Key) -> bool,
+) -> Result<String, Stop> {
+    let place = sending.place;
+    let until = Instant::now() + PATIENCE;
+    loop {
+        sending.world.check_devices(place)?;
+        let after = sending.world.save(&place.indices())?;
+        sending.world.look(place, None)?;
+        let all = requests(&Wanted { text: &after, ..Wanted::default() }).requests;
+        let found = differences(wanted, &objects_of(&all.concat()), before, &may_stay);
+        if found.is_empty() {
+            return Ok(after);
+        }
+        if Instant::now() >= until {
+            return Err(Stop::Differs(named(&found)));
+        }
+        sleep(PAUSE);
+    }
+}
+
+fn named(all: &[compare::Difference]) -> Vec<String> {
+    let mut named: Vec<String> = all.iter().take(MOST_NAMED).map(ToString::to_string).collect();
+    if all.len() > MOST_NAMED {
+        named.push(format!("and {} more", all.len() - MOST_NAMED));
+    }
+    named
+}
+
+// Makes again what was there before, unless that isn't wanted or others are at work.
+fn ended<T: Transport, L: Transport>(
+    arguments: &Arguments,
+    prepared: &Prepared,
+    sending: &mut Sending<'_, '_, T, L>,
+    stop: &Stop,
+    said: &mut Vec<String>,
+) -> Status {
+    let is_left = arguments.no_rollback || matches!(stop, Stop::Other { .. } | Stop::Moved(_));
+    let back = if is_left { Err(None) } else { gone_back(prepared, sending).map_err(Some) };
+    match back {
+        Ok(()) => {
+            said.push(format!("what was there before is there again, and in {}", prepared.kept));
+            Status::Back
+        }
+        Err(why) => {
+            said.extend(why.map(|why| format!("on the way back: {why}")));
+            said.push(format!("what was there before isn't there again; it is in {}", prepared.kept));
+            Status::Lost
+        }
+    }
+}
+
+fn gone_back<T: Transport, L: Transport>(prepared: &Prepared, sending: &mut Sending<'_, '_, T, L>) -> Result<(), Stop> {
+    let refused = sending.go_back(&prepared.back, &prepared.before_all);
+    if let Err(stop @ (Stop::Other { .. } | Stop::Moved(_))) = refused {
+        return Err(stop);
+    }
+    match (same(sending, &prepared.before, &prepared.before, |_| false), refused) {
+        (Ok(_), _) => Ok(()),
+        (Err(_), Err(stop)) | (Err(stop), Ok(())) => Err(stop),
+    }
+}

@@ -1,0 +1,179 @@
+//! What is made and asked before the first request is sent.
+
+use super::arguments::Arguments;
+use super::compare::{Objects, differences, objects_of};
+use super::file::{Save, read_save};
+use super::messages::{blocks_of, type_of};
+use super::plan::{Plan, Wanted, requests};
+use super::state;
+use super::status::Status;
+use super::targets::{Targets, targets_of};
+use super::world::{Place, World, text_of};
+use crate::netlink::message::{MAGIC_BLOCK, RTM_NEWQDISC, tcmsg_of};
+use crate::netlink::{Devices, Fault, Transport};
+use std::collections::BTreeMap;
+
+/// Why nothing is sent: how the program ends, and what it says.
+#[derive(Debug)]
+pub(crate) struct Ended {
+    pub(crate) status: Status,
+    pub(crate) said: Vec<String>,
+}
+
+impl Ended {
+    fn because(status: Status, said: Vec<String>) -> Ended {
+        Ended { status, said }
+    }
+}
+
+impl From<Fault> for Ended {
+    fn from(fault: Fault) -> Ended {
+        Ended::because(Status::Failed, vec![fault.to_string()])
+    }
+}
+
+/// All that is known before the first request.
+#[derive(Debug)]
+pub(crate) struct Prepared {
+    pub(crate) place: Place,
+    /// What is sent.
+    pub(crate) requests: Vec<Vec<u8>>,
+    /// What is to be there in the end.
+    pub(crate) wanted: Objects,
+    /// What is there now.
+    pub(crate) before: Objects,
+    /// The requests that make it where nothing is but actions, and those of all of it.
+    pub(crate) back: Vec<Vec<u8>>,
+    pub(crate) before_all: Vec<Vec<u8>>,
+    /// The file that has the save of what there is now.
+    pub(crate) kept: String,
+    /// The lines of the file.
+    pub(crate) save: Save,
+    pub(crate) is_partial: bool,
+}
+
+/// Makes everything that is needed, and asks whether it may be sent. Warnings are added to `said`.
+pub(crate) fn prepare<T: Transport, L: Transport>(
+    arguments: &Arguments,
+    file: &[u8],
+    world: &mut World<'_, T, L>,
+    said: &mut Vec<String>,
+) -> Result<Prepared, Ended> {
+    let save = save_in(arguments, file)?;
+    let devices = Devices::of(&mut world.kernel)?;
+    let targets = targets_of(&save, arguments, &devices).map_err(|faults| Ended::because(Status::NothingSent, faults))?;
+    said.extend(targets.warnings.iter().cloned());
+    let dump = world.first_dump(&targets.own())?;
+    let now = text_of(&dump, &targets.own())?;
+    let others = blocks_of_others(world, &targets)?;
+    let plan = planned(arguments, &save, &targets, Some(&now), said)?;
+    let wanted = requests(&wanted_of(arguments, &save, &targets, &names_of(&save, &targets), None)).requests;
+    check_blocks(world, &others, &wanted)?;
+    let is_own = |request: &Vec<u8>| !is_in_block(request, &others);
+    let blocks = wanted.iter().flat_map(|request| blocks_of(request)).chain(dump.blocks).collect();
+    let (back, before) = (requests(&of_now(&now, true)), requests(&of_now(&now, false)));
+    check_back(arguments, &back)?;
+    let kept = state::keep(&arguments.state, &targets.names(), &now)
+        .map_err(|error| Ended::because(Status::Failed, vec![format!("what is there now can't be kept in {}: {error}", arguments.state.display())]))?;
+    Ok(Prepared {
+        place: Place { devices: targets.devices, blocks },
+        requests: plan.requests.into_iter().filter(is_own).collect(),
+        wanted: objects_of(&wanted.concat()),
+        back: back.requests.into_iter().filter(is_own).collect(),
+        before: objects_of(&before.requests.concat()),
+        before_all: before.requests,
+        kept: kept.display().to_string(),
+        save,
+        is_partial: !plan.complaints.is_empty(),
+    })
+}
+
+fn save_in(arguments: &Arguments, file: &[u8]) -> Result<Save, Ended> {
+    let refused = |why: String| Ended::because(Status::NothingSent, vec![format!("{}: {why}", arguments.file_name())]);
+    let save = read_save(file).map_err(|error| refused(error.to_string()))?;
+    if arguments.clear && save.head.is_none() {
+        return Err(refused("--clear wants a save with a head and an end".to_string()));
+    }
+    Ok(save)
+}
+
+// The names of the save, and the interfaces that have them today.
+fn names_of<'a>(save: &'a Save, targets: &Targets) -> Vec<(u32, &'a str)> {
+    let names = save.head.iter().flat_map(|head| &head.names);
+    names.filter_map(|(index, name)| Some((*targets.indices.get(index)?, name.as_str()))).collect()
+}
+
+fn wanted_of<'a>(arguments: &Arguments, save: &'a Save, targets: &Targets, names: &'a [(u32, &'a str)], now: Option<&'a str>) -> Wanted<'a> {
+    Wanted {
+        text: &save.text,
+        now,
+        names: save.head.as_ref().map(|_| names),
+        index: targets.only,
+        replaces_actions: arguments.replace_actions,
+    }
+}
+
+// The requests of what there is now, by themselves or beside what stays when the interfaces are cleared.
+fn of_now(now: &str, is_beside: bool) -> Wanted<'_> {
+    Wanted { text: now, now: Some(now).filter(|_| is_beside), replaces_actions: true, ..Wanted::default() }
+}
+
+fn planned(arguments: &Arguments, save: &Save, targets: &Targets, now: Option<&str>, said: &mut Vec<String>) -> Result<Plan, Ended> {
+    let names = names_of(save, targets);
+    let plan = requests(&wanted_of(arguments, save, targets, &names, now));
+    let complaints = plan.complaints.iter().map(|complaint| format!("{}: {complaint}", arguments.file_name()));
+    said.extend(plan.notices.iter().map(|notice| format!("{}: {notice}", arguments.file_name())));
+    if plan.is_void || !plan.complaints.is_empty() && !arguments.partial {
+        return Err(Ended::because(Status::NothingSent, complaints.collect()));
+    }
+    said.extend(complaints);
+    Ok(plan)
+}
+
+// An error if what there is now can't be made again, and would be deleted.
+fn check_back(arguments: &Arguments, back: &Plan) -> Result<(), Ended> {
+    if !arguments.clear || arguments.no_rollback || back.complaints.is_empty() && !back.is_void {
+        return Ok(());
+    }
+    let mut said: Vec<String> = back.complaints.iter().map(|complaint| format!("what is there now: {complaint}")).collect();
+    said.push("what is there now can't be made again, so that it isn't deleted without --no-rollback".to_string());
+    Err(Ended::because(Status::NothingSent, said))
+}
+
+// The blocks that interfaces hold which aren't restored, each with one of these.
+fn blocks_of_others<T: Transport, L: Transport>(world: &mut World<'_, T, L>, targets: &Targets) -> Result<BTreeMap<u32, u32>, Ended> {
+    let own = targets.own();
+    let mut others = BTreeMap::new();
+    for qdisc in world.qdiscs()? {
+        let holder = tcmsg_of(&qdisc).map(|header| header.index.cast_unsigned()).filter(|index| !own.contains(index));
+        if let Some(holder) = holder.filter(|_| type_of(&qdisc) == RTM_NEWQDISC) {
+            others.extend(blocks_of(&qdisc).into_iter().map(|block| (block, holder)));
+        }
+    }
+    Ok(others)
+}
+
+// True of what is in one of these blocks.
+fn is_in_block(request: &[u8], blocks: &BTreeMap<u32, u32>) -> bool {
+    tcmsg_of(request).is_some_and(|header| header.index == MAGIC_BLOCK && blocks.contains_key(&header.parent))
+}
+
+// What is in a block of others has to be there as it is wanted.
+fn check_blocks<T: Transport, L: Transport>(world: &mut World<'_, T, L>, others: &BTreeMap<u32, u32>, wanted: &[Vec<u8>]) -> Result<(), Ended> {
+    let used: BTreeMap<u32, u32> = others.iter().filter(|(block, _)| wanted.iter().any(|it| blocks_of(it).contains(block))).map(|(b, i)| (*b, *i)).collect();
+    if used.is_empty() {
+        return Ok(());
+    }
+    let mut holders: Vec<u32> = used.values().copied().collect();
+    holders.sort_unstable();
+    holders.dedup();
+    let theirs = requests(&Wanted { text: &world.save(&holders)?, ..Wanted::default() }).requests;
+    let in_blocks = |all: &[Vec<u8>]| objects_of(&all.iter().filter(|it| is_in_block(it, &used)).cloned().collect::<Vec<_>>().concat());
+    let found = differences(&in_blocks(wanted), &in_blocks(&theirs), &Objects::new(), |_| false);
+    if found.is_empty() {
+        return Ok(());
+    }
+    let mut said: Vec<String> = found.iter().map(ToString::to_string).collect();
+    said.push("a block that other interfaces hold too has something else than the save".to_string());
+    Err(Ended::because(Status::NothingSent, said))
+}

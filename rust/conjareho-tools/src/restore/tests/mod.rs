@@ -1,0 +1,312 @@
+//! Runs over a kernel that refuses, tells of others, and is sent signals in the middle.
+
+mod fake;
+
+use super::arguments::{Arguments, arguments_of};
+use super::messages::type_of;
+use super::restore;
+use super::status::Status;
+use super::world::{World, text_of};
+use crate::netlink::message::*;
+use crate::netlink::state_of;
+use fake::{EBUSY, EEXIST, ENOENT, Fake, Hook, OTHER, State, object};
+use std::ffi::OsString;
+use std::sync::atomic::{AtomicUsize, Ordering};
+
+const WAN: i32 = 7;
+
+fn of(kind: u16, handle: u32, parent: u32, name: &str, options: &[(u16, u32)]) -> Vec<u8> {
+    object(kind, Tcmsg { index: WAN, handle, parent, info: if kind == RTM_NEWTFILTER { 0x0003_0008 } else { 0 } }, name, options)
+}
+
+// drr with two classes and a filter, and clsact with one.
+fn tree(quantum: u32) -> Vec<Vec<u8>> {
+    vec![
+        of(RTM_NEWQDISC, 0x1_0000, 0xFFFF_FFFF, "drr", &[]),
+        of(RTM_NEWTCLASS, 0x1_0010, 0x1_0000, "drr", &[(1, quantum)]),
+        of(RTM_NEWTCLASS, 0x1_0020, 0x1_0000, "drr", &[(1, quantum + 1)]),
+        of(RTM_NEWQDISC, 0xFFFF_0000, 0xFFFF_FFF1, "clsact", &[]),
+        of(RTM_NEWTFILTER, 1, 0x1_0000, "matchall", &[(1, 0x1_0010)]),
+        of(RTM_NEWTFILTER, 1, 0xFFFF_FFF2, "matchall", &[(1, 0x1_0020)]),
+    ]
+}
+
+fn taking() -> Hook {
+    Box::new(|_, _, _| None)
+}
+
+// What tcsave writes of these objects.
+fn saved(objects: Vec<Vec<u8>>) -> String {
+    let fake = Fake::new(taking());
+    fake.state.borrow_mut().objects = objects;
+    let dump = state_of(&mut fake.kernel(), &mut fake.listener(1), &[7]).expect("dumped");
+    text_of(&dump, &[7]).expect("saved")
+}
+
+fn arguments(words: &[&str]) -> Arguments {
+    static COUNT: AtomicUsize = AtomicUsize::new(0);
+    let number = COUNT.fetch_add(1, Ordering::Relaxed);
+    let folder = std::env::temp_dir().join(format!("conjareho-restore-{}-{number}", std::process::id()));
+    let words = ["tcrestore", "--state", &folder.display().to_string(), "-"].iter().chain(words).map(OsString::from).collect::<Vec<_>>();
+    arguments_of(words).expect("arguments")
+}
+
+struct Ran {
+    status: Status,
+    said: String,
+    objects: Vec<Vec<u8>>,
+    sent: Vec<Vec<u8>>,
+}
+
+// Restores a file where these objects are.
+fn run(words: &[&str], file: &str, objects: Vec<Vec<u8>>, fake: &Fake) -> Ran {
+    fake.state.borrow_mut().objects = objects;
+    let signal = || fake.state.borrow().signal;
+    let mut world = World::new(fake.kernel(), fake.listener(1), fake.listener(2), &signal);
+    let arguments = arguments(words);
+    let mut said = Vec::new();
+    let status = restore(&arguments, file.as_bytes(), &mut world, &mut said);
+    let _ = std::fs::remove_dir_all(&arguments.state);
+    let state = fake.state.borrow();
+    Ran { status, said: said.join("\n"), objects: state.objects.clone(), sent: state.sent.clone() }
+}
+
+// Objects without the flags, the numbers and the ports of their messages, in an order of their own.
+fn plain(objects: &[Vec<u8>]) -> Vec<Vec<u8>> {
+    let mut plain: Vec<Vec<u8>> = objects.iter().map(|it| [&it[4..6], &it[HEADER..]].concat()).collect();
+    plain.sort();
+    plain
+}
+
+fn types(sent: &[Vec<u8>]) -> Vec<u16> {
+    sent.iter().map(|it| type_of(it)).collect()
+}
+
+#[test]
+fn makes_what_the_file_says() {
+    let ran = run(&[], &saved(tree(1000)), Vec::new(), &Fake::new(taking()));
+    assert_eq!((ran.status, ran.said.as_str()), (Status::Restored, ""));
+    assert_eq!(plain(&ran.objects), plain(&tree(1000)));
+    let ran = run(&["--clear"], &saved(tree(1000)), tree(2000), &Fake::new(taking()));
+    assert_eq!((ran.status, ran.said.as_str()), (Status::Restored, ""));
+    assert_eq!(plain(&ran.objects), plain(&tree(1000)));
+    assert_eq!(types(&ran.sent), [37, 37, 36, 36, 40, 40, 44, 44]);
+}
+
+#[test]
+fn an_interface_without_anything_is_a_save_too() {
+    let ran = run(&["--clear"], &saved(Vec::new()), tree(1), &Fake::new(taking()));
+    assert_eq!((ran.status, ran.objects.len()), (Status::Restored, 0));
+    let ran = run(&[], &saved(Vec::new()), tree(1), &Fake::new(taking()));
+    assert_eq!((ran.status, ran.sent.len()), (Status::Restored, 0));
+}
+
+#[test]
+fn nothing_is_sent_of_a_save_that_was_cut() {
+    let whole = saved(tree(1));
+    let lines: Vec<&str> = whole.lines().collect();
+    for count in 0..lines.len() {
+        let ran = run(&["--clear"], &lines[..count].join("\n"), tree(2), &Fake::new(taking()));
+        assert_eq!((ran.status, ran.sent.len()), (Status::NothingSent, 0), "{count} lines: {}", ran.said);
+    }
+}
+
+// Each request refused in turn.
+#[test]
+fn a_refusal_brings_back_what_was_there() {
+    let file = saved(tree(1000));
+    for at in 1..=8 {
+        let refusing: Hook = Box::new(move |_, number, _| (number == at).then_some(ENOENT));
+        let ran = run(&["--clear"], &file, tree(2000), &Fake::new(refusing));
+        assert_eq!((ran.status, plain(&ran.objects)), (Status::Back, plain(&tree(2000))), "request {at}: {}", ran.said);
+        assert!(ran.said.contains("before-"), "{}", ran.said);
+    }
+}
+
+#[test]
+fn without_clear_only_what_was_made_is_deleted() {
+    let (root, clsact): (Vec<_>, Vec<_>) = tree(1000).into_iter().partition(|it| tcmsg_of(it).is_some_and(|it| it.handle >> 16 == 1 || it.parent >> 16 == 1));
+    for at in 1..=4 {
+        let refusing: Hook = Box::new(move |_, number, _| (number == at).then_some(EEXIST));
+        let ran = run(&[], &saved(root.clone()), clsact.clone(), &Fake::new(refusing));
+        assert_eq!((ran.status, plain(&ran.objects)), (Status::Back, plain(&clsact)), "request {at}: {}", ran.said);
+        assert_eq!(types(&ran.sent).iter().filter(|kind| **kind % 4 == 1).count(), at - 1);
+    }
+    let ran = run(&[], &saved(root.clone()), clsact.clone(), &Fake::new(taking()));
+    assert_eq!((ran.status, plain(&ran.objects)), (Status::Restored, plain(&tree(1000))));
+}
+
+#[test]
+fn a_signal_brings_back_what_was_there() {
+    for at in 2..=8 {
+        let signalling: Hook = Box::new(move |state, number, _| {
+            if number >= at {
+                state.signal = Some("SIGINT");
+            }
+            None
+        });
+        let ran = run(&["--clear"], &saved(tree(1000)), tree(2000), &Fake::new(signalling));
+        assert_eq!((ran.status, plain(&ran.objects)), (Status::Back, plain(&tree(2000))), "request {at}: {}", ran.said);
+        assert!(ran.said.starts_with("SIGINT came"), "{}", ran.said);
+    }
+    let fake = Fake::new(taking());
+    fake.state.borrow_mut().signal = Some("SIGTERM");
+    let ran = run(&["--clear"], &saved(tree(1000)), tree(2000), &fake);
+    assert_eq!((ran.status, ran.sent.len()), (Status::NothingSent, 0));
+}
+
+#[test]
+fn what_others_make_is_left() {
+    let theirs = || of(RTM_NEWTFILTER, 9, 0xFFFF_FFF3, "matchall", &[(1, 0x1_0010)]);
+    let other: Hook = Box::new(move |state, number, _| {
+        if number == 4 {
+            state.objects.push(theirs());
+            state.tell(&theirs(), OTHER);
+        }
+        None
+    });
+    let ran = run(&["--clear"], &saved(tree(1000)), tree(2000), &Fake::new(other));
+    assert_eq!((ran.status, types(&ran.sent)), (Status::Lost, vec![37, 37, 36, 36]), "{}", ran.said);
+    assert!(ran.said.contains("netlink port 4242") && ran.said.contains("before-"), "{}", ran.said);
+    assert!(plain(&ran.objects).contains(&plain(&[theirs()])[0]));
+}
+
+// What the kernel does by itself has port 0; another interface may change.
+#[test]
+fn what_the_kernel_does_by_itself_is_no_reason_to_stop() {
+    let telling: Hook = Box::new(|state, _, _| {
+        state.tell(&of(RTM_NEWCHAIN, 0, 0xFFFF_FFF2, "", &[]), 0);
+        state.tell(&object(RTM_NEWQDISC, Tcmsg { index: 8, handle: 5, parent: 5, info: 0 }, "drr", &[]), OTHER);
+        None
+    });
+    let ran = run(&["--clear"], &saved(tree(1000)), tree(2000), &Fake::new(telling));
+    assert_eq!(ran.status, Status::Restored, "{}", ran.said);
+}
+
+#[test]
+fn others_before_the_first_request() {
+    let fake = Fake::new(taking());
+    // The last look at the interfaces before the first request.
+    let hook = |state: &mut State, number: usize| {
+        if number == 4 {
+            state.tell(&of(RTM_NEWQDISC, 0x5_0000, 0xFFFF_FFFF, "drr", &[]), OTHER);
+        }
+    };
+    fake.state.borrow_mut().on_links = Some(Box::new(hook));
+    let ran = run(&["--clear"], &saved(tree(1000)), tree(2000), &fake);
+    assert_eq!((ran.status, ran.sent.len()), (Status::NothingSent, 0), "{}", ran.said);
+    assert!(ran.said.contains("netlink port 4242"), "{}", ran.said);
+}
+
+#[test]
+fn what_lives_on_is_tried_again() {
+    let mut left = 3;
+    let busy: Hook = Box::new(move |_, number, _| {
+        if number < 5 || left == 0 {
+            return None;
+        }
+        left -= 1;
+        Some(EBUSY)
+    });
+    let ran = run(&["--clear"], &saved(tree(1000)), tree(2000), &Fake::new(busy));
+    assert_eq!((ran.status, ran.sent.len()), (Status::Restored, 11), "{}", ran.said);
+    // Without --clear nothing was deleted, and nothing passes.
+    let refusing: Hook = Box::new(|_, number, _| (number == 1).then_some(EEXIST));
+    let ran = run(&[], &saved(tree(1000)), Vec::new(), &Fake::new(refusing));
+    assert_eq!((ran.status, ran.sent.len()), (Status::Back, 1), "{}", ran.said);
+}
+
+#[test]
+fn a_silent_kernel_is_a_refusal() {
+    let silent: Hook = Box::new(|_, number, _| (number == 5).then_some(0));
+    let ran = run(&["--clear"], &saved(tree(1000)), tree(2000), &Fake::new(silent));
+    assert_eq!((ran.status, plain(&ran.objects)), (Status::Back, plain(&tree(2000))), "{}", ran.said);
+}
+
+#[test]
+fn what_is_taken_otherwise_is_found() {
+    let changing: Hook = Box::new(|state, number, _| {
+        if number == 8 {
+            state.objects.pop();
+        }
+        None
+    });
+    let ran = run(&["--clear"], &saved(tree(1000)), tree(2000), &Fake::new(changing));
+    assert_eq!((ran.status, plain(&ran.objects)), (Status::Back, plain(&tree(2000))), "{}", ran.said);
+    assert!(ran.said.contains("isn't there"), "{}", ran.said);
+}
+
+#[test]
+fn an_interface_that_is_another_one_is_left() {
+    let moving: Hook = Box::new(|state, number, _| {
+        if number == 2 {
+            state.devices[0].1 = "lan".to_string();
+        }
+        None
+    });
+    let ran = run(&["--clear"], &saved(tree(1000)), tree(2000), &Fake::new(moving));
+    assert_eq!((ran.status, ran.sent.len()), (Status::Lost, 2), "{}", ran.said);
+    assert!(ran.said.contains("interface 7 was wan, and is lan now"), "{}", ran.said);
+}
+
+#[test]
+fn what_cannot_be_made_again_is_not_deleted() {
+    let red = || vec![of(RTM_NEWQDISC, 0x2_0000, 0xFFFF_FFFF, "red", &[])];
+    let ran = run(&["--clear"], &saved(tree(1000)), red(), &Fake::new(taking()));
+    assert_eq!((ran.status, ran.sent.len()), (Status::NothingSent, 0), "{}", ran.said);
+    assert!(ran.said.contains("--no-rollback"), "{}", ran.said);
+    let ran = run(&["--clear", "--no-rollback"], &saved(tree(1000)), red(), &Fake::new(taking()));
+    assert_eq!((ran.status, plain(&ran.objects)), (Status::Restored, plain(&tree(1000))), "{}", ran.said);
+    let refusing: Hook = Box::new(|_, number, _| (number == 5).then_some(ENOENT));
+    let ran = run(&["--clear", "--no-rollback"], &saved(tree(1000)), red(), &Fake::new(refusing));
+    assert_eq!((ran.status, ran.sent.len()), (Status::Lost, 5), "{}", ran.said);
+}
+
+#[test]
+fn the_rest_is_made_if_that_is_asked_for() {
+    let file = saved([tree(1000), vec![of(RTM_NEWQDISC, 0x2_0000, 0x1_0010, "red", &[])]].concat());
+    let ran = run(&[], &file, Vec::new(), &Fake::new(taking()));
+    assert_eq!((ran.status, ran.sent.len()), (Status::NothingSent, 0), "{}", ran.said);
+    let ran = run(&["--partial"], &file, Vec::new(), &Fake::new(taking()));
+    assert_eq!((ran.status, plain(&ran.objects)), (Status::Partial, plain(&tree(1000))), "{}", ran.said);
+}
+
+#[test]
+fn interfaces_by_their_names() {
+    let file = saved(tree(1000));
+    let fake = Fake::new(taking());
+    fake.state.borrow_mut().devices[0].1 = "lan".to_string();
+    let ran = run(&[], &file, Vec::new(), &fake);
+    assert_eq!((ran.status, ran.sent.len()), (Status::NothingSent, 0));
+    assert!(ran.said.contains("there is no interface wan"), "{}", ran.said);
+    let ran = run(&["--map", "wam=lan"], &file, Vec::new(), &fake);
+    assert!(ran.said.contains("the save names no interface wam"), "{}", ran.said);
+    for words in [["--map", "wan=lan"], ["--dev", "lan"]] {
+        let fake = Fake::new(taking());
+        fake.state.borrow_mut().devices[0].1 = "lan".to_string();
+        let ran = run(&words, &file, Vec::new(), &fake);
+        assert_eq!((ran.status, plain(&ran.objects)), (Status::Restored, plain(&tree(1000))), "{}", ran.said);
+    }
+}
+
+#[test]
+fn another_mac_is_a_warning() {
+    let fake = Fake::new(taking());
+    fake.state.borrow_mut().devices[0].2[5] = 9;
+    let ran = run(&[], &saved(tree(1000)), Vec::new(), &fake);
+    assert_eq!(ran.status, Status::Restored);
+    assert_eq!(ran.said, "wan has another MAC than wan when it was saved: 02:00:00:00:00:09 for 02:00:00:00:00:07");
+}
+
+// A save of an older version is taken by its indices, and never clears.
+#[test]
+fn a_save_without_a_head() {
+    let whole = saved(tree(1000));
+    let lines: Vec<&str> = whole.lines().collect();
+    let old = lines[1..lines.len() - 1].join("\n");
+    let ran = run(&[], &old, Vec::new(), &Fake::new(taking()));
+    assert_eq!((ran.status, plain(&ran.objects)), (Status::Restored, plain(&tree(1000))), "{}", ran.said);
+    assert!(ran.said.contains("by index: 7 (wan)"), "{}", ran.said);
+    let ran = run(&["--clear"], &old, tree(2000), &Fake::new(taking()));
+    assert_eq!((ran.status, ran.sent.len()), (Status::NothingSent, 0));
+}

@@ -1,0 +1,176 @@
+//! The kernel, what is heard of others' changes, and signals.
+
+use super::compare::objects_of;
+use super::messages::type_of;
+use crate::netlink::message::{NLM_F_DUMP, RTM_GETQDISC, Tcmsg, tc_request};
+use crate::netlink::{Device, Devices, Dump, Fault, Kernel, Listener, Notice, Refusal, Transport, state_of};
+use crate::save::save_of;
+use crate::shown::lines_of;
+use std::fmt;
+
+/// How often the kernel is asked again for what changed meanwhile.
+const MOST_TRIES: u32 = 8;
+
+/// Why restoring ends before its end.
+#[derive(Debug)]
+pub(crate) enum Stop {
+    /// The kernel refuses a request for this.
+    Refused { what: String, refusal: Refusal },
+    /// A socket failed.
+    Fault(Fault),
+    /// A signal came.
+    Signal(&'static str),
+    /// Another program, with this port id, changed this.
+    Other { port: u32, what: String },
+    /// An interface isn't the one that it was.
+    Moved(String),
+    /// What is there isn't what is wanted.
+    Differs(Vec<String>),
+}
+
+impl From<Fault> for Stop {
+    fn from(fault: Fault) -> Stop {
+        Stop::Fault(fault)
+    }
+}
+
+impl fmt::Display for Stop {
+    fn fmt(&self, f: &mut fmt::Formatter<'_>) -> fmt::Result {
+        match self {
+            Stop::Refused { what, refusal } => write!(f, "{what}: {refusal}"),
+            Stop::Fault(fault) => fault.fmt(f),
+            Stop::Signal(name) => write!(f, "{name} came"),
+            Stop::Other { port, what } => write!(f, "another program (netlink port {port}) changed it meanwhile: {what}"),
+            Stop::Moved(how) => f.write_str(how),
+            Stop::Differs(how) => write!(f, "what is there isn't what was wanted: {}", how.join("; ")),
+        }
+    }
+}
+
+/// The signal that came, if one did.
+pub(crate) type Signal<'s> = &'s dyn Fn() -> Option<&'static str>;
+
+/// What restoring works with.
+pub(crate) struct World<'s, T, L> {
+    pub(crate) kernel: Kernel<T>,
+    // Hears changes during a dump.
+    dumps: Listener<L>,
+    // Hears all changes from the dump of what was there before.
+    watch: Listener<L>,
+    signal: Signal<'s>,
+}
+
+/// The interfaces and shared blocks that others aren't to change meanwhile.
+#[derive(Clone, Debug, Default)]
+pub(crate) struct Place {
+    pub(crate) devices: Vec<Device>,
+    pub(crate) blocks: Vec<u32>,
+}
+
+impl Place {
+    pub(crate) fn indices(&self) -> Vec<u32> {
+        self.devices.iter().map(|device| device.index).collect()
+    }
+}
+
+impl<'s, T: Transport, L: Transport> World<'s, T, L> {
+    pub(crate) fn new(kernel: Kernel<T>, dumps: Listener<L>, watch: Listener<L>, signal: Signal<'s>) -> Self {
+        World { kernel, dumps, watch, signal }
+    }
+
+    /// What interfaces have, from which on all changes are heard.
+    pub(crate) fn first_dump(&mut self, interfaces: &[u32]) -> Result<Dump, Fault> {
+        for _ in 0..MOST_TRIES {
+            self.watch.heard()?;
+            let dump = state_of(&mut self.kernel, &mut self.dumps, interfaces)?;
+            if !self.watch.heard()?.is_change(interfaces, &dump.blocks) {
+                return Ok(dump);
+            }
+        }
+        Err(Fault::Changing(MOST_TRIES))
+    }
+
+    /// What interfaces have.
+    pub(crate) fn dump(&mut self, interfaces: &[u32]) -> Result<Dump, Fault> {
+        state_of(&mut self.kernel, &mut self.dumps, interfaces)
+    }
+
+    /// The save of what interfaces have.
+    pub(crate) fn save(&mut self, interfaces: &[u32]) -> Result<String, Fault> {
+        let dump = self.dump(interfaces)?;
+        text_of(&dump, interfaces)
+    }
+
+    /// The qdiscs of all interfaces.
+    pub(crate) fn qdiscs(&mut self) -> Result<Vec<Vec<u8>>, Fault> {
+        for _ in 0..MOST_TRIES {
+            match self.kernel.dump(&tc_request(RTM_GETQDISC, NLM_F_DUMP, Tcmsg::default())) {
+                Err(Fault::Interrupted | Fault::Lost) => {}
+                qdiscs => return qdiscs,
+            }
+        }
+        Err(Fault::Changing(MOST_TRIES))
+    }
+
+    /// The signal that came, if one did.
+    pub(crate) fn check_signal(&self) -> Result<(), Stop> {
+        match (self.signal)() {
+            Some(name) => Err(Stop::Signal(name)),
+            None => Ok(()),
+        }
+    }
+
+    /// What the kernel told of a request of ours since the last look. The error is that another program changed something.
+    pub(crate) fn look(&mut self, place: &Place, request: Option<&[u8]>) -> Result<Option<Vec<u8>>, Stop> {
+        let heard = self.watch.heard()?;
+        if heard.lost {
+            return Err(Stop::Fault(Fault::Lost));
+        }
+        let ours = self.kernel.port();
+        let is_other = |notice: &&Notice| notice.port != 0 && notice.port != ours && notice.concerns(&place.indices(), &place.blocks);
+        if let Some(notice) = heard.notices.iter().find(is_other) {
+            return Err(Stop::Other { port: notice.port, what: what_of(&notice.message) });
+        }
+        let wanted = request.map(type_of);
+        let told = heard.notices.into_iter().find(|notice| notice.port == ours && Some(notice.kind) == wanted);
+        Ok(told.map(|notice| notice.message))
+    }
+
+    /// An error if an interface has another name, index or address than it had.
+    pub(crate) fn check_devices(&mut self, place: &Place) -> Result<(), Stop> {
+        let devices = Devices::of(&mut self.kernel)?;
+        for device in &place.devices {
+            let (name, index) = (&device.name, device.index);
+            let today = devices.at(index).ok_or_else(|| Stop::Moved(format!("there is no interface {name} ({index}) any more")))?;
+            if today.name != *name {
+                return Err(Stop::Moved(format!("interface {index} was {name}, and is {} now", today.name)));
+            }
+            if today.mac != device.mac {
+                return Err(Stop::Moved(format!("{name} has another MAC: {} for {}", today.mac_text(), device.mac_text())));
+            }
+        }
+        Ok(())
+    }
+}
+
+/// The save of a dump of these interfaces.
+pub(crate) fn text_of(dump: &Dump, interfaces: &[u32]) -> Result<String, Fault> {
+    let devices: Vec<&Device> = interfaces.iter().filter_map(|index| dump.devices.at(*index)).collect();
+    let shown = lines_of(&dump.messages)?;
+    save_of(&devices, &dump.devices, &shown.lines).map_err(|_| Fault::Broken("a message that isn't shown as JSON"))
+}
+
+/// What a request or a notification is about.
+pub(crate) fn what_of(message: &[u8]) -> String {
+    let number = type_of(message);
+    // Types go in fours: NEW, DEL, GET and SET.
+    let (kind, verb) = (number / 4 * 4, if number % 4 == 1 { "deleting " } else { "" });
+    let mut as_new = message.to_vec();
+    if let Some(place) = as_new.get_mut(4..6) {
+        place.copy_from_slice(&kind.to_ne_bytes());
+    }
+    match objects_of(&as_new).into_keys().next() {
+        Some(key) => format!("{verb}{key}"),
+        None => format!("a message of type {number}"),
+    }
+}

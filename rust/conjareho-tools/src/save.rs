@@ -1,0 +1,74 @@
+//! A save: a head, a line of JSON for each object, and an end that counts them.
+
+use crate::interfaces::indices_in;
+use crate::netlink::{Device, Devices};
+use ::serde::ser::{Serialize, SerializeMap, Serializer};
+use ::serde_json::{Error, from_str, to_string};
+use std::collections::{BTreeMap, BTreeSet};
+use std::time::SystemTime;
+
+/// The version of the format, `save` of the head.
+pub const VERSION: u32 = 1;
+
+/// The text of a save of these interfaces, of which `lines` shows what they have. `devices` are all interfaces of the namespace.
+pub fn save_of(saved: &[&Device], devices: &Devices, lines: &[String]) -> Result<String, Error> {
+    let mut text = to_string(&Head { saved, names: &names_of(saved, devices, lines)? })?;
+    for line in lines {
+        text.push('\n');
+        text.push_str(line);
+    }
+    text.push_str(&format!("\n{{\"end\":{}}}\n", lines.len()));
+    Ok(text)
+}
+
+// The name of each interface that a line has the index of, as far as it is there.
+fn names_of(saved: &[&Device], devices: &Devices, lines: &[String]) -> Result<BTreeMap<u32, String>, Error> {
+    let mut indices: BTreeSet<u32> = saved.iter().map(|device| device.index).collect();
+    for line in lines {
+        indices.extend(indices_in(&from_str(line)?));
+    }
+    Ok(indices.into_iter().filter_map(|index| Some((index, devices.at(index)?.name.clone()))).collect())
+}
+
+// The first line, with its members in this order.
+struct Head<'a> {
+    saved: &'a [&'a Device],
+    names: &'a BTreeMap<u32, String>,
+}
+
+impl Serialize for Head<'_> {
+    fn serialize<S: Serializer>(&self, to: S) -> Result<S::Ok, S::Error> {
+        let release = nix::sys::utsname::uname().map(|name| name.release().to_string_lossy().into_owned()).unwrap_or_default();
+        let mut head = to.serialize_map(None)?;
+        head.serialize_entry("save", &VERSION)?;
+        head.serialize_entry("devs", &Saved(self.saved))?;
+        head.serialize_entry("names", self.names)?;
+        head.serialize_entry("kernel", &release)?;
+        head.serialize_entry("by", concat!("tcsave ", env!("CARGO_PKG_VERSION")))?;
+        head.serialize_entry("time", &humantime::format_rfc3339_seconds(SystemTime::now()).to_string())?;
+        head.end()
+    }
+}
+
+struct Saved<'a>(&'a [&'a Device]);
+
+impl Serialize for Saved<'_> {
+    fn serialize<S: Serializer>(&self, to: S) -> Result<S::Ok, S::Error> {
+        to.collect_map(self.0.iter().map(|device| (&device.name, SavedDevice(device))))
+    }
+}
+
+// What tells an interface from another of the same name.
+struct SavedDevice<'a>(&'a Device);
+
+impl Serialize for SavedDevice<'_> {
+    fn serialize<S: Serializer>(&self, to: S) -> Result<S::Ok, S::Error> {
+        let mut device = to.serialize_map(None)?;
+        device.serialize_entry("index", &self.0.index)?;
+        device.serialize_entry("mac", &self.0.mac_text())?;
+        device.serialize_entry("mtu", &self.0.mtu)?;
+        device.serialize_entry("txqueuelen", &self.0.txqueuelen)?;
+        device.serialize_entry("queues", &self.0.queues)?;
+        device.end()
+    }
+}

@@ -1,0 +1,50 @@
+//! Messages as lines of JSON, as `tcshow --json` writes them.
+
+use crate::netlink::Fault;
+use crate::tc_chosen::Chosen;
+use crate::tc_outline::Interfaces;
+use crate::tcshow_lib::asked::{Asked, Form};
+use crate::tcshow_lib::program::serve;
+
+/// What `tcshow --json` writes of messages.
+#[derive(Clone, PartialEq, Eq, Debug, Default)]
+pub struct Shown {
+    /// A line each, without its line feed.
+    pub lines: Vec<String>,
+    /// True if the codec refuses one of them; its line says why.
+    pub has_refused: bool,
+}
+
+/// The lines of JSON of messages with their netlink headers, one each.
+pub fn lines_of(messages: &[Vec<u8>]) -> Result<Shown, Fault> {
+    if messages.is_empty() {
+        return Ok(Shown::default());
+    }
+    let stream = stream_of(messages);
+    let asked = Asked {
+        form: Form::Json,
+        without_header: None,
+        chosen: Chosen::ALL,
+        all: false,
+        names: Interfaces { names: &[] },
+        has_summary: false,
+    };
+    let (mut written, mut complaints) = (Vec::new(), Vec::new());
+    let status = serve(&asked, &mut stream.as_slice(), &mut written, &mut complaints);
+    let text = String::from_utf8(written).map_err(|_| Fault::Broken("a message that isn't shown as text"))?;
+    let lines: Vec<String> = text.lines().map(str::to_string).collect();
+    if status > 1 || lines.len() != messages.len() {
+        return Err(Fault::Broken("a message that isn't shown as one line"));
+    }
+    Ok(Shown { lines, has_refused: status == 1 })
+}
+
+/// Messages as a stream: each padded to a multiple of four bytes.
+pub fn stream_of(messages: &[Vec<u8>]) -> Vec<u8> {
+    let mut stream = Vec::new();
+    for message in messages {
+        stream.extend_from_slice(message);
+        stream.resize(stream.len().next_multiple_of(4), 0);
+    }
+    stream
+}

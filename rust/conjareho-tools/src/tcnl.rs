@@ -1,0 +1,158 @@
+//! The program tcnl.
+
+use crate::netlink::devices::links;
+use crate::netlink::{Devices, Fault, Kernel, Listener, Objects, clear, dump_of};
+use crate::requests::{Stream, send_all};
+use crate::shown::stream_of;
+use crate::status::{Ending, Status, say, words_of};
+use ::clap::builder::NonEmptyStringValueParser;
+use ::clap::error::ErrorKind;
+use ::clap::{Arg, ArgAction, ArgMatches, Command};
+use std::io::{Read, Write};
+use std::process::ExitCode;
+
+const NOTES: &str = "\
+DEV is the name of an interface, another name of it (an altname), or its index.
+
+Exit status: 0; 1 if there is no such interface, the kernel refused something, a dump kept changing or messages were lost; 2 for a wrong \
+usage; 3 if a socket or a stream failed, or a stream has something else than whole requests of traffic control, of which nothing is sent";
+
+const OBJECTS: [(&str, Objects); 5] = [
+    ("qdisc", Objects { qdiscs: true, ..Objects::NONE }),
+    ("class", Objects { classes: true, ..Objects::NONE }),
+    ("filter", Objects { filters: true, ..Objects::NONE }),
+    ("chain", Objects { chains: true, ..Objects::NONE }),
+    ("action", Objects { actions: true, ..Objects::NONE }),
+];
+
+fn command() -> Command {
+    let words = |name: &'static str, most: usize, help: &'static str| {
+        Arg::new(name).help(help).num_args(0..=most).value_parser(NonEmptyStringValueParser::new())
+    };
+    let links = Arg::new("links").long("links").help("Begin with the interfaces of the kernel (RTM_NEWLINK)").action(ArgAction::SetTrue);
+    let any = Arg::new("any").long("any").help("Send requests of other types too").action(ArgAction::SetTrue);
+    Command::new("tcnl")
+        .version(env!("CARGO_PKG_VERSION"))
+        .about("Traffic control between a kernel and netlink streams")
+        .after_help(NOTES)
+        .subcommand_required(true)
+        .subcommand(
+            Command::new("dump")
+                .about("Writes what the kernel has as a stream")
+                .override_usage("tcnl dump [--links] [qdisc|class|filter|chain|action] [dev DEV]")
+                .arg(links.clone())
+                .arg(words("WORDS", 3, "What to dump (all, if it isn't said), and of which interface (of all)")),
+        )
+        .subcommand(Command::new("monitor").about("Writes what changes as a stream, until it is ended").arg(links))
+        .subcommand(Command::new("send").about("Sends the requests of the stream at standard input").arg(any))
+        .subcommand(
+            Command::new("clear")
+                .about("Deletes the root, ingress and clsact qdiscs of an interface")
+                .override_usage("tcnl clear dev DEV")
+                .arg(words("WORDS", 2, "dev and the interface")),
+        )
+}
+
+/// Does what its arguments ask for.
+pub fn tcnl() -> ExitCode {
+    let words = match words_of("tcnl", command()) {
+        Ok(words) => words,
+        Err(code) => return code,
+    };
+    match obey(&words) {
+        Ok(code) => code,
+        Err(ending) => ending.say("tcnl"),
+    }
+}
+
+fn obey(words: &ArgMatches) -> Result<ExitCode, Ending> {
+    match words.subcommand() {
+        Some(("dump", words)) => dump(words),
+        Some(("monitor", words)) => monitor(words),
+        Some(("send", words)) => send(words),
+        Some(("clear", words)) => clear_interface(words),
+        _ => Ok(ExitCode::from(Status::Usage as u8)),
+    }
+}
+
+// What words say as iproute2's: an object, if any, and `dev DEV`, if any.
+fn objects_and_interface<'a>(words: &[&'a str]) -> Option<(Objects, Option<&'a str>)> {
+    let named = |name: &str| OBJECTS.iter().find(|(object, _)| *object == name).map(|(_, objects)| *objects);
+    match words {
+        [] => Some((Objects::ALL, None)),
+        ["dev", device] => Some((Objects::ALL, Some(device))),
+        [object] => Some((named(object)?, None)),
+        [object, "dev", device] => Some((named(object)?, Some(device))),
+        _ => None,
+    }
+}
+
+fn texts<'a>(words: &'a ArgMatches) -> Vec<&'a str> {
+    words.get_many::<String>("WORDS").into_iter().flatten().map(String::as_str).collect()
+}
+
+// Says how a subcommand is to be used.
+fn misused(name: &str) -> ExitCode {
+    let mut command = command();
+    if let Some(it) = command.find_subcommand_mut(name) {
+        let _ = it.error(ErrorKind::UnknownArgument, "these words aren't understood").print();
+    }
+    ExitCode::from(Status::Usage as u8)
+}
+
+fn index_of(kernel: &mut Kernel, word: &str) -> Result<u32, Ending> {
+    let devices = Devices::of(kernel)?;
+    devices.find(word).map(|device| device.index).ok_or_else(|| Ending::no_interface(word))
+}
+
+fn write(bytes: &[u8]) -> Result<(), Ending> {
+    let mut output = std::io::stdout().lock();
+    let written = output.write_all(bytes).and_then(|()| output.flush());
+    written.map_err(|error| Ending::new(Status::Stream, format!("standard output: {error}")))
+}
+
+fn dump(words: &ArgMatches) -> Result<ExitCode, Ending> {
+    let Some((objects, device)) = objects_and_interface(&texts(words)) else {
+        return Ok(misused("dump"));
+    };
+    let mut kernel = Kernel::open()?;
+    let mut listener = Listener::open()?;
+    let interface = device.map(|device| index_of(&mut kernel, device)).transpose()?.map(|index| [index]);
+    let mut messages = if words.get_flag("links") { links(&mut kernel)? } else { Vec::new() };
+    messages.extend(dump_of(&mut kernel, &mut listener, objects, interface.as_ref().map(|it| &it[..]))?.messages);
+    write(&stream_of(&messages))?;
+    Ok(ExitCode::SUCCESS)
+}
+
+fn monitor(words: &ArgMatches) -> Result<ExitCode, Ending> {
+    let mut listener = Listener::open()?;
+    if words.get_flag("links") {
+        write(&stream_of(&links(&mut Kernel::open()?)?))?;
+    }
+    loop {
+        match listener.receive(None) {
+            Ok(notices) => write(&stream_of(&notices.into_iter().map(|notice| notice.message).collect::<Vec<_>>()))?,
+            Err(Fault::Lost) => return Err(Ending::new(Status::Refused, Fault::Lost)),
+            Err(fault) => return Err(fault.into()),
+        }
+    }
+}
+
+fn send(words: &ArgMatches) -> Result<ExitCode, Ending> {
+    let mut bytes = Vec::new();
+    std::io::stdin().lock().read_to_end(&mut bytes).map_err(|error| Ending::new(Status::Stream, format!("standard input: {error}")))?;
+    let mut kernel = Kernel::open()?;
+    let stream = Stream::of(&bytes, kernel.most(), words.get_flag("any"))?;
+    let refused = send_all(&mut kernel, &stream, |text| say("tcnl", text))?;
+    Ok(ExitCode::from(u8::from(refused > 0)))
+}
+
+fn clear_interface(words: &ArgMatches) -> Result<ExitCode, Ending> {
+    let ["dev", device] = texts(words)[..] else {
+        return Ok(misused("clear"));
+    };
+    let mut kernel = Kernel::open()?;
+    let index = index_of(&mut kernel, device)?;
+    clear(&mut kernel, index)?;
+    Ok(ExitCode::SUCCESS)
+}
