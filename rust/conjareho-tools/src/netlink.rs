@@ -15,7 +15,7 @@ pub use clear::clear;
 pub use devices::{Device, Devices};
 pub use fault::{Fault, Refusal};
 pub use kernel::Kernel;
-pub use listener::{Heard, Listener, Notice};
+pub use listener::{Changes, Heard, Listener, Notice};
 pub use socket::Socket;
 pub use state::{Dump, Objects, dump_of, state_of};
 pub use transport::Transport;

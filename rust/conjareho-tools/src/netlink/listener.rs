@@ -5,6 +5,7 @@ use super::kernel::not_interrupted;
 use super::message::{MAGIC_BLOCK, Messages, is_action, is_tc, tcmsg_of};
 use super::socket::Socket;
 use super::transport::Transport;
+use std::collections::BTreeSet;
 use std::time::Duration;
 
 /// A notification.
@@ -43,11 +44,46 @@ pub struct Heard {
 }
 
 impl Heard {
-    /// True if one of these interfaces, a block of theirs or any action changed, or if that can't be said.
+    /// True if one of these interfaces, one of these blocks or any action changed, or if that can't be said.
     pub fn is_change(&self, interfaces: &[u32], blocks: &[u32]) -> bool {
         self.lost || self.notices.iter().any(|notice| notice.is_action() || notice.concerns(interfaces, blocks))
     }
 }
+
+/// What changed, by notifications.
+#[derive(Clone, PartialEq, Eq, Debug, Default)]
+pub struct Changes {
+    interfaces: BTreeSet<i32>,
+    blocks: BTreeSet<u32>,
+    has_actions: bool,
+    has_lost: bool,
+}
+
+impl Changes {
+    /// Adds what is heard since the last call.
+    pub fn listen<T: Transport>(&mut self, listener: &mut Listener<T>) -> Result<(), Fault> {
+        self.listen_shortly(listener, MOST_WAITING)
+    }
+
+    /// Adds what is heard since the last call, of so many datagrams at most.
+    pub fn listen_shortly<T: Transport>(&mut self, listener: &mut Listener<T>, most: usize) -> Result<(), Fault> {
+        self.has_lost |= listener.each(most, |notice| match tcmsg_of(&notice.message) {
+            Some(tcmsg) if tcmsg.index == MAGIC_BLOCK => drop(self.blocks.insert(tcmsg.parent)),
+            Some(tcmsg) => drop(self.interfaces.insert(tcmsg.index)),
+            None => self.has_actions = true,
+        })?;
+        Ok(())
+    }
+
+    /// True if one of these interfaces, one of these blocks or any action changed, or if that can't be said.
+    pub fn concern(&self, interfaces: &[u32], blocks: &[u32]) -> bool {
+        let has_interface = interfaces.iter().any(|index| self.interfaces.contains(&(*index as i32)));
+        self.has_lost || self.has_actions || has_interface || blocks.iter().any(|block| self.blocks.contains(block))
+    }
+}
+
+/// The most datagrams that the room of a socket (8 MiB, as the kernel counts it) can hold: each takes more than 512 bytes of it.
+const MOST_WAITING: usize = 1 << 14;
 
 /// A socket that hears notifications, from when it is opened.
 pub struct Listener<T = Socket> {
@@ -69,15 +105,23 @@ impl<T: Transport> Listener<T> {
 
     /// What was heard since the last call, without waiting.
     pub fn heard(&mut self) -> Result<Heard, Fault> {
-        let mut heard = Heard::default();
-        loop {
+        let mut notices = Vec::new();
+        let lost = self.each(MOST_WAITING, |notice| notices.push(notice))?;
+        Ok(Heard { notices, lost })
+    }
+
+    // Takes each notification that waits, of so many datagrams at most, however fast others come. True if the kernel dropped some.
+    fn each(&mut self, most: usize, mut take: impl FnMut(Notice)) -> Result<bool, Fault> {
+        let mut lost = false;
+        for _ in 0..most {
             match self.receive(Some(Duration::ZERO)) {
-                Ok(notices) => heard.notices.extend(notices),
-                Err(Fault::Silent) => return Ok(heard),
-                Err(Fault::Lost) => heard.lost = true,
+                Ok(notices) => notices.into_iter().for_each(&mut take),
+                Err(Fault::Silent) => break,
+                Err(Fault::Lost) => lost = true,
                 Err(fault) => return Err(fault),
             }
         }
+        Ok(lost)
     }
 
     /// The notifications of the next datagram; none if it isn't the kernel's. `Fault::Silent` if none came within `wait`, `Fault::Lost` if the

@@ -4,7 +4,7 @@ use super::attributes::{attribute, put, text};
 use super::devices::Devices;
 use super::fault::Fault;
 use super::kernel::Kernel;
-use super::listener::Listener;
+use super::listener::{Changes, Listener};
 use super::message::*;
 use super::transport::Transport;
 use nix::errno::Errno;
@@ -12,6 +12,9 @@ use std::collections::BTreeSet;
 
 /// How often a dump is begun before it is given up, if what it shows keeps changing.
 pub const MOST_TRIES: u32 = 8;
+
+/// The most notifications that are taken between two requests.
+const MOST_BETWEEN: usize = 64;
 
 const TCA_KIND: u16 = 1;
 const TCA_INGRESS_BLOCK: u16 = 13;
@@ -59,8 +62,8 @@ pub fn state_of<T: Transport, L: Transport>(kernel: &mut Kernel<T>, listener: &m
     dump_of(kernel, listener, Objects::ALL, Some(interfaces))
 }
 
-/// Dumps some objects of these interfaces, or of all. The kernel doesn't say that something changed during a dump of theirs, so the listener is
-/// asked.
+/// Dumps some objects of these interfaces, or of all, and again if they changed meanwhile. The kernel doesn't say so of a dump of traffic control,
+/// but notifies who listens.
 pub fn dump_of<T: Transport, L: Transport>(
     kernel: &mut Kernel<T>,
     listener: &mut Listener<L>,
@@ -72,80 +75,121 @@ pub fn dump_of<T: Transport, L: Transport>(
         let before = Devices::of(kernel)?;
         let all = before.indices();
         let asked = interfaces.unwrap_or(&all);
-        let dump = match dump_once(kernel, objects, asked) {
+        let mut dumper = Dumper { kernel, listener, objects, changes: Changes::default() };
+        let dump = match dumper.dump(asked) {
             Err(Fault::Interrupted | Fault::Lost) => continue,
             dump => dump?,
         };
-        let devices = Devices::of(kernel)?;
+        let devices = Devices::of(dumper.kernel)?;
         if let Some(gone) = interfaces.and_then(|asked| asked.iter().find(|index| devices.at(**index).is_none())) {
             return Err(Fault::NoInterface(*gone));
         }
+        dumper.changes.listen(dumper.listener)?;
         let are_same = asked.iter().all(|index| before.at(*index) == devices.at(*index));
-        if are_same && !listener.heard()?.is_change(asked, &dump.blocks) {
+        if are_same && !dumper.changes.concern(asked, &dump.blocks) {
             return Ok(Dump { devices, ..dump });
         }
     }
     Err(Fault::Changing(MOST_TRIES))
 }
 
-fn dump_once<T: Transport>(kernel: &mut Kernel<T>, objects: Objects, interfaces: &[u32]) -> Result<Dump, Fault> {
-    let mut dump = Dump::default();
-    if objects.actions {
-        dump.messages = actions(kernel)?;
+// A dump that listens for changes meanwhile, so that many of them don't fill the listener's room.
+struct Dumper<'a, T, L> {
+    kernel: &'a mut Kernel<T>,
+    listener: &'a mut Listener<L>,
+    objects: Objects,
+    changes: Changes,
+}
+
+impl<T: Transport, L: Transport> Dumper<'_, T, L> {
+    fn dump(&mut self, interfaces: &[u32]) -> Result<Dump, Fault> {
+        let mut dump = Dump::default();
+        if self.objects.actions {
+            dump.messages = actions(self.kernel)?;
+        }
+        let interfaces = if self.objects.are_of_interfaces() { interfaces } else { &[] };
+        let mut qdiscs = if interfaces.is_empty() { Vec::new() } else { self.dump_tc(RTM_GETQDISC, 0, 0)? };
+        let mut below = Vec::new();
+        for index in interfaces {
+            let is_own = |qdisc: &mut Vec<u8>| tcmsg_of(qdisc).is_some_and(|tcmsg| tcmsg.index == *index as i32);
+            let own: Vec<Vec<u8>> = qdiscs.extract_if(.., is_own).collect();
+            self.dump_interface(*index, own, &mut dump, &mut below)?;
+        }
+        dump.messages.extend(below);
+        Ok(dump)
     }
-    let mut below = Vec::new();
-    for index in if objects.are_of_interfaces() { interfaces } else { &[] } {
-        let mut tree = qdiscs(kernel, *index)?;
-        for qdisc in &tree {
+
+    // What an interface with these qdiscs has: qdiscs and classes, and what is below these.
+    fn dump_interface(&mut self, index: u32, qdiscs: Vec<Vec<u8>>, dump: &mut Dump, below: &mut Vec<Vec<u8>>) -> Result<(), Fault> {
+        for qdisc in &qdiscs {
             dump.blocks.extend(blocks_in(qdisc)?);
         }
-        if objects.classes || objects.are_below() {
-            tree.extend(classes(kernel, *index, &tree)?);
+        let mut tree = qdiscs;
+        if self.objects.classes || self.objects.are_below() {
+            tree.extend(self.classes(index, &tree)?);
         }
-        for parent in if objects.are_below() { parents(&tree)? } else { Vec::new() } {
-            below.extend(below_parent(kernel, objects, *index, parent)?);
+        for parent in if self.objects.are_below() { parents(&tree)? } else { Vec::new() } {
+            below.extend(self.below(index, parent)?);
         }
-        let is_asked = |kind| if kind == RTM_NEWQDISC { objects.qdiscs } else { objects.classes };
+        let is_asked = |kind| if kind == RTM_NEWQDISC { self.objects.qdiscs } else { self.objects.classes };
         dump.messages.extend(tree.into_iter().filter(|it| header_of(it).is_some_and(|header| is_asked(header.kind))));
+        Ok(())
     }
-    dump.messages.extend(below);
-    Ok(dump)
-}
 
-// A dump of messages with a `struct tcmsg`, of this interface or of a block.
-fn dump_tc<T: Transport>(kernel: &mut Kernel<T>, kind: u16, index: u32, parent: u32) -> Result<Vec<Vec<u8>>, Fault> {
-    let asked = Tcmsg { index: index as i32, parent, ..Tcmsg::default() };
-    let mut dumped = kernel.dump(&tc_request(kind, NLM_F_DUMP, asked))?;
-    for message in &dumped {
-        // A NEW is two before its GET.
-        if tcmsg_of(message).is_none() || header_of(message).is_none_or(|header| header.kind + 2 != kind) {
-            return Err(Fault::Broken("another message than was asked for"));
+    // A dump of messages with a `struct tcmsg`, of an interface (and what is in blocks), or of all.
+    fn dump_tc(&mut self, kind: u16, index: u32, parent: u32) -> Result<Vec<Vec<u8>>, Fault> {
+        self.changes.listen_shortly(self.listener, MOST_BETWEEN)?;
+        let asked = Tcmsg { index: index as i32, parent, ..Tcmsg::default() };
+        let mut dumped = self.kernel.dump(&tc_request(kind, NLM_F_DUMP, asked))?;
+        for message in &dumped {
+            // A NEW is two before its GET.
+            if tcmsg_of(message).is_none() || header_of(message).is_none_or(|header| header.kind + 2 != kind) {
+                return Err(Fault::Broken("another message than was asked for"));
+            }
         }
+        let is_ours = |tcmsg: Tcmsg| index == 0 || tcmsg.index == index as i32 || tcmsg.index == MAGIC_BLOCK;
+        dumped.retain(|message| tcmsg_of(message).is_some_and(is_ours));
+        Ok(dumped)
     }
-    let is_ours = |message: &Vec<u8>| tcmsg_of(message).is_some_and(|tcmsg| tcmsg.index == index as i32 || tcmsg.index == MAGIC_BLOCK);
-    dumped.retain(is_ours);
-    Ok(dumped)
-}
 
-fn qdiscs<T: Transport>(kernel: &mut Kernel<T>, index: u32) -> Result<Vec<Vec<u8>>, Fault> {
-    dump_tc(kernel, RTM_GETQDISC, index, 0)
-}
-
-// The classes of each qdisc, asked for by its handle: a dump of all ends early at some kinds of qdiscs. A root without a handle (such as the mq that
-// the kernel makes) can't be asked for so; its classes have no major number.
-fn classes<T: Transport>(kernel: &mut Kernel<T>, index: u32, qdiscs: &[Vec<u8>]) -> Result<Vec<Vec<u8>>, Fault> {
-    let mut classes = Vec::new();
-    let mut asked = BTreeSet::new();
-    for qdisc in qdiscs.iter().filter_map(|qdisc| tcmsg_of(qdisc)) {
-        let is_root = qdisc.parent == TC_H_ROOT;
-        if (qdisc.handle == 0 && !is_root) || !asked.insert(qdisc.handle) {
-            continue;
+    // The classes of each qdisc, asked for by its handle: a dump of all ends early at some kinds of qdiscs. A root without a handle (such as the mq
+    // that the kernel makes) can't be asked for so; its classes have no major number.
+    fn classes(&mut self, index: u32, qdiscs: &[Vec<u8>]) -> Result<Vec<Vec<u8>>, Fault> {
+        let mut classes = Vec::new();
+        let mut asked = BTreeSet::new();
+        for qdisc in qdiscs.iter().filter_map(|qdisc| tcmsg_of(qdisc)) {
+            let is_root = qdisc.parent == TC_H_ROOT;
+            if (qdisc.handle == 0 && !is_root) || !asked.insert(qdisc.handle) {
+                continue;
+            }
+            let dumped = self.dump_tc(RTM_GETTCLASS, index, qdisc.handle)?;
+            let is_of_it = |class: &Vec<u8>| tcmsg_of(class).is_some_and(|class| class.handle & 0xffff_0000 == qdisc.handle);
+            classes.extend(dumped.into_iter().filter(is_of_it));
         }
-        let dumped = dump_tc(kernel, RTM_GETTCLASS, index, qdisc.handle)?;
-        let is_of_it = |class: &Vec<u8>| tcmsg_of(class).is_some_and(|class| class.handle & 0xffff_0000 == qdisc.handle);
-        classes.extend(dumped.into_iter().filter(is_of_it));
+        Ok(classes)
     }
-    Ok(classes)
+
+    // The chains of a parent, then its filters. The kernel dumps a chain with its qdisc as the parent; it gets the parent that was asked for, so that
+    // the two sides of clsact stay apart.
+    fn below(&mut self, index: u32, parent: u32) -> Result<Vec<Vec<u8>>, Fault> {
+        let mut below = Vec::new();
+        if self.objects.chains {
+            below = match self.dump_tc(RTM_GETCHAIN, index, parent) {
+                // Linux before 4.19 has none.
+                Err(Fault::Refused(refusal)) if refusal.is(Errno::EOPNOTSUPP) => Vec::new(),
+                chains => chains?,
+            };
+            for chain in &mut below {
+                if tcmsg_of(chain).is_some_and(|tcmsg| tcmsg.index != MAGIC_BLOCK) {
+                    chain[HEADER + 12..HEADER + 16].copy_from_slice(&parent.to_ne_bytes());
+                }
+            }
+        }
+        if self.objects.filters {
+            below.extend(self.dump_tc(RTM_GETTFILTER, index, parent)?);
+        }
+        Ok(below)
+    }
 }
 
 // What filters and chains may hang below: of clsact its two sides, of ingress one, of a root without a handle 0.
@@ -163,28 +207,6 @@ fn parents(tree: &[Vec<u8>]) -> Result<Vec<u32>, Fault> {
         }
     }
     Ok(parents)
-}
-
-// The chains of a parent, then its filters. The kernel dumps a chain with its qdisc as the parent; it gets the parent that was asked for, so that
-// the two sides of clsact stay apart.
-fn below_parent<T: Transport>(kernel: &mut Kernel<T>, objects: Objects, index: u32, parent: u32) -> Result<Vec<Vec<u8>>, Fault> {
-    let mut below = Vec::new();
-    if objects.chains {
-        below = match dump_tc(kernel, RTM_GETCHAIN, index, parent) {
-            // Linux before 4.19 has none.
-            Err(Fault::Refused(refusal)) if refusal.is(Errno::EOPNOTSUPP) => Vec::new(),
-            chains => chains?,
-        };
-        for chain in &mut below {
-            if tcmsg_of(chain).is_some_and(|tcmsg| tcmsg.index != MAGIC_BLOCK) {
-                chain[HEADER + 12..HEADER + 16].copy_from_slice(&parent.to_ne_bytes());
-            }
-        }
-    }
-    if objects.filters {
-        below.extend(dump_tc(kernel, RTM_GETTFILTER, index, parent)?);
-    }
-    Ok(below)
 }
 
 fn attributes_of(message: &[u8]) -> &[u8] {

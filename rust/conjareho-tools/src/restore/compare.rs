@@ -109,21 +109,28 @@ impl fmt::Display for Difference {
     }
 }
 
-/// The differences between what is wanted and what is there. What was there before may be there still, where `may_stay` says so of it.
-pub(crate) fn differences(wanted: &Objects, found: &Objects, before: &Objects, may_stay: impl Fn(&Key) -> bool) -> Vec<Difference> {
+/// The differences between what is wanted and what is there. What isn't wanted is none where `may_be` says so.
+pub(crate) fn differences(wanted: &Objects, found: &Objects, may_be: impl Fn(&Key, &Value) -> bool) -> Vec<Difference> {
     let mut all = Vec::new();
     for (key, value) in wanted {
         match found.get(key) {
             None => all.push(Difference::Missing(key.clone())),
-            Some(other) => all.extend(first_difference(value, other, "").map(|(at, wanted, found)| Difference::Other { key: key.clone(), at, wanted, found })),
+            Some(other) => {
+                let other = if matches!(key, Key::Order { .. }) { &among(other, value) } else { other };
+                let first = first_difference(value, other, "");
+                all.extend(first.map(|(at, wanted, found)| Difference::Other { key: key.clone(), at, wanted, found }));
+            }
         }
     }
-    for (key, value) in found.iter().filter(|(key, _)| !wanted.contains_key(key)) {
-        if !may_stay(key) || before.get(key) != Some(value) {
-            all.push(Difference::Unwanted(key.clone()));
-        }
-    }
+    let others = found.iter().filter(|(key, _)| !wanted.contains_key(key));
+    all.extend(others.filter(|(key, value)| !may_be(key, value)).map(|(key, _)| Difference::Unwanted(key.clone())));
     all
+}
+
+// The handles of a list that are in another one: filters that were there before may stand between those of a save.
+fn among(list: &Value, wanted: &Value) -> Value {
+    let wanted = wanted.as_array().map_or(&[][..], Vec::as_slice);
+    list.as_array().into_iter().flatten().filter(|handle| wanted.contains(handle)).cloned().collect()
 }
 
 fn objects_in(message: &[u8]) -> Vec<(Key, Value)> {

@@ -25,6 +25,7 @@ use world::{Stop, World};
 
 use crate::netlink::fault::Printable;
 use crate::netlink::{Fault, Kernel, Listener, Transport};
+use ::serde_json::Value;
 use signal_hook::consts::{SIGHUP, SIGINT, SIGTERM};
 use std::fs;
 use std::io::{self, Read as _, Write as _};
@@ -132,18 +133,21 @@ fn carried_out<T: Transport, L: Transport>(
     }
     sending.send_all(&prepared.requests)?;
     // Without --clear what was there stays; actions belong to no interface.
-    let after = same(sending, &prepared.wanted, &prepared.before, |key| !arguments.clear || key.is_action())?;
+    let may_be = |key: &Key, value: &Value| key.is_action() || !arguments.clear && prepared.before.get(key) == Some(value);
+    let after = same(sending, &prepared.wanted, |_| true, may_be)?;
     said.extend(hardware::lost(&prepared.save, &after));
     Ok(())
 }
 
-// What is there, as a save; an error if it isn't what is wanted. What was deleted may live on for a time.
+// What is there, as a save; an error if it isn't what is wanted, among the keys that are looked at. What was deleted may live on for a time.
 fn same<T: Transport, L: Transport>(
     sending: &mut Sending<'_, '_, T, L>,
     wanted: &Objects,
-    before: &Objects,
-    may_stay: impl Fn(&Key) -> bool,
+    is_seen: impl Fn(&Key) -> bool,
+    may_be: impl Fn(&Key, &Value) -> bool,
 ) -> Result<String, Stop> {
+    let seen = |objects: Objects| objects.into_iter().filter(|(key, _)| is_seen(key)).collect::<Objects>();
+    let wanted = seen(wanted.clone());
     let place = sending.place;
     let until = Instant::now() + PATIENCE;
     loop {
@@ -151,7 +155,7 @@ fn same<T: Transport, L: Transport>(
         let after = sending.world.save(&place.indices())?;
         sending.world.look(place, None)?;
         let all = requests(&Wanted { text: &after, ..Wanted::default() }).requests;
-        let found = differences(wanted, &objects_of(&all.concat()), before, &may_stay);
+        let found = differences(&wanted, &seen(objects_of(&all.concat())), &may_be);
         if found.is_empty() {
             return Ok(after);
         }
@@ -198,7 +202,9 @@ fn gone_back<T: Transport, L: Transport>(prepared: &Prepared, sending: &mut Send
     if let Err(stop @ (Stop::Other { .. } | Stop::Moved(_))) = refused {
         return Err(stop);
     }
-    match (same(sending, &prepared.before, &prepared.before, |_| false), refused) {
+    // Actions that aren't the save's are others'.
+    let is_seen = |key: &Key| !key.is_action() || prepared.wanted.contains_key(key);
+    match (same(sending, &prepared.before, is_seen, |_, _| false), refused) {
         (Ok(_), _) => Ok(()),
         (Err(_), Err(stop)) | (Err(stop), Ok(())) => Err(stop),
     }

@@ -28,7 +28,11 @@ impl Ended {
 
 impl From<Fault> for Ended {
     fn from(fault: Fault) -> Ended {
-        Ended::because(Status::Failed, vec![fault.to_string()])
+        let status = match fault {
+            Fault::Refused(_) | Fault::Cut(_) | Fault::Interrupted | Fault::Changing(_) | Fault::NoInterface(_) => Status::NothingSent,
+            Fault::Socket(..) | Fault::Silent | Fault::Broken(_) | Fault::Lost => Status::Failed,
+        };
+        Ended::because(status, vec![fault.to_string()])
     }
 }
 
@@ -169,7 +173,7 @@ fn check_blocks<T: Transport, L: Transport>(world: &mut World<'_, T, L>, others:
     holders.dedup();
     let theirs = requests(&Wanted { text: &world.save(&holders)?, ..Wanted::default() }).requests;
     let in_blocks = |all: &[Vec<u8>]| objects_of(&all.iter().filter(|it| is_in_block(it, &used)).cloned().collect::<Vec<_>>().concat());
-    let found = differences(&in_blocks(wanted), &in_blocks(&theirs), &Objects::new(), |_| false);
+    let found = differences(&in_blocks(wanted), &in_blocks(&theirs), |_, _| false);
     if found.is_empty() {
         return Ok(());
     }

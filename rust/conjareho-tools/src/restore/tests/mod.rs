@@ -3,7 +3,8 @@
 mod fake;
 
 use super::arguments::{Arguments, arguments_of};
-use super::messages::type_of;
+use super::messages::{messages_of, type_of};
+use super::plan::{Wanted, requests};
 use super::restore;
 use super::status::Status;
 use super::world::{World, text_of};
@@ -11,6 +12,8 @@ use crate::netlink::message::*;
 use crate::netlink::state_of;
 use fake::{EBUSY, EEXIST, ENOENT, Fake, Hook, OTHER, State, object};
 use std::ffi::OsString;
+use std::io::Write as _;
+use std::process::{Command, Stdio};
 use std::sync::atomic::{AtomicUsize, Ordering};
 
 const WAN: i32 = 7;
@@ -309,4 +312,26 @@ fn a_save_without_a_head() {
     assert!(ran.said.contains("by index: 7 (wan)"), "{}", ran.said);
     let ran = run(&["--clear"], &old, tree(2000), &Fake::new(taking()));
     assert_eq!((ran.status, ran.sent.len()), (Status::NothingSent, 0));
+}
+
+// What is sent is what tcmake makes of the same file; of the program at `TCMAKE`, if there is one.
+#[test]
+fn sends_what_tcmake_makes() {
+    let file = saved(tree(1000));
+    let ran = run(&["--clear"], &file, tree(2000), &Fake::new(taking()));
+    let sent = ran.sent.iter().filter(|it| type_of(it) % 4 == 0);
+    let without_numbers = |message: &[u8]| [&message[..8], &message[HEADER..]].concat();
+    let sent: Vec<Vec<u8>> = sent.map(|it| without_numbers(it)).collect();
+    let made = made_by_tcmake(&file);
+    let made: Vec<Vec<u8>> = messages_of(&made).iter().map(|it| without_numbers(it)).collect();
+    assert_eq!((made.len(), sent), (6, made));
+}
+
+fn made_by_tcmake(file: &str) -> Vec<u8> {
+    let Some(program) = std::env::var_os("TCMAKE") else {
+        return requests(&Wanted { text: file, ..Wanted::default() }).requests.concat();
+    };
+    let mut child = Command::new(program).args(["--request", "--stream"]).stdin(Stdio::piped()).stdout(Stdio::piped()).spawn().expect("tcmake");
+    child.stdin.take().expect("a pipe").write_all(file.as_bytes()).expect("written");
+    child.wait_with_output().expect("its output").stdout
 }
