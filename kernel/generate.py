@@ -120,7 +120,7 @@ CLASSES = {
 
 # What can't be made again: docs/KERNEL.md says why. The place of a qdisc and of its options is filled in.
 UNMADE_QDISCS = ["red limit 100kb avpkt 1000 bandwidth 10mbit", "choke limit 100 bandwidth 10mbit ecn", "gred setup DPs 3 default 2 grio"]
-UNMADE_PREFIXES = ["stab mtu 1500 overhead 10 linklayer atm", "estimator 250ms 1s"]
+STAB, ESTIMATOR = "stab mtu 1500 overhead 10 linklayer atm", "estimator 250ms 1s"
 
 ACTIONS = {
     "gact": ["pass", "drop", "pipe", "reclassify", "continue", "pass random determ drop 5", "pass random netrand drop 3", "trap", "jump 1"],
@@ -170,7 +170,7 @@ ACTIONS = {
         "pop protocol ip",
         "push protocol mpls_uc label 5 ttl 6",
         "push protocol mpls_uc label 7 tc 3",
-        "modify label 3",
+        "modify label 33 tc 2",
         "dec_ttl",
         "mac_push protocol mpls_uc label 9 pipe",
     ],
@@ -299,15 +299,13 @@ class Interface:
 
     def standalone_actions(self):
         """Actions with numbers: those that stand alone, and some that only filters will hold."""
-        for number in self.chance.sample(range(1, 90), self.few(4)):
+        for number in self.chance.sample(range(100, 190), self.few(4)):
             kind = self.kind_of_action(False)
             action = f"action {kind} {self.deal.options(ACTIONS, kind)} index {number}"
             self.shared.append(action)
             if self.likely(0.6):
                 cookie = f"cookie {self.chance.randrange(1 << 32):08x}" if self.likely(0.3) else ""
                 self.say(f"actions add {action} {cookie}")
-        if self.is_unmade and self.likely(0.2):
-            self.say("actions add action gact goto chain 3 index 95")
 
     def action(self, is_below_ingress, others):
         """An action of a list that has these already. None is there twice: if its number is new, Linux 6.1 never answers."""
@@ -319,9 +317,9 @@ class Interface:
         more = self.chance.choice(["", "", "", "hw_stats disabled", "no_percpu", f"cookie {self.chance.randrange(1 << 32):08x}"])
         return f"action {kind} {self.deal.options(ACTIONS, kind)} {more}"
 
-    def verdict(self, is_below_ingress, chain=""):
+    def verdict(self, is_below_ingress, chain="", kind=""):
         """What a filter does: a class, or actions, of which the last may go on in another chain."""
-        if self.classes and self.likely(0.4):
+        if self.classes and kind != "cgroup" and self.likely(0.4):
             return f"classid {self.chance.choice(self.classes)}"
         count = self.chance.choice([1, 1, 1, 2, 3, 5])
         actions = []
@@ -344,9 +342,9 @@ class Interface:
         """A qdisc in this place, with what is below it. Returns its handle."""
         handle = "" if depth and self.likely(0.1) else f"{next(self.handles):x}:"
         if self.is_unmade and self.likely(0.15):
-            self.say(f"qdisc add dev d7 {parent} handle {handle or '99:'} {self.deal.one('unmade', UNMADE_QDISCS)}")
+            self.say(f"qdisc add dev d7 {parent} {f'handle {handle}' if handle else ''} {self.deal.one('unmade', UNMADE_QDISCS)}")
             return handle
-        prefix = self.deal.one("prefix", UNMADE_PREFIXES) if self.is_unmade and self.likely(0.2) else ""
+        prefix = self.chance.choice([ESTIMATOR, ESTIMATOR if depth else STAB]) if self.is_unmade and self.likely(0.2) else ""
         self.say(f"qdisc add dev d7 {parent} {f'handle {handle}' if handle else ''} {prefix} {kind} {self.deal.options(QDISCS, kind)}")
         if handle:
             self.below(handle, kind, depth)
@@ -364,8 +362,8 @@ class Interface:
         if kind in CLASSES or kind in ("prio", "multiq"):
             self.places.append(f"dev d7 parent {handle}")
             self.classes += leaves
-        elif self.likely(0.3):
-            self.places.append(f"dev d7 parent {handle}")  # sfq, fq_codel, cake and others take filters too
+        elif kind in ("sfq", "fq_codel", "cake") and self.likely(0.3):
+            self.places.append(f"dev d7 parent {handle}")
         for leaf in leaves:
             if depth < 3 and self.likely(0.6):
                 inner = self.deal.one("qdisc", list(QDISCS))
@@ -378,7 +376,7 @@ class Interface:
         for minor in self.chance.sample(range(1, 0x400), self.chance.randrange(1, most + 1)):
             parent = self.chance.choice([handle, *leaves]) if kind in ("htb", "hfsc") else handle
             leaves = [it for it in leaves if it != parent]
-            estimator = "estimator 250ms 1s" if self.is_unmade and self.likely(0.1) else ""
+            estimator = ESTIMATOR if self.is_unmade and self.likely(0.1) else ""
             self.say(f"class add dev d7 parent {parent} classid {handle}{minor:x} {estimator} {kind} {self.deal.options(CLASSES, kind)}")
             leaves.append(f"{handle}{minor:x}")
             if kind in ("htb", "hfsc") and self.likely(0.1):
@@ -406,7 +404,7 @@ class Interface:
             protocol, keys = self.deal.options(FILTERS, kind)
             where = f"{place} chain {chain}" if chain else place
             priority = self.priority(where, kind, protocol)
-            verdict = self.verdict(is_below_ingress, self.chance.choice([*chains, ""]))
+            verdict = self.verdict(is_below_ingress, self.chance.choice([*chains, ""]), kind)
             self.say(f"filter add {where} prio {priority} protocol {protocol} {self.handle(kind)} {kind} {keys} {verdict}")
         if self.is_unmade and self.likely(0.2):
             self.say(f"filter add {place} prio 900 protocol ip u32 match ip src 9.9.9.9 police rate 1mbit burst 10k drop flowid 1:1")

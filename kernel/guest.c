@@ -3,7 +3,7 @@
 // namespace of its own.
 //
 // script:   try NAME                    what follows up to the next try belongs to NAME
-//           link NUMBER                 makes the dummy link dNUMBER, which stays down, so that no packet is counted
+//           link NUMBER [QUEUES]        makes the dummy link dNUMBER, which stays down, so that no packet is counted
 //           send TYPE FLAGS PAYLOAD     a request: message type and flags in decimal, the payload after nlmsghdr in hex
 //           dump NUMBER                 asks for all that the link dNUMBER has, and for all actions (see `dump_link`)
 //           into FILE                   what comes back from here on is written to FILE too, as a netlink stream
@@ -360,15 +360,19 @@ static void dump_link(int number) {
 
 // ---- Links
 
-static void make_link(int number, const char *kind, int flags) {
+static void make_link(int number, const char *kind, int flags, int queues) {
     struct {
         struct ifinfomsg header;
         struct nlattr name;
         char text[16];
+        struct nlattr queues;
+        __u32 count;
         struct nlattr info, kind;
         char kind_text[8];
     } m = {.header = {.ifi_index = number, .ifi_flags = flags, .ifi_change = flags},
            .name = {NLA_HDRLEN + 16, IFLA_IFNAME},
+           .queues = {NLA_HDRLEN + 4, IFLA_NUM_TX_QUEUES},
+           .count = queues,
            .info = {2 * NLA_HDRLEN + 8, IFLA_LINKINFO},
            .kind = {NLA_HDRLEN + 8, IFLA_INFO_KIND}};
 
@@ -407,7 +411,7 @@ static void watch(const char *path) {
     struct timeval wait = {.tv_usec = 20000};
     struct sockaddr_ll monitor = {.sll_family = AF_PACKET, .sll_protocol = htons(ETH_P_ALL), .sll_ifindex = MONITOR};
 
-    make_link(MONITOR, "nlmon", IFF_UP);
+    make_link(MONITOR, "nlmon", IFF_UP, 1);
     int s = socket(AF_PACKET, SOCK_RAW, htons(ETH_P_ALL));
     setsockopt(s, SOL_SOCKET, SO_RCVBUFFORCE, &size, sizeof size);
     setsockopt(s, SOL_SOCKET, SO_RCVTIMEO, &wait, sizeof wait);
@@ -490,9 +494,9 @@ static void try(char *line) {
 
     open_namespace();
     for (line = strtok_r(line, "\n", &rest); line; line = strtok_r(NULL, "\n", &rest)) {
-        int type, flags, at, number;
-        if (sscanf(line, "link %d", &number) == 1)
-            make_link(number, "dummy", 0);
+        int type, flags, at, number, queues = 1;
+        if (sscanf(line, "link %d %d", &number, &queues) >= 1)
+            make_link(number, "dummy", 0, queues);
         else if (sscanf(line, "send %d %d %n", &type, &flags, &at) == 2)
             talk(type, flags, payload, from_hex(line + at, payload));
         else if (sscanf(line, "dump %d", &number) == 1)

@@ -9,17 +9,15 @@ from states import State, leftovers, stream_of
 
 OF_A_GUEST = 50  # interfaces
 
-LINKS = "".join(f"link add name d{it} index {it} numtxqueues 4 type dummy\n" for it in (7, 8, 9))
-
-# What another interface has meanwhile: actions with the numbers that the kernel gives first.
+# The actions of the interface are deleted, and another one has actions with the numbers that the kernel gives first.
+KINDS = "bpf connmark csum ct ctinfo gact ife mirred mpls nat pedit police sample simple skbedit skbmod tunnel_key vlan"
+FLUSH = "".join(f"actions flush action {it}\n" for it in KINDS.split())
 OTHERS = """qdisc add dev d9 clsact
 filter add dev d9 ingress prio 1 matchall action gact drop action mirred egress redirect dev d8 action skbedit mark 99
 filter add dev d9 ingress prio 2 matchall action police rate 99mbit burst 99k conform-exceed pass action nat ingress 9.9.9.9/32 9.9.9.8
 filter add dev d9 ingress prio 3 matchall action vlan push id 99 action csum udp action pedit ex munge ip ttl set 99 action simple sdata "d9"
 filter add dev d9 ingress prio 4 matchall action gact reclassify action tunnel_key unset action mpls dec_ttl action skbmod set etype 0x999
 """
-
-FLUSHED = "bpf connmark csum ct ctinfo gact ife mirred mpls nat pedit police sample simple skbedit skbmod tunnel_key vlan"
 
 
 class Trial:
@@ -37,13 +35,12 @@ class Trial:
             "dump 7",
         ]
         self.lines = [
-            f"run ip -batch {guest.folder}/links",
+            *[f"link {it} 4" for it in (7, 8, 9)],
             f"run tc -force -batch {self.file}.tc > {self.file}.said 2>&1 || true",
             "dump 7",
             f"run {programs.save(f'{self.file}.json')}",
             *restore("here", "--clear"),
-            f"run {programs.clear()}",
-            f"run for kind in {FLUSHED}; do tc actions flush action $kind > {self.file}.flushed 2>&1; done; tc -force -batch {guest.folder}/others",
+            f"run {programs.clear()} && (tc -force -batch {guest.folder}/others > /dev/null 2>&1 || true)",
             *restore("there", ""),
         ]
         self.try_number = guest.add_lines(self.lines)
@@ -51,11 +48,11 @@ class Trial:
     def judge(self, answers):
         """Returns what is wrong, "" for nothing."""
         self.said, self.unmade = [], set()
-        if len(answers) != 10:
+        if len(answers) != 8:
             return "no whole answer"
-        links, _, before, saved, here, after, cleared, _, there, again = answers
-        if any(it != Said(0, []) for it in (links, saved, cleared)):
-            return f"not set up, saved or cleared: {[it for it in (links, saved, cleared) if it != Said(0, [])]}"
+        _, before, saved, here, after, cleared, there, again = answers
+        if any(it != Said(0, []) for it in (saved, cleared)):
+            return f"not saved or not cleared: {[it for it in (saved, cleared) if it != Said(0, [])]}"
         self.before = State(self.names, before.got)
         self.unmade = self.before.cannot_be_made()
         return self.judge_one("in place", "here", here, State(self.names, after.got), self.before) or self.judge_one(
@@ -91,9 +88,8 @@ class Interfaces:
 
     def guest(self, number):
         guest = Guest(f"random.{number}")
-        for name, text in (("links", LINKS), ("others", OTHERS)):
-            with open(f"{guest.folder}/{name}", "w") as file:
-                file.write(text)
+        with open(f"{guest.folder}/others", "w") as file:
+            file.write(FLUSH + OTHERS)
         return guest
 
     def judge(self):

@@ -9,11 +9,19 @@ import time
 
 from guests import OUT, TOP, lacks
 
+TARGET = "x86_64-unknown-linux-gnu"
+PROVED, SOCKETS = ("tcshow", "tcmake"), ("tcnl", "tcsave", "tcrestore")
+
+
+def folder():
+    """The folder that --tools names, if any."""
+    return os.path.abspath(sys.argv[sys.argv.index("--tools") + 1]) if "--tools" in sys.argv else ""
+
 
 def built(name):
     """The path of a program: in the folder that --tools names, or as its crate is built."""
-    if "--tools" in sys.argv:
-        path = os.path.abspath(f"{sys.argv[sys.argv.index('--tools') + 1]}/{name}")
+    if folder():
+        path = f"{folder()}/{name}"
         return path if os.path.exists(path) else lacks(f"There is no {path}.")
     crate = f"{TOP}/crates/{name}"
     path = f"{crate}/out/{name}"
@@ -33,27 +41,41 @@ def built(name):
     return path
 
 
+def linked(names):
+    """The paths of programs of rust/conjareho-tools, linked statically: in the folder that --tools names if they are there, else as cargo
+    builds them."""
+    own = {name: f"{folder()}/{name}" for name in names}
+    if folder() and all(map(os.path.exists, own.values())):
+        return own
+    if not shutil.which("cargo"):
+        lacks("There is no cargo, which builds the programs of rust/conjareho-tools.")
+    out = f"{TOP}/rust/out/static"
+    env = {**os.environ, "RUSTFLAGS": "-C target-feature=+crt-static", "CARGO_TARGET_DIR": out}
+    words = ["cargo", "build", "--release", "--target", TARGET]
+    if subprocess.run(words, cwd=f"{TOP}/rust/conjareho-tools", env=env).returncode:
+        lacks("rust/conjareho-tools was not built; its README.md says what it needs.")
+    return {name: f"{out}/{TARGET}/release/{name}" for name in names}
+
+
 class Programs:
     """The programs, and the shell's text that starts each of them."""
 
     def __init__(self):
-        if subprocess.run(["gcc", "-O2", "-o", f"{OUT}/tcnl", f"{TOP}/live/tcnl.c", "-lmnl"]).returncode:
-            lacks("tcnl.c was not compiled: it takes the package libmnl-dev.")
-        self.paths = {"TCSHOW": built("tcshow"), "TCMAKE": built("tcmake"), "TCNL": f"{OUT}/tcnl", "LIVE": f"{TOP}/live"}
+        self.paths = {**{it: built(it) for it in PROVED}, **linked(SOCKETS)}
         with open(f"{OUT}/programs", "w") as file:
-            file.writelines(f"{name}={path}\nexport {name}\n" for name, path in self.paths.items())
+            file.writelines(f"{name.upper()}={path}\nexport {name.upper()}\n" for name, path in self.paths.items())
             file.write(f"TMPDIR={OUT}\nexport TMPDIR\n")
 
     def command(self, text):
         return f". {OUT}/programs; {text}"
 
-    def save(self, file):
-        """Saves d7."""
-        return self.command(f"$LIVE/tcsave d7 > {file}")
+    def save(self, file, devs="d7"):
+        """Saves interfaces."""
+        return self.command(f"$TCSAVE {devs} > {file}")
 
     def restore(self, file, options=""):
-        """Restores d7."""
-        return self.command(f"timeout 60 $LIVE/tcrestore --dev d7 {options} {file}")
+        """Restores a save. What was there before is below FILE.state."""
+        return self.command(f"timeout 60 $TCRESTORE --state {file}.state {options} {file}")
 
     def clear(self, dev="d7"):
         return self.command(f"$TCNL clear dev {dev}")
@@ -63,6 +85,8 @@ class Programs:
         return self.command(f"$TCSHOW --json < {stream} > {file}")
 
     def requests(self, file, *options):
-        """The requests that tcmake makes of a save, as a netlink stream."""
+        """The requests that tcmake makes of a save, as a netlink stream, and what it says."""
         with open(file) as lines:
-            return subprocess.run([self.paths["TCMAKE"], "--request", "--stream", *options], stdin=lines, capture_output=True).stdout
+            words = [self.paths["tcmake"], "--request", "--stream", *options]
+            done = subprocess.run(words, stdin=lines, capture_output=True)
+        return done.stdout
