@@ -7,7 +7,8 @@ import struct
 
 from guests import HERE, Guest, Said, fail
 from messages import Names, tc_header
-from states import State, leftovers, stream_of
+from states import State
+from streams import judged
 
 LINKS = (7, 8, 9)
 RTM_GETTFILTER, DUMP = 46, 0x301  # NLM_F_REQUEST, NLM_F_DUMP
@@ -63,8 +64,9 @@ class Run:
         if verb == "restore":
             self.count += 1
             _, _, options = rest.partition(" ")
-            restore = self.programs.restore(f"{self.file}.json", options)
-            return ["dump 7", f"watch {self.file}.{self.count}.sent", f"run {restore}", "unwatch", "dump 7"]
+            own = f"{self.file}.{self.count}"
+            restore = self.programs.restore(f"{self.file}.json", f"{own}.state", options)
+            return ["dump 7", f"watch {own}.sent", f"run {restore}", "unwatch", "dump 7"]
         if verb == "shows":
             return [f"run {rest.partition(': ')[2]}"]
         return []
@@ -106,8 +108,11 @@ class Run:
         self.before, self.said, self.after = self.state(), next(self.answers), self.state()
         if str(self.said.status) != rest.split()[0]:
             return f"{self.said}"
-        with open(f"{self.file}.{self.count}.sent", "rb") as file:
-            return leftovers(stream_of(file.read()))
+        if self.said.status:
+            return ""
+        own = f"{self.file}.{self.count}"
+        with open(f"{own}.sent", "rb") as file:
+            return judged(self.programs, f"{self.file}.json", f"{own}.state", file.read(), rest)
 
     def judge_says(self, rest):
         return "" if any(re.fullmatch(rest, it) for it in self.said.lines) else f"it says {self.said.lines}"

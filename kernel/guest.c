@@ -131,11 +131,7 @@ static void mask_filter(unsigned char *p, int n) {
                    {"u32", TCA_U32_ACT, TCA_U32_POLICE},
                    {"matchall", TCA_MATCHALL_ACT, 0},
                    {"bpf", TCA_BPF_ACT, TCA_BPF_POLICE},
-                   {"basic", TCA_BASIC_ACT, TCA_BASIC_POLICE},
-                   {"fw", TCA_FW_ACT, TCA_FW_POLICE},
-                   {"route", TCA_ROUTE4_ACT, TCA_ROUTE4_POLICE},
-                   {"flow", TCA_FLOW_ACT, TCA_FLOW_POLICE},
-                   {"cgroup", TCA_CGROUP_ACT, TCA_CGROUP_POLICE}};
+                   {"basic", TCA_BASIC_ACT, TCA_BASIC_POLICE}};
     int actions = 0, police = 0;
 
     FOR_EACH(a, p, n) {
@@ -162,28 +158,20 @@ static void mask_handle(__u32 *handle) {
         *handle = 0;
 }
 
-static void mask_all_times(int type, unsigned char *p, int n) {
-    int header = type >= RTM_NEWACTION && type <= RTM_GETACTION ? sizeof(struct tcamsg) : sizeof(struct tcmsg);
+static void mask(int type, unsigned char *p, int n) {
+    struct tcmsg *header = (struct tcmsg *)p;
 
-    if (n < header)
-        return;
-    p += header, n -= header;
-    if (header == sizeof(struct tcmsg))
-        mask_filter(p, n);
-    else
+    if (type >= RTM_NEWACTION && type <= RTM_GETACTION && n >= (int)sizeof(struct tcamsg)) {
+        p += sizeof(struct tcamsg), n -= sizeof(struct tcamsg);
         FOR_EACH(a, p, n)
             if (TYPE(a) == TCA_ACT_TAB)
                 mask_actions(PAYLOAD(a), LENGTH(a));
-}
-
-static void mask_handles(int type, unsigned char *p, int n) {
-    struct tcmsg *header = (struct tcmsg *)p;
-
-    if (n < (int)sizeof *header || (type >= RTM_NEWACTION && type <= RTM_GETACTION))
-        return;
-    mask_handle(&header->tcm_parent);
-    if (type >= RTM_NEWQDISC && type <= RTM_GETQDISC)
-        mask_handle(&header->tcm_handle);
+    } else if (n >= (int)sizeof *header) {
+        mask_handle(&header->tcm_parent);
+        if (type >= RTM_NEWQDISC && type <= RTM_GETQDISC)
+            mask_handle(&header->tcm_handle);
+        mask_filter(p + sizeof *header, n - sizeof *header);
+    }
 }
 
 // ---- Requests
@@ -211,14 +199,11 @@ static void write_ack(struct nlmsghdr *h) {
     fprintf(answers, " %s\n", sentence);
 }
 
-// Writes a message that came back; its times are masked.
+// Writes a message that came back.
 static void write_got(struct nlmsghdr *h) {
     unsigned char *p = NLMSG_DATA(h);
     int length = h->nlmsg_len - NLMSG_HDRLEN;
 
-    if (stream)
-        fwrite(h, 1, NLMSG_ALIGN(h->nlmsg_len), stream);
-    mask_all_times(h->nlmsg_type, p, length);
     fprintf(answers, "got %d ", h->nlmsg_type);
     while (length-- > 0)
         fprintf(answers, "%02x", *p++);
@@ -226,7 +211,9 @@ static void write_got(struct nlmsghdr *h) {
 }
 
 static void write_masked(struct nlmsghdr *h) {
-    mask_handles(h->nlmsg_type, NLMSG_DATA(h), h->nlmsg_len - NLMSG_HDRLEN);
+    if (stream)
+        fwrite(h, 1, NLMSG_ALIGN(h->nlmsg_len), stream);
+    mask(h->nlmsg_type, NLMSG_DATA(h), h->nlmsg_len - NLMSG_HDRLEN);
     write_got(h);
 }
 
@@ -272,8 +259,8 @@ static __u32 asked_parent;
 static unsigned char tree[1 << 19]; // the link's qdiscs and classes, whole messages
 static size_t tree_length;
 
-// Writes what belongs to the link, or to a shared block, and keeps its qdiscs and classes. A chain's dump names the qdisc;
-// the parent that was asked for tells the sides of clsact apart.
+// Writes what belongs to the link, or to a shared block, as it came, and keeps its qdiscs and classes. A chain's dump names the
+// qdisc; the parent that was asked for tells the sides of clsact apart.
 static void write_of_link(struct nlmsghdr *h) {
     struct tcmsg *header = NLMSG_DATA(h);
 

@@ -5,9 +5,10 @@ import collections
 from generate import interfaces
 from guests import HERE, Guest, Said, fail
 from messages import Names
-from states import State, leftovers, stream_of
+from states import State
+from streams import judged
 
-OF_A_GUEST = 50  # interfaces
+OF_A_GUEST = 20  # interfaces
 
 # The actions of the interface are deleted, and another one has actions with the numbers that the kernel gives first.
 KINDS = "bpf connmark csum ct ctinfo gact ife mirred mpls nat pedit police sample simple skbedit skbmod tunnel_key vlan"
@@ -30,7 +31,7 @@ class Trial:
             file.writelines(f"{it}\n" for it in commands)
         restore = lambda name, options: [
             f"watch {self.file}.{name}",
-            f"run {programs.restore(f'{self.file}.json', options)}",
+            f"run {programs.restore(f'{self.file}.json', f'{self.file}.{name}.state', options)}",
             "unwatch",
             "dump 7",
         ]
@@ -62,10 +63,10 @@ class Trial:
     def judge_one(self, where, name, said, after, untouched):
         """A restore: the state is that which was saved; or something that can't be made is named, and nothing was done."""
         with open(f"{self.file}.{name}", "rb") as file:
-            sent = stream_of(file.read())
+            sent = file.read()
         if said.status == 0 and not self.unmade:
             wrong = self.before.differences(after)
-            return f"{where}: restored otherwise: {'; '.join(wrong[:4])}" if wrong else leftovers(sent)
+            return f"{where}: restored otherwise: {'; '.join(wrong[:4])}" if wrong else judged(self.programs, f"{self.file}.json", f"{self.file}.{name}.state", sent)
         if said.status == 0:
             return f"{where}: restored, though it has {', '.join(self.unmade)}"
         named = {why for why in self.unmade if any(why in it for it in said.lines)}

@@ -73,9 +73,9 @@ class Programs:
         """Saves interfaces."""
         return self.command(f"$TCSAVE {devs} > {file}")
 
-    def restore(self, file, options=""):
-        """Restores a save. What was there before is below FILE.state."""
-        return self.command(f"timeout 60 $TCRESTORE --state {file}.state {options} {file}")
+    def restore(self, file, state, options=""):
+        """Restores a save. What was there before is kept in the folder `state`."""
+        return self.command(f"timeout 60 $TCRESTORE --state {state} {options} {file}")
 
     def clear(self, dev="d7"):
         return self.command(f"$TCNL clear dev {dev}")
@@ -84,9 +84,10 @@ class Programs:
         """A netlink stream as lines of JSON."""
         return self.command(f"$TCSHOW --json < {stream} > {file}")
 
-    def requests(self, file, *options):
-        """The requests that tcmake makes of a save, as a netlink stream, and what it says."""
+    def requests(self, file, state="", options=()):
+        """The requests that tcmake makes of a save beside what is kept in the folder `state`, as a netlink stream."""
+        now = [word for it in glob.glob(f"{state}/*") for word in ("--now", it)] if state else []
         with open(file) as lines:
-            words = [self.paths["tcmake"], "--request", "--stream", *options]
+            words = [self.paths["tcmake"], "--request", "--stream", *now, *options]
             done = subprocess.run(words, stdin=lines, capture_output=True)
         return done.stdout

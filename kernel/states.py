@@ -51,16 +51,6 @@ def handle(number):
     return "root" if number == 0xFFFFFFFF else f"{major:x}:{minor:x}" if minor else f"{major:x}:"
 
 
-def stream_of(data):
-    """The messages of a netlink stream, each a type and the bytes behind its header."""
-    out, at = [], 0
-    while at + 16 <= len(data):
-        length, type_ = struct.unpack_from("<IH", data, at)
-        out.append((type_, data[at + 16 : at + length]))
-        at += -(-length // 4) * 4
-    return out
-
-
 def action_of(data):
     """An action: its number is 0 in its configuration if only its filter holds it, since the kernel chose it."""
     own = dict(attributes(data))
@@ -221,23 +211,3 @@ class State:
             if it.verdict >> 28 == 2 and it.held != it.bound:
                 out.add("standalone action with goto chain")
         return out
-
-
-def leftovers(messages):
-    """What a request has that only a kernel writes: statistics and times of an action. "" for nothing."""
-    for type_, data in messages:
-        if type_ == 48:
-            lists = [it for number, it in attributes(data[4:]) if number == 1]
-        elif type_ == FILTER:
-            own = Object(type_, data)
-            lists = [it for number, it in own.options if number == ACTIONS_OF.get(own.kind)]
-        else:
-            continue
-        for it in [it for some in lists for _, it in attributes(some)]:
-            own = dict(attributes(it))
-            kind, options = text(own[1]), dict(attributes(own.get(2, b"")))
-            if COUNTED_OF_ACTION & own.keys():
-                return f"a request has statistics of {kind}"
-            if len(options.get(TIMES_OF.get(kind, 1), b"")) == 32:
-                return f"a request has times of {kind}"
-    return ""
