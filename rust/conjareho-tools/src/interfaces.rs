@@ -49,11 +49,22 @@ fn column_in(columns: &KindColumns<'_>, place: usize, key: &str) -> Option<&'sta
     columns.columns(place).iter().find(|column| column.key == key)
 }
 
-fn walk_column(columns: &KindColumns<'_>, base: usize, place: usize, column: &Column<'_>, value: &Value, found: &mut BTreeSet<u32>) -> usize {
+fn walk_column(
+    columns: &KindColumns<'_>,
+    base: usize,
+    place: usize,
+    column: &Column<'_>,
+    value: &Value,
+    found: &mut BTreeSet<u32>,
+) -> usize {
     match column.how {
         How::Kind => return value.as_str().map_or(place, |kind| columns.under(base, kind)),
         How::Interface | How::Index(_) => found.extend(index_in(value)),
-        How::Within(within) | How::Through(within) | How::Below(within) | How::Elements(within) | How::InLine(within) => {
+        How::Within(within)
+        | How::Through(within)
+        | How::Below(within)
+        | How::Elements(within)
+        | How::InLine(within) => {
             walk(columns, within, within, value, found);
         }
         _ => {}
@@ -99,7 +110,10 @@ fn number_in(value: &Value) -> Option<u64> {
 // The number of four or eight bytes in hex.
 fn word_in(value: &Value) -> Option<u32> {
     let text = value.as_str().filter(|text| text.is_ascii())?;
-    let bytes: Vec<u8> = (0..text.len()).step_by(2).map(|at| u8::from_str_radix(text.get(at..at + 2)?, 16).ok()).collect::<Option<_>>()?;
+    let bytes: Vec<u8> = (0..text.len())
+        .step_by(2)
+        .map(|at| u8::from_str_radix(text.get(at..at + 2)?, 16).ok())
+        .collect::<Option<_>>()?;
     let number = match bytes.len() {
         4 => u64::from(u32::from_ne_bytes(bytes.try_into().ok()?)),
         8 => u64::from_ne_bytes(bytes.try_into().ok()?),
@@ -172,7 +186,11 @@ mod tests {
         let list = nest(&[(1, mirred(5)), (2, mirred(6))]);
         // TCA_U32_ACT, TCA_BPF_ACT, TCA_FLOWER_ACT, TCA_BASIC_ACT
         for (name, number) in [("u32", 7), ("bpf", 1), ("flower", 3), ("basic", 3)] {
-            assert_eq!(indices(filter(7), &[kind(name), (OPTIONS, nest(&[(number, list.clone())]))]), [5, 6, 7], "{name}");
+            assert_eq!(
+                indices(filter(7), &[kind(name), (OPTIONS, nest(&[(number, list.clone())]))]),
+                [5, 6, 7],
+                "{name}"
+            );
         }
         assert_eq!(indices(request(RTM_NEWACTION, 0, &[0; 4]), &[(1, list)]), [5, 6]);
     }
@@ -185,7 +203,8 @@ mod tests {
     #[test]
     fn metadata() {
         let number = |side: u16, index: u32| (side, index.to_ne_bytes().to_vec());
-        let found = |left, right, value: (u16, Vec<u8>)| indices(filter(7), &[kind("basic"), meta(left, right, &[value])]);
+        let found =
+            |left, right, value: (u16, Vec<u8>)| indices(filter(7), &[kind("basic"), meta(left, right, &[value])]);
         // TCF_META_ID_DEV, RTIIF and SK_BOUND_IF as numbers, beside a number
         for id in [5, 15, 19] {
             assert_eq!(found(0x1000 | id, 0x1000, number(3, 4)), [4, 7], "{id}");

@@ -20,15 +20,16 @@ impl<'a> Stream<'a> {
         let mut at = 0;
         while let Some(message) = messages.next() {
             number += 1;
-            let wrong = |what: String| Ending::new(Status::Stream, format!("message {number}, byte {at} of the stream: {what}; nothing is sent"));
+            let wrong =
+                |what: String| Ending::new(Status::Stream, format!("byte {at} of the stream: {what}; nothing is sent"));
             let (header, message) = message.map_err(|_| wrong("no whole message".into()))?;
             let is_link = header.kind == RTM_NEWLINK && header.flags & NLM_F_REQUEST == 0;
             if header.kind >= NLMSG_MIN_TYPE && !is_link {
                 if !(any || matches!(header.kind, 36..=50 | 100..=102)) {
-                    return Err(wrong(format!("type {}, which --any sends", header.kind)));
+                    return Err(wrong(format!("a message of type {}, which --any sends", header.kind)));
                 }
                 if message.len() > most {
-                    return Err(wrong(format!("{} bytes, where {most} can be sent", message.len())));
+                    return Err(wrong(format!("a message of {} bytes, where {most} can be sent", message.len())));
                 }
                 requests.push((number, header, message));
             }
@@ -40,7 +41,11 @@ impl<'a> Stream<'a> {
 
 /// Sends all requests, each once, and tells `hear` of each that the kernel refuses why. Returns how many it refused. Ends at the first whose answer
 /// isn't known.
-pub fn send_all<T: Transport>(kernel: &mut Kernel<T>, stream: &Stream<'_>, hear: impl Fn(String)) -> Result<usize, Ending> {
+pub fn send_all<T: Transport>(
+    kernel: &mut Kernel<T>,
+    stream: &Stream<'_>,
+    hear: impl Fn(String),
+) -> Result<usize, Ending> {
     let mut refused = 0;
     for (number, header, message) in &stream.requests {
         match kernel.request(message) {
@@ -50,7 +55,10 @@ pub fn send_all<T: Transport>(kernel: &mut Kernel<T>, stream: &Stream<'_>, hear:
                 hear(format!("{}: {refusal}", place_of(*number, *header, message)));
             }
             Err(fault) => {
-                let text = format!("{}: {fault}; it isn't known whether this was done, and those after it aren't sent", place_of(*number, *header, message));
+                let text = format!(
+                    "{}: {fault}; it isn't known whether this was done, and those after it aren't sent",
+                    place_of(*number, *header, message)
+                );
                 return Err(Ending::new(Status::Stream, text));
             }
         }
@@ -63,7 +71,12 @@ fn place_of(number: usize, header: Header, message: &[u8]) -> String {
     let mut text = format!("message {number}, type {}", header.kind);
     if let Some(tcmsg) = tcmsg_of(message) {
         let halves = |handle: u32| format!("{:x}:{:x}", handle >> 16, handle & 0xffff);
-        text.push_str(&format!(", dev {}, handle {}, parent {}", tcmsg.index, halves(tcmsg.handle), halves(tcmsg.parent)));
+        text.push_str(&format!(
+            ", dev {}, handle {}, parent {}",
+            tcmsg.index,
+            halves(tcmsg.handle),
+            halves(tcmsg.parent)
+        ));
     }
     text
 }

@@ -38,7 +38,8 @@ struct Head<'a> {
 
 impl Serialize for Head<'_> {
     fn serialize<S: Serializer>(&self, to: S) -> Result<S::Ok, S::Error> {
-        let release = nix::sys::utsname::uname().map(|name| name.release().to_string_lossy().into_owned()).unwrap_or_default();
+        let release =
+            nix::sys::utsname::uname().map(|name| name.release().to_string_lossy().into_owned()).unwrap_or_default();
         let mut head = to.serialize_map(None)?;
         head.serialize_entry("save", &VERSION)?;
         head.serialize_entry("devs", &Saved(self.saved))?;

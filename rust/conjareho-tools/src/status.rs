@@ -43,7 +43,9 @@ impl Ending {
 impl From<Fault> for Ending {
     fn from(fault: Fault) -> Ending {
         let status = match fault {
-            Fault::Refused(_) | Fault::Cut(_) | Fault::Interrupted | Fault::Changing(_) | Fault::NoInterface(_) => Status::Refused,
+            Fault::Refused(_) | Fault::Cut(_) | Fault::Interrupted | Fault::Changing(_) | Fault::NoInterface(_) => {
+                Status::Refused
+            }
             Fault::Socket(..) | Fault::Silent | Fault::Broken(_) | Fault::Lost => Status::Stream,
         };
         Ending::new(status, fault)

@@ -14,8 +14,10 @@ use std::process::ExitCode;
 const NOTES: &str = "\
 DEV is the name of an interface, another name of it (an altname), or its index.
 
-Exit status: 0; 1 if there is no such interface, the kernel refused something, a dump kept changing or messages were lost; 2 for a wrong \
-usage; 3 if a socket or a stream failed, or a stream has something else than whole requests of traffic control, of which nothing is sent";
+Exit status: 0; 1 if there is no such interface, if the kernel refused something, if what is
+dumped kept changing, or if messages were lost; 2 for a wrong usage; 3 if a socket or a stream
+failed, or if a stream has something else than whole requests of traffic control, of which
+nothing is sent";
 
 const OBJECTS: [(&str, Objects); 5] = [
     ("qdisc", Objects { qdiscs: true, ..Objects::NONE }),
@@ -29,7 +31,10 @@ fn command() -> Command {
     let words = |name: &'static str, most: usize, help: &'static str| {
         Arg::new(name).help(help).num_args(0..=most).value_parser(NonEmptyStringValueParser::new())
     };
-    let links = Arg::new("links").long("links").help("Begin with the interfaces of the kernel (RTM_NEWLINK)").action(ArgAction::SetTrue);
+    let links = Arg::new("links")
+        .long("links")
+        .help("Begin with the interfaces of the kernel (RTM_NEWLINK)")
+        .action(ArgAction::SetTrue);
     let any = Arg::new("any").long("any").help("Send requests of other types too").action(ArgAction::SetTrue);
     Command::new("tcnl")
         .version(env!("CARGO_PKG_VERSION"))
@@ -87,7 +92,7 @@ fn objects_and_interface<'a>(words: &[&'a str]) -> Option<(Objects, Option<&'a s
     }
 }
 
-fn texts<'a>(words: &'a ArgMatches) -> Vec<&'a str> {
+fn texts(words: &ArgMatches) -> Vec<&str> {
     words.get_many::<String>("WORDS").into_iter().flatten().map(String::as_str).collect()
 }
 
@@ -140,7 +145,10 @@ fn monitor(words: &ArgMatches) -> Result<ExitCode, Ending> {
 
 fn send(words: &ArgMatches) -> Result<ExitCode, Ending> {
     let mut bytes = Vec::new();
-    std::io::stdin().lock().read_to_end(&mut bytes).map_err(|error| Ending::new(Status::Stream, format!("standard input: {error}")))?;
+    std::io::stdin()
+        .lock()
+        .read_to_end(&mut bytes)
+        .map_err(|error| Ending::new(Status::Stream, format!("standard input: {error}")))?;
     let mut kernel = Kernel::open()?;
     let stream = Stream::of(&bytes, kernel.most(), words.get_flag("any"))?;
     let refused = send_all(&mut kernel, &stream, |text| say("tcnl", text))?;

@@ -10,11 +10,13 @@ use std::io::Write;
 use std::process::ExitCode;
 
 const NOTES: &str = "\
-DEV is the name of an interface, another name of it (an altname), or its index. The save has all actions of the network namespace too, \
-since these belong to no interface. It is written once all of it was read.
+DEV is the name of an interface, another name of it (an altname), or its index. The save has all
+actions of the network namespace too, since these belong to no interface. It is written once all
+of it was read.
 
-Exit status: 0; 1 if there is no such interface, if the kernel refused a dump, if what is saved kept changing, or if the codec refuses a \
-message (its line says so); 2 for a wrong usage; 3 if a socket or standard output failed";
+Exit status: 0; 1 if there is no such interface, if the kernel refused a dump, if what is saved
+kept changing, or if the codec refuses a message (its line says so); 2 for a wrong usage; 3 if a
+socket or standard output failed";
 
 fn command() -> Command {
     Command::new("tcsave")
@@ -51,9 +53,13 @@ fn save(words: &[String]) -> Result<(), Ending> {
     let Dump { messages, devices, .. } = state_of(&mut kernel, &mut listener, &indices)?;
     let shown = lines_of(&messages)?;
     let saved = found.iter().map(|device| same_in(&devices, device)).collect::<Result<Vec<_>, _>>()?;
-    let text = save_of(&saved, &devices, &shown.lines).map_err(|_| Fault::Broken("a message that isn't shown as JSON"))?;
+    let text =
+        save_of(&saved, &devices, &shown.lines).map_err(|_| Fault::Broken("a message that isn't shown as JSON"))?;
     let mut output = std::io::stdout().lock();
-    output.write_all(text.as_bytes()).and_then(|()| output.flush()).map_err(|error| Ending::new(Status::Stream, format!("standard output: {error}")))?;
+    output
+        .write_all(text.as_bytes())
+        .and_then(|()| output.flush())
+        .map_err(|error| Ending::new(Status::Stream, format!("standard output: {error}")))?;
     if shown.has_refused {
         return Err(Ending::new(Status::Refused, "the codec refuses a message, whose line can't be restored"));
     }

@@ -75,7 +75,10 @@ impl Peer {
             let errno: i32 = if self.happens(self.manners.refuses) { -2 } else { 0 };
             return vec![acknowledgement(header.sequence, errno)];
         }
-        let mut datagrams: Vec<Vec<u8>> = dumped(kind, request).chunks(3).map(|some| stream_of(&some.iter().map(|it| stamped(it, header.sequence)).collect::<Vec<_>>())).collect();
+        let mut datagrams: Vec<Vec<u8>> = dumped(kind, request)
+            .chunks(3)
+            .map(|some| stream_of(&some.iter().map(|it| stamped(it, header.sequence)).collect::<Vec<_>>()))
+            .collect();
         let errno: i32 = if self.happens(self.manners.refuses) { -12 } else { 0 };
         datagrams.push(stamped(&message(NLMSG_DONE, 2, &errno.to_ne_bytes()), header.sequence));
         datagrams
@@ -88,11 +91,15 @@ impl Peer {
             0 => datagram.truncate(at),
             1 => datagram[at] ^= 1 << self.random.below(8),
             2 => datagram[at] = [0, 1, 0x7f, 0x80, 0xff][self.random.below(5)],
-            3 => datagram[..4].copy_from_slice(&[0u32, 1, 15, 17, 0x7fff_ffff, 0x8000_0000, 0xffff_fff0, u32::MAX][self.random.below(8)].to_ne_bytes()),
+            3 => datagram[..4].copy_from_slice(
+                &[0u32, 1, 15, 17, 0x7fff_ffff, 0x8000_0000, 0xffff_fff0, u32::MAX][self.random.below(8)].to_ne_bytes(),
+            ),
             4 => datagram[7] |= 1,
             5 => datagram[6] |= NLM_F_DUMP_INTR as u8,
             6 => datagram.extend([7; 9]),
-            _ => datagram[4..6].copy_from_slice(&[0u16, 1, 2, 3, 4, 15, 36, 0xffff][self.random.below(8)].to_ne_bytes()),
+            _ => {
+                datagram[4..6].copy_from_slice(&[0u16, 1, 2, 3, 4, 15, 36, 0xffff][self.random.below(8)].to_ne_bytes())
+            }
         }
         datagram
     }
@@ -134,7 +141,11 @@ impl Transport for Peer {
             return Err(io::Error::from_raw_os_error(105));
         }
         let header = header_of(datagram).expect("a request has a header");
-        assert_eq!((header.len, header.port), (datagram.len(), PORT), "a request is as long as it says, and has our port id");
+        assert_eq!(
+            (header.len, header.port),
+            (datagram.len(), PORT),
+            "a request is as long as it says, and has our port id"
+        );
         assert!(header.sequence != 0 && header.flags & NLM_F_REQUEST != 0);
         if header.flags & NLM_F_ACK != 0 {
             *self.taken.borrow_mut().entry([&datagram[..8], &datagram[HEADER..]].concat()).or_default() += 1;
@@ -220,9 +231,14 @@ fn dumped(kind: u16, request: &[u8]) -> Vec<Vec<u8>> {
     let asked = tcmsg_of(request).unwrap_or_default();
     match kind {
         RTM_GETLINK => vec![link(1, "lo"), link(2, "wan"), link(3, "3a"), link(4, "2")],
-        RTM_GETQDISC => QDISCS.iter().map(|(index, handle, parent, name)| object(RTM_NEWQDISC, *index, *handle, *parent, name)).collect(),
+        RTM_GETQDISC => QDISCS
+            .iter()
+            .map(|(index, handle, parent, name)| object(RTM_NEWQDISC, *index, *handle, *parent, name))
+            .collect(),
         RTM_GETTCLASS => match (asked.index, asked.parent) {
-            (2, 0x1_0000) => (1..20).map(|number| object(RTM_NEWTCLASS, 2, 0x1_0000 + number, 0x1_0000, "htb")).collect(),
+            (2, 0x1_0000) => {
+                (1..20).map(|number| object(RTM_NEWTCLASS, 2, 0x1_0000 + number, 0x1_0000, "htb")).collect()
+            }
             (3, 0) => (1..5).map(|number| object(RTM_NEWTCLASS, 3, number, u32::MAX, "mq")).collect(),
             _ => Vec::new(),
         },
@@ -266,8 +282,10 @@ fn without_sequences(lines: Vec<String>) -> Vec<String> {
 #[test]
 fn honest() {
     let lines = saved(Peer::new(1, Manners::default()), &[2, 3]).expect("nothing is broken");
-    // Five qdiscs, nineteen classes of htb and four of mq, a chain and a filter of the shared block; each once.
+    // Five qdiscs, nineteen classes of htb and four of mq, a chain and a filter of a shared block; each once.
     assert_eq!(lines.len(), 5 + 19 + 4 + 2);
+    let lines = saved(Peer::new(1, Manners::default()), &[2, 4]).expect("nothing is broken");
+    assert_eq!(lines.len(), 4 + 19 + 2 + 1, "the filter of the block that both have is there once");
 }
 
 #[test]
@@ -382,13 +400,17 @@ fn clears_once(seed: u64, manners: Manners) {
     let taken = peer.taken.clone();
     let cleared = clear(&mut Kernel::over(peer), 2);
     assert!(taken.borrow().values().all(|times| *times == 1), "seed {seed}: something was deleted twice");
-    assert!(cleared.is_err() || manners.breaks > 0 || taken.borrow().len() == 2, "seed {seed}: something wasn't deleted");
+    assert!(
+        cleared.is_err() || manners.breaks > 0 || taken.borrow().len() == 2,
+        "seed {seed}: something wasn't deleted"
+    );
 }
 
 // Notifications, whole and broken.
 fn hears(seed: u64, manners: Manners, random: &mut Random) {
     let mut peer = Peer::new(seed, manners);
-    let notices: Vec<Vec<u8>> = (0..random.below(20)).map(|_| object(RTM_NEWQDISC, 2, 1 << 16, u32::MAX, "tbf")).collect();
+    let notices: Vec<Vec<u8>> =
+        (0..random.below(20)).map(|_| object(RTM_NEWQDISC, 2, 1 << 16, u32::MAX, "tbf")).collect();
     peer.post(notices);
     if let Ok(heard) = Listener::over(peer).heard() {
         let _ = heard.is_change(&[2], &[22]);
@@ -410,9 +432,15 @@ fn streams() {
 fn nothing_of_a_stream_with_something_else_is_sent() {
     let whole = object(RTM_NEWQDISC, 2, 1 << 16, u32::MAX, "pfifo");
     let is_taken = |messages: &[Vec<u8>], any| Stream::of(&stream_of(messages), 4096, any).is_ok();
-    assert!(is_taken(&[whole.clone()], false));
-    assert!(is_taken(&[whole.clone(), link(2, "wan"), message(NLMSG_DONE, 0, &[])], false), "what a dump has besides is left out");
-    assert!(!is_taken(&[whole.clone(), request(RTM_NEWLINK, 0, &[0; 16])], false), "a request that changes an interface");
+    assert!(is_taken(std::slice::from_ref(&whole), false));
+    assert!(
+        is_taken(&[whole.clone(), link(2, "wan"), message(NLMSG_DONE, 0, &[])], false),
+        "what a dump has besides is left out"
+    );
+    assert!(
+        !is_taken(&[whole.clone(), request(RTM_NEWLINK, 0, &[0; 16])], false),
+        "a request that changes an interface"
+    );
     assert!(is_taken(&[whole.clone(), request(RTM_NEWLINK, 0, &[0; 16])], true), "with --any");
     assert!(!is_taken(&[whole, request(RTM_NEWQDISC, 0, &[0; 5000])], false), "a request that is too long");
 }

@@ -93,6 +93,9 @@ impl<'a> Arg<'a> {
     pub fn conflicts_with(self, name: &'a str) -> Res<Self> {
         Ok(self.with(|it| it.conflicts_with(kept(name))))
     }
+    pub fn requires_arg(self, name: &'a str) -> Res<Self> {
+        Ok(self.with(|it| it.requires(kept(name))))
+    }
 }
 
 pub struct ArgGroup<'a>(::clap::ArgGroup, PhantomData<&'a str>);

@@ -3,6 +3,14 @@
 use crate::fallible::{self, AllocError, Fallible as _};
 use crate::itoa::Buffer;
 use crate::serde::{Serialize, Serializer};
+use crate::user::Copying;
+
+// A value as a text.
+impl Copying<u8> for ::serde_json::Value {
+    fn try_to_vec(&self) -> Result<Vec<u8>, AllocError> {
+        ::serde_json::to_vec(self).map_err(|_| AllocError)
+    }
+}
 
 impl<T: Serialize> Serialize for &T {
     fn serialize<S: Serializer>(&self, out: &mut S) -> Result<(), S::Error> {

@@ -14,7 +14,8 @@ pub fn clear<T: Transport>(kernel: &mut Kernel<T>, index: u32) -> Result<(), Fau
     let index = index as i32;
     let asked = Tcmsg { index, ..Tcmsg::default() };
     let dumped = kernel.dump(&tc_request(RTM_GETQDISC, NLM_F_DUMP, asked))?;
-    let qdiscs: Vec<Tcmsg> = dumped.iter().filter_map(|message| tcmsg_of(message)).filter(|qdisc| qdisc.index == index).collect();
+    let qdiscs: Vec<Tcmsg> =
+        dumped.iter().filter_map(|message| tcmsg_of(message)).filter(|qdisc| qdisc.index == index).collect();
     for parent in [TC_H_ROOT, TC_H_CLSACT] {
         if qdiscs.iter().any(|qdisc| qdisc.parent == parent && qdisc.handle != 0) {
             kernel.request(&tc_request(RTM_DELQDISC, 0, Tcmsg { parent, ..asked }))?;

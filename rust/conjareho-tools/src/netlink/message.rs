@@ -158,7 +158,9 @@ impl<'a> Iterator for Messages<'a> {
             return None;
         }
         let rest = std::mem::take(&mut self.rest);
-        let whole = header_of(rest).filter(|header| header.len >= HEADER).and_then(|header| Some((header, rest.get(..header.len)?)));
+        let whole = header_of(rest)
+            .filter(|header| header.len >= HEADER)
+            .and_then(|header| Some((header, rest.get(..header.len)?)));
         let Some((header, message)) = whole else {
             return Some(Err(Fault::Broken("no whole message")));
         };

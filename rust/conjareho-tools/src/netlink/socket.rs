@@ -3,6 +3,7 @@
 use super::transport::Transport;
 use netlink_options::{NetlinkOption, turn_on};
 use netlink_sys::{SocketAddr, protocols::NETLINK_ROUTE};
+use nix::errno::Errno;
 use nix::libc::{MSG_PEEK, MSG_TRUNC};
 use nix::poll::{PollFd, PollFlags, poll};
 use nix::sys::socket::{getsockopt, setsockopt, sockopt};
@@ -27,9 +28,9 @@ impl Socket {
     /// A socket for requests and dumps.
     pub fn open() -> io::Result<Socket> {
         let mut socket = netlink_sys::Socket::new(NETLINK_ROUTE)?;
-        turn_on(&socket, NetlinkOption::ExtendedAcknowledgements)?;
-        turn_on(&socket, NetlinkOption::StrictChecks)?;
-        socket.set_cap_ack(true)?;
+        if_known(turn_on(&socket, NetlinkOption::ExtendedAcknowledgements))?;
+        if_known(turn_on(&socket, NetlinkOption::StrictChecks))?;
+        if_known(socket.set_cap_ack(true))?;
         let fd = socket.as_raw_fd();
         // With the rights for it as much as is wanted; else as much as the machine's limits allow.
         if setsockopt(fd, sockopt::RcvBufForce, &ROOM).is_err() {
@@ -52,6 +53,14 @@ impl Socket {
     fn is_ready(&self, wait: Option<Duration>) -> io::Result<bool> {
         let milliseconds = wait.map_or(-1, |wait| i32::try_from(wait.as_millis()).unwrap_or(i32::MAX));
         Ok(poll(&mut [PollFd::new(self.socket.as_raw_fd(), PollFlags::POLLIN)], milliseconds)? > 0)
+    }
+}
+
+// Older kernels lack some options; without them, a refusal has no text.
+fn if_known(set: io::Result<()>) -> io::Result<()> {
+    match set {
+        Err(error) if error.raw_os_error() == Some(Errno::ENOPROTOOPT as i32) => Ok(()),
+        set => set,
     }
 }
 

@@ -58,7 +58,11 @@ pub struct Dump {
 }
 
 /// Dumps these interfaces whole, and again if one of them, a block of theirs or an action changed meanwhile.
-pub fn state_of<T: Transport, L: Transport>(kernel: &mut Kernel<T>, listener: &mut Listener<L>, interfaces: &[u32]) -> Result<Dump, Fault> {
+pub fn state_of<T: Transport, L: Transport>(
+    kernel: &mut Kernel<T>,
+    listener: &mut Listener<L>,
+    interfaces: &[u32],
+) -> Result<Dump, Fault> {
     dump_of(kernel, listener, Objects::ALL, Some(interfaces))
 }
 
@@ -75,7 +79,7 @@ pub fn dump_of<T: Transport, L: Transport>(
         let before = Devices::of(kernel)?;
         let all = before.indices();
         let asked = interfaces.unwrap_or(&all);
-        let mut dumper = Dumper { kernel, listener, objects, changes: Changes::default() };
+        let mut dumper = Dumper { kernel, listener, objects, changes: Changes::default(), blocks: BTreeSet::new() };
         let dump = match dumper.dump(asked) {
             Err(Fault::Interrupted | Fault::Lost) => continue,
             dump => dump?,
@@ -99,6 +103,8 @@ struct Dumper<'a, T, L> {
     listener: &'a mut Listener<L>,
     objects: Objects,
     changes: Changes,
+    // The shared blocks whose chains and filters were dumped: each interface that has a block shows them.
+    blocks: BTreeSet<u32>,
 }
 
 impl<T: Transport, L: Transport> Dumper<'_, T, L> {
@@ -120,7 +126,13 @@ impl<T: Transport, L: Transport> Dumper<'_, T, L> {
     }
 
     // What an interface with these qdiscs has: qdiscs and classes, and what is below these.
-    fn dump_interface(&mut self, index: u32, qdiscs: Vec<Vec<u8>>, dump: &mut Dump, below: &mut Vec<Vec<u8>>) -> Result<(), Fault> {
+    fn dump_interface(
+        &mut self,
+        index: u32,
+        qdiscs: Vec<Vec<u8>>,
+        dump: &mut Dump,
+        below: &mut Vec<Vec<u8>>,
+    ) -> Result<(), Fault> {
         for qdisc in &qdiscs {
             dump.blocks.extend(blocks_in(qdisc)?);
         }
@@ -129,7 +141,10 @@ impl<T: Transport, L: Transport> Dumper<'_, T, L> {
             tree.extend(self.classes(index, &tree)?);
         }
         for parent in if self.objects.are_below() { parents(&tree)? } else { Vec::new() } {
-            below.extend(self.below(index, parent)?);
+            let mut found = self.below(index, parent)?;
+            found.retain(|message| block_of(message).is_none_or(|block| !self.blocks.contains(&block)));
+            self.blocks.extend(found.iter().filter_map(|message| block_of(message)));
+            below.extend(found);
         }
         let is_asked = |kind| if kind == RTM_NEWQDISC { self.objects.qdiscs } else { self.objects.classes };
         dump.messages.extend(tree.into_iter().filter(|it| header_of(it).is_some_and(|header| is_asked(header.kind))));
@@ -163,7 +178,8 @@ impl<T: Transport, L: Transport> Dumper<'_, T, L> {
                 continue;
             }
             let dumped = self.dump_tc(RTM_GETTCLASS, index, qdisc.handle)?;
-            let is_of_it = |class: &Vec<u8>| tcmsg_of(class).is_some_and(|class| class.handle & 0xffff_0000 == qdisc.handle);
+            let is_of_it =
+                |class: &Vec<u8>| tcmsg_of(class).is_some_and(|class| class.handle & 0xffff_0000 == qdisc.handle);
             classes.extend(dumped.into_iter().filter(is_of_it));
         }
         Ok(classes)
@@ -209,6 +225,11 @@ fn parents(tree: &[Vec<u8>]) -> Result<Vec<u32>, Fault> {
     Ok(parents)
 }
 
+// The shared block that a chain or a filter is in, if any.
+fn block_of(message: &[u8]) -> Option<u32> {
+    tcmsg_of(message).filter(|tcmsg| tcmsg.index == MAGIC_BLOCK).map(|tcmsg| tcmsg.parent)
+}
+
 fn attributes_of(message: &[u8]) -> &[u8] {
     message.get(HEADER + TCMSG..).unwrap_or(&[])
 }
@@ -228,8 +249,26 @@ fn blocks_in(qdisc: &[u8]) -> Result<Vec<u32>, Fault> {
 // ---- Actions
 
 const ACTIONS: [&str; 20] = [
-    "gact", "mirred", "nat", "pedit", "police", "simple", "skbedit", "skbmod", "vlan", "tunnel_key", "csum", "connmark", "ct", "ctinfo", "bpf", "ife",
-    "sample", "mpls", "gate", "xt",
+    "gact",
+    "mirred",
+    "nat",
+    "pedit",
+    "police",
+    "simple",
+    "skbedit",
+    "skbmod",
+    "vlan",
+    "tunnel_key",
+    "csum",
+    "connmark",
+    "ct",
+    "ctinfo",
+    "bpf",
+    "ife",
+    "sample",
+    "mpls",
+    "gate",
+    "xt",
 ];
 
 const TCA_ACT_TAB: u16 = 1;
@@ -262,6 +301,10 @@ fn actions_request(kind: &str) -> Vec<u8> {
     put(&mut first, 1 | NLA_F_NESTED, &name);
     let mut body = vec![0; 4];
     put(&mut body, TCA_ACT_TAB | NLA_F_NESTED, &first);
-    put(&mut body, TCA_ROOT_FLAGS, &[TCA_FLAG_LARGE_DUMP_ON.to_ne_bytes(), TCA_FLAG_LARGE_DUMP_ON.to_ne_bytes()].concat());
+    put(
+        &mut body,
+        TCA_ROOT_FLAGS,
+        &[TCA_FLAG_LARGE_DUMP_ON.to_ne_bytes(), TCA_FLAG_LARGE_DUMP_ON.to_ne_bytes()].concat(),
+    );
     request(RTM_GETACTION, NLM_F_DUMP, &body)
 }

@@ -5,13 +5,16 @@ use super::compare::{Objects, differences, objects_of};
 use super::file::{Save, read_save};
 use super::messages::{blocks_of, type_of};
 use super::plan::{Plan, Wanted, requests};
+use super::sending::{PATIENCE, PAUSE};
 use super::state;
 use super::status::Status;
 use super::targets::{Targets, targets_of};
 use super::world::{Place, World, text_of};
 use crate::netlink::message::{MAGIC_BLOCK, RTM_NEWQDISC, tcmsg_of};
-use crate::netlink::{Devices, Fault, Transport};
+use crate::netlink::{Devices, Dump, Fault, Transport};
 use std::collections::BTreeMap;
+use std::thread::sleep;
+use std::time::Instant;
 
 /// Why nothing is sent: how the program ends, and what it says.
 #[derive(Debug)]
@@ -67,11 +70,11 @@ pub(crate) fn prepare<T: Transport, L: Transport>(
     let devices = Devices::of(&mut world.kernel)?;
     let targets = targets_of(&save, arguments, &devices).map_err(|faults| Ended::because(Status::NothingSent, faults))?;
     said.extend(targets.warnings.iter().cloned());
-    let dump = world.first_dump(&targets.own())?;
-    let now = text_of(&dump, &targets.own())?;
+    let names = names_of(&save, &targets);
+    let (dump, now, plan) = planned(arguments, &save, &targets, &names, world)?;
     let others = blocks_of_others(world, &targets)?;
-    let plan = planned(arguments, &save, &targets, Some(&now), said)?;
-    let wanted = requests(&wanted_of(arguments, &save, &targets, &names_of(&save, &targets), None)).requests;
+    let plan = checked(arguments, plan, said)?;
+    let wanted = requests(&wanted_of(arguments, &save, &targets, &names, None)).requests;
     check_blocks(world, &others, &wanted)?;
     let is_own = |request: &Vec<u8>| !is_in_block(request, &others);
     let blocks = wanted.iter().flat_map(|request| blocks_of(request)).chain(dump.blocks).collect();
@@ -122,9 +125,29 @@ fn of_now(now: &str, is_beside: bool) -> Wanted<'_> {
     Wanted { text: now, now: Some(now).filter(|_| is_beside), replaces_actions: true, ..Wanted::default() }
 }
 
-fn planned(arguments: &Arguments, save: &Save, targets: &Targets, now: Option<&str>, said: &mut Vec<String>) -> Result<Plan, Ended> {
-    let names = names_of(save, targets);
-    let plan = requests(&wanted_of(arguments, save, targets, &names, now));
+// What there is now, and the requests beside it. The actions of filters that were just deleted are there for a time, and held by nobody's filter.
+fn planned<T: Transport, L: Transport>(
+    arguments: &Arguments,
+    save: &Save,
+    targets: &Targets,
+    names: &[(u32, &str)],
+    world: &mut World<'_, T, L>,
+) -> Result<(Dump, String, Plan), Ended> {
+    let until = Instant::now() + PATIENCE;
+    loop {
+        let dump = world.first_dump(&targets.own())?;
+        let now = text_of(&dump, &targets.own())?;
+        let plan = requests(&wanted_of(arguments, save, targets, names, Some(&now)));
+        let may_pass = plan.is_void && !requests(&wanted_of(arguments, save, targets, names, None)).is_void;
+        if !may_pass || Instant::now() >= until {
+            return Ok((dump, now, plan));
+        }
+        sleep(PAUSE);
+    }
+}
+
+// An error if something can't be made, and the rest isn't wanted without it.
+fn checked(arguments: &Arguments, plan: Plan, said: &mut Vec<String>) -> Result<Plan, Ended> {
     let complaints = plan.complaints.iter().map(|complaint| format!("{}: {complaint}", arguments.file_name()));
     said.extend(plan.notices.iter().map(|notice| format!("{}: {notice}", arguments.file_name())));
     if plan.is_void || !plan.complaints.is_empty() && !arguments.partial {
