@@ -26,7 +26,7 @@ COUNTS, COUNTS_OF_POLICE = (0, 12, 16), (0, 44, 48)
 ROOT_TABLE = 0x80000000  # the first of u32's root tables; the kernel numbers them in the order in which priorities are made
 IN_ORDER = {"basic", "bpf", "flow"}  # of these filters the order within a priority counts; others are found by their handle
 
-Action = collections.namedtuple("Action", "kind number held bound config has_estimator verdict")
+Action = collections.namedtuple("Action", "kind number held bound config has_estimator")
 
 
 def attributes(data):
@@ -55,20 +55,19 @@ def action_of(data):
     """An action: its number is 0 in its configuration if only its filter holds it, since the kernel chose it."""
     own = dict(attributes(data))
     kind, options, places = text(own[1]), [], COUNTS
-    number = held = bound = verdict = 0
+    number = held = bound = 0
     if kind == "police":
         places = COUNTS_OF_POLICE
     for type_, payload in attributes(own.get(2, b"")):
         if type_ in PARMS_OF.get(kind, [2]):
             number, held, bound = (int.from_bytes(payload[at : at + 4], "little") for at in places)
-            verdict = int.from_bytes(payload[4:8] if kind == "police" else payload[8:12], "little")
             if (held, bound) == (1, 1):
                 payload = bytes(4) + payload[4:]
             payload = payload[: places[1]] + bytes(4) + payload[places[1] + 4 :]  # refcnt counts its own request too
         if type_ != TIMES_OF.get(kind, 1) and payload:
             options.append((type_, payload))
     others = [it for it in attributes(data) if it[0] not in COUNTED_OF_ACTION and it[0] != 2]
-    return Action(kind, number, held, bound, (tuple(others), tuple(options)), has_estimator(own.get(4, b"")), verdict)
+    return Action(kind, number, held, bound, (tuple(others), tuple(options)), has_estimator(own.get(4, b"")))
 
 
 def has_estimator(statistics):
@@ -115,6 +114,15 @@ class Object:
         return self.type, self.index, self.handle, self.parent, info, others, options, tuple(it.config for it in self.actions)
 
 
+def root_tables(objects):
+    """The tables of each priority of u32 that can be its root."""
+    roots = collections.defaultdict(list)
+    for it in objects:
+        if it.type == FILTER and it.is_root_table():
+            roots[it.block(), it.info].append(it.handle)
+    return roots
+
+
 def renumbered(objects):
     """Gives the root table of each priority of u32 the number 800:, and filters below ingress one parent: the kernel dumps
     them with that of the last request."""
@@ -122,10 +130,7 @@ def renumbered(objects):
     for it in objects:
         if it.type in (FILTER, CHAIN) and it.index in ingress and it.parent >> 16 == 0xFFFF:
             it.parent = 0xFFFFFFF2
-    roots = collections.defaultdict(list)
-    for it in objects:
-        if it.type == FILTER and it.is_root_table():
-            roots[it.block(), it.info].append(it.handle)
+    roots = root_tables(objects)
     for it in objects:
         own = roots.get((it.block(), it.info), [])
         if it.type == FILTER and it.kind == "u32" and len(own) == 1:
@@ -207,7 +212,6 @@ class State:
         for it in self.all_actions():
             if it.has_estimator:
                 out.add("estimator, of which only statistics are dumped")
-        for it in self.shared.values():
-            if it.verdict >> 28 == 2 and it.held != it.bound:
-                out.add("standalone action with goto chain")
+        if any(len(set(it)) > 1 for it in root_tables(self.objects).values()):
+            out.add("two root tables of u32 in one priority")
         return out
