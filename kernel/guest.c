@@ -3,9 +3,13 @@
 // namespace of its own.
 //
 // script:   try NAME                    what follows up to the next try belongs to NAME
-//           link NUMBER                 makes the dummy link dNUMBER, which stays down, so that no packet is counted
+//           link NUMBER [QUEUES]        makes the dummy link dNUMBER, which stays down, so that no packet is counted
 //           send TYPE FLAGS PAYLOAD     a request: message type and flags in decimal, the payload after nlmsghdr in hex
+//           dump NUMBER                 asks for all that the link dNUMBER has, and for all actions (see `dump_link`)
+//           into FILE                   what comes back from here on is written to FILE too, as a netlink stream
 //           run COMMAND                 runs a command by the shell
+//           watch FILE                  writes each message of route netlink that a process of the try sends from here on
+//           unwatch                     the end of that
 // answers:  try NAME
 //           got TYPE PAYLOAD            a message that came back, masked (see `mask`)
 //           ack ERRNO OFFSET SENTENCE   how the request ended: offset is that of the attribute at fault in the
@@ -21,10 +25,14 @@
 #include <fcntl.h>
 #include <linux/bpf.h>
 #include <linux/if.h>
+#include <linux/if_ether.h>
+#include <linux/if_packet.h>
 #include <linux/netlink.h>
 #include <linux/pkt_cls.h>
 #include <linux/rtnetlink.h>
+#include <arpa/inet.h>
 #include <sched.h>
+#include <signal.h>
 #include <stdio.h>
 #include <stdlib.h>
 #include <string.h>
@@ -60,8 +68,8 @@ static void insert(const char *file) {
 // `FILE: FILE FILE ..`, the dependencies from the last to be loaded to the first. A module that is already there
 // fails quietly.
 static void load_modules(void) {
-    static const char *wanted[] = {"kernel/drivers/net/dummy.ko", "kernel/net/sched/sch_", "kernel/net/sched/cls_",
-                                   "kernel/net/sched/act_", "kernel/net/sched/em_"};
+    static const char *wanted[] = {"kernel/drivers/net/dummy.ko", "kernel/drivers/net/nlmon.ko", "kernel/net/sched/sch_",
+                                   "kernel/net/sched/cls_", "kernel/net/sched/act_", "kernel/net/sched/em_"};
     char path[1024], *line = NULL;
     size_t room = 0;
 
@@ -170,6 +178,7 @@ static void mask(int type, unsigned char *p, int n) {
 
 static int netlink;
 static unsigned char request[1 << 17], reply[1 << 19];
+static FILE *stream; // that of `into`
 
 static void write_ack(struct nlmsghdr *h) {
     struct nlmsgerr *e = NLMSG_DATA(h);
@@ -190,60 +199,229 @@ static void write_ack(struct nlmsghdr *h) {
     fprintf(answers, " %s\n", sentence);
 }
 
-// Sends a request, and reads until it is acknowledged or its dump ends.
-static void talk(int type, int flags, const void *payload, int n, int is_quiet) {
+// Writes a message that came back.
+static void write_got(struct nlmsghdr *h) {
+    unsigned char *p = NLMSG_DATA(h);
+    int length = h->nlmsg_len - NLMSG_HDRLEN;
+
+    fprintf(answers, "got %d ", h->nlmsg_type);
+    while (length-- > 0)
+        fprintf(answers, "%02x", *p++);
+    fputc('\n', answers);
+}
+
+static void write_masked(struct nlmsghdr *h) {
+    if (stream)
+        fwrite(h, 1, NLMSG_ALIGN(h->nlmsg_len), stream);
+    mask(h->nlmsg_type, NLMSG_DATA(h), h->nlmsg_len - NLMSG_HDRLEN);
+    write_got(h);
+}
+
+static void ignore(struct nlmsghdr *h) { (void)h; }
+
+// Sends a request, and passes on what comes back. Returns the message that ends it: NLMSG_ERROR or NLMSG_DONE; NULL,
+// with errno, where none comes.
+static struct nlmsghdr *ask(int type, int flags, const void *payload, int n, void (*each)(struct nlmsghdr *)) {
     struct nlmsghdr *h = (struct nlmsghdr *)request;
 
     *h = (struct nlmsghdr){.nlmsg_len = NLMSG_LENGTH(n), .nlmsg_type = type, .nlmsg_flags = flags, .nlmsg_seq = 1};
     memcpy(NLMSG_DATA(h), payload, n);
-    if (send(netlink, h, h->nlmsg_len, 0) < 0) {
-        fprintf(answers, "ack %d - not sent\n", errno);
-        return;
-    }
+    if (send(netlink, h, h->nlmsg_len, 0) < 0)
+        return NULL;
     for (;;) {
         ssize_t got = recv(netlink, reply, sizeof reply, 0);
-        if (got < 0) {
-            fprintf(answers, "ack %d - no answer\n", errno);
-            return;
-        }
+        if (got < 0)
+            return NULL;
         for (h = (struct nlmsghdr *)reply; NLMSG_OK(h, got); h = NLMSG_NEXT(h, got)) {
-            unsigned char *p = NLMSG_DATA(h);
-            int length = h->nlmsg_len - NLMSG_HDRLEN;
-            if (h->nlmsg_type == NLMSG_ERROR && is_quiet)
-                return;
-            if (h->nlmsg_type == NLMSG_ERROR) {
-                write_ack(h);
-                return;
-            }
-            if (h->nlmsg_type == NLMSG_DONE) {
-                fprintf(answers, "end %d\n", -*(int *)p);
-                return;
-            }
-            mask(h->nlmsg_type, p, length);
-            fprintf(answers, "got %d ", h->nlmsg_type);
-            while (length-- > 0)
-                fprintf(answers, "%02x", *p++);
-            fputc('\n', answers);
+            if (h->nlmsg_type == NLMSG_ERROR || h->nlmsg_type == NLMSG_DONE)
+                return h;
+            each(h);
         }
     }
 }
 
-static void make_link(int number) {
+// Writes what comes back of a request, and how it ended.
+static void talk(int type, int flags, const void *payload, int n) {
+    struct nlmsghdr *last = ask(type, flags, payload, n, write_masked);
+
+    if (!last)
+        fprintf(answers, "ack %d - no answer\n", errno);
+    else if (last->nlmsg_type == NLMSG_ERROR)
+        write_ack(last);
+    else
+        fprintf(answers, "end %d\n", -*(int *)NLMSG_DATA(last));
+}
+
+// ---- All of a link
+
+static int asked_link;
+static __u32 asked_parent;
+static unsigned char tree[1 << 19]; // the link's qdiscs and classes, whole messages
+static size_t tree_length;
+
+// Writes what belongs to the link, or to a shared block, as it came, and keeps its qdiscs and classes. A chain's dump names the
+// qdisc; the parent that was asked for tells the sides of clsact apart.
+static void write_of_link(struct nlmsghdr *h) {
+    struct tcmsg *header = NLMSG_DATA(h);
+
+    if (header->tcm_ifindex != asked_link && header->tcm_ifindex != (int)TCM_IFINDEX_MAGIC_BLOCK)
+        return;
+    if (h->nlmsg_type == RTM_NEWCHAIN && header->tcm_ifindex == asked_link)
+        header->tcm_parent = asked_parent;
+    if ((h->nlmsg_type == RTM_NEWQDISC || h->nlmsg_type == RTM_NEWTCLASS) && tree_length + h->nlmsg_len < sizeof tree) {
+        memcpy(tree + tree_length, h, h->nlmsg_len);
+        tree_length += NLMSG_ALIGN(h->nlmsg_len);
+    }
+    write_got(h);
+}
+
+// A qdisc without classes refuses to be asked for them, and what can't have filters for those.
+static void dump_tc(int type, __u32 parent) {
+    struct tcmsg header = {.tcm_ifindex = asked_link, .tcm_parent = parent};
+
+    asked_parent = parent;
+    ask(type, NLM_F_REQUEST | NLM_F_DUMP, &header, sizeof header, write_of_link);
+}
+
+static void dump_actions(void) {
+    static const char *kinds[] = {"bpf",     "connmark", "csum", "ct",     "ctinfo", "gact",    "gate",   "ife",        "mirred", "mpls",
+                                  "nat",     "pedit",    "police", "sample", "simple", "skbedit", "skbmod", "tunnel_key", "vlan",   "xt"};
+
+    for (size_t i = 0; i < sizeof kinds / sizeof *kinds; i++) {
+        struct {
+            struct tcamsg header;
+            struct nlattr table, first, kind;
+            char text[16];
+            struct nlattr flags;
+            struct nla_bitfield32 large;
+        } m = {.table = {3 * NLA_HDRLEN + 16, TCA_ACT_TAB},
+               .first = {2 * NLA_HDRLEN + 16, 1},
+               .kind = {NLA_HDRLEN + 16, TCA_ACT_KIND},
+               .flags = {NLA_HDRLEN + 8, TCA_ROOT_FLAGS},
+               .large = {TCA_FLAG_LARGE_DUMP_ON, TCA_FLAG_LARGE_DUMP_ON}};
+        snprintf(m.text, sizeof m.text, "%s", kinds[i]);
+        ask(RTM_GETACTION, NLM_F_REQUEST | NLM_F_DUMP, &m, sizeof m, write_got);
+    }
+}
+
+static int is_clsact(struct nlmsghdr *h) {
+    unsigned char *p = (unsigned char *)NLMSG_DATA(h) + sizeof(struct tcmsg);
+    int left = h->nlmsg_len - NLMSG_LENGTH(sizeof(struct tcmsg));
+
+    FOR_EACH(a, p, left)
+        if (TYPE(a) == TCA_KIND)
+            return !strncmp((char *)PAYLOAD(a), "clsact", LENGTH(a));
+    return 0;
+}
+
+static void dump_block(__u32 parent) {
+    dump_tc(RTM_GETCHAIN, parent);
+    dump_tc(RTM_GETTFILTER, parent);
+}
+
+// Writes all actions of the namespace, the qdiscs and classes of a link, and the chains and filters of each of these.
+// Classes are asked for by qdisc: a dump of all classes ends at netem without a child and at sfb.
+static void dump_link(int number) {
+    struct nlmsghdr *h;
+
+    asked_link = number, tree_length = 0;
+    dump_actions();
+    dump_tc(RTM_GETQDISC, 0);
+    for (size_t at = 0, end = tree_length; at < end; at += NLMSG_ALIGN(h->nlmsg_len)) {
+        h = (struct nlmsghdr *)(tree + at);
+        __u32 handle = ((struct tcmsg *)NLMSG_DATA(h))->tcm_handle;
+        if (handle)
+            dump_tc(RTM_GETTCLASS, handle);
+    }
+    for (size_t at = 0; at < tree_length; at += NLMSG_ALIGN(h->nlmsg_len)) {
+        h = (struct nlmsghdr *)(tree + at);
+        __u32 handle = ((struct tcmsg *)NLMSG_DATA(h))->tcm_handle;
+        if (h->nlmsg_type == RTM_NEWQDISC && is_clsact(h)) {
+            dump_block(TC_H_MAKE(TC_H_CLSACT, TC_H_MIN_INGRESS));
+            dump_block(TC_H_MAKE(TC_H_CLSACT, TC_H_MIN_EGRESS));
+        } else if (handle)
+            dump_block(handle);
+    }
+    fputs("end 0\n", answers);
+}
+
+// ---- Links
+
+static void make_link(int number, const char *kind, int flags, int queues) {
     struct {
         struct ifinfomsg header;
         struct nlattr name;
         char text[16];
+        struct nlattr queues;
+        __u32 count;
         struct nlattr info, kind;
-        char dummy[8];
-    } m = {.header = {.ifi_index = number},
+        char kind_text[8];
+    } m = {.header = {.ifi_index = number, .ifi_flags = flags, .ifi_change = flags},
            .name = {NLA_HDRLEN + 16, IFLA_IFNAME},
+           .queues = {NLA_HDRLEN + 4, IFLA_NUM_TX_QUEUES},
+           .count = queues,
            .info = {2 * NLA_HDRLEN + 8, IFLA_LINKINFO},
-           .kind = {NLA_HDRLEN + 6, IFLA_INFO_KIND},
-           .dummy = "dummy"};
+           .kind = {NLA_HDRLEN + 8, IFLA_INFO_KIND}};
 
     snprintf(m.text, sizeof m.text, "d%d", number);
-    talk(RTM_NEWLINK, NLM_F_REQUEST | NLM_F_ACK | NLM_F_CREATE | NLM_F_EXCL, &m, sizeof m, 1);
+    snprintf(m.kind_text, sizeof m.kind_text, "%s", kind);
+    ask(RTM_NEWLINK, NLM_F_REQUEST | NLM_F_ACK | NLM_F_CREATE | NLM_F_EXCL, &m, sizeof m, ignore);
 }
+
+// ---- What others send
+
+enum { MONITOR = 99 }; // the link by which the kernel passes on what goes through netlink sockets
+static pid_t watcher;
+static volatile sig_atomic_t is_over;
+
+static void end_watching(int signal) { is_over = signal; }
+
+static void write_watched(int s, FILE *file) {
+    static unsigned char frame[1 << 17];
+    struct sockaddr_ll from;
+
+    signal(SIGTERM, end_watching);
+    for (;;) {
+        socklen_t size = sizeof from;
+        ssize_t got = recvfrom(s, frame, sizeof frame, 0, (struct sockaddr *)&from, &size);
+        if (got < 0 && is_over)
+            break;
+        if (got > 0 && from.sll_pkttype == PACKET_KERNEL && from.sll_protocol == htons(NETLINK_ROUTE))
+            fwrite(frame, 1, got, file);
+    }
+    fclose(file);
+    _exit(0);
+}
+
+static void watch(const char *path) {
+    int size = 1 << 23;
+    struct timeval wait = {.tv_usec = 20000};
+    struct sockaddr_ll monitor = {.sll_family = AF_PACKET, .sll_protocol = htons(ETH_P_ALL), .sll_ifindex = MONITOR};
+
+    make_link(MONITOR, "nlmon", IFF_UP, 1);
+    int s = socket(AF_PACKET, SOCK_RAW, htons(ETH_P_ALL));
+    setsockopt(s, SOL_SOCKET, SO_RCVBUFFORCE, &size, sizeof size);
+    setsockopt(s, SOL_SOCKET, SO_RCVTIMEO, &wait, sizeof wait);
+    FILE *file = fopen(path, "w");
+    if (!file || bind(s, (struct sockaddr *)&monitor, sizeof monitor))
+        fprintf(answers, "ack %d - not watched\n", errno);
+    fflush(answers);
+    watcher = fork();
+    if (!watcher)
+        write_watched(s, file);
+    fclose(file);
+    close(s);
+}
+
+static void unwatch(void) {
+    if (watcher <= 0)
+        return;
+    kill(watcher, SIGTERM);
+    waitpid(watcher, NULL, 0);
+    watcher = 0;
+}
+
+// ---- Namespaces
 
 static void open_namespace(void) {
     int one = 1, size = 1 << 21;
@@ -303,16 +481,27 @@ static void try(char *line) {
 
     open_namespace();
     for (line = strtok_r(line, "\n", &rest); line; line = strtok_r(NULL, "\n", &rest)) {
-        int type, flags, at, number;
-        if (sscanf(line, "link %d", &number) == 1)
-            make_link(number);
+        int type, flags, at, number, queues = 1;
+        if (sscanf(line, "link %d %d", &number, &queues) >= 1)
+            make_link(number, "dummy", 0, queues);
         else if (sscanf(line, "send %d %d %n", &type, &flags, &at) == 2)
-            talk(type, flags, payload, from_hex(line + at, payload), 0);
+            talk(type, flags, payload, from_hex(line + at, payload));
+        else if (sscanf(line, "dump %d", &number) == 1)
+            dump_link(number);
+        else if (!strncmp(line, "into ", 5))
+            stream = fopen(line + 5, "w");
         else if (!strncmp(line, "run ", 4))
             run(line + 4);
+        else if (!strncmp(line, "watch ", 6))
+            watch(line + 6);
+        else if (!strcmp(line, "unwatch"))
+            unwatch();
         else
             fprintf(answers, "%s\n", line);
+        if (stream)
+            fflush(stream);
     }
+    unwatch();
 }
 
 static char *whole_file(const char *folder, const char *name) {

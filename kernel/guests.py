@@ -1,0 +1,139 @@
+"""Guests: a script for each, what its kernel and its commands answered, and what failed."""
+
+import collections
+import concurrent.futures
+import errno
+import os
+import shutil
+import signal
+import subprocess
+import sys
+import time
+
+HERE = os.path.dirname(os.path.abspath(__file__))
+TOP = os.path.dirname(HERE)
+OUT = f"{HERE}/out"
+SECONDS = 600  # for one guest
+
+failures = []
+
+
+def fail(text):
+    failures.append(text)
+    print(f"FAILED {text}", flush=True)
+
+
+def lacks(sentence):
+    print(sentence)
+    sys.exit(3)
+
+
+def error_name(number):
+    return "EOPNOTSUPP" if number == errno.EOPNOTSUPP else errno.errorcode.get(number, str(number))
+
+
+def compile_guest():
+    """Compiles the guest's first process."""
+    compiler = shutil.which("gcc")
+    if not compiler:
+        lacks("The package gcc is not installed, which compiles the guest.")
+    os.makedirs(OUT, exist_ok=True)
+    flags = ["-O2", "-Wall", "-Wextra", "-static"]
+    if subprocess.run([compiler, *flags, "-o", f"{OUT}/guest", f"{HERE}/guest.c"]).returncode:
+        lacks("guest.c was not compiled: it takes the packages gcc, libc6-dev and linux-libc-dev.")
+
+
+def linux():
+    """The path of the kernel."""
+    path = shutil.which("linux.uml")
+    if not path or not os.path.isdir("/usr/lib/uml/modules"):
+        lacks("The package user-mode-linux is not installed, which has the kernel that is asked.")
+    return path
+
+
+# How a request ended, and the (type, bytes) that came back before that; `offset` is None where the kernel names no
+# attribute.
+Answer = collections.namedtuple("Answer", "got error offset sentence")
+
+# How a command ended, and the lines that it wrote.
+Said = collections.namedtuple("Said", "status lines")
+
+
+class Guest:
+    """A script for the guest, each different try in it once, and the answers by the numbers of the tries."""
+
+    def __init__(self, name):
+        self.folder, self.tries, self.answers, self.kernel = f"{OUT}/{name}", {}, {}, ""
+        shutil.rmtree(self.folder, ignore_errors=True)
+        os.makedirs(self.folder)
+
+    def add(self, links, requests):
+        """Adds a try of requests, and of commands where they are texts, and returns its number."""
+        lines = [f"link {it}" for it in dict.fromkeys(links)]
+        for it in requests:
+            lines.append(f"run {it}" if isinstance(it, str) else f"send {it[0]} {it[1]} {it[2].hex()}")
+        return self.add_lines(lines)
+
+    def add_lines(self, lines):
+        """Adds a try of lines as they stand in the script."""
+        return self.tries.setdefault("\n".join(lines), len(self.tries))
+
+    def run(self):
+        with open(f"{self.folder}/script", "w") as file:
+            file.writelines(f"try {number}\n{text}\n" for text, number in self.tries.items())
+        words = [linux(), "mem=256M", "rootfstype=hostfs", "rw", "quiet", "con=null", "con0=fd:0,fd:1"]
+        words += [f"uml_dir={self.folder}/", "umid=guest", f"init={OUT}/guest", f"DIR={self.folder}"]
+        began = time.monotonic()
+        with open(f"{self.folder}/console", "w") as console:
+            how = {"stdin": subprocess.DEVNULL, "stdout": console, "stderr": console, "start_new_session": True}
+            guest = subprocess.Popen(words, env={**os.environ, "TMPDIR": OUT}, **how)
+            try:
+                guest.wait(SECONDS)
+            except subprocess.TimeoutExpired:
+                fail(f"the guest did not end within {SECONDS} seconds")
+            finally:
+                try:
+                    os.killpg(guest.pid, signal.SIGKILL)
+                except ProcessLookupError:
+                    pass
+        self.read()
+        print(f"Linux {self.kernel}: {len(self.tries)} tries in {time.monotonic() - began:.0f} s", flush=True)
+
+    def read(self):
+        number, got, said, lines = None, [], [], []
+        if os.path.exists(f"{self.folder}/answers"):
+            with open(f"{self.folder}/answers", errors="replace") as file:
+                lines = file.read().splitlines()
+        for line in lines:
+            word, _, rest = line.partition(" ")
+            if word == "kernel":
+                self.kernel = rest
+            elif word == "try":
+                number, got, said = int(rest), [], []
+                self.answers[number] = []
+            elif word == "got":
+                type_, _, data = rest.partition(" ")
+                got.append((int(type_), bytes.fromhex(data)))
+            elif word == "ack":
+                error, offset, sentence = rest.split(" ", 2)
+                offset = None if offset == "-" else int(offset)
+                self.answers[number].append(Answer(tuple(got), int(error), offset, sentence))
+                got = []
+            elif word == "end":
+                self.answers[number].append(Answer(tuple(got), int(rest), None, ""))
+                got = []
+            elif word == "said":
+                said.append(rest)
+            elif word == "status":
+                self.answers[number].append(Said(int(rest), said))
+                said = []
+            elif word == "died":
+                fail(f"try {number} of {self.folder}/script: its process ended with {rest}")
+        if lines[-1:] != ["finished"]:
+            fail(f"the guest wrote nothing past try {number} of {self.folder}/script; see the file console beside it")
+
+
+def run_all(guests):
+    """Runs guests, two at a time."""
+    with concurrent.futures.ThreadPoolExecutor(2) as pool:
+        list(pool.map(Guest.run, guests))

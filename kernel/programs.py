@@ -1,0 +1,93 @@
+"""The programs that save and restore, as commands for the guest's shell. All that depends on which programs these are is here."""
+
+import glob
+import os
+import shutil
+import subprocess
+import sys
+import time
+
+from guests import OUT, TOP, lacks
+
+TARGET = "x86_64-unknown-linux-gnu"
+PROVED, SOCKETS = ("tcshow", "tcmake"), ("tcnl", "tcsave", "tcrestore")
+
+
+def folder():
+    """The folder that --tools names, if any."""
+    return os.path.abspath(sys.argv[sys.argv.index("--tools") + 1]) if "--tools" in sys.argv else ""
+
+
+def built(name):
+    """The path of a program: in the folder that --tools names, or as its crate is built."""
+    if folder():
+        path = f"{folder()}/{name}"
+        return path if os.path.exists(path) else lacks(f"There is no {path}.")
+    crate = f"{TOP}/crates/{name}"
+    path = f"{crate}/out/{name}"
+    if os.path.exists(path):
+        at = os.path.getmtime(path)
+        sources = glob.glob(f"{TOP}/crates/*/src/**/*.rt", recursive=True)
+        newer = sum(os.path.getmtime(it) > at for it in sources)
+        print(f"crates/{name}/out/{name} of {time.ctime(at)}, {newer} source files newer", flush=True)
+        return path
+    if not shutil.which("rt"):
+        lacks(f"The toolchain's rt is not on the path, and crates/{name} is not built.")
+    print(f"crates/{name}: rt run proves and builds it and all crates below it, in up to an hour", flush=True)
+    with open(f"{crate}/stdin") as text:
+        done = subprocess.run(["rt", "run"], cwd=crate, stdin=text, stdout=sys.stderr)
+    if done.returncode or not os.path.exists(path):
+        sys.exit(f"crates/{name} was not proved and built.")
+    return path
+
+
+def linked(names):
+    """The paths of programs of rust/conjareho-tools, linked statically: in the folder that --tools names if they are there, else as cargo
+    builds them."""
+    own = {name: f"{folder()}/{name}" for name in names}
+    if folder() and all(map(os.path.exists, own.values())):
+        return own
+    if not shutil.which("cargo"):
+        lacks("There is no cargo, which builds the programs of rust/conjareho-tools.")
+    out = f"{TOP}/rust/out/static"
+    env = {**os.environ, "RUSTFLAGS": "-C target-feature=+crt-static", "CARGO_TARGET_DIR": out}
+    words = ["cargo", "build", "--release", "--target", TARGET]
+    if subprocess.run(words, cwd=f"{TOP}/rust/conjareho-tools", env=env).returncode:
+        lacks("rust/conjareho-tools was not built; its README.md says what it needs.")
+    return {name: f"{out}/{TARGET}/release/{name}" for name in names}
+
+
+class Programs:
+    """The programs, and the shell's text that starts each of them."""
+
+    def __init__(self):
+        self.paths = {**{it: built(it) for it in PROVED}, **linked(SOCKETS)}
+        with open(f"{OUT}/programs", "w") as file:
+            file.writelines(f"{name.upper()}={path}\nexport {name.upper()}\n" for name, path in self.paths.items())
+            file.write(f"TMPDIR={OUT}\nexport TMPDIR\n")
+
+    def command(self, text):
+        return f". {OUT}/programs; {text}"
+
+    def save(self, file, devs="d7"):
+        """Saves interfaces."""
+        return self.command(f"$TCSAVE {devs} > {file}")
+
+    def restore(self, file, state, options=""):
+        """Restores a save. What was there before is kept in the folder `state`."""
+        return self.command(f"timeout 60 $TCRESTORE --state {state} {options} {file}")
+
+    def clear(self, dev="d7"):
+        return self.command(f"$TCNL clear dev {dev}")
+
+    def show(self, stream, file):
+        """A netlink stream as lines of JSON."""
+        return self.command(f"$TCSHOW --json < {stream} > {file}")
+
+    def requests(self, file, state="", options=()):
+        """The requests that tcmake makes of a save beside what is kept in the folder `state`, as a netlink stream."""
+        now = [word for it in glob.glob(f"{state}/*") for word in ("--now", it)] if state else []
+        with open(file) as lines:
+            words = [self.paths["tcmake"], "--request", "--stream", *now, *options]
+            done = subprocess.run(words, stdin=lines, capture_output=True)
+        return done.stdout

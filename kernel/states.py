@@ -1,0 +1,217 @@
+"""What a link has, by its dumps, in a form that is the same for all dumps of one configuration; and what of it can't be made
+again."""
+
+import collections
+import struct
+
+from messages import mode_of, shown
+
+QDISC, CLASS, FILTER, CHAIN, ACTIONS = 36, 40, 44, 100, (48, 49, 50)  # message types; a dump of actions is RTM_GETACTION
+
+# Attributes of a message and of an action that say what was counted, or are padding.
+COUNTED = {3, 4, 6, 7, 9}  # TCA_STATS, TCA_XSTATS, TCA_FCNT, TCA_STATS2, TCA_PAD
+COUNTED_OF_ACTION = {4, 5, 9, 10}  # TCA_ACT_STATS, TCA_ACT_PAD, TCA_ACT_USED_HW_STATS, TCA_ACT_IN_HW_COUNT
+
+# Of each kind of filter, the attribute with its actions, and that of padding. Of an action, that of its times (struct
+# tcf_t), 1 for those not named here.
+ACTIONS_OF = {"basic": 3, "bpf": 1, "cgroup": 1, "flow": 9, "flower": 3, "fw": 4, "matchall": 2, "route": 6, "u32": 7}
+PAD_OF = {"basic": 6, "matchall": 5, "u32": 12}
+TIMES_OF = {"connmark": 2, "csum": 2, "ct": 2, "ctinfo": 2, "ife": 2, "nat": 2, "police": 6}
+
+# Of each kind of action, the attributes that begin with its number and counts, 2 for those not named here; and the places
+# of number, refcnt and bindcnt in it: those of tc_gen, and those of tc_police.
+PARMS_OF = {"connmark": [1], "csum": [1], "ct": [1], "ctinfo": [3], "ife": [1], "nat": [1], "pedit": [2, 4], "police": [1]}
+COUNTS, COUNTS_OF_POLICE = (0, 12, 16), (0, 44, 48)
+
+ROOT_TABLE = 0x80000000  # the first of u32's root tables; the kernel numbers them in the order in which priorities are made
+IN_ORDER = {"basic", "bpf", "flow"}  # of these filters the order within a priority counts; others are found by their handle
+
+Action = collections.namedtuple("Action", "kind number held bound config has_estimator")
+
+
+def attributes(data):
+    """Type and payload of each attribute."""
+    out, at = [], 0
+    while at + 4 <= len(data):
+        length, type_ = struct.unpack_from("<HH", data, at)
+        if length < 4:
+            break
+        out.append((type_ & 0x3FFF, data[at + 4 : at + length]))
+        at += length + -length % 4
+    return out
+
+
+def text(data):
+    return data.removesuffix(b"\0").decode(errors="replace")
+
+
+def handle(number):
+    """A handle as tc writes it."""
+    major, minor = number >> 16, number & 0xFFFF
+    return "root" if number == 0xFFFFFFFF else f"{major:x}:{minor:x}" if minor else f"{major:x}:"
+
+
+def action_of(data):
+    """An action: its number is 0 in its configuration if only its filter holds it, since the kernel chose it."""
+    own = dict(attributes(data))
+    kind, options, places = text(own[1]), [], COUNTS
+    number = held = bound = 0
+    if kind == "police":
+        places = COUNTS_OF_POLICE
+    for type_, payload in attributes(own.get(2, b"")):
+        if type_ in PARMS_OF.get(kind, [2]):
+            number, held, bound = (int.from_bytes(payload[at : at + 4], "little") for at in places)
+            if (held, bound) == (1, 1):
+                payload = bytes(4) + payload[4:]
+            payload = payload[: places[1]] + bytes(4) + payload[places[1] + 4 :]  # refcnt counts its own request too
+        if type_ != TIMES_OF.get(kind, 1) and payload:
+            options.append((type_, payload))
+    others = [it for it in attributes(data) if it[0] not in COUNTED_OF_ACTION and it[0] != 2]
+    return Action(kind, number, held, bound, (tuple(others), tuple(options)), has_estimator(own.get(4, b"")))
+
+
+def has_estimator(statistics):
+    return any(type_ in (2, 5) for type_, _ in attributes(statistics))  # TCA_STATS_RATE_EST, TCA_STATS_RATE_EST64
+
+
+class Object:
+    """A message of a dump: its place, and its configuration in the normal form."""
+
+    def __init__(self, type_, data):
+        self.type, self.data = type_, data
+        self.index, self.handle, self.parent, self.info = struct.unpack_from("<iIII", data, 4)
+        self.own = dict(attributes(data[20:]))
+        self.kind = text(self.own.get(1, b""))
+        self.chain = int.from_bytes(self.own.get(11, b""), "little")
+        self.options = attributes(self.own.get(2, b""))
+        self.actions = []
+        if type_ == FILTER:
+            lists = [it for number, it in self.options if number == ACTIONS_OF.get(self.kind)]
+            self.actions = [action_of(it) for some in lists for _, it in attributes(some)]
+
+    def block(self):
+        return self.index, self.parent, self.chain
+
+    def is_root_table(self):
+        divisor = int.from_bytes(dict(self.options).get(4, b""), "little")
+        return self.kind == "u32" and self.handle >= ROOT_TABLE and self.handle & 0xFFFFF == 0 and divisor == 1
+
+    def place(self):
+        if self.type == QDISC:
+            return f"qdisc of {self.index}, parent {handle(self.parent)}"
+        if self.type == CLASS:
+            return f"class of {self.index}, {handle(self.handle)}"
+        where = f"of {self.index}, parent {handle(self.parent)}, chain {self.chain}"
+        if self.type == CHAIN:
+            return f"chain {where}"
+        return f"filter {where}, priority {self.info >> 16}, handle {self.handle:x}"
+
+    def config(self):
+        """All that it has, in a form that can be compared."""
+        options = tuple(it for it in self.options if it[0] not in (PAD_OF.get(self.kind), ACTIONS_OF.get(self.kind) if self.actions else None))
+        others = tuple(it for it in sorted(self.own.items()) if it[0] not in COUNTED | {2})
+        info = 0 if self.type == QDISC else self.info  # of a qdisc a count of references
+        return self.type, self.index, self.handle, self.parent, info, others, options, tuple(it.config for it in self.actions)
+
+
+def root_tables(objects):
+    """The tables of each priority of u32 that can be its root."""
+    roots = collections.defaultdict(list)
+    for it in objects:
+        if it.type == FILTER and it.is_root_table():
+            roots[it.block(), it.info].append(it.handle)
+    return roots
+
+
+def renumbered(objects):
+    """Gives the root table of each priority of u32 the number 800:, and filters below ingress one parent: the kernel dumps
+    them with that of the last request."""
+    ingress = {it.index for it in objects if it.type == QDISC and it.kind == "ingress"}
+    for it in objects:
+        if it.type in (FILTER, CHAIN) and it.index in ingress and it.parent >> 16 == 0xFFFF:
+            it.parent = 0xFFFFFFF2
+    roots = root_tables(objects)
+    for it in objects:
+        own = roots.get((it.block(), it.info), [])
+        if it.type == FILTER and it.kind == "u32" and len(own) == 1:
+            turned = lambda number: number & 0xFFFFF | ROOT_TABLE if number & 0xFFF00000 == own[0] else number
+            it.handle = turned(it.handle)
+            tables = {2, 3}  # TCA_U32_HASH, TCA_U32_LINK
+            it.options = [(n, turned(int.from_bytes(x, "little")).to_bytes(4, "little") if n in tables else x) for n, x in it.options]
+    return objects
+
+
+class State:
+    """What dumps show: objects by their places, in the order in which that counts; and actions that more than one filter
+    holds, or none."""
+
+    def __init__(self, names, messages):
+        self.names = names
+        self.objects = renumbered([Object(*it) for it in messages if it[0] in (QDISC, CLASS, FILTER, CHAIN)])
+        lists = [some for type_, data in messages if type_ in ACTIONS for number, some in attributes(data[4:]) if number == 1]
+        self.actions = [action_of(it) for some in lists for _, it in attributes(some)]
+        self.places = collections.OrderedDict((it.place(), it) for it in self.objects)
+        self.shared = {(it.kind, it.number): it for it in self.actions if (it.held, it.bound) != (1, 1)}
+
+    def kinds(self):
+        """The kinds of all that is there, each with its sort."""
+        sorts = {QDISC: "qdisc", CLASS: "class", FILTER: "filter", CHAIN: "template"}
+        own = {(sorts[it.type], it.kind) for it in self.objects if it.kind}
+        return own | {("action", it.kind) for it in self.all_actions()}
+
+    def all_actions(self):
+        return [action for it in self.objects for action in it.actions] + list(self.shared.values())
+
+    def ranks(self):
+        """The filters of each priority, where their order counts."""
+        out = collections.defaultdict(list)
+        for it in self.objects:
+            if it.type == FILTER and it.kind in IN_ORDER and it.handle:
+                out[it.block(), it.info].append(it.handle)
+        return out
+
+    def differences(self, other):
+        """What is otherwise in another state, in words."""
+        out = []
+        for place in dict.fromkeys([*self.places, *other.places]):
+            one, two = self.places.get(place), other.places.get(place)
+            if not two:
+                out.append(f"{place}: {one.kind} is gone")
+            elif not one:
+                out.append(f"{place}: {two.kind} is new")
+            elif one.config() != two.config():
+                out.append(f"{place}: {self.changes(one, two)}")
+        for key in dict.fromkeys([*self.shared, *other.shared]):
+            one, two = self.shared.get(key), other.shared.get(key)
+            if not one or not two or one.config != two.config:
+                what = "is gone" if not two else "is new" if not one else f"{one} → {two}"
+                out.append(f"action {key[0]} {key[1]}: {what}")
+        one, two = self.ranks(), other.ranks()
+        out += [f"filters of {key}: in another order" for key in one if one[key] != two[key] and set(one[key]) == set(two[key])]
+        return out
+
+    def changes(self, one, two):
+        a, b = [shown(self.names, mode_of(it.type), it.data) for it in (one, two)]
+        changed = [it for it in dict.fromkeys([*a, *b]) if a.get(it) != b.get(it) and "Stats" not in it]
+        return "; ".join(f"{it} {a.get(it, 'none')} → {b.get(it, 'none')}" for it in changed[:5]) or "changed"
+
+    def cannot_be_made(self):
+        """What docs/KERNEL.md lists as not restored, by what tcmake says of it."""
+        out = set()
+        for it in self.objects:
+            if it.type == QDISC and it.kind in ("red", "choke", "gred"):
+                out.add("table of red, choke or gred, which isn't dumped")
+            if 8 in it.own:
+                out.add("size table without its data")
+            if has_estimator(it.own.get(7, b"")):
+                out.add("estimator, of which only statistics are dumped")
+            if it.type == FILTER and it.kind == "bpf" and 11 in dict(it.options):
+                out.add("eBPF program by its number")
+            if it.type == FILTER and it.kind == "u32" and 6 in dict(it.options):
+                out.add("police of a u32 filter, without its rate table")
+        for it in self.all_actions():
+            if it.has_estimator:
+                out.add("estimator, of which only statistics are dumped")
+        if any(len(set(it)) > 1 for it in root_tables(self.objects).values()):
+            out.add("two root tables of u32 in one priority")
+        return out

@@ -1,0 +1,82 @@
+"""What tcrestore sends: streams of requests, compared with what tcmake makes of the same files."""
+
+import struct
+
+from states import ACTIONS_OF, CHAIN, CLASS, COUNTED_OF_ACTION, FILTER, QDISC, TIMES_OF, Object, attributes, text
+
+NEW = (QDISC, CLASS, FILTER, CHAIN, 48)  # 48 is RTM_NEWACTION
+OF_BLOCK = -1  # TCM_IFINDEX_MAGIC_BLOCK
+
+# What the sender of a stream adds to flags: NLM_F_REQUEST, NLM_F_ACK, NLM_F_ECHO
+SENDERS = 0x1 | 0x4 | 0x8
+
+
+def messages(data):
+    """The messages of a netlink stream: type, flags, and the bytes behind the header."""
+    out, at = [], 0
+    while at + 16 <= len(data):
+        length, type_, flags = struct.unpack_from("<IHH", data, at)
+        if length < 16:
+            break
+        out.append((type_, flags, data[at + 16 : at + length]))
+        at += -(-length // 4) * 4
+    return out
+
+
+def stream_of(data):
+    """The messages of a netlink stream, each a type and the bytes behind its header."""
+    return [(type_, payload) for type_, _, payload in messages(data)]
+
+
+def requests_in(data):
+    """The requests of a stream that make or change something. What is sent again after a refusal counts once."""
+    out = []
+    for type_, flags, payload in messages(data):
+        it = type_, flags & ~SENDERS, payload
+        if type_ in NEW and it not in out[-1:]:
+            out.append(it)
+    return out
+
+
+def is_of_block(request):
+    return request[0] in (FILTER, CHAIN) and Object(request[0], request[2]).index == OF_BLOCK
+
+
+def as_made(sent, made):
+    """Compares what was sent with what tcmake makes; a block's filters may be left out, since others may hold it. "" where it is the same."""
+    sent, made = requests_in(sent), requests_in(made)
+    if sent in (made, [it for it in made if not is_of_block(it)]):
+        return ""
+    for number, (one, two) in enumerate(zip(sent, made), 1):
+        if one != two:
+            words = [f"{type_} {flags:#x} {payload.hex()}" for type_, flags, payload in (one, two)]
+            return f"request {number} is sent as {words[0]}, and tcmake makes {words[1]}"
+    return f"{len(sent)} requests are sent, and tcmake makes {len(made)}"
+
+
+def leftovers(sent):
+    """What a request has that only a kernel writes: statistics and times of an action. "" for nothing."""
+    for type_, _, data in requests_in(sent):
+        if type_ == 48:
+            lists = [it for number, it in attributes(data[4:]) if number == 1]
+        elif type_ == FILTER:
+            own = Object(type_, data)
+            lists = [it for number, it in own.options if number == ACTIONS_OF.get(own.kind)]
+        else:
+            continue
+        for it in [it for some in lists for _, it in attributes(some)]:
+            own = dict(attributes(it))
+            kind, options = text(own[1]), dict(attributes(own.get(2, b"")))
+            if COUNTED_OF_ACTION & own.keys():
+                return f"a request has statistics of {kind}"
+            if len(options.get(TIMES_OF.get(kind, 1), b"")) == 32:
+                return f"a request has times of {kind}"
+    return ""
+
+
+def judged(programs, save, state, sent, options=""):
+    """What is wrong with what was sent when a save was restored with these options, beside what was kept in the folder `state`. "" for nothing."""
+    wrong = leftovers(sent)
+    if wrong or {"--map", "--partial"} & set(options.split()):
+        return wrong
+    return as_made(sent, programs.requests(save, state, [it for it in options.split() if it == "--replace-actions"]))
