@@ -154,9 +154,10 @@ impl Writer<'_> {
 
     fn constants(&self, block: &Block, name: &str) -> String {
         let number = self.uses.number("names", name);
-        let rows = block.lines.iter().map(|line| {
-            format!("{}pub const {}: {number} = {};\n", attributes(&self.doc_of(line), &line.kernel), constant(&line.name), line.number)
-        });
+        let rows = block
+            .lines
+            .iter()
+            .map(|line| format!("{}pub const {}: {number} = {};\n", attributes(&self.doc_of(line), &line.kernel), constant(&line.name), line.number));
         let about = about(&format!("Names of numbers: `{name}`"), block);
         format!("{}pub mod {} {{\n{}}}\n", attributes(&about, ""), ident(name), rows.collect::<String>())
     }

@@ -180,7 +180,7 @@ impl Form for Kind {
     }
 }
 
-/// Values to the end of the bytes.
+/// Values to the end of the bytes, but for a rest that is too short for one.
 pub struct Array<F>(PhantomData<F>);
 
 impl<F: Form> Form for Array<F> {
@@ -188,9 +188,10 @@ impl<F: Form> Form for Array<F> {
     const WIDTH: Option<usize> = None;
 
     fn read<'b>(bytes: &'b [u8], at: Place<'b>) -> Option<(Vec<F::Value>, &'b [u8])> {
-        let width = F::WIDTH.filter(|width| *width > 0 && bytes.len().is_multiple_of(*width))?;
-        let values: Option<_> = bytes.chunks(width).map(|bytes| whole::<F>(bytes, at)).collect();
-        Some((values?, &[]))
+        let chunks = bytes.chunks_exact(F::WIDTH.filter(|width| *width > 0)?);
+        let rest = chunks.remainder();
+        let values: Option<_> = chunks.map(|bytes| whole::<F>(bytes, at)).collect();
+        Some((values?, rest))
     }
 
     fn write(value: &Vec<F::Value>, out: &mut Out) {

@@ -141,7 +141,8 @@ impl JsonCode for Prob {
 
 impl<F: Json> Json for Array<F> {
     fn json(value: &Vec<F::Value>, seen: Seen<'_>) -> Value {
-        value.iter().map(|it| F::json(it, seen.rest(&[]))).collect()
+        let rest = (!seen.rest.is_empty()).then(|| raw(seen.rest));
+        value.iter().map(|it| F::json(it, seen.rest(&[]))).chain(rest).collect()
     }
 }
 
@@ -208,10 +209,12 @@ macro_rules! record_json {
                 let mut members = serde_json::Map::new();
                 $(
                     if !<$form as Json>::is_left_out(&value.$field) {
-                        members.insert($json.into(), <$form as Json>::json(&value.$field, Seen { layer: $layer, rest: &[], ..seen }));
+                        // What a field of any width leaves belongs to it.
+                        let rest = if <$form as Form>::WIDTH.is_none() { seen.rest } else { &[] };
+                        members.insert($json.into(), <$form as Json>::json(&value.$field, Seen { layer: $layer, rest, ..seen }));
                     }
                 )*
-                with_rest(members, seen.rest)
+                with_rest(members, if Self::WIDTH.is_none() { &[] } else { seen.rest })
             }
         }
     };
@@ -300,7 +303,7 @@ macro_rules! by_kind_json {
             fn member(value: &Self, name: &'static str, seen: Seen<'_>) -> (&'static str, serde_json::Value) {
                 match (value, seen.kind) {
                     $(($name::$variant(value), _) => (name, of_kind::<$form>(value, $json, seen.layer($layer))),)*
-                    $(($name::Other(bytes), $($kind)|+) => (name, raw(bytes)),)*
+                    $(($name::Other(bytes), $($kind)|+) => (name, if $json.is_empty() { raw(bytes) } else { object([($json, raw(bytes))]) }),)*
                     ($name::Other(bytes), kind) => {
                         let levels = super::wire::DEEPEST;
                         let shown = within::<$other_form>(bytes, Place { kind, levels }).map(|(value, _)| <$other_form as Json>::json(&value, seen));

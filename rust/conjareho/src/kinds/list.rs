@@ -8,17 +8,17 @@ use core::ops::Deref;
 
 /// The attributes of a list, in their order.
 ///
-/// What a message has that isn't of the list's table (flags of `nla_type`, padding that isn't zero, bytes after a record, a cut or
-/// broken attribute at the end) is kept beside them and written again. It counts for `==`, and [`settle`](Attrs::settle) drops it.
+/// Parts of a message that the table doesn't describe are kept and written again: other flags of `nla_type`, nonzero padding, bytes
+/// after a record, a cut or broken attribute at the end. They count for `==`, and [`settle`](Attrs::settle) drops them.
 #[derive(Clone, PartialEq, Eq, Hash)]
 pub struct Attrs<A> {
     pub(super) items: Vec<A>,
     pub(super) aside: Option<Box<Aside>>,
 }
 
-/// Attributes of any type, each with the same form as payload: actions by their order, tins, matches.
+/// Attributes of any type that hold values of the same type: actions by their order, tins of cake, extended matches.
 ///
-/// What a message has besides is kept, as in [`Attrs`].
+/// Nonzero padding, bytes after a record and a cut or broken attribute at the end are kept, as in [`Attrs`].
 #[derive(Clone, PartialEq, Eq, Hash)]
 pub struct Indexed<T> {
     pub(super) items: Vec<(u16, T)>,
@@ -28,7 +28,7 @@ pub struct Indexed<T> {
 macro_rules! list {
     ($list:ident, $t:ident, $item:ty) => {
         impl<$t> $list<$t> {
-            /// Appends one. A cut or broken attribute at the end is dropped.
+            /// Appends an attribute. A cut or broken attribute at the end is dropped.
             pub fn push(&mut self, item: $item) {
                 let len = self.items.len();
                 if let Some(aside) = &mut self.aside {
@@ -38,7 +38,7 @@ macro_rules! list {
                 self.items.push(item);
             }
 
-            /// Keeps those for which this is true.
+            /// Keeps the attributes for which `is_kept` returns true.
             pub fn retain(&mut self, mut is_kept: impl FnMut(&$item) -> bool) {
                 let (mut at, mut places) = (0, Vec::new());
                 self.items.retain(|item| {
@@ -56,12 +56,12 @@ macro_rules! list {
                 }
             }
 
-            /// The attributes, to be changed. What was kept beside one stays there.
+            /// The attributes, mutable. Flags, padding and bytes that were kept with one stay at its place.
             pub fn iter_mut(&mut self) -> core::slice::IterMut<'_, $item> {
                 self.items.iter_mut()
             }
 
-            /// Drops what isn't of the table, but not in the lists within.
+            /// Drops the parts that the table doesn't describe. Nested lists keep theirs.
             pub fn settle(&mut self) {
                 self.aside = None;
             }

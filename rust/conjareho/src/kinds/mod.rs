@@ -1,13 +1,13 @@
 //! Typed values of every kind: options, statistics, actions and extended matches.
 //!
-//! [`Message`] and [`ActionMessage`] are whole messages. There is a module for each file of the tables, such as [`qdiscs::htb`]: a
-//! struct for each record, an enum for each list of attributes, for each number with names and for each choice, and a set of flags
-//! for each flag word. [`Options`], [`ActionOptions`] and [`Statistics`] are enums by kind. Names are the kernel's in Rust's case, and
-//! the search finds the kernel's own: `TCA_HTB_RATE64`.
+//! [`Message`] and [`ActionMessage`] are whole messages. Each file of the tables has a module, such as [`qdiscs::htb`], with a struct
+//! for each record, an enum for each list of attributes, each named number and each choice, and a set of flags for each flag word.
+//! [`Options`], [`ActionOptions`] and [`Statistics`] are enums by kind. Names are the kernel's in Rust's case, and the search finds
+//! the kernel's own, such as `TCA_HTB_RATE64`.
 //!
 //! A generator (`rust/kinds`) writes this module from the tables in `kinds/`. It is tested, and not proved: `rust/check` compares
-//! the JSON of typed values with that of the proved [`forms`](crate#modules) on all messages that the repository has, and on a
-//! million changed ones it checks that writing what was read returns the same bytes.
+//! the JSON of typed values with the JSON of the proved forms on all messages that the repository has, and reads and writes a
+//! million changed messages, which have to come back byte for byte.
 
 #[cfg(kinds_json)]
 #[macro_use]
@@ -19,6 +19,7 @@ mod no_json;
 mod macros;
 mod forms;
 mod list;
+mod rates;
 #[cfg(feature = "serde")]
 mod serde;
 mod values;
@@ -31,6 +32,7 @@ use alloc::vec::Vec;
 use core::net::{Ipv4Addr, Ipv6Addr};
 use forms::{Array, Bare, Be, Code, Coded, Each, Empty, Fixed, Kind, List, Pad, Text, Times, Truth};
 pub use list::{Attrs, Indexed};
+pub use rates::{HtbClass, NotARate, Rate, police};
 use values::show_flags;
 pub use values::{Bytes, Handle, Mac, Nla, NotAHandle, Prob, Ticks};
 use wire::{Attr, Form, Found, Kinds, NLA_TYPE_MASK, Out, Place, chosen, field, total, within};

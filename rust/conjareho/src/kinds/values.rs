@@ -1,4 +1,4 @@
-//! Values that aren't numbers, texts or addresses of Rust.
+//! Types of single values.
 
 use super::wire::Out;
 use crate::tc::TcHandle;
@@ -67,7 +67,7 @@ impl fmt::Debug for Handle {
     }
 }
 
-/// A text is no handle.
+/// The error of a text that isn't a handle.
 #[derive(Clone, Copy, PartialEq, Eq, Debug)]
 pub struct NotAHandle;
 
@@ -175,8 +175,12 @@ impl Nla {
     }
 }
 
-/// The flags that a set has, by name, and the bits that have no name.
-pub(super) fn show_flags(f: &mut fmt::Formatter<'_>, bits: u64, names: &mut dyn Iterator<Item = (&'static str, u64)>) -> fmt::Result {
+/// Prints the names of the flags that are set, and the bits without a name.
+pub(super) fn show_flags(
+    f: &mut fmt::Formatter<'_>,
+    bits: u64,
+    names: &mut dyn Iterator<Item = (&'static str, u64)>,
+) -> fmt::Result {
     let (mut left, mut sign) = (bits, "");
     for (name, value) in names {
         if value != 0 && left & value == value {

@@ -4,7 +4,7 @@ use super::action::ActionAttr;
 use super::message::TcAttr;
 use super::statistics::StatsAttr;
 use super::wire::{DEEPEST, Form, Out, Place, within};
-use super::{ActionMessage, Attrs, Indexed, Message, Options, Statistics};
+use super::{ActionMessage, ActionOptions, Attrs, Handle, Indexed, Message, Options, Statistics};
 use crate::tc::{TcActionMessage, TcMessage};
 use crate::{DecodeError, ParseableBytes, RewriteError};
 use alloc::vec::Vec;
@@ -35,18 +35,62 @@ impl Message {
         self.options().and_then(Options::actions)
     }
 
-    /// The same message with a kind behind its other attributes.
+    /// A message about the interface with this index.
+    #[must_use]
+    pub fn on(index: i32) -> Self {
+        let mut message = Message::default();
+        message.header.index = index;
+        message
+    }
+
+    /// Sets the handle.
+    #[must_use]
+    pub fn handle(mut self, handle: Handle) -> Self {
+        self.header.handle = handle;
+        self
+    }
+
+    /// Sets the parent.
+    #[must_use]
+    pub fn parent(mut self, parent: Handle) -> Self {
+        self.header.parent = parent;
+        self
+    }
+
+    /// Sets the priority of a filter and the protocol that it matches, such as [`eth_p::IP`](super::shared::eth_p::IP).
+    #[must_use]
+    pub fn filter(mut self, priority: u16, protocol: u16) -> Self {
+        self.header.info = u32::from(priority) << 16 | u32::from(protocol.swap_bytes());
+        self
+    }
+
+    /// Appends a kind.
     #[must_use]
     pub fn with_kind(mut self, kind: &str) -> Self {
         self.attributes.push(TcAttr::Kind(kind.into()));
         self
     }
 
-    /// The same message with options behind its other attributes.
+    /// Appends options. The kind has to be before them.
     #[must_use]
     pub fn with_options(mut self, options: impl Into<Options>) -> Self {
         self.attributes.push(TcAttr::Options(options.into()));
         self
+    }
+
+    /// Appends the kind that has these options, and the options. Options of an unknown kind need [`with_kind`](Self::with_kind).
+    #[must_use]
+    pub fn of(self, options: impl Into<Options>) -> Self {
+        let options = options.into();
+        self.with_kind(options.kind().unwrap_or("")).with_options(options)
+    }
+}
+
+impl<const N: usize> From<[ActionOptions; N]> for Indexed<Attrs<ActionAttr>> {
+    /// Actions in this order, numbered from 1, each with the kind that has these options.
+    fn from(options: [ActionOptions; N]) -> Self {
+        let action = |it: ActionOptions| ActionAttr::list().with_kind(it.kind().unwrap_or("")).with_options(it);
+        (1..).zip(options.map(action)).collect()
     }
 }
 

@@ -1,10 +1,9 @@
-//! How values are read and written. Every type below `kinds` is read by a [`Form`]: bytes that aren't of the form have no value, and
-//! what has a value is written as it was read.
+//! Reading and writing. Each type of the tables has a [`Form`], which reads a value only if it writes the same bytes again.
 
 use alloc::boxed::Box;
 use alloc::vec::Vec;
 
-/// How many levels of forms nest. What is deeper is kept as bytes.
+/// The levels of forms that are read. Deeper attributes are kept as bytes, as `tc_forms` does.
 pub const DEEPEST: u8 = 16;
 /// The part of `nla_type` that is the type, without flags.
 pub const NLA_TYPE_MASK: u16 = crate::NLA_TYPE_MASK;
@@ -16,15 +15,15 @@ const MOST: usize = 65531;
 pub struct Place<'b> {
     /// The kind in force, which selects the form of options and statistics.
     pub kind: &'b str,
-    /// How many levels are left.
+    /// The levels of forms left.
     pub levels: u8,
 }
 
 /// A layout of bytes.
 pub trait Form {
-    /// What the bytes say.
+    /// The type of its values.
     type Value;
-    /// How many bytes each value takes, if that doesn't depend on the value.
+    /// The size of a value in bytes, if all values have the same.
     const WIDTH: Option<usize>;
     /// Reads the value at the front of the bytes, and returns it with those after it.
     fn read<'b>(bytes: &'b [u8], at: Place<'b>) -> Option<(Self::Value, &'b [u8])>;
@@ -57,12 +56,14 @@ pub fn whole<F: Form>(bytes: &[u8], at: Place<'_>) -> Option<F::Value> {
 /// Reads the field at the front of a record's bytes, and takes its bytes.
 #[inline(never)]
 pub fn field<'b, F: Form>(bytes: &mut &'b [u8], at: Place<'b>) -> Option<F::Value> {
-    let (own, rest) = bytes.split_at_checked(F::WIDTH.unwrap_or(bytes.len()))?;
-    *bytes = rest;
-    whole::<F>(own, at)
+    let (own, after) = bytes.split_at_checked(F::WIDTH.unwrap_or(bytes.len()))?;
+    let (value, rest) = within::<F>(own, at)?;
+    // A field of any width is the last, and what it leaves is the record's rest.
+    *bytes = if F::WIDTH.is_none() { rest } else { after };
+    (F::WIDTH.is_none() || rest.is_empty()).then_some(value)
 }
 
-/// The width of fields, one behind the other.
+/// The size of a record's fields together.
 pub const fn total(widths: &[Option<usize>]) -> Option<usize> {
     let (mut sum, mut at) = (0, 0);
     while at < widths.len() {
@@ -76,9 +77,9 @@ pub const fn total(widths: &[Option<usize>]) -> Option<usize> {
 /// Bytes that are being written.
 #[derive(Default)]
 pub struct Out {
-    /// What is written so far.
+    /// The bytes written so far.
     pub bytes: Vec<u8>,
-    /// A value doesn't fit: an attribute is too long, or a number is too large for its width.
+    /// True if an attribute is too long or a number too large for its width.
     pub is_unfit: bool,
 }
 
@@ -108,30 +109,30 @@ impl Out {
     }
 }
 
-/// How many bytes of padding follow so many bytes.
+/// The size of the padding after so many bytes.
 fn missing(len: usize) -> usize {
     len.wrapping_neg() % 4
 }
 
-/// What an attribute has that isn't of its table.
+/// The parts of an attribute that its table doesn't describe.
 #[derive(Clone, PartialEq, Eq, Hash, Debug, Default)]
 pub struct Odd {
     /// Its place in its list.
     pub at: usize,
     /// `nla_type`, if flags are set that the table doesn't say or some aren't that it says.
     pub word: Option<u16>,
-    /// Padding that is cut or isn't zero.
+    /// Cut or nonzero padding.
     pub padding: Option<Vec<u8>>,
     /// Bytes after the record that it holds.
     pub rest: Vec<u8>,
-    /// It is a kind without a NUL.
+    /// True for a kind without a NUL.
     pub is_bare: bool,
 }
 
-/// What a list has that isn't of its table.
+/// The parts of a list that its table doesn't describe.
 #[derive(Clone, PartialEq, Eq, Hash, Debug, Default)]
 pub struct Aside {
-    /// Attributes that have such, in their order.
+    /// Those of its attributes, in their order.
     pub odd: Vec<Odd>,
     /// Bytes after the last attribute, where the next is cut or broken.
     pub tail: Vec<u8>,
@@ -236,7 +237,12 @@ pub fn read_frames<'b>(
 
 /// Writes the attributes of a list: `write` the payload of each, without the NUL of a kind if it is told so, and returns its `nla_type`.
 #[inline(never)]
-pub fn write_frames(count: usize, aside: Option<&Aside>, out: &mut Out, write: &mut dyn FnMut(usize, bool, &mut Out) -> u16) {
+pub fn write_frames(
+    count: usize,
+    aside: Option<&Aside>,
+    out: &mut Out,
+    write: &mut dyn FnMut(usize, bool, &mut Out) -> u16,
+) {
     let mut odd = aside.map_or(&[][..], |aside| &aside.odd).iter().peekable();
     for at in 0..count {
         out.put_frame(odd.next_if(|odd| odd.at == at), &mut |is_bare, out| write(at, is_bare, out));

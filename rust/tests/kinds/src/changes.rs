@@ -28,7 +28,9 @@ pub fn changed(numbers: &mut Numbers, bytes: &[u8], other: &[u8]) -> Vec<u8> {
             1 if at < bytes.len() => bytes[at] ^= 1 << numbers.below(8),
             2 if at < bytes.len() => bytes[at] = numbers.octet(256),
             3 if frame + 1 < bytes.len() => (bytes[frame], bytes[frame + 1]) = (numbers.octet(64), 0),
-            4 if frame + 3 < bytes.len() => (bytes[frame + 2], bytes[frame + 3]) = (numbers.octet(24), [0, 0x80, 0x40][numbers.below(3)]),
+            4 if frame + 3 < bytes.len() => {
+                (bytes[frame + 2], bytes[frame + 3]) = (numbers.octet(24), [0, 0x80, 0x40][numbers.below(3)])
+            }
             5 => _ = bytes.splice(at..at, (0..numbers.octet(9)).map(|it| it.wrapping_mul(37))),
             6 => _ = bytes.drain(at..(at + numbers.below(9)).min(bytes.len())),
             7 => {

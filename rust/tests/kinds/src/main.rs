@@ -62,7 +62,11 @@ fn messages(path: &str) -> Vec<Message> {
 
 /// What a message is written as after it was read; nothing if it is shorter than its header.
 fn again(is_action: bool, bytes: &[u8]) -> Option<Vec<u8>> {
-    let written = if is_action { kinds::ActionMessage::parse(bytes).ok()?.to_bytes() } else { kinds::Message::parse(bytes).ok()?.to_bytes() };
+    let written = if is_action {
+        kinds::ActionMessage::parse(bytes).ok()?.to_bytes()
+    } else {
+        kinds::Message::parse(bytes).ok()?.to_bytes()
+    };
     Some(written.unwrap_or_default())
 }
 
@@ -72,7 +76,11 @@ fn has_same_json(is_action: bool, bytes: &[u8]) -> bool {
     use conjareho::forms::{ACTION_MESSAGE, Shown, TC_MESSAGE, TcTables};
     let form = if is_action { ACTION_MESSAGE } else { TC_MESSAGE };
     let shown = serde_json::to_value(Shown { table: TcTables, form, bytes }).expect("memory");
-    let typed = if is_action { kinds::ActionMessage::parse(bytes).map(|it| it.typed_json()) } else { kinds::Message::parse(bytes).map(|it| it.typed_json()) };
+    let typed = if is_action {
+        kinds::ActionMessage::parse(bytes).map(|it| it.typed_json())
+    } else {
+        kinds::Message::parse(bytes).map(|it| it.typed_json())
+    };
     let is_same = typed.as_ref().is_ok_and(|typed| *typed == shown);
     if !is_same && std::env::var_os("SHOW").is_some() {
         println!("typed {}\nforms {shown}", typed.map_or_else(|e| e.to_string(), |typed| typed.to_string()));
@@ -111,13 +119,16 @@ impl Counts {
 
     fn said(&self, what: &str) -> String {
         let Counts { messages, short, other_bytes, compared, other_json } = self;
-        format!("{messages} {what} messages, {short} shorter than a header, {other_bytes} written otherwise; JSON of {compared}, {other_json} differ")
+        format!(
+            "{messages} {what} messages, {short} shorter than a header, {other_bytes} written otherwise; JSON of {compared}, {other_json} differ"
+        )
     }
 }
 
 fn main() -> ExitCode {
     let words: Vec<String> = std::env::args().collect();
-    let number = |at: usize| words.get(at).and_then(|word| word.parse::<usize>().ok()).expect("kinds COUNT EVERY FILE..");
+    let number =
+        |at: usize| words.get(at).and_then(|word| word.parse::<usize>().ok()).expect("kinds COUNT EVERY FILE..");
     let (count, every) = (number(1), number(2));
     let stored: Vec<Message> = words[3..].iter().flat_map(|path| messages(path)).collect();
     let (mut whole, mut made, mut numbers) = (Counts::default(), Counts::default(), Numbers(0x9e37_79b9_7f4a_7c15));
