@@ -28,7 +28,7 @@ fn main() -> Result<(), Box<dyn std::error::Error>> {
         (Object::Qdisc, of(at("10:", "1:10")?).of(FqCodelAttr::list().with_limit(1000))),
         (Object::Qdisc, of(at("20:", "1:20")?).of(delay)),
         (Object::Qdisc, of((Handle::new(0xffff, 0), Handle::CLSACT)).with_kind("clsact")),
-        (Object::Filter, filter.of(MatchallAttr::list().with_act([limit]))),
+        (Object::Filter, filter.of(MatchallAttr::list().with_action([limit]))),
     ];
     for (sequence, (object, message)) in (1..).zip(&requests) {
         let payload = Payload::Tc(message.try_into()?);

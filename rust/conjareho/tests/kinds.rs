@@ -14,7 +14,7 @@ use conjareho::kinds::{
     ActionMessage, ActionOptions, Attrs, Bytes, Handle, HtbClass, Message, Options, Prob, Rate, Statistics, Ticks,
 };
 use conjareho::tc::{TcActionMessage, TcAttribute, TcHandle, TcMessage, TcOption, TcQdiscFqCodelOption};
-use conjareho::{DecodeError, Flags, ParseableBytes, RewriteError};
+use conjareho::{DecodeError, Flags, RewriteError};
 
 /// An attribute of a type and a payload, padded.
 fn attribute(word: u16, payload: &[u8]) -> Vec<u8> {
@@ -226,9 +226,8 @@ fn sent(kind: &str) -> Vec<Message> {
     let path = std::path::Path::new(env!("CARGO_MANIFEST_DIR")).join("../../crates/tcforms/stdin");
     let text = std::fs::read_to_string(path).expect("the stored messages");
     let lines = text.lines().filter_map(|line| line.split_once(" tc "));
-    let octets = |hex: &str| {
-        (0..hex.len()).step_by(2).map(|at| u8::from_str_radix(&hex[at..at + 2], 16).expect("hex")).collect()
-    };
+    let octet = |hex: &str, at: usize| u8::from_str_radix(&hex[at..at + 2], 16).expect("hex");
+    let octets = |hex: &str| (0..hex.len()).step_by(2).map(|at| octet(hex, at)).collect::<Vec<u8>>();
     let found = lines.filter(|(label, _)| label.contains(".send.")).map(|(_, hex)| parsed(&octets(hex)));
     found.filter(|message| message.kind() == kind).collect()
 }

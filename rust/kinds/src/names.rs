@@ -13,15 +13,17 @@ pub(crate) fn camel(name: &str) -> String {
     words.map(|word| word[..1].to_uppercase() + &word[1..]).collect()
 }
 
-/// `SentBytes64` as `sent_bytes64`, and `def_DP` as `def_dp`.
+/// `SentBytes64` as `sent_bytes64`, `Ipv4Src` as `ipv4_src`, `def_DP` as `def_dp` and `802.1Q` as `802_1q`.
 pub(crate) fn snake(name: &str) -> String {
-    let (mut out, mut ends_word) = (String::new(), false);
-    for c in name.chars() {
-        if c.is_uppercase() && ends_word {
+    let (mut out, mut before) = (String::new(), '_');
+    let mut chars = name.chars().peekable();
+    while let Some(c) = chars.next() {
+        let begins_word = before.is_lowercase() || before.is_numeric() && chars.peek().is_some_and(|after| after.is_lowercase());
+        if c.is_uppercase() && begins_word {
             out.push('_');
         }
-        ends_word = c.is_lowercase() || c.is_numeric();
-        out.extend(if c.is_alphanumeric() { c.to_lowercase().next() } else { Some('_') });
+        out.push(if c.is_alphanumeric() { c.to_ascii_lowercase() } else { '_' });
+        before = c;
     }
     out
 }

@@ -334,9 +334,9 @@ fn sentence(text: &str) -> String {
     format!("{}{}{stop}", first.to_uppercase(), &text[first.len_utf8()..])
 }
 
-/// Without what Markdown takes as a link or as HTML.
+/// Escapes the characters that begin HTML, links and emphasis in Markdown.
 fn escaped(text: &str) -> String {
-    text.replace('<', "\\<").replace('[', "\\[")
+    text.chars().flat_map(|c| "<[*".contains(c).then_some('\\').into_iter().chain([c])).collect()
 }
 
 fn attributes(doc: &str, alias: &str) -> String {
