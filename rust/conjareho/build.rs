@@ -1,4 +1,4 @@
-//! Erases the crates of the codec into one file of nested modules.
+//! Erases the crates of the codec into one file of nested modules, and writes the types of the tables in `kinds/`.
 
 include!("crates.rs");
 
@@ -10,4 +10,14 @@ fn main() {
     let has_forms = std::env::var_os("CARGO_FEATURE_SERDE").is_some();
     let (users, omitted) = if has_forms { (FORMS, &[][..]) } else { (&[][..], OMITTED) };
     write_erased(&Path::new(&here).join("../../crates"), users, omitted, "codec.rs");
+    if std::env::var_os("CARGO_FEATURE_KINDS").is_some() {
+        write_types(&Path::new(&here).join("../../kinds"));
+    }
+}
+
+fn write_types(tables: &Path) {
+    println!("cargo::rerun-if-changed={}", tables.display());
+    let types = kinds::types(tables).unwrap_or_else(|fault| panic!("{fault}"));
+    let out = std::env::var_os("OUT_DIR").expect("cargo names the folder for what is made");
+    fs::write(Path::new(&out).join("kinds.rs"), types).expect("the folder for what is made can be written to");
 }

@@ -31,6 +31,8 @@ mod strict;
 mod user;
 
 mod bytes;
+#[cfg(feature = "kinds")]
+pub mod kinds;
 mod netlink;
 
 use small::{arrayvec, itoa};

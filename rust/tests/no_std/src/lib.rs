@@ -2,6 +2,7 @@
 #![no_std]
 
 use conjareho::ParseableBytes;
+use conjareho::kinds::Message;
 use conjareho::tc::TcMessage;
 use core::alloc::{GlobalAlloc, Layout};
 use core::panic::PanicInfo;
@@ -29,4 +30,10 @@ fn stop(_why: &PanicInfo<'_>) -> ! {
 #[unsafe(no_mangle)]
 pub extern "C" fn is_read(bytes: &[u8; 20]) -> bool {
     TcMessage::parse(bytes).is_ok()
+}
+
+/// Whether the first bytes are a message of any kind, which typed values are read from.
+#[unsafe(no_mangle)]
+pub extern "C" fn is_typed(bytes: &[u8; 20]) -> bool {
+    Message::parse(bytes).is_ok()
 }

@@ -1,0 +1,138 @@
+//! Lists of attributes.
+
+use super::wire::Aside;
+use alloc::boxed::Box;
+use alloc::vec::Vec;
+use core::fmt;
+use core::ops::Deref;
+
+/// The attributes of a list, in their order.
+///
+/// Parts of a message that the table doesn't describe are kept and written again: other flags of `nla_type`, nonzero padding, bytes
+/// after a record, a cut or broken attribute at the end. They count for `==`, and [`settle`](Attrs::settle) drops them.
+#[derive(Clone, PartialEq, Eq, Hash)]
+pub struct Attrs<A> {
+    pub(super) items: Vec<A>,
+    pub(super) aside: Option<Box<Aside>>,
+}
+
+/// Attributes of any type that hold values of the same type: actions by their order, tins of cake, extended matches.
+///
+/// Nonzero padding, bytes after a record and a cut or broken attribute at the end are kept, as in [`Attrs`].
+#[derive(Clone, PartialEq, Eq, Hash)]
+pub struct Indexed<T> {
+    pub(super) items: Vec<(u16, T)>,
+    pub(super) aside: Option<Box<Aside>>,
+}
+
+macro_rules! list {
+    ($list:ident, $t:ident, $item:ty) => {
+        impl<$t> $list<$t> {
+            /// Appends an attribute. A cut or broken attribute at the end is dropped.
+            pub fn push(&mut self, item: $item) {
+                let len = self.items.len();
+                if let Some(aside) = &mut self.aside {
+                    aside.tail.clear();
+                    aside.odd.iter_mut().filter(|odd| odd.at + 1 == len).for_each(|odd| odd.padding = None);
+                }
+                self.items.push(item);
+            }
+
+            /// Keeps the attributes for which `is_kept` returns true.
+            pub fn retain(&mut self, mut is_kept: impl FnMut(&$item) -> bool) {
+                let (mut at, mut places) = (0, Vec::new());
+                self.items.retain(|item| {
+                    let keeps = is_kept(item);
+                    places.push(keeps.then_some(at));
+                    at += usize::from(keeps);
+                    keeps
+                });
+                if let Some(aside) = &mut self.aside {
+                    aside.odd.retain_mut(|odd| {
+                        let place = places.get(odd.at).copied().flatten();
+                        odd.at = place.unwrap_or(odd.at);
+                        place.is_some()
+                    });
+                }
+            }
+
+            /// The attributes, mutable. Flags, padding and bytes that were kept with one stay at its place.
+            pub fn iter_mut(&mut self) -> core::slice::IterMut<'_, $item> {
+                self.items.iter_mut()
+            }
+
+            /// Drops the parts that the table doesn't describe. Nested lists keep theirs.
+            pub fn settle(&mut self) {
+                self.aside = None;
+            }
+        }
+
+        impl<$t> Deref for $list<$t> {
+            type Target = [$item];
+
+            fn deref(&self) -> &[$item] {
+                &self.items
+            }
+        }
+
+        impl<$t> Default for $list<$t> {
+            fn default() -> Self {
+                Vec::new().into()
+            }
+        }
+
+        impl<$t: fmt::Debug> fmt::Debug for $list<$t> {
+            fn fmt(&self, f: &mut fmt::Formatter<'_>) -> fmt::Result {
+                let mut list = f.debug_list();
+                list.entries(&self.items);
+                self.aside.iter().for_each(|aside| _ = list.entry(aside));
+                list.finish()
+            }
+        }
+
+        impl<$t> From<Vec<$item>> for $list<$t> {
+            fn from(items: Vec<$item>) -> Self {
+                $list { items, aside: None }
+            }
+        }
+
+        impl<$t, const N: usize> From<[$item; N]> for $list<$t> {
+            fn from(items: [$item; N]) -> Self {
+                Vec::from(items).into()
+            }
+        }
+
+        impl<$t> FromIterator<$item> for $list<$t> {
+            fn from_iter<I: IntoIterator<Item = $item>>(items: I) -> Self {
+                items.into_iter().collect::<Vec<_>>().into()
+            }
+        }
+
+        impl<$t> Extend<$item> for $list<$t> {
+            fn extend<I: IntoIterator<Item = $item>>(&mut self, items: I) {
+                items.into_iter().for_each(|item| self.push(item));
+            }
+        }
+
+        impl<$t> IntoIterator for $list<$t> {
+            type Item = $item;
+            type IntoIter = alloc::vec::IntoIter<$item>;
+
+            fn into_iter(self) -> Self::IntoIter {
+                self.items.into_iter()
+            }
+        }
+
+        impl<'a, $t> IntoIterator for &'a $list<$t> {
+            type Item = &'a $item;
+            type IntoIter = core::slice::Iter<'a, $item>;
+
+            fn into_iter(self) -> Self::IntoIter {
+                self.items.iter()
+            }
+        }
+    };
+}
+
+list! { Attrs, A, A }
+list! { Indexed, T, (u16, T) }

@@ -1,0 +1,192 @@
+//! Types of single values.
+
+use super::wire::Out;
+use crate::tc::TcHandle;
+use alloc::vec::Vec;
+use core::fmt;
+use core::ops::Deref;
+use core::str::FromStr;
+
+/// A handle of a qdisc, class or filter, in hex as `tc` writes it: `1:10` is 0x10010.
+#[derive(Clone, Copy, PartialEq, Eq, Hash, PartialOrd, Ord, Default)]
+pub struct Handle(pub u32);
+
+impl Handle {
+    /// The parent of a root qdisc: `TC_H_ROOT`.
+    pub const ROOT: Handle = Handle(u32::MAX);
+    /// The parent of `ingress` and `clsact`: `TC_H_INGRESS`, `TC_H_CLSACT`.
+    pub const CLSACT: Handle = Handle(0xffff_fff1);
+    /// The parent of filters of what `clsact` receives: `TC_H_MIN_INGRESS` of `ffff:`.
+    pub const INGRESS: Handle = Handle(0xffff_fff2);
+    /// The parent of filters of what `clsact` sends: `TC_H_MIN_EGRESS` of `ffff:`.
+    pub const EGRESS: Handle = Handle(0xffff_fff3);
+
+    /// The handle `major:minor`.
+    pub const fn new(major: u16, minor: u16) -> Self {
+        Handle((major as u32) << 16 | minor as u32)
+    }
+
+    /// Its upper half.
+    pub const fn major(self) -> u16 {
+        (self.0 >> 16) as u16
+    }
+
+    /// Its lower half.
+    pub const fn minor(self) -> u16 {
+        self.0 as u16
+    }
+}
+
+impl From<TcHandle> for Handle {
+    fn from(handle: TcHandle) -> Self {
+        Handle::new(handle.major, handle.minor)
+    }
+}
+
+impl From<Handle> for TcHandle {
+    fn from(handle: Handle) -> Self {
+        TcHandle { major: handle.major(), minor: handle.minor() }
+    }
+}
+
+impl fmt::Display for Handle {
+    fn fmt(&self, f: &mut fmt::Formatter<'_>) -> fmt::Result {
+        match (self.major(), self.minor()) {
+            (0, 0) => f.write_str("0:0"),
+            (u16::MAX, u16::MAX) => f.write_str("root"),
+            (major, 0) => write!(f, "{major:x}:"),
+            (0, minor) => write!(f, ":{minor:x}"),
+            (major, minor) => write!(f, "{major:x}:{minor:x}"),
+        }
+    }
+}
+
+impl fmt::Debug for Handle {
+    fn fmt(&self, f: &mut fmt::Formatter<'_>) -> fmt::Result {
+        fmt::Display::fmt(self, f)
+    }
+}
+
+/// The error of a text that isn't a handle.
+#[derive(Clone, Copy, PartialEq, Eq, Debug)]
+pub struct NotAHandle;
+
+impl fmt::Display for NotAHandle {
+    fn fmt(&self, f: &mut fmt::Formatter<'_>) -> fmt::Result {
+        f.write_str("not a handle, such as 1:10 or root")
+    }
+}
+
+impl core::error::Error for NotAHandle {}
+
+impl FromStr for Handle {
+    type Err = NotAHandle;
+
+    /// Reads `MAJOR:MINOR` in hex, where either may be left out, and `root`.
+    fn from_str(text: &str) -> Result<Self, NotAHandle> {
+        if text == "root" {
+            return Ok(Handle::ROOT);
+        }
+        let half = |text: &str| match text {
+            "" => Ok(0),
+            // A sign is none of a handle.
+            _ if text.starts_with('+') => Err(NotAHandle),
+            _ => u16::from_str_radix(text, 16).map_err(|_| NotAHandle),
+        };
+        let (major, minor) = text.split_once(':').ok_or(NotAHandle)?;
+        Ok(Handle::new(half(major)?, half(minor)?))
+    }
+}
+
+/// A time in ticks of the packet scheduler, 64 ns each.
+#[derive(Clone, Copy, PartialEq, Eq, Hash, PartialOrd, Ord, Debug, Default)]
+pub struct Ticks(pub u32);
+
+/// A probability in units of 2^-32; the largest stands for 1.
+#[derive(Clone, Copy, PartialEq, Eq, Hash, PartialOrd, Ord, Debug, Default)]
+pub struct Prob(pub u32);
+
+/// A MAC address.
+#[derive(Clone, Copy, PartialEq, Eq, Hash, PartialOrd, Ord, Default)]
+pub struct Mac(pub [u8; 6]);
+
+impl From<[u8; 6]> for Mac {
+    fn from(octets: [u8; 6]) -> Self {
+        Mac(octets)
+    }
+}
+
+impl fmt::Display for Mac {
+    fn fmt(&self, f: &mut fmt::Formatter<'_>) -> fmt::Result {
+        let [a, b, c, d, e, g] = self.0;
+        write!(f, "{a:02x}:{b:02x}:{c:02x}:{d:02x}:{e:02x}:{g:02x}")
+    }
+}
+
+impl fmt::Debug for Mac {
+    fn fmt(&self, f: &mut fmt::Formatter<'_>) -> fmt::Result {
+        fmt::Display::fmt(self, f)
+    }
+}
+
+/// Bytes without a table. `{:?}` prints them as hex.
+#[derive(Clone, PartialEq, Eq, Hash, PartialOrd, Ord, Default)]
+pub struct Bytes(pub Vec<u8>);
+
+impl Deref for Bytes {
+    type Target = [u8];
+
+    fn deref(&self) -> &[u8] {
+        &self.0
+    }
+}
+
+impl From<Vec<u8>> for Bytes {
+    fn from(bytes: Vec<u8>) -> Self {
+        Bytes(bytes)
+    }
+}
+
+impl From<&[u8]> for Bytes {
+    fn from(bytes: &[u8]) -> Self {
+        Bytes(bytes.to_vec())
+    }
+}
+
+impl fmt::Debug for Bytes {
+    fn fmt(&self, f: &mut fmt::Formatter<'_>) -> fmt::Result {
+        self.iter().try_for_each(|byte| write!(f, "{byte:02x}"))
+    }
+}
+
+/// An attribute that its list doesn't have, or whose payload isn't of its form.
+#[derive(Clone, PartialEq, Eq, Hash, Debug, Default)]
+pub struct Nla {
+    /// `nla_type`, with flags.
+    pub word: u16,
+    /// The payload.
+    pub value: Bytes,
+}
+
+impl Nla {
+    pub(super) fn write(&self, out: &mut Out) -> u16 {
+        out.put(&self.value);
+        self.word
+    }
+}
+
+/// Prints the names of the flags that are set, and the bits without a name.
+pub(super) fn show_flags(
+    f: &mut fmt::Formatter<'_>,
+    bits: u64,
+    names: &mut dyn Iterator<Item = (&'static str, u64)>,
+) -> fmt::Result {
+    let (mut left, mut sign) = (bits, "");
+    for (name, value) in names {
+        if value != 0 && left & value == value {
+            write!(f, "{sign}{name}")?;
+            (left, sign) = (left & !value, " | ");
+        }
+    }
+    if left != 0 || bits == 0 { write!(f, "{sign}{left:#x}") } else { Ok(()) }
+}

@@ -1,0 +1,158 @@
+//! Whole messages.
+
+use super::action::ActionAttr;
+use super::message::TcAttr;
+use super::statistics::StatsAttr;
+use super::wire::{DEEPEST, Form, Out, Place, within};
+use super::{ActionMessage, ActionOptions, Attrs, Handle, Indexed, Message, Options, Statistics};
+use crate::tc::{TcActionMessage, TcMessage};
+use crate::{DecodeError, ParseableBytes, RewriteError};
+use alloc::vec::Vec;
+
+impl Message {
+    /// The kind: the last `TCA_KIND`, or nothing.
+    pub fn kind(&self) -> &str {
+        self.attributes.kind().map_or("", |kind| kind)
+    }
+
+    /// The options: the last `TCA_OPTIONS`.
+    pub fn options(&self) -> Option<&Options> {
+        self.attributes.options()
+    }
+
+    /// The statistics: the last `TCA_STATS2`. `TCA_STATS` is [`Attrs::stats`] of the attributes.
+    pub fn stats(&self) -> Option<&Attrs<StatsAttr>> {
+        self.attributes.stats2()
+    }
+
+    /// The statistics of the kind: `TCA_STATS_APP` in `TCA_STATS2`, or else `TCA_XSTATS`.
+    pub fn xstats(&self) -> Option<&Statistics> {
+        self.stats().and_then(|stats| stats.app()).or_else(|| self.attributes.xstats())
+    }
+
+    /// The actions of a filter.
+    pub fn actions(&self) -> Option<&Indexed<Attrs<ActionAttr>>> {
+        self.options().and_then(Options::actions)
+    }
+
+    /// A message about the interface with this index.
+    #[must_use]
+    pub fn on(index: i32) -> Self {
+        let mut message = Message::default();
+        message.header.index = index;
+        message
+    }
+
+    /// Sets the handle.
+    #[must_use]
+    pub fn handle(mut self, handle: Handle) -> Self {
+        self.header.handle = handle;
+        self
+    }
+
+    /// Sets the parent.
+    #[must_use]
+    pub fn parent(mut self, parent: Handle) -> Self {
+        self.header.parent = parent;
+        self
+    }
+
+    /// Sets the priority of a filter and the protocol that it matches, such as [`eth_p::IP`](super::shared::eth_p::IP).
+    #[must_use]
+    pub fn filter(mut self, priority: u16, protocol: u16) -> Self {
+        self.header.info = u32::from(priority) << 16 | u32::from(protocol.swap_bytes());
+        self
+    }
+
+    /// Appends a kind.
+    #[must_use]
+    pub fn with_kind(mut self, kind: &str) -> Self {
+        self.attributes.push(TcAttr::Kind(kind.into()));
+        self
+    }
+
+    /// Appends options. The kind has to be before them.
+    #[must_use]
+    pub fn with_options(mut self, options: impl Into<Options>) -> Self {
+        self.attributes.push(TcAttr::Options(options.into()));
+        self
+    }
+
+    /// Appends the kind that has these options, and the options. Options of an unknown kind need [`with_kind`](Self::with_kind).
+    #[must_use]
+    pub fn of(self, options: impl Into<Options>) -> Self {
+        let options = options.into();
+        self.with_kind(options.kind().unwrap_or("")).with_options(options)
+    }
+}
+
+impl<const N: usize> From<[ActionOptions; N]> for Indexed<Attrs<ActionAttr>> {
+    /// Actions in this order, numbered from 1, each with the kind that has these options.
+    fn from(options: [ActionOptions; N]) -> Self {
+        let action = |it: ActionOptions| ActionAttr::list().with_kind(it.kind().unwrap_or("")).with_options(it);
+        (1..).zip(options.map(action)).collect()
+    }
+}
+
+impl ActionMessage {
+    /// The actions: the last `TCA_ACT_TAB`.
+    pub fn actions(&self) -> Option<&Indexed<Attrs<ActionAttr>>> {
+        self.attributes.actions()
+    }
+}
+
+fn parse<M: Form>(bytes: &[u8], needed: usize) -> Result<M::Value, DecodeError> {
+    let found = within::<M>(bytes, Place { kind: "", levels: DEEPEST });
+    found.map(|(message, _)| message).ok_or(DecodeError::BufferTooSmall { len: bytes.len(), needed })
+}
+
+fn bytes_of<M: Form>(message: &M::Value) -> Result<Vec<u8>, RewriteError> {
+    let mut out = Out::default();
+    M::write(message, &mut out);
+    if out.is_unfit { Err(RewriteError::DoesNotFit) } else { Ok(out.bytes) }
+}
+
+macro_rules! message {
+    ($name:ident, $codec:ident, $len:literal) => {
+        impl $name {
+            /// Reads a message without its netlink header. What isn't of the tables is kept, and [`to_bytes`](Self::to_bytes) writes it again.
+            ///
+            /// # Errors
+            ///
+            #[doc = concat!("`BufferTooSmall` if there are fewer bytes than the ", $len, " of the header.")]
+            pub fn parse(bytes: &[u8]) -> Result<Self, DecodeError> {
+                parse::<Self>(bytes, $len)
+            }
+
+            /// The bytes of the message, without a netlink header.
+            ///
+            /// # Errors
+            ///
+            /// `DoesNotFit` if the payload of an attribute has more than 65531 bytes, or if a number without a name is too large for its place.
+            pub fn to_bytes(&self) -> Result<Vec<u8>, RewriteError> {
+                bytes_of::<Self>(self)
+            }
+        }
+
+        impl TryFrom<&$name> for $codec {
+            type Error = RewriteError;
+
+            /// Writes the message, and reads it with the codec, which refuses some messages that this module reads.
+            fn try_from(message: &$name) -> Result<Self, RewriteError> {
+                Ok(<$codec>::parse(&message.to_bytes()?)?)
+            }
+        }
+
+        impl TryFrom<&$codec> for $name {
+            type Error = RewriteError;
+
+            /// Writes the message with the codec, and reads it.
+            fn try_from(message: &$codec) -> Result<Self, RewriteError> {
+                Ok($name::parse(&message.to_bytes()?)?)
+            }
+        }
+    };
+}
+
+message! { Message, TcMessage, 20 }
+message! { ActionMessage, TcActionMessage, 4 }

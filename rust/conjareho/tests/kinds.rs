@@ -1,0 +1,327 @@
+//! Typed values of every kind beside the codec's, and what is kept that isn't of a table.
+#![cfg(feature = "kinds")]
+
+use conjareho::kinds::action::{ActionAttr, Gen, TcAct};
+use conjareho::kinds::actions::gact::{Gact, GactAttr};
+use conjareho::kinds::actions::mirred::{Mirred, MirredAttr, TcaMirred};
+use conjareho::kinds::filters::flower::FlowerAttr;
+use conjareho::kinds::message::TcAttr;
+use conjareho::kinds::qdiscs::fq_codel::FqCodelAttr;
+use conjareho::kinds::qdiscs::htb::{HtbAttr, HtbOpt};
+use conjareho::kinds::qdiscs::red::TcRedBits;
+use conjareho::kinds::shared::{Ratespec, TcLinklayer};
+use conjareho::kinds::{
+    ActionMessage, ActionOptions, Attrs, Bytes, Handle, HtbClass, Message, Options, Prob, Rate, Statistics, Ticks,
+};
+use conjareho::tc::{TcActionMessage, TcAttribute, TcHandle, TcMessage, TcOption, TcQdiscFqCodelOption};
+use conjareho::{DecodeError, Flags, RewriteError};
+
+/// An attribute of a type and a payload, padded.
+fn attribute(word: u16, payload: &[u8]) -> Vec<u8> {
+    let len = u16::try_from(4 + payload.len()).expect("a short payload");
+    let padding = vec![0; payload.len().wrapping_neg() % 4];
+    [&len.to_le_bytes()[..], &word.to_le_bytes(), payload, &padding].concat()
+}
+
+/// A message of a kind with options, behind a header of zeros.
+fn message(kind: &str, options: &[u8]) -> Vec<u8> {
+    [vec![0; 20], attribute(1, format!("{kind}\0").as_bytes()), attribute(2, options)].concat()
+}
+
+fn parsed(bytes: &[u8]) -> Message {
+    let message = Message::parse(bytes).expect("a header");
+    assert_eq!(message.to_bytes().expect("it fits"), bytes);
+    message
+}
+
+#[test]
+fn a_message_of_the_codec_and_a_typed_one_are_turned_into_each_other() {
+    let mut codec = TcMessage::with_index(7);
+    codec.header.handle = TcHandle { major: 1, minor: 0x10 };
+    codec.attributes.push(TcAttribute::Kind("fq_codel".to_string()));
+    codec.attributes.push(TcAttribute::Options(vec![TcOption::FqCodel(TcQdiscFqCodelOption::Limit(10240))]));
+    let typed = Message::try_from(&codec).expect("it fits");
+    assert_eq!((typed.header.index, typed.header.handle), (7, Handle::new(1, 0x10)));
+    assert_eq!(typed.kind(), "fq_codel");
+    assert_eq!(typed.options(), Some(&Options::FqCodel([FqCodelAttr::Limit(10240)].into())));
+    assert_eq!(TcMessage::try_from(&typed).expect("a message"), codec);
+}
+
+#[test]
+fn an_action_message_of_the_codec_and_a_typed_one_are_turned_into_each_other() {
+    let redirect = Mirred { eaction: TcaMirred::EgressRedir, ifindex: 3, ..Mirred::default() };
+    let action = ActionAttr::list().with_kind("mirred").with_options(MirredAttr::list().with_parms(redirect));
+    let mut typed = ActionMessage::default();
+    typed.attributes = typed.attributes.with_actions([(1, action)]);
+    let codec = TcActionMessage::try_from(&typed).expect("a message");
+    assert_eq!(codec.attributes.len(), 1);
+    assert_eq!(ActionMessage::try_from(&codec).expect("it fits"), typed);
+    let (tab, action) = &typed.actions().expect("actions")[0];
+    assert_eq!((*tab, action.kind().map(String::as_str)), (1, Some("mirred")));
+}
+
+#[test]
+fn what_the_codec_refuses_is_an_error() {
+    let cut = message("fq_codel", &[9, 0, 1, 0, 0, 0, 0, 0]);
+    let fault = TcMessage::try_from(&parsed(&cut)).expect_err("a cut attribute");
+    assert_eq!(fault, RewriteError::Decode(DecodeError::FrameTooLong { length: 9, left: 8 }));
+    assert_eq!(Message::parse(&[0; 19]), Err(DecodeError::BufferTooSmall { len: 19, needed: 20 }));
+    assert_eq!(ActionMessage::parse(&[]), Err(DecodeError::BufferTooSmall { len: 0, needed: 4 }));
+}
+
+#[test]
+fn what_does_not_fit_is_an_error() {
+    let long = Message::default().with_kind(&"x".repeat(65531));
+    assert_eq!(long.to_bytes(), Err(RewriteError::DoesNotFit));
+    let wide = Ratespec { linklayer: TcLinklayer::Other(256), ..Ratespec::default() };
+    let class = |rate| {
+        Message::default()
+            .with_kind("htb")
+            .with_options(HtbAttr::list().with_parms(HtbOpt { rate, ..HtbOpt::default() }))
+    };
+    assert_eq!(class(wide).to_bytes(), Err(RewriteError::DoesNotFit));
+    assert!(class(Ratespec::default()).to_bytes().is_ok());
+    // The result of police is unsigned, as the header has it.
+    let unspec = conjareho::kinds::actions::police::PoliceAttr::list().with_result(TcAct::Unspec);
+    let mut message = ActionMessage::default();
+    message.attributes =
+        message.attributes.with_actions([(1, ActionAttr::list().with_kind("police").with_options(unspec))]);
+    let bytes = message.to_bytes().expect("it fits");
+    assert!(bytes.ends_with(&[8, 0, 5, 0, 0xff, 0xff, 0xff, 0xff]));
+    assert_eq!(ActionMessage::parse(&bytes), Ok(message));
+}
+
+#[test]
+fn the_last_attribute_of_a_type_counts() {
+    let list = HtbAttr::list().with_rate64(1).with_direct_qlen(2).with_rate64(3);
+    assert_eq!((list.rate64(), list.direct_qlen(), list.ceil64()), (Some(&3), Some(&2), None));
+}
+
+#[test]
+fn statistics_are_found_in_either_place() {
+    let htb = [1u32, 2, 3, 4, 5].iter().flat_map(|number| number.to_le_bytes()).collect::<Vec<u8>>();
+    let kind = attribute(1, b"htb\0");
+    for place in [attribute(4, &htb), attribute(7, &attribute(4, &htb))] {
+        let found = parsed(&[vec![0; 20], kind.clone(), place].concat());
+        let Some(Statistics::Htb(xstats)) = found.xstats() else { panic!("no statistics in {found:?}") };
+        assert_eq!((xstats.lends, xstats.borrows, xstats.ctokens), (1, 2, 5));
+    }
+}
+
+#[test]
+fn the_actions_of_a_filter_are_found() {
+    let drop = Gact { generic: Gen { action: TcAct::Shot, ..Gen::default() } };
+    let action = ActionAttr::list().with_kind("gact").with_options(GactAttr::list().with_parms(drop));
+    let filter = Message::default().with_kind("flower").with_options(FlowerAttr::list().with_actions([(1, action)]));
+    let found = parsed(&filter.to_bytes().expect("it fits"));
+    let (_, action) = &found.actions().expect("actions")[0];
+    let Some(ActionOptions::Gact(gact)) = action.options() else { panic!("no gact in {found:?}") };
+    assert_eq!(gact.parms().map(|parms| parms.generic.action), Some(TcAct::Shot));
+    assert_eq!(found.attributes, filter.attributes);
+}
+
+#[test]
+fn what_is_not_of_a_table_is_kept() {
+    let limit = |word: u16| attribute(word, &10240u32.to_le_bytes());
+    let cases = [
+        message("fq_codel", &limit(0x8002)),                      // NLA_F_NESTED at a number
+        message("fq_codel", &attribute(2, &[1, 2, 3])),           // a number of three bytes
+        message("fq_codel", &[limit(2), vec![3, 0, 1]].concat()), // a broken attribute at the end
+        message("fq_codel", &[5, 0, 2, 0, 1, 9, 9, 9]),           // padding that isn't zero
+        message("netem", &[1; 23]),                               // a record that is cut
+        message("sfq", &[1; 24]),                                 // a record of neither length
+        message("red", &attribute(4, &[1, 0, 0, 0, 2, 0, 0, 0, 3])), // a byte after a record
+        message("pfifo", &[1; 6]),                                // two bytes after the record of options
+        message("unknown", &[1, 2, 3]),                           // a kind without a table
+        [vec![0; 20], attribute(1, b"fq_codel"), limit(2)].concat(), // a kind without NUL
+        [vec![0; 20], attribute(1, b"\xff\xff\0"), limit(2)].concat(), // a kind that is no text
+    ];
+    cases.iter().for_each(|case| drop(parsed(case)));
+    let newer = parsed(&cases[6]);
+    let Some(Options::Red(red)) = newer.options() else { panic!("no red in {newer:?}") };
+    assert_eq!(red.flags().map(|flags| flags.value), Some(TcRedBits::ECN));
+}
+
+#[test]
+fn a_changed_list_keeps_what_is_beside_its_attributes() {
+    let options =
+        [attribute(1, &[5, 0, 0, 0]), attribute(0x8002, &[6, 0, 0, 0]), attribute(9, &[7, 0, 0, 0]), vec![9, 9]]
+            .concat();
+    let mut read = parsed(&message("fq_codel", &options));
+    let Some(TcAttr::Options(Options::FqCodel(list))) = read.attributes.iter_mut().nth(1) else { panic!("no options") };
+    assert_eq!(format!("{list:?}").matches("32770").count(), 1);
+    list.retain(|item| !matches!(item, FqCodelAttr::Target(_)));
+    list.push(FqCodelAttr::Flows(8));
+    let left = [attribute(0x8002, &[6, 0, 0, 0]), attribute(9, &[7, 0, 0, 0]), attribute(5, &[8, 0, 0, 0])].concat();
+    assert_eq!(read.to_bytes().expect("it fits"), message("fq_codel", &left));
+    let Some(TcAttr::Options(Options::FqCodel(list))) = read.attributes.iter_mut().nth(1) else { panic!("no options") };
+    list.settle();
+    let settled = [attribute(2, &[6, 0, 0, 0]), attribute(9, &[7, 0, 0, 0]), attribute(5, &[8, 0, 0, 0])].concat();
+    assert_eq!(read.to_bytes().expect("it fits"), message("fq_codel", &settled));
+}
+
+#[test]
+fn padding_that_is_cut_is_made_whole_by_a_push() {
+    let mut list = parsed(&[vec![0; 20], vec![5, 0, 12, 0, 1]].concat()).attributes;
+    list.push(TcAttr::Chain(2));
+    let header = Message::default().header;
+    let bytes = Message { header, attributes: list }.to_bytes().expect("it fits");
+    assert_eq!(bytes[20..], [5, 0, 12, 0, 1, 0, 0, 0, 8, 0, 11, 0, 2, 0, 0, 0]);
+}
+
+#[test]
+fn a_kind_that_is_replaced_where_a_nul_was_missing_is_no_trap() {
+    let mut read = parsed(&[vec![0; 20], attribute(1, b"fq")].concat());
+    for item in read.attributes.iter_mut() {
+        *item = TcAttr::Pad(());
+    }
+    assert_eq!(read.to_bytes().expect("it fits")[20..], [4, 0, 9, 0]);
+}
+
+#[test]
+fn nesting_is_limited() {
+    let nested = |depth: usize| {
+        let mut list = attribute(10, &[1, 0, 0, 0]);
+        for _ in 0..depth {
+            list = attribute(7, &list);
+        }
+        message("taprio", &list)
+    };
+    for depth in [1, 12, 13, 14, 15, 16, 17, 1000, 10_000] {
+        parsed(&nested(depth));
+    }
+}
+
+#[test]
+fn flags_and_numbers_have_names() {
+    let flags = TcRedBits::ECN | TcRedBits(0x40);
+    assert_eq!(
+        format!("{flags:?} {:?} {:?}", TcRedBits(0), TcRedBits::from_name("NODROP")),
+        "ECN | 0x40 0x0 Some(NODROP)"
+    );
+    assert!(flags.contains(TcRedBits::ECN) && !flags.contains(TcRedBits::NODROP));
+    assert_eq!((TcAct::from(2), TcAct::from(77), i32::from(TcAct::Unspec)), (TcAct::Shot, TcAct::Other(77), -1));
+    assert_eq!(conjareho::kinds::shared::eth_p::_802_1Q, 0x8100);
+}
+
+#[test]
+fn a_handle_is_the_text_of_tc() {
+    for (text, handle) in [
+        ("1:10", Handle(0x10010)),
+        ("8001:", Handle(0x8001_0000)),
+        (":a", Handle(10)),
+        ("root", Handle::ROOT),
+        ("0:0", Handle(0)),
+    ] {
+        assert_eq!((text.parse(), handle.to_string()), (Ok(handle), text.to_string()));
+        assert_eq!(Handle::from(TcHandle::from(handle)), handle);
+    }
+    for text in ["", "1", "1:2:3", "1:x", "10000:1", "+1:2", " 1:2", "Root"] {
+        assert!(text.parse::<Handle>().is_err(), "{text}");
+    }
+}
+
+/// The options of a kind in the stored messages that iproute2 sent.
+fn sent(kind: &str) -> Vec<Message> {
+    let path = std::path::Path::new(env!("CARGO_MANIFEST_DIR")).join("../../crates/tcforms/stdin");
+    let text = std::fs::read_to_string(path).expect("the stored messages");
+    let lines = text.lines().filter_map(|line| line.split_once(" tc "));
+    let octet = |hex: &str, at: usize| u8::from_str_radix(&hex[at..at + 2], 16).expect("hex");
+    let octets = |hex: &str| (0..hex.len()).step_by(2).map(|at| octet(hex, at)).collect::<Vec<u8>>();
+    let found = lines.filter(|(label, _)| label.contains(".send.")).map(|(_, hex)| parsed(&octets(hex)));
+    found.filter(|message| message.kind() == kind).collect()
+}
+
+#[test]
+fn rate_tables_are_those_of_iproute2() {
+    let mut compared = 0;
+    let mut compare = |spec: Option<&Ratespec>, rate: Option<&u64>, table: Option<&Bytes>| {
+        let (Some(spec), Some(table)) = (spec, table) else { return };
+        let rate = Rate(rate.copied().unwrap_or(spec.rate.into()));
+        if spec.rate > 0
+            && spec.mpu == 0
+            && spec.overhead == 0
+            && spec.cell_log == 3
+            && spec.linklayer == TcLinklayer::Ethernet
+        {
+            assert_eq!(Ratespec::with_table(rate, 2047), (spec.clone(), table.clone()));
+            compared += 1;
+        }
+    };
+    for message in sent("htb") {
+        let Some(Options::Htb(list)) = message.options() else { continue };
+        compare(list.parms().map(|it| &it.rate), list.rate64(), list.rtab());
+        compare(list.parms().map(|it| &it.ceil), list.ceil64(), list.ctab());
+    }
+    for message in sent("tbf") {
+        let Some(Options::Tbf(list)) = message.options() else { continue };
+        compare(list.parms().map(|it| &it.rate), list.rate64(), list.rtab());
+    }
+    for (_, action) in sent("matchall").iter().filter_map(Message::actions).flatten() {
+        let Some(ActionOptions::Police(list)) = action.options() else { continue };
+        compare(list.tbf().map(|it| &it.rate), list.rate64(), list.rate());
+    }
+    assert!(compared >= 4, "{compared} rate tables");
+}
+
+#[test]
+fn a_rate_is_the_text_of_tc() {
+    for (text, rate) in [
+        ("100mbit", 12_500_000),
+        ("1gbit", 125_000_000),
+        ("8bit", 1),
+        ("1500kbit", 187_500),
+        ("5tbit", 625_000_000_000),
+    ] {
+        assert_eq!((text.parse(), Rate(rate).to_string()), (Ok(Rate(rate)), text.to_string()));
+    }
+    assert_eq!(
+        ("1.5mbit".parse(), "10KBps".parse(), "800".parse()),
+        (Ok(Rate(187_500)), Ok(Rate(10_000)), Ok(Rate(100)))
+    );
+    assert_eq!(
+        (Rate(0).to_string(), Rate(u64::MAX).to_string()),
+        ("0bit".to_string(), format!("{}bit", u128::from(u64::MAX) * 8))
+    );
+    for text in ["", "mbit", "1.2.3mbit", "1 mbit", "-1mbit", "1miles"] {
+        assert!(text.parse::<Rate>().is_err(), "{text}");
+    }
+}
+
+#[test]
+fn units_are_those_of_tc() {
+    use std::time::Duration;
+    // What tc sends for `delay 100ms loss 1%`.
+    assert_eq!((Ticks::from(Duration::from_millis(100)), Prob::percent(1.0)), (Ticks(1_562_500), Prob(42_949_673)));
+    assert_eq!((Prob::percent(100.0), Prob::percent(-1.0)), (Prob(u32::MAX), Prob(0)));
+    assert_eq!(Duration::from(Ticks(1_562_500)), Duration::from_millis(100));
+    assert_eq!(Rate(0).ticks(1), Ticks(u32::MAX));
+    let class = Options::from(HtbClass { mtu: u32::MAX, ..HtbClass::new(Rate(5_000_000_000)) });
+    let Options::Htb(list) = class else { panic!("no htb") };
+    assert_eq!((list.rate64(), list.parms().map(|it| it.rate.rate)), (Some(&5_000_000_000), Some(u32::MAX)));
+}
+
+#[test]
+fn lists_are_collections() {
+    let list: Attrs<HtbAttr> = [HtbAttr::Rate64(1), HtbAttr::Pad(())].into_iter().collect();
+    assert_eq!((list.len(), list.first()), (2, Some(&HtbAttr::Rate64(1))));
+    assert_eq!((&list).into_iter().count() + list.clone().into_iter().count(), 4);
+    assert_eq!(list, vec![HtbAttr::Rate64(1), HtbAttr::Pad(())].into());
+}
+
+#[cfg(feature = "serde")]
+#[test]
+fn json_is_that_of_the_forms() {
+    use conjareho::forms::{Shown, TC_MESSAGE, TcTables};
+    let bytes = message("fq_codel", &attribute(0x8002, &10240u32.to_le_bytes()));
+    let (typed, shown) = (parsed(&bytes), Shown { table: TcTables, form: TC_MESSAGE, bytes: &bytes });
+    let json = serde_json::to_string(&typed).expect("memory");
+    assert_eq!(json, serde_json::to_string(&shown).expect("memory"));
+    assert_eq!(serde_json::from_str::<Message>(&json).expect("a message"), typed);
+    let fault =
+        serde_json::from_str::<Message>(r#"{"header":{"family":"Unspec","index":0.5}}"#).expect_err("no message");
+    assert!(fault.to_string().starts_with("/header/index: found 0.5, wanted a number"), "{fault}");
+    let action = ActionMessage::default();
+    let json = serde_json::to_value(&action).expect("memory");
+    assert_eq!(serde_json::from_value::<ActionMessage>(json).expect("a message"), action);
+}
