@@ -79,7 +79,7 @@ fn put_value<A: Allocator>(out: &mut Vec<u8, A>, all: u64, of: Member, unit: &st
 
 // A line for a member: its name, its value, and the kernel's name.
 fn put_line<A: Allocator>(out: &mut Vec<u8, A>, level: u8, all: u64, of: Member, note: Note) -> Done
-    ensures { OnOk result (out.new.items ≡ out.old.items ++ member_line level all (member_view of) (note_view note.entry)) }
+    ensures { OnOk result (out.new.items ≡ out.old.items ++ member_line level all (member_view of) (note_view note)) }
 {
     put_times(out, "  ", level as usize)?;
     put(out, of.name)?;
