@@ -37,7 +37,6 @@ class Item:
         self.show, self.text = element.get('show') or '', re.sub(r'^ ?\[truncated\]', '', element.get('showname') or '')
         self.all = [Item(x) for x in element if x.tag in ('field', 'proto')]
         self.below = [x for x in self.all if not OWN.match(x.name)]
-        self.is_bit = False
 
     def own(self, name):
         """The first line of the dissector's own with this name below this one."""
@@ -104,7 +103,7 @@ def number(text):
 def same(leaf, shown):
     """True if a leaf of JSON is what an item has."""
     (name, value), (own, show, item) = leaf, shown
-    if own != (snake(name) if name not in ('Other', 'OptionsRaw') else {'Other': 'other'}.get(name, snake(name))) and own.lower() != name.lower():
+    if own != snake(name):
         return False
     if isinstance(value, bool):
         return show in (('1', 'True') if value else ('0', 'False'))

@@ -6,11 +6,10 @@ local FLAGS = {{0x01, "request"}, {0x02, "multi"}, {0x04, "ack"}, {0x08, "echo"}
 local FLAGS_OF = {NEW = {{0x400, "create"}, {0x200, "excl"}, {0x100, "replace"}, {0x800, "append"}}, DEL = {{0x100, "nonrec"}, {0x200, "bulk"}},
   GET = {{0x100, "root"}, {0x200, "match"}, {0x400, "atomic"}}, FLUSH = {{0x100, "root"}}, ANSWER = {{0x100, "capped"}, {0x200, "ack_tlvs"}}}
 
-local EXTACK = {"list", false, "extack", list = "extack"}
-local BODIES = {tc = {"inforce", false, "", list = "tc"}, action = {"list", false, "", list = "action_message"}}
+local BODIES = {tc = {"inforce", false, "", list = "tc"}, action = {"list", false, "", list = "action_message"}, extack = {"list", false, "", list = "extack"}}
 for _, rows in pairs(LISTS) do for _, row in pairs(rows) do prepare(row[2]) end end
 for _, of in pairs(KINDS) do for _, kind in pairs(of) do for _, n in pairs(kind) do prepare(n) end end end
-for _, all in pairs({F, TCMSG, TCAMSG, BODIES, {EXTACK}}) do for _, n in pairs(all) do prepare(n) end end
+for _, all in pairs({F, TCMSG, TCAMSG, BODIES}) do for _, n in pairs(all) do prepare(n) end end
 tc.fields = fields
 tc.experts = {X.form, X.cut, X.unknown, X.refused, X.warning}
 tc.prefs.headers = Pref.bool("Show the length and the type of each attribute", true, "A line for each part of struct nlattr")
@@ -109,7 +108,8 @@ local function extack_of(c, off, stop, errno)
     if ty == 1 then said = clean(kind_at(c, body, size) or hex(bytes_of(c, body, size)))
     elseif ty and size == 4 then found[ty] = number_at(c, body, 4) end
   end
-  local it = {errno = errno, name = name, said = said, text = name .. (said and ": " .. said or ""), marks = {}, expert = errno > 0 and X.refused or X.warning}
+  local it = {errno = errno, name = name, said = said, text = errno == 0 and said or name .. (said and ": " .. said or ""), marks = {},
+    expert = errno > 0 and X.refused or X.warning}
   if found[2] then it.marks[1] = {at = found[2], text = (errno > 0 and "refused: " or "") .. it.text, expert = it.expert} end
   if found[5] then
     table.insert(it.marks, {at = found[6] or 0, text = ("attribute %.0f is missing"):format(found[5]), missing = found[5], expert = it.expert})
@@ -138,9 +138,9 @@ local function show_answer(c, h, at, len, tree, pinfo, key)
   c.marks, c.request = ack.marks, quoted_at
   mark(c, quoted_at, item, is_action(quote.type) and "action_message" or "tc")
   c.marks = nil
-  if stop > from then member(c, EXTACK, from, stop - from, tree:add(c.tvb(from, stop - from), "extended acknowledgement"), nil, DEEPEST) end
-  if errno > 0 or ack.said then tree:add_proto_expert_info(ack.expert, errno > 0 and ack.text or ack.said) end
-  return errno > 0 and ack.text or ack.said and "warning: " .. ack.said or "acknowledgement", TYPES[quote.type] .. about
+  if stop > from then member(c, BODIES.extack, from, stop - from, tree:add(c.tvb(from, stop - from), "extended acknowledgement"), nil, DEEPEST) end
+  if errno > 0 or ack.said then tree:add_proto_expert_info(ack.expert, ack.text) end
+  return errno > 0 and ack.text or ack.said and "warning: " .. ack.text or "acknowledgement", TYPES[quote.type] .. about
 end
 
 -- Shows a request, marked by the answer to it, or a message of the kernel; returns its words.
