@@ -282,7 +282,7 @@ fn actions<T: Transport>(kernel: &mut Kernel<T>) -> Result<Vec<Vec<u8>>, Fault> 
     let mut actions = Vec::new();
     for kind in ACTIONS {
         match kernel.dump(&actions_request(kind)) {
-            // The kernel lacks the kind: EINVAL, or ENOENT where it looked for a module.
+            // The kernel lacks the kind.
             Err(Fault::Refused(refusal)) if refusal.is(Errno::EINVAL) || refusal.is(Errno::ENOENT) => {}
             dumped => actions.extend(dumped?),
         }

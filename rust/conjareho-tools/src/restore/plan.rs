@@ -1,5 +1,6 @@
 //! Requests, in the order in which they are sent: those that `tcmake --request --stream` makes of the same lines.
 
+use super::file::read_save;
 use super::messages::messages_of;
 use crate::tc_kinds::{ACTION_MESSAGE, TC_MESSAGE, TcTables};
 use crate::tcmake_lib::arguments::{Making, Request};
@@ -36,6 +37,10 @@ pub(crate) struct Plan {
 
 /// The requests that make what lines say.
 pub(crate) fn requests(wanted: &Wanted<'_>) -> Plan {
+    if are_moved(wanted) {
+        let complaints = vec!["interfaces have other indices than when they were saved".to_string()];
+        return Plan { complaints, is_void: true, ..Plan::default() };
+    }
     let forms = Forms { table: TcTables, tc: TC_MESSAGE, action: ACTION_MESSAGE };
     let index = wanted.index.and_then(|index| i32::try_from(index).ok());
     let request = Request { form: Form::Stream, making: Making::Restored, in_order: false, index, verbose: false };
@@ -49,6 +54,13 @@ pub(crate) fn requests(wanted: &Wanted<'_>) -> Plan {
         notices: Vec::new(),
         is_void: status > 1,
     }
+}
+
+// True if an interface that is named has another index today.
+fn are_moved(wanted: &Wanted<'_>) -> bool {
+    let head = read_save(wanted.text.as_bytes()).ok().and_then(|save| save.head);
+    let is_moved = |index: i32, name: &str| wanted.names.iter().copied().flatten().any(|(today, other)| *other == name && i64::from(*today) != i64::from(index));
+    head.is_some_and(|head| head.names.iter().any(|(index, name)| is_moved(*index, name)))
 }
 
 fn is_mark(line: &str) -> bool {
