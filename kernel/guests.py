@@ -13,7 +13,7 @@ import time
 HERE = os.path.dirname(os.path.abspath(__file__))
 TOP = os.path.dirname(HERE)
 OUT = f"{HERE}/out"
-SECONDS = 600  # for one guest
+SILENCE = 300  # seconds in which a guest writes nothing, before it is stopped
 
 failures = []
 
@@ -88,9 +88,7 @@ class Guest:
             how = {"stdin": subprocess.DEVNULL, "stdout": console, "stderr": console, "start_new_session": True}
             guest = subprocess.Popen(words, env={**os.environ, "TMPDIR": OUT}, **how)
             try:
-                guest.wait(SECONDS)
-            except subprocess.TimeoutExpired:
-                fail(f"the guest did not end within {SECONDS} seconds")
+                self.wait(guest)
             finally:
                 try:
                     os.killpg(guest.pid, signal.SIGKILL)
@@ -98,6 +96,18 @@ class Guest:
                     pass
         self.read()
         print(f"Linux {self.kernel}: {len(self.tries)} tries in {time.monotonic() - began:.0f} s", flush=True)
+
+    def wait(self, guest):
+        """Waits until the guest ends, as long as it writes answers."""
+        size, since = -1, time.monotonic()
+        while guest.poll() is None:
+            time.sleep(0.2)
+            path = f"{self.folder}/answers"
+            now = os.path.getsize(path) if os.path.exists(path) else 0
+            if now != size:
+                size, since = now, time.monotonic()
+            elif time.monotonic() - since > SILENCE:
+                return fail(f"the guest in {self.folder} wrote nothing for {SILENCE} seconds")
 
     def read(self):
         number, got, said, lines = None, [], [], []

@@ -66,7 +66,9 @@ class Trial:
             sent = file.read()
         if said.status == 0 and not self.unmade:
             wrong = self.before.differences(after)
-            return f"{where}: restored otherwise: {'; '.join(wrong[:4])}" if wrong else judged(self.programs, f"{self.file}.json", f"{self.file}.{name}.state", sent)
+            if wrong:
+                return f"{where}: restored otherwise: {'; '.join(wrong[:4])}"
+            return judged(self.programs, f"{self.file}.json", f"{self.file}.{name}.state", sent)
         if said.status == 0:
             return f"{where}: restored, though it has {', '.join(self.unmade)}"
         named = {why for why in self.unmade if any(why in it for it in said.lines)}
