@@ -38,7 +38,7 @@ pub(crate) fn types(tables: &Tables) -> Result<String, Fault> {
     for (file, about) in &tables.files {
         let (folder, name) = file.split_once('/').unwrap_or(("", file));
         let text: String = tables.blocks.iter().filter(|it| it.file == *file && !writer.is_at_root(it)).map(|it| writer.block(it)).collect();
-        let module = module(name, about, &text);
+        let module = module(name, &escaped(about), &text);
         folders.entry(folder).or_default().push_str(&module);
     }
     for (folder, text) in folders {
