@@ -12,6 +12,7 @@ use conjareho::kinds::qdiscs::red::TcRedBits;
 use conjareho::kinds::shared::{Ratespec, TcLinklayer};
 use conjareho::kinds::{
     ActionMessage, ActionOptions, Attrs, Bytes, Handle, HtbClass, Message, Options, Prob, Rate, Statistics, Ticks,
+    police,
 };
 use conjareho::tc::{TcActionMessage, TcAttribute, TcHandle, TcMessage, TcOption, TcQdiscFqCodelOption};
 use conjareho::{DecodeError, Flags, RewriteError};
@@ -221,47 +222,59 @@ fn a_handle_is_the_text_of_tc() {
     }
 }
 
-/// The options of a kind in the stored messages that iproute2 sent.
-fn sent(kind: &str) -> Vec<Message> {
+/// The stored messages that iproute2 sent: a mode, `tc` or `action`, and the bytes.
+fn sent() -> Vec<(String, Vec<u8>)> {
     let path = std::path::Path::new(env!("CARGO_MANIFEST_DIR")).join("../../crates/tcforms/stdin");
     let text = std::fs::read_to_string(path).expect("the stored messages");
-    let lines = text.lines().filter_map(|line| line.split_once(" tc "));
     let octet = |hex: &str, at: usize| u8::from_str_radix(&hex[at..at + 2], 16).expect("hex");
     let octets = |hex: &str| (0..hex.len()).step_by(2).map(|at| octet(hex, at)).collect::<Vec<u8>>();
-    let found = lines.filter(|(label, _)| label.contains(".send.")).map(|(_, hex)| parsed(&octets(hex)));
-    found.filter(|message| message.kind() == kind).collect()
+    let lines = text.lines().filter(|line| line.contains(".send.")).filter_map(|line| line.split_once(' '));
+    lines.filter_map(|(_, rest)| rest.split_once(' ')).map(|(mode, hex)| (mode.to_string(), octets(hex))).collect()
 }
 
 #[test]
 fn rate_tables_are_those_of_iproute2() {
     let mut compared = 0;
-    let mut compare = |spec: Option<&Ratespec>, rate: Option<&u64>, table: Option<&Bytes>| {
-        let (Some(spec), Some(table)) = (spec, table) else { return };
-        let rate = Rate(rate.copied().unwrap_or(spec.rate.into()));
-        if spec.rate > 0
-            && spec.mpu == 0
-            && spec.overhead == 0
-            && spec.cell_log == 3
-            && spec.linklayer == TcLinklayer::Ethernet
-        {
-            assert_eq!(Ratespec::with_table(rate, 2047), (spec.clone(), table.clone()));
+    let mut compare = |spec: &Ratespec, table: Option<&Bytes>| {
+        if let (Some(table), 0) = (table, spec.mpu) {
+            let mtu = if spec.cell_log == 3 { 2047 } else { 2048 };
+            assert_eq!(Ratespec::with_table(Rate(spec.rate.into()), mtu), (spec.clone(), table.clone()));
             compared += 1;
         }
     };
-    for message in sent("htb") {
-        let Some(Options::Htb(list)) = message.options() else { continue };
-        compare(list.parms().map(|it| &it.rate), list.rate64(), list.rtab());
-        compare(list.parms().map(|it| &it.ceil), list.ceil64(), list.ctab());
+    for (mode, bytes) in sent() {
+        let message = ActionMessage::parse(&bytes).expect("a header");
+        for (_, action) in message.actions().filter(|_| mode == "action").into_iter().flatten() {
+            let Some(ActionOptions::Police(list)) = action.options() else { continue };
+            list.tbf().iter().for_each(|tbf| compare(&tbf.rate, list.rate()));
+            list.tbf().iter().for_each(|tbf| compare(&tbf.peakrate, list.peakrate()));
+        }
+        if mode == "action" {
+            continue;
+        }
+        if let Some(Options::Tbf(list)) = parsed(&bytes).options() {
+            list.parms().iter().for_each(|parms| compare(&parms.rate, list.rtab()));
+            list.parms().iter().for_each(|parms| compare(&parms.peakrate, list.ptab()));
+        }
     }
-    for message in sent("tbf") {
-        let Some(Options::Tbf(list)) = message.options() else { continue };
-        compare(list.parms().map(|it| &it.rate), list.rate64(), list.rtab());
-    }
-    for (_, action) in sent("matchall").iter().filter_map(Message::actions).flatten() {
-        let Some(ActionOptions::Police(list)) = action.options() else { continue };
-        compare(list.tbf().map(|it| &it.rate), list.rate64(), list.rate());
-    }
-    assert!(compared >= 4, "{compared} rate tables");
+    assert!(compared >= 7, "{compared} rate tables");
+}
+
+#[test]
+fn police_is_that_of_iproute2() {
+    // 3 Mbit/s with bursts of 250 KiB.
+    let ours = police(Rate(375_000), 256_000, TcAct::Shot, TcAct::Ok);
+    let ActionOptions::Police(ours) = ours else { panic!("no police") };
+    let actions = sent()
+        .into_iter()
+        .filter(|(mode, _)| mode == "action")
+        .map(|(_, bytes)| ActionMessage::parse(&bytes).expect("a header"));
+    let tables: Vec<_> = actions.flat_map(|message| message.actions().cloned().unwrap_or_default()).collect();
+    let theirs = tables.iter().filter_map(|(_, action)| {
+        if let Some(ActionOptions::Police(list)) = action.options() { Some(list) } else { None }
+    });
+    let same = theirs.filter(|list| list.rate() == ours.rate()).filter_map(|list| list.tbf());
+    assert!(same.map(|tbf| (tbf.burst, &tbf.rate)).any(|it| Some(it) == ours.tbf().map(|tbf| (tbf.burst, &tbf.rate))));
 }
 
 #[test]

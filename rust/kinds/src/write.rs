@@ -38,7 +38,7 @@ pub(crate) fn types(tables: &Tables) -> Result<String, Fault> {
     for (file, about) in &tables.files {
         let (folder, name) = file.split_once('/').unwrap_or(("", file));
         let text: String = tables.blocks.iter().filter(|it| it.file == *file && !writer.is_at_root(it)).map(|it| writer.block(it)).collect();
-        let module = module(name, about, &text);
+        let module = module(name, &escaped(about), &text);
         folders.entry(folder).or_default().push_str(&module);
     }
     for (folder, text) in folders {
@@ -259,9 +259,7 @@ impl Writer<'_> {
             parts.push(format!("`{}`", line.kernel));
         }
         parts.extend(UNITS.iter().find(|(unit, _)| *unit == line.unit).map(|(_, text)| text.to_string()));
-        if let Some(Form::Number(number) | Form::Enum(number, _) | Form::Bits(number, _)) = &line.form
-            && number.starts_with("be")
-        {
+        if matches!(&line.form, Some(Form::Number(number) | Form::Enum(number, _) | Form::Bits(number, _)) if number.starts_with("be")) {
             parts.push("big-endian in the message".to_string());
         }
         if let Some(block) = self.tables.blocks.iter().find(|block| block.sort == "names" && block.names.first() == Some(&line.names)) {

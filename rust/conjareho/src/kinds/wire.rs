@@ -179,7 +179,7 @@ fn front<'b>(bytes: &mut &'b [u8]) -> Option<(u16, &'b [u8], &'b [u8])> {
     Some((u16::from_le_bytes(word), payload, padding))
 }
 
-/// The bytes behind the start that a line of a choice asks for, if they have it and are as many as it says.
+/// The bytes after `start`, if they begin with it and are `len` in all. A line of a choice requires both.
 pub fn chosen<'b>(bytes: &'b [u8], start: &[u8], len: Option<usize>) -> Option<&'b [u8]> {
     bytes.strip_prefix(start).filter(|_| len.is_none_or(|len| len == bytes.len()))
 }
@@ -199,14 +199,16 @@ fn own_kind(mut bytes: &[u8]) -> &str {
     ""
 }
 
-/// Reads the attributes of a list: for each `read` returns the `nla_type` with which it would be written, the bytes after the record that it holds, and
-/// whether it is a kind. `None` if it returns `None`.
+/// An attribute that was read: the `nla_type` with which it would be written, the bytes after the record that it holds, and true for a kind.
+pub type Taken<'b> = (u16, &'b [u8], bool);
+
+/// Reads the attributes of a list with `read`. `None` if it returns `None`.
 #[inline(never)]
 pub fn read_frames<'b>(
     mut bytes: &'b [u8],
     mut at: Place<'b>,
     kinds: Kinds,
-    read: &mut dyn FnMut(u16, &'b [u8], Place<'b>) -> Option<(u16, &'b [u8], bool)>,
+    read: &mut dyn FnMut(u16, &'b [u8], Place<'b>) -> Option<Taken<'b>>,
 ) -> Option<Option<Box<Aside>>> {
     let mut aside = Aside::default();
     if kinds == Kinds::Own {
@@ -235,7 +237,7 @@ pub fn read_frames<'b>(
     Some((aside != Aside::default()).then(|| Box::new(aside)))
 }
 
-/// Writes the attributes of a list: `write` the payload of each, without the NUL of a kind if it is told so, and returns its `nla_type`.
+/// Writes the attributes of a list. `write` writes the payload of one, without the NUL of a kind if it is told so, and returns its `nla_type`.
 #[inline(never)]
 pub fn write_frames(
     count: usize,

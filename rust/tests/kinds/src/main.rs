@@ -1,6 +1,6 @@
 //! `kinds COUNT EVERY FILE..`: reads the messages of files as typed values, writes them, and compares the bytes; and the JSON of typed
 //! values with that of the proved forms. Then the bytes alone of so many messages that are made of them, and the JSON of each
-//! EVERYth. The changes are the same each time. The JSON is compared if it is built with `--cfg kinds_json`.
+//! EVERYth. The changes are the same each time. The JSON is compared with the feature `json`.
 //!
 //! A file is a capture, or has lines: of the words `tc` or `action` and a message without its netlink header in hex, after a name or none; or
 //! of a netlink message in hex.
@@ -71,7 +71,7 @@ fn again(is_action: bool, bytes: &[u8]) -> Option<Vec<u8>> {
 }
 
 /// Whether the JSON of the typed value is that of the forms.
-#[cfg(kinds_json)]
+#[cfg(feature = "json")]
 fn has_same_json(is_action: bool, bytes: &[u8]) -> bool {
     use conjareho::forms::{ACTION_MESSAGE, Shown, TC_MESSAGE, TcTables};
     let form = if is_action { ACTION_MESSAGE } else { TC_MESSAGE };
@@ -88,7 +88,7 @@ fn has_same_json(is_action: bool, bytes: &[u8]) -> bool {
     is_same
 }
 
-#[cfg(not(kinds_json))]
+#[cfg(not(feature = "json"))]
 fn has_same_json(_is_action: bool, _bytes: &[u8]) -> bool {
     true
 }
