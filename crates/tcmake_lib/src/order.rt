@@ -50,7 +50,7 @@ impl Requests {
     // Keeps the dump of a line.
     fn keep(&mut self, alloc: Global, number: u64, dump: &Made) -> Result<(), Complaint> {
         let place = self.lines.len();
-        let (fate, made) = fate_of(restored(alloc, dump))?;
+        let (fate, made) = fate_of(restored(alloc, &[], dump))?;
         self.lines.push(Planned { number, made })?;
         let entry = entry_in(alloc, place, fate, dump)?;
         Ok(self.entries.push(entry)?)

@@ -166,7 +166,7 @@ fn request_in<T: Tables>(
 }
 
 fn request_for(alloc: Global, dump: &Made) -> Result<Option<Made>, Complaint> {
-    Ok(Some(restored(alloc, dump)?))
+    Ok(Some(restored(alloc, &[], dump)?))
 }
 
 // The notice on a dump that another request makes, if notices are asked for.
