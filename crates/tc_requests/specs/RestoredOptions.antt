@@ -1,7 +1,7 @@
 -- What becomes of options.
-use Rattle.std.specs.Prelude.{ℕ, ◌%◌, Bool, true, false, ◌==◌, ◌||◌, List, [], ◌∷◌, codes, bytes_eq, bit_and, Option, Err, if◌then◌else◌}
+use Rattle.std.specs.Prelude.{ℕ, ◌%◌, Bool, true, false, ◌==◌, ◌&&◌, ◌||◌, List, [], ◌∷◌, codes, bytes_eq, bit_and, Option, Err, if◌then◌else◌}
 use Rattle.tc_meaning.specs.Tree.{Attribute, known, other, number, items, attributes_of, of_kind}
-use Rattle.tc_requests.specs.declared.restore_error.RestoreError.TheVariants.{ProgramByNumber, PoliceOfFilter}
+use Rattle.tc_requests.specs.declared.restore_error.RestoreError.TheVariants.{ProgramByNumber, PoliceOfFilter, TunnelOptions}
 use Rattle.tc_records.specs.FilterFlags.{option_flags_word}
 use Rattle.tc_qdiscs.specs.FqCodel.{fq_codel_option}
 use Rattle.tc_qdiscs.specs.declared.qdiscs.fq_codel.TcQdiscFqCodelOption.{TcQdiscFqCodelOption}
@@ -26,7 +26,7 @@ use Rattle.tc_texts.specs.Info.{protocol_of}
 use Rattle.tc_requests.specs.declared.restore.Around.{Around}
 use Rattle.tc_requests.specs.CodelTimes.{time_set}
 use Rattle.tc_requests.specs.Restoring.{Restored, ◌>>=◌, stays, left_out, each, behind, seen_part}
-use Rattle.tc_requests.specs.RestoredActions.{action_restored, is_of}
+use Rattle.tc_requests.specs.RestoredActions.{action_restored, is_of, has_several}
 use Rattle.tc_requests.specs.RestoredTrees.{actions_restored as raw_actions_restored}
 use Rattle.nla_frames.specs.DefaultNla.{kept_frame}
 
@@ -57,11 +57,14 @@ type_if false protocol = []
 abbrev pub outer_type : List ℕ → ℕ → List Attribute
 outer_type kind info = if bytes_eq kind (codes "flower") then type_if (is_outer (protocol_of info)) (protocol_of info) else []
 
+-- tunnel options are of the types 84 and 85, `TCA_FLOWER_KEY_ENC_OPTS` and its mask
 abbrev pub flower_restored : {A : Type 0} → ℕ → TcFilterFlowerOption A → Restored (Option Attribute)
 flower_restored info (flower.EthType n) = if is_outer (protocol_of info) then left_out else stays (known 8 (number n))
 flower_restored info (flower.Flags n) = stays (known 22 (number (cleared n)))
 flower_restored info (flower.InHwCount n) = left_out
 flower_restored info (flower.Actions actions) = actions_restored 3 actions.items
+flower_restored info (flower.Other nla) =
+    if is_of (84 ∷ 85 ∷ []) nla && has_several (kept_frame nla).value then Err TunnelOptions else stays (flower_option (flower.Other nla))
 flower_restored info x = stays (flower_option x)
 
 -- what a handle of u32 says within its table, whose number is the upper 12 bits: 0 for the table itself

@@ -14,7 +14,7 @@ use Rattle.tc_meaning.specs.Tree.{Scalar, plain, unnamed, Attribute, known, othe
 use Rattle.tc_requests.specs.declared.restore_error.RestoreError.TheVariants.{TooManyActions, Terse, Estimator, RawActions}
 use Rattle.tc_requests.specs.Numbers.{number_at}
 use Rattle.tc_requests.specs.Restoring.{Restored, ◌>>=◌, stays, left_out, each, behind, sole_kind}
-use Rattle.tc_requests.specs.RestoredActions.{only_dumped, mpls_types, table_if, raw_option_restored}
+use Rattle.tc_requests.specs.RestoredActions.{only_dumped, mpls_types, table_if, tunnel_kept, raw_option_restored}
 use Rattle.tc_requests.specs.RestoredRaw.{with_value}
 use Rattle.tc_requests.specs.Uses.{parameters, index_wanted}
 
@@ -59,6 +59,10 @@ rate_tables kind options =
 abbrev pub option_kept : List ℕ → Attribute → Restored (Option Attribute)
 option_kept kind (of_kind name (known n (record_of scalars))) =
     stays (of_kind name (known n (record_of (if among (parameters name) n then parameters_seen scalars else scalars))))
+option_kept kind (of_kind name (other word value)) =
+    if bytes_eq name (codes "tunnel_key")
+    then (tunnel_kept (record { word = word; value = value }) >>= λ f. stays (of_kind name (other f.word f.value)))
+    else stays (of_kind name (other word value))
 option_kept kind (other word value) = raw_option_restored kind (record { word = word; value = value }) >>= λ f. stays (other f.word f.value)
 option_kept kind x = stays x
 

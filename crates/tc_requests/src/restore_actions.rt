@@ -10,7 +10,7 @@ ghost use Rattle.tc_meaning.specs.Tree.{Attribute};
 ghost use Rattle.tc_requests.specs.declared.restore_error.RestoreError.TheVariants.{OutOfMemory};
 ghost use Rattle.tc_requests.specs.Restoring.{Gives, seen, seen_part};
 ghost use Rattle.tc_requests.specs.RestoredActions.{only_dumped, is_only_dumped, changes_label, mpls_types, dumped_types, with_cell_log, has_rate, zeros, rate_table, table_if, rate_tables};
-ghost use Rattle.tc_requests.specs.RestoredActions.{with_cell_logs, parameters_restored, raw_option_restored, has_options, option_kept, option_restored, options_restored, estimates, attribute_restored, action_restored};
+ghost use Rattle.tc_requests.specs.RestoredActions.{with_cell_logs, has_several, tunnel_kept, parameters_restored, raw_option_restored, has_options, option_kept, option_restored, options_restored, estimates, attribute_restored, action_restored};
 
 use crate::numbers::{number_at, with_number};
 use crate::restore::{Around, Restore, is_of, restore_behind, restore_own};
@@ -253,6 +253,10 @@ fn kept_option<A: Allocator + Copy>(
                 p,
             )))))
         }
+        TcActionOption::TunnelKey(TcActionTunnelKeyOption::Other(nla)) => {
+            let nla = kept_tunnel(nla)?;
+            Ok(Some(TcActionOption::TunnelKey(TcActionTunnelKeyOption::Other(nla))))
+        }
         TcActionOption::Other(nla) => {
             let nla = restored_raw_option(alloc, kind, nla)?;
             Ok(Some(TcActionOption::Other(nla)))
@@ -277,7 +281,34 @@ fn restored_raw_option<A: Allocator + Copy>(
         let value = restored_parameters(alloc, kind, nla.value())?;
         return Ok(DefaultNla::new(nla.kind(), value));
     }
+    if kind == "tunnel_key" {
+        return kept_tunnel(nla);
+    }
     Ok(nla)
+}
+
+// An option of tunnel_key that is kept raw.
+fn kept_tunnel<A: Allocator>(nla: DefaultNla<A>) -> Result<DefaultNla<A>, RestoreError>
+    ensures { Gives (seen kept_frame result) (tunnel_kept (kept_frame nla)) }
+{
+    if nla.kind() & NLA_TYPE_MASK == 11 && has_several(nla.value()) {
+        Err(RestoreError::TunnelOptions)
+    } else {
+        Ok(nla)
+    }
+}
+
+// True of tunnel options with several options of geneve in their first nest.
+pub(crate) fn has_several(bytes: &[u8]) -> bool
+    ensures { result ≡ has_several bytes.now }
+{
+    if bytes.len() >= 24 {
+        let first = number_at(bytes, 0);
+        let data = number_at(bytes, 20) % 0x1_0000;
+        first / 0x1_0000 % 0x4000 == 1 && 20 + data < first % 0x1_0000
+    } else {
+        false
+    }
 }
 
 // The parameters of an action.

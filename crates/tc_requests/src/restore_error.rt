@@ -54,6 +54,11 @@ pub enum RestoreError {
     #[error("link to a root table of u32")]
     LinkToRoot,
 
+    /// Several geneve options of a tunnel, of the action tunnel_key or of flower, are dumped in one nest, of which the kernel would
+    /// take one option.
+    #[error("several geneve options of a tunnel")]
+    TunnelOptions,
+
     /// Statistics are all that there is.
     #[error("nothing but statistics")]
     NothingLeft,

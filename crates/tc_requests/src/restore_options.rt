@@ -15,9 +15,11 @@ ghost use Rattle.tc_requests.specs.RestoredOptions.{cleared, fq_codel_restored, 
 
 use crate::codel_times::time_set;
 use crate::restore::{Around, NOTHING_AROUND, Restore, is_of, restore_all, restore_behind};
+use crate::restore_actions::has_several;
 use crate::restore_error::RestoreError;
 use crate::restore_filters::restored_actions;
 use bitflags::Flags;
+use nla_frames::Nla;
 use std::alloc::{AllocError, Allocator};
 use tc_options::{
     TcFilterBpfOption, TcFilterFlowerOption, TcFilterMatchAllOption, TcFilterU32Option, TcOption,
@@ -160,6 +162,13 @@ fn restored_flower<A: Allocator + Copy>(
         TcFilterFlowerOption::Actions(actions) => {
             let actions = restore_all(alloc, actions, "", NOTHING_AROUND)?;
             Ok(Some(TcFilterFlowerOption::Actions(actions)))
+        }
+        TcFilterFlowerOption::Other(nla) => {
+            if is_of(&[84, 85], &nla) && has_several(nla.value()) {
+                Err(RestoreError::TunnelOptions)
+            } else {
+                Ok(Some(TcFilterFlowerOption::Other(nla)))
+            }
         }
         option => Ok(Some(option)),
     }
