@@ -49,11 +49,7 @@ pub(crate) fn root_in(alloc: Global, made: &Made) -> Result<Option<RootTable>, C
 
 /// Makes of the message of a dump the request that restores it, with the dump's sequence number and time; `roots` are the root
 /// tables of u32 that all dumps show.
-pub(crate) fn restored(
-    alloc: Global,
-    roots: &[RootTable],
-    made: &Made,
-) -> Result<Made, Complaint>
+pub(crate) fn restored(alloc: Global, roots: &[RootTable], made: &Made) -> Result<Made, Complaint>
     ensures canonical { IfOk result (λ r. IsCanonical r.given.holds r.bytes.items) }
     ensures restores { IfOk result (λ r. (dump : DumpType) × IsDumpOf made.now.given.kind dump
         × (r.given.kind ≡ Some (request_type dump))
@@ -166,8 +162,8 @@ fn restored_actions(alloc: Global, bytes: &[u8]) -> Result<Request<Vec<u8>>, Com
     })
 }
 
-// The bytes of a message.
-fn emitted<M: Emitable>(alloc: Global, message: &M) -> Result<Vec<u8>, Complaint>
+/// The bytes of a message.
+pub(crate) fn emitted<M: Emitable>(alloc: Global, message: &M) -> Result<Vec<u8>, Complaint>
     ensures fits { IfOk result (λ _. M.codec.Fits (M.see message.now)) }
     ensures written { IfOk result (λ bytes. bytes.items ≡ M.codec.write (M.see message.now)) }
 {
