@@ -162,8 +162,8 @@ fn restored_actions(alloc: Global, bytes: &[u8]) -> Result<Request<Vec<u8>>, Com
     })
 }
 
-// The bytes of a message.
-fn emitted<M: Emitable>(alloc: Global, message: &M) -> Result<Vec<u8>, Complaint>
+/// The bytes of a message.
+pub(crate) fn emitted<M: Emitable>(alloc: Global, message: &M) -> Result<Vec<u8>, Complaint>
     ensures fits { IfOk result (λ _. M.codec.Fits (M.see message.now)) }
     ensures written { IfOk result (λ bytes. bytes.items ≡ M.codec.write (M.see message.now)) }
 {
