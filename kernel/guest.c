@@ -386,7 +386,7 @@ static void write_watched(int s, FILE *file) {
         ssize_t got = recvfrom(s, frame, sizeof frame, 0, (struct sockaddr *)&from, &size);
         if (got < 0 && is_over)
             break;
-        if (got > 0 && from.sll_pkttype == PACKET_KERNEL && from.sll_protocol == htons(NETLINK_ROUTE))
+        if (got > 0 && from.sll_pkttype == PACKET_USER && from.sll_protocol == htons(NETLINK_ROUTE))
             fwrite(frame, 1, got, file);
     }
     fclose(file);
