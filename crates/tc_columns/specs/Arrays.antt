@@ -52,6 +52,7 @@ use Rattle.tc_columns.specs.declared.tables.names_of_qdiscs.TheConstants.{NAMES_
 use Rattle.tc_columns.specs.declared.tables.names_of_shared.TheConstants.{NAMES_OF_SHARED}
 use Rattle.tc_lines.specs.Columns.{Column, const_column_view}
 use Rattle.tc_units.specs.Names.{Name, const_name_view}
+use Rattle.tc_columns.specs.declared.tables.columns_of_filters.TheConstants.{COLUMNS_AT_648}
 
 unfoldable pub columns_of_action : List (List Column)
 columns_of_action = map (λ x. map const_column_view x.now) COLUMNS_OF_ACTION
@@ -337,3 +338,6 @@ names_of_names_1004 = map (λ x. map const_name_view x.now) NAMES_OF_NAMES_1004
 
 unfoldable pub names_of_partners_1250 : List (List Name)
 names_of_partners_1250 = map (λ x. map const_name_view x.now) NAMES_OF_PARTNERS_1250
+
+unfoldable pub columns_at_648 : List Column
+columns_at_648 = map const_column_view COLUMNS_AT_648

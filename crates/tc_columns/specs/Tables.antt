@@ -23,6 +23,7 @@ use Rattle.tc_columns.specs.Arrays.{names_of_actions_mpls, names_of_actions_pedi
 use Rattle.tc_columns.specs.Arrays.{names_of_filters_u32, names_of_message, names_of_qdiscs_cake, names_of_qdiscs_fq, names_of_qdiscs_gred}
 use Rattle.tc_columns.specs.Arrays.{names_of_qdiscs_mqprio, names_of_qdiscs_plug, names_of_qdiscs_taprio, names_of_shared, names_of_names_1000}
 use Rattle.tc_columns.specs.Arrays.{names_of_names_1001, names_of_names_1002, names_of_names_1003, names_of_names_1004, names_of_partners_1250}
+use Rattle.tc_columns.specs.Arrays.{columns_at_648}
 use Rattle.tc_lines.specs.Columns.{Column}
 use Rattle.tc_units.specs.Names.{Name}
 
@@ -133,7 +134,7 @@ columns_of file =
     []))))))
 
 unfoldable pub all_columns : ℕ → List Column
-all_columns place = unwrap_or (slice_get (columns_of (place / 24)) (place % 24)) []
+all_columns place = if place == 648 then columns_at_648 else unwrap_or (slice_get (columns_of (place / 24)) (place % 24)) []
 
 unfoldable pub names_from_0 : ℕ → List (List Name)
 names_from_0 file =
