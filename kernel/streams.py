@@ -12,13 +12,13 @@ SENDERS = 0x1 | 0x4 | 0x8
 
 
 def messages(data):
-    """The messages of a netlink stream: type, flags, sequence number, and the bytes behind the header."""
+    """The messages of a netlink stream: type, flags, sequence number with port id, and the bytes behind the header."""
     out, at = [], 0
     while at + 16 <= len(data):
-        length, type_, flags, number = struct.unpack_from("<IHHI", data, at)
+        length, type_, flags, *number = struct.unpack_from("<IHHII", data, at)
         if length < 16:
             break
-        out.append((type_, flags, number, data[at + 16 : at + length]))
+        out.append((type_, flags, tuple(number), data[at + 16 : at + length]))
         at += -(-length // 4) * 4
     return out
 
@@ -29,11 +29,12 @@ def stream_of(data):
 
 
 def asked(data):
-    """Of what a process and the kernel said to each other, what the process said: the first message of each sequence number."""
+    """Of what a process and the kernel said to each other, what the process said: the first message of each number. Of what the kernel does by
+    itself it tells with port id 0."""
     first = {}
     for it in messages(data):
         first.setdefault(it[2], it)
-    return list(first.values())
+    return [it for (_, port), it in first.items() if port]
 
 
 def requests_in(some):
