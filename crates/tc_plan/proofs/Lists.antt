@@ -1,7 +1,7 @@
 -- Tests of lists, and what each element gives.
-use Rattle.std.proofs.Common.{◌≡◌, ℕ, ◌+◌, Bool, ◌||◌, List, [], ◌∷◌, ◌++◌, take, refl, sym, ap, ◌∙◌}
+use Rattle.std.proofs.Common.{◌≡◌, ℕ, ◌+◌, Bool, ◌||◌, List, [], ◌∷◌, ◌++◌, ◌≤◌, length, take, refl, sym, ap, ◌∙◌}
 use Rattle.std.specs.List.{list_any, flat_map}
-use Rattle.std.proofs.lemmas.List.{flat_map_more}
+use Rattle.std.proofs.lemmas.List.{flat_map_more, take_all}
 
 module _ {X : Type 0} where
   -- tests that agree on each element agree on a list
@@ -14,3 +14,8 @@ pub given_more : {X Y : Type 0} (f : X → List Y) (first old new : List Y) (xs 
     → take (i + 1) xs ≡ take i xs ++ x ∷ [] → new ≡ old ++ f x → old ≡ first ++ flat_map f (take i xs) → new ≡ first ++ flat_map f (take (i + 1) xs)
 given_more f first old new xs i x more pushed before =
     pushed ∙ ap (λ l. l ++ f x) before ∙ flat_map_more f first (take i xs) x ∙ ap (λ l. first ++ flat_map f l) (sym more)
+
+-- all elements, as at the end of a loop
+pub given_all : {X Y : Type 0} (f : X → List Y) (first made : List Y) (xs : List X) (i : ℕ)
+    → length xs ≤ i → made ≡ first ++ flat_map f (take i xs) → made ≡ first ++ flat_map f xs
+given_all f first made xs i all before = before ∙ ap (λ l. first ++ flat_map f l) (take_all i xs all)

@@ -8,7 +8,7 @@ use Rattle.tc_order.specs.declared.order.Step.{Step}
 use Rattle.tc_plan.specs.declared.entry.Entry.{Entry}
 use Rattle.tc_plan.specs.declared.entry.Item.{Item}
 use Rattle.tc_plan.specs.declared.fate.Fate.{Fate}
-use Rattle.tc_plan.specs.declared.fate.Fate.TheVariants.{Request, Made, Refused}
+use Rattle.tc_plan.specs.declared.fate.Fate.TheVariants.{Request, Made, Change, Refused}
 use Rattle.tc_plan.specs.declared.fate.Reason.TheVariants.{Twice, NoParent, NoSide}
 use Rattle.tc_plan.specs.declared.key.Key.{Key}
 use Rattle.tc_plan.specs.declared.key.Key.TheVariants as key
@@ -50,8 +50,9 @@ any_among keys own = list_any (λ k. list_any (same_key k) keys) own
 abbrev pub again : List Key → Fate
 again own = if list_any is_shared own then Made else Refused Twice
 
--- what becomes of a dump, by what all give and which objects are before it: one that can't be restored, or that the kernel makes,
--- stays that; then a second dump, a class without its parent, one that doesn't say its side of clsact, and a chain that its filters make
+-- what becomes of a dump, by what all give and which objects are before it: one that can't be restored, that the kernel makes, or that is
+-- there, stays that; then a second dump, a class without its parent, one that doesn't say its side of clsact, and a chain that its filters
+-- make
 abbrev pub fate_by : List Key → List Key → List Key → Option Key → Option Key → Option Key → Fate → Fate
 fate_by given before own must must_not made_by Request =
     if any_among before own then again own
@@ -59,6 +60,7 @@ fate_by given before own must must_not made_by Request =
     else if among given must_not then Refused NoSide
     else if among given made_by then Made
     else Request
+fate_by given before own must must_not made_by Change = if any_among before own then again own else Change
 fate_by given before own must must_not made_by fate = fate
 
 abbrev pub fate_among : {A : Type 0} → List Key → List Key → Entry A → Fate

@@ -1,2 +1,3 @@
 pub mod Fates
 pub mod Needs
+pub mod Now

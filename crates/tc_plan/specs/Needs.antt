@@ -13,7 +13,10 @@ use Rattle.tc_action_messages.specs.declared.attribute.TcActionMessageAttribute.
 use Rattle.tc_action_messages.specs.declared.message.TcActionMessage.{TcActionMessage}
 use Rattle.tc_attributes.specs.declared.attribute.TcAttribute.{TcAttribute}
 use Rattle.tc_attributes.specs.declared.attribute.TcAttribute.TheVariants as attribute
+use Rattle.tc_filters.specs.declared.filters.cls_u32.TcFilterU32Option.TheVariants as u32
 use Rattle.tc_messages.specs.declared.message.TcMessage.{TcMessage}
+use Rattle.tc_options.specs.declared.options.TcOption.{TcOption}
+use Rattle.tc_options.specs.declared.options.TcOption.TheVariants as option
 use Rattle.tc_requests.specs.RestoredActions.{kind_of_action}
 use Rattle.tc_requests.specs.Standing.{standing_index}
 use Rattle.tc_requests.specs.declared.restore_messages.Object.{Object}
@@ -49,32 +52,81 @@ parents index parent =
     else if (parent == 0xffffffff) || (parent == 0xfffffff1) then []
     else key.Node index parent ∷ key.Node index (major parent) ∷ []
 
--- the chain that a message is in
-abbrev pub chain_of : {A : Type 0} → TcMessage A → Key
-chain_of m = key.Chain m.header.index (handle_number m.header.parent) (chain_number m.attributes.items)
-
--- u32's hash tables under the parent of a message; the handle of a table is a multiple of 0x100000
-abbrev pub tables_of : {A : Type 0} → TcMessage A → Key
-tables_of m = key.Tables m.header.index (handle_number m.header.parent)
-
-abbrev pub is_table : {A : Type 0} → TcMessage A → Bool
-is_table m = handle_number m.header.handle % 0x100000 == 0
-
--- an attribute is the kind; it is the kind clsact
+-- an attribute is the kind; it is this kind
 abbrev pub is_kind : {A : Type 0} → TcAttribute A → Bool
 is_kind (attribute.Kind text) = true
 is_kind x = false
 
-abbrev pub is_clsact : {A : Type 0} → TcAttribute A → Bool
-is_clsact (attribute.Kind text) = bytes_eq (string_bytes text) (codes "clsact")
-is_clsact x = false
+abbrev pub is_named : {A : Type 0} → List ℕ → TcAttribute A → Bool
+is_named name (attribute.Kind text) = bytes_eq (string_bytes text) name
+is_named name x = false
 
 abbrev pub has_kind : {A : Type 0} → List (TcAttribute A) → Bool
 has_kind attributes = list_any is_kind attributes
 
--- a filter in the chain that a message is in
-abbrev pub in_chain : {A : Type 0} → TcMessage A → Key
-in_chain m = key.InChain m.header.index (handle_number m.header.parent) (chain_number m.attributes.items)
+-- a message's kind is this
+abbrev pub is_of : {A : Type 0} → List ℕ → TcMessage A → Bool
+is_of name m = list_any (is_named name) m.attributes.items
+
+-- ---- parents
+
+-- the interface of an ingress qdisc
+abbrev pub ingress_of : {A : Type 0} → Object → TcMessage A → Option ℤ
+ingress_of Qdisc m = if is_of (codes "ingress") m then Some m.header.index else None
+ingress_of kind m = None
+
+-- the parents by which a filter or a chain of ingress is dumped: ffff:fff2, ffff:fff3 and ffff:0
+abbrev pub is_side : ℕ → Bool
+is_side parent = (parent == 0xfffffff2) || (parent == 0xfffffff3) || (parent == 0xffff0000)
+
+-- the parent of a filter or a chain. On an interface with ingress these parents are one, since the kernel writes the parent that was asked for last
+abbrev pub parent_of : List ℤ → TcHeader → ℕ
+parent_of ingress h =
+    if list_any (int_eq h.index) ingress && is_side (handle_number h.parent) then 0xfffffff2 else handle_number h.parent
+
+-- the chain that a message is in, and a filter in it
+abbrev pub chain_of : {A : Type 0} → List ℤ → TcMessage A → Key
+chain_of ingress m = key.Chain m.header.index (parent_of ingress m.header) (chain_number m.attributes.items)
+
+abbrev pub in_chain : {A : Type 0} → List ℤ → TcMessage A → Key
+in_chain ingress m = key.InChain m.header.index (parent_of ingress m.header) (chain_number m.attributes.items)
+
+-- ---- hash tables of u32
+
+-- the table of a handle: its number is in the upper 12 bits
+abbrev pub table_by : List ℤ → TcHeader → ℕ → Key
+table_by ingress h handle = key.Table h.index (parent_of ingress h) (handle / 0x100000)
+
+-- a table has the number alone; a classifier, which is dumped without a handle, is none
+abbrev pub is_table : {A : Type 0} → TcMessage A → Bool
+is_table m =
+    not (handle_number m.header.handle == 0) && (handle_number m.header.handle % 0x100000 == 0) && is_of (codes "u32") m
+
+-- the table that a dump shows, and the one that a key is in
+abbrev pub table_of : {A : Type 0} → List ℤ → TcMessage A → List Key
+table_of ingress m = if is_table m then table_by ingress m.header (handle_number m.header.handle) ∷ [] else []
+
+abbrev pub in_table : {A : Type 0} → List ℤ → TcMessage A → List Key
+in_table ingress m =
+    if not (handle_number m.header.handle % 0x100000 == 0) && is_of (codes "u32") m
+    then table_by ingress m.header (handle_number m.header.handle) ∷ [] else []
+
+-- the table that an option links to (`TCA_U32_LINK`), and those of a dump
+abbrev pub link_of : {A : Type 0} → List ℤ → TcHeader → TcOption A → List Key
+link_of ingress h (option.U32 (u32.Link handle)) = table_by ingress h handle ∷ []
+link_of ingress h x = []
+
+abbrev pub options_of : {A : Type 0} → TcAttribute A → List (TcOption A)
+options_of (attribute.Options options) = options.items
+options_of x = []
+
+abbrev pub links_in : {A : Type 0} → List ℤ → TcHeader → TcAttribute A → List Key
+links_in ingress h x = flat_map (link_of ingress h) (options_of x)
+
+abbrev pub links : {A : Type 0} → List ℤ → TcMessage A → List Key
+links ingress m = flat_map (links_in ingress m.header) m.attributes.items
+
+-- ---- what requests give and want
 
 -- a class; one whose minor number is 0 is a root class, which its qdisc makes, and its handle is that of the qdisc
 abbrev pub class_of : TcHeader → List Key
@@ -82,27 +134,26 @@ class_of h = if handle_number h.handle % 0x10000 == 0 then [] else key.Node h.in
 
 -- a qdisc gives itself, clsact if it is that, and its blocks, a class itself, a chain itself; a filter that its chain has one, and
 -- a hash table itself
-abbrev pub gives : {A : Type 0} → Object → TcMessage A → List Key
-gives Qdisc m =
-    (key.Node m.header.index (handle_number m.header.handle) ∷ (if list_any is_clsact m.attributes.items then key.Clsact m.header.index ∷ [] else []))
+abbrev pub gives : {A : Type 0} → List ℤ → Object → TcMessage A → List Key
+gives ingress Qdisc m =
+    (key.Node m.header.index (handle_number m.header.handle) ∷ (if is_of (codes "clsact") m then key.Clsact m.header.index ∷ [] else []))
     ++ flat_map block_of m.attributes.items
-gives Class m = class_of m.header
-gives Chain m = chain_of m ∷ []
-gives Filter m = in_chain m ∷ (if is_table m then tables_of m ∷ [] else [])
+gives ingress Class m = class_of m.header
+gives ingress Chain m = chain_of ingress m ∷ []
+gives ingress Filter m = in_chain ingress m ∷ table_of ingress m
 
 -- actions give themselves, unless they can't be made
 abbrev pub gives_actions : Fate → List Key
 gives_actions fate = if is_refused fate then [] else key.Actions ∷ []
 
--- each wants its parent; a class its qdisc; a filter actions, since it may share one, its chain, and hash tables, which it may
--- be in or link to
-abbrev pub wants : {A : Type 0} → Object → TcMessage A → List Key
-wants Qdisc m = parents m.header.index (handle_number m.header.parent)
-wants Class m = parents m.header.index (handle_number m.header.parent) ++ key.Node m.header.index (major (handle_number m.header.handle)) ∷ []
-wants Chain m = parents m.header.index (handle_number m.header.parent)
-wants Filter m =
-    (parents m.header.index (handle_number m.header.parent) ++ key.Actions ∷ chain_of m ∷ [])
-    ++ (if is_table m then [] else tables_of m ∷ [])
+-- each wants its parent; a class its qdisc; a filter actions, since it may share one, its chain, and the hash tables that it is in or
+-- links to
+abbrev pub wants : {A : Type 0} → List ℤ → Object → TcMessage A → List Key
+wants ingress Qdisc m = parents m.header.index (handle_number m.header.parent)
+wants ingress Class m = parents m.header.index (handle_number m.header.parent) ++ key.Node m.header.index (major (handle_number m.header.handle)) ∷ []
+wants ingress Chain m = parents m.header.index (handle_number m.header.parent)
+wants ingress Filter m =
+    ((parents m.header.index (handle_number m.header.parent) ++ key.Actions ∷ chain_of ingress m ∷ []) ++ in_table ingress m) ++ links ingress m
 
 -- a kind with zeros behind it; one of more than 16 bytes the kernel doesn't have
 abbrev pub name_of : List ℕ → Option (List ℕ)
@@ -129,12 +180,12 @@ abbrev pub standing_objects : {A : Type 0} → TcActionMessage A → List Key
 standing_objects m = flat_map standing_in m.attributes.items
 
 -- what a dump is, of which one is enough
-abbrev pub object : {A : Type 0} → Object → TcMessage A → List Key
-object Qdisc m = key.Node m.header.index (handle_number m.header.handle) ∷ []
-object Class m = class_of m.header
-object Chain m = chain_of m ∷ []
-object Filter m =
-    key.Filter m.header.index (handle_number m.header.parent) (chain_number m.attributes.items) (handle_number m.header.handle) m.header.info ∷ []
+abbrev pub object : {A : Type 0} → List ℤ → Object → TcMessage A → List Key
+object ingress Qdisc m = key.Node m.header.index (handle_number m.header.handle) ∷ []
+object ingress Class m = class_of m.header
+object ingress Chain m = chain_of ingress m ∷ []
+object ingress Filter m =
+    key.Filter m.header.index (parent_of ingress m.header) (chain_number m.attributes.items) (handle_number m.header.handle) m.header.info ∷ []
 
 -- a class whose parent is a class needs it among the dumps: htb would put it at the root
 abbrev pub must : Object → TcHeader → List Key
@@ -150,6 +201,13 @@ must_not Chain h = if handle_number h.parent == 0xffff0000 then key.Clsact h.ind
 must_not kind h = []
 
 -- a chain without a template is made by its filters
-abbrev pub made_by : {A : Type 0} → Object → TcMessage A → List Key
-made_by Chain m = if has_kind m.attributes.items then [] else in_chain m ∷ []
-made_by kind m = []
+abbrev pub made_by : {A : Type 0} → List ℤ → Object → TcMessage A → List Key
+made_by ingress Chain m = if has_kind m.attributes.items then [] else in_chain ingress m ∷ []
+made_by ingress kind m = []
+
+-- filters of basic and bpf are kept and dumped newest first: those of one chain and priority go by a key of these, without a handle
+abbrev pub newest_first : {A : Type 0} → List ℤ → Object → TcMessage A → List Key
+newest_first ingress Filter m =
+    if is_of (codes "basic") m || is_of (codes "bpf") m
+    then key.Filter m.header.index (parent_of ingress m.header) (chain_number m.attributes.items) 0 m.header.info ∷ [] else []
+newest_first ingress kind m = []

@@ -1,13 +1,15 @@
 //! What a dump gives and wants, and what has to be so among others.
 
-ghost use Rattle.std.specs.Prelude.{◌≡◌, ◌∷◌, ◌++◌, ◌%◌, ◌==◌, if◌then◌else◌, [], not, bytes_eq, codes, string_bytes, IfOk};
+ghost use Rattle.std.specs.Prelude.{◌≡◌, ◌∷◌, ◌++◌, [], codes, IfOk, if◌then◌else◌};
 ghost use Rattle.std.specs.List.{flat_map, list_any};
 ghost use Rattle.std.specs.Option.{option_to_list};
+ghost use Rattle.std.specs.Ordering.{int_eq};
 ghost use Rattle.tc_records.specs.Header.{handle_number};
-ghost use Rattle.tc_plan.specs.Needs.{chain_number, block_of, gives, wants, parents, object, must, must_not, made_by, is_kind, is_clsact, has_kind, gives_actions, class_of, chain_of, in_chain};
+ghost use Rattle.tc_plan.specs.Needs.{chain_number, block_of, gives, wants, parents, object, must, must_not, made_by, is_kind, is_named, is_of, has_kind, gives_actions, class_of, chain_of, in_chain};
+ghost use Rattle.tc_plan.specs.Needs.{ingress_of, is_side, parent_of, table_by, table_of, in_table, link_of, links_in, options_of, newest_first};
 ghost use Rattle.tc_plan.specs.Needs.{name_of, action_by, standing_action, actions_in, standing_in, standing_objects};
 ghost use Rattle.tc_requests.specs.declared.restore_messages.Object.TheVariants as kinds;
-ghost use Rattle.tc_plan.specs.declared.key.Key.TheVariants.{Actions, Chain, Node, Tables};
+ghost use Rattle.tc_plan.specs.declared.key.Key.TheVariants.{Actions, Clsact, Node};
 
 use crate::fate::Fate;
 use crate::key::Key;
@@ -17,6 +19,7 @@ use tc_action_messages::{TcActionMessage, TcActionMessageAttribute};
 use tc_actions::TcAction;
 use tc_attributes::TcAttribute;
 use tc_messages::TcMessage;
+use tc_options::{TcFilterU32Option, TcOption};
 use tc_records::TcHeader;
 use tc_requests::{Object, kind_of_action, standing_index};
 
@@ -50,32 +53,34 @@ pub struct Entry<A: Allocator> {
     pub made_by: Option<Key>,
 }
 
-/// What a plan has to know of this dump; `place` is the caller's number of it.
+/// What a plan has to know of this dump; `place` is the caller's number of it, and `ingress` are the interfaces that have ingress, by
+/// `ingress_of` of all dumps.
 pub fn entry_of<A: Allocator + Copy>(
     alloc: A,
     place: usize,
     fate: Fate,
     kind: Object,
+    ingress: &[i32],
     dump: &TcMessage<A>,
 ) -> Result<Entry<A>, AllocError>
     ensures place { IfOk result (λ entry. entry.place ≡ place) }
     ensures fate { IfOk result (λ entry. entry.fate ≡ fate) }
-    ensures gives { IfOk result (λ entry. entry.gives.items ≡ gives kind dump.now) }
-    ensures wants { IfOk result (λ entry. entry.wants.items ≡ wants kind dump.now) }
-    ensures objects { IfOk result (λ entry. entry.objects.items ≡ object kind dump.now) }
+    ensures gives { IfOk result (λ entry. entry.gives.items ≡ gives ingress.now kind dump.now) }
+    ensures wants { IfOk result (λ entry. entry.wants.items ≡ wants ingress.now kind dump.now) }
+    ensures objects { IfOk result (λ entry. entry.objects.items ≡ object ingress.now kind dump.now) }
     ensures must { IfOk result (λ entry. option_to_list entry.must ≡ must kind dump.now.header) }
     ensures must_not { IfOk result (λ entry. option_to_list entry.must_not ≡ must_not kind dump.now.header) }
-    ensures made_by { IfOk result (λ entry. option_to_list entry.made_by ≡ made_by kind dump.now) }
+    ensures made_by { IfOk result (λ entry. option_to_list entry.made_by ≡ made_by ingress.now kind dump.now) }
 {
     Ok(Entry {
         place,
         fate,
-        gives: given(alloc, kind, dump)?,
-        wants: wanted(alloc, kind, dump)?,
-        objects: with(Vec::new(alloc), object_of(kind, dump))?,
+        gives: given(alloc, kind, ingress, dump)?,
+        wants: wanted(alloc, kind, ingress, dump)?,
+        objects: with(Vec::new(alloc), object_of(kind, ingress, dump))?,
         must: must_of(kind, &dump.header),
         must_not: must_not_of(kind, &dump.header),
-        made_by: made_by(kind, dump),
+        made_by: made_by(kind, ingress, dump),
     })
 }
 
@@ -163,7 +168,7 @@ fn action_by(kind: Option<[u8; 16]>, index: Option<u32>) -> Option<Key>
 }
 
 // A kind with zeros behind it. One of more bytes the kernel doesn't have (`IFNAMSIZ`).
-fn name_of(kind: &str) -> Option<[u8; 16]>
+pub(crate) fn name_of(kind: &str) -> Option<[u8; 16]>
     ensures { result ≡ name_of kind.now }
 {
     let bytes = kind.as_bytes();
@@ -176,16 +181,16 @@ fn name_of(kind: &str) -> Option<[u8; 16]>
 }
 
 // What a dump is.
-fn object_of<A: Allocator>(kind: Object, dump: &TcMessage<A>) -> Option<Key>
-    ensures { option_to_list result ≡ object kind dump.now }
+fn object_of<A: Allocator>(kind: Object, ingress: &[i32], dump: &TcMessage<A>) -> Option<Key>
+    ensures { option_to_list result ≡ object ingress.now kind dump.now }
 {
     match kind {
         Object::Qdisc => Some(node_of(&dump.header)),
         Object::Class => class_of(&dump.header),
-        Object::Chain => Some(chain_of(dump)),
+        Object::Chain => Some(chain_of(ingress, dump)),
         Object::Filter => Some(Key::Filter {
             index: dump.header.index,
-            parent: u32::from(dump.header.parent),
+            parent: parent_of(ingress, &dump.header),
             number: chain_number(&dump.attributes),
             handle: u32::from(dump.header.handle),
             info: dump.header.info,
@@ -233,15 +238,11 @@ fn must_not_of(kind: Object, header: &TcHeader) -> Option<Key>
 }
 
 // The filters of a chain without a template.
-fn made_by<A: Allocator>(kind: Object, dump: &TcMessage<A>) -> Option<Key>
-    ensures { option_to_list result ≡ made_by kind dump.now }
+fn made_by<A: Allocator>(kind: Object, ingress: &[i32], dump: &TcMessage<A>) -> Option<Key>
+    ensures { option_to_list result ≡ made_by ingress.now kind dump.now }
 {
     match kind {
-        Object::Chain if !has_kind(&dump.attributes) => Some(Key::InChain {
-            index: dump.header.index,
-            parent: u32::from(dump.header.parent),
-            number: chain_number(&dump.attributes),
-        }),
+        Object::Chain if !has_kind(&dump.attributes) => Some(in_chain(ingress, dump)),
         _ => None,
     }
 }
@@ -258,51 +259,105 @@ fn is_kind<A: Allocator>(attribute: &TcAttribute<A>) -> bool
     matches!(attribute, TcAttribute::Kind(_))
 }
 
-// True of the kind clsact.
-fn is_clsact<A: Allocator>(attribute: &TcAttribute<A>) -> bool
-    ensures { result ≡ is_clsact attribute.now }
+// True of this kind.
+fn is_named<A: Allocator>(attribute: &TcAttribute<A>, name: &str) -> bool
+    ensures { result ≡ is_named name.now attribute.now }
 {
     match attribute {
-        TcAttribute::Kind(kind) => kind.as_str() == "clsact",
+        TcAttribute::Kind(kind) => kind.as_str() == name,
         _ => false,
     }
 }
 
-fn has_clsact<A: Allocator>(attributes: &[TcAttribute<A>]) -> bool
-    ensures { result ≡ list_any is_clsact attributes.now }
+// True of a message of this kind.
+fn is_of<A: Allocator>(dump: &TcMessage<A>, name: &str) -> bool
+    ensures { result ≡ is_of name.now dump.now }
 {
-    attributes.iter().any(|attribute| is_clsact(attribute))
+    dump.attributes
+        .iter()
+        .any(|attribute| is_named(attribute, name))
 }
 
-// Keys, and this one if these are the attributes of that.
-fn clsact<A: Allocator>(
-    keys: Vec<Key, A>,
-    key: Key,
-    attributes: &[TcAttribute<A>],
-) -> Result<Vec<Key, A>, AllocError>
-    ensures { IfOk result (λ made. made.items
-        ≡ keys.items ++ (if list_any is_clsact attributes.now then key ∷ [] else [])) }
+/// The interface of an ingress qdisc: there a filter is dumped with the parent that was asked for last, `ffff:fff2`, `ffff:fff3` or
+/// `ffff:0`.
+pub fn ingress_of<A: Allocator>(kind: Object, dump: &TcMessage<A>) -> Option<i32>
+    ensures { result ≡ ingress_of kind dump.now }
 {
-    if has_clsact(attributes) {
-        let made = with(keys, Some(key))?;
-        Ok(made)
+    match kind {
+        Object::Qdisc if is_of(dump, "ingress") => Some(dump.header.index),
+        _ => None,
+    }
+}
+
+/// The filters among which one of basic or bpf is the newest that isn't dumped yet: those of its chain and its priority, by a key
+/// without a handle. The kernel puts a new one before the others, and packets come to the first that matches.
+pub fn newest_first<A: Allocator>(kind: Object, ingress: &[i32], dump: &TcMessage<A>) -> Option<Key>
+    ensures { option_to_list result ≡ newest_first ingress.now kind dump.now }
+{
+    match kind {
+        Object::Filter if is_of(dump, "basic") || is_of(dump, "bpf") => Some(Key::Filter {
+            index: dump.header.index,
+            parent: parent_of(ingress, &dump.header),
+            number: chain_number(&dump.attributes),
+            handle: 0,
+            info: dump.header.info,
+        }),
+        _ => None,
+    }
+}
+
+// True of the parents by which filters and chains of ingress are dumped.
+fn is_side(parent: u32) -> bool
+    ensures { result ≡ is_side parent }
+{
+    parent == 0xFFFF_FFF2 || parent == 0xFFFF_FFF3 || parent == 0xFFFF_0000
+}
+
+// True of an interface that has ingress.
+fn has_ingress(ingress: &[i32], index: i32) -> bool
+    ensures { result ≡ list_any (int_eq index) ingress.now }
+{
+    ingress.iter().any(|known| index == *known)
+}
+
+// The parent of a filter or a chain, one where the interface has ingress.
+fn parent_of(ingress: &[i32], header: &TcHeader) -> u32
+    ensures { result ≡ parent_of ingress.now header.now }
+{
+    let parent = u32::from(header.parent);
+    if has_ingress(ingress, header.index) && is_side(parent) {
+        0xFFFF_FFF2
     } else {
-        Ok(keys)
+        parent
+    }
+}
+
+// Clsact, if it is that.
+fn clsact_of<A: Allocator>(dump: &TcMessage<A>) -> Option<Key>
+    ensures { option_to_list result ≡ (if is_of (codes "clsact") dump.now then Clsact dump.now.header.index ∷ [] else []) }
+{
+    if is_of(dump, "clsact") {
+        Some(Key::Clsact {
+            index: dump.header.index,
+        })
+    } else {
+        None
     }
 }
 
 fn given<A: Allocator + Copy>(
     alloc: A,
     kind: Object,
+    ingress: &[i32],
     dump: &TcMessage<A>,
 ) -> Result<Vec<Key, A>, AllocError>
-    ensures { IfOk result (λ keys. keys.items ≡ gives kind dump.now) }
+    ensures { IfOk result (λ keys. keys.items ≡ gives ingress.now kind dump.now) }
 {
     match kind {
         Object::Qdisc => given_by_qdisc(alloc, dump),
         Object::Class => given_by_class(alloc, dump),
-        Object::Chain => given_by_chain(alloc, dump),
-        Object::Filter => given_by_filter(alloc, dump),
+        Object::Chain => given_by_chain(alloc, ingress, dump),
+        Object::Filter => given_by_filter(alloc, ingress, dump),
     }
 }
 
@@ -310,11 +365,10 @@ fn given_by_qdisc<A: Allocator + Copy>(
     alloc: A,
     dump: &TcMessage<A>,
 ) -> Result<Vec<Key, A>, AllocError>
-    ensures { IfOk result (λ keys. keys.items ≡ gives kinds.Qdisc dump.now) }
+    ensures { IfOk result (λ keys. keys.items ≡ gives [] kinds.Qdisc dump.now) }
 {
-    let index = dump.header.index;
     let keys = one(alloc, node_of(&dump.header))?;
-    let keys = clsact(keys, Key::Clsact { index }, &dump.attributes)?;
+    let keys = with(keys, clsact_of(dump))?;
     let keys = blocks(keys, &dump.attributes)?;
     Ok(keys)
 }
@@ -323,7 +377,7 @@ fn given_by_class<A: Allocator + Copy>(
     alloc: A,
     dump: &TcMessage<A>,
 ) -> Result<Vec<Key, A>, AllocError>
-    ensures { IfOk result (λ keys. keys.items ≡ gives kinds.Class dump.now) }
+    ensures { IfOk result (λ keys. keys.items ≡ gives [] kinds.Class dump.now) }
 {
     let keys = with(Vec::new(alloc), class_of(&dump.header))?;
     Ok(keys)
@@ -331,24 +385,24 @@ fn given_by_class<A: Allocator + Copy>(
 
 fn given_by_chain<A: Allocator + Copy>(
     alloc: A,
+    ingress: &[i32],
     dump: &TcMessage<A>,
 ) -> Result<Vec<Key, A>, AllocError>
-    ensures { IfOk result (λ keys. keys.items ≡ gives kinds.Chain dump.now) }
+    ensures { IfOk result (λ keys. keys.items ≡ gives ingress.now kinds.Chain dump.now) }
 {
-    let keys = one(alloc, chain_of(dump))?;
+    let keys = one(alloc, chain_of(ingress, dump))?;
     Ok(keys)
 }
 
 fn given_by_filter<A: Allocator + Copy>(
     alloc: A,
+    ingress: &[i32],
     dump: &TcMessage<A>,
 ) -> Result<Vec<Key, A>, AllocError>
-    ensures { IfOk result (λ keys. keys.items ≡ gives kinds.Filter dump.now) }
+    ensures { IfOk result (λ keys. keys.items ≡ gives ingress.now kinds.Filter dump.now) }
 {
-    let mut keys = one(alloc, in_chain(dump))?;
-    if u32::from(dump.header.handle) % 0x10_0000 == 0 {
-        keys.push(tables_of(&dump.header))?;
-    }
+    let keys = one(alloc, in_chain(ingress, dump))?;
+    let keys = with(keys, table_of(ingress, dump))?;
     Ok(keys)
 }
 
@@ -361,32 +415,109 @@ fn node_of(header: &TcHeader) -> Key
     }
 }
 
-fn tables_of(header: &TcHeader) -> Key
-    ensures { result ≡ Tables header.now.index (handle_number header.now.parent) }
-{
-    Key::Tables {
-        index: header.index,
-        parent: u32::from(header.parent),
-    }
-}
-
-fn chain_of<A: Allocator>(dump: &TcMessage<A>) -> Key
-    ensures { result ≡ chain_of dump.now }
+fn chain_of<A: Allocator>(ingress: &[i32], dump: &TcMessage<A>) -> Key
+    ensures { result ≡ chain_of ingress.now dump.now }
 {
     Key::Chain {
         index: dump.header.index,
-        parent: u32::from(dump.header.parent),
+        parent: parent_of(ingress, &dump.header),
         number: chain_number(&dump.attributes),
     }
 }
 
-fn in_chain<A: Allocator>(dump: &TcMessage<A>) -> Key
-    ensures { result ≡ in_chain dump.now }
+fn in_chain<A: Allocator>(ingress: &[i32], dump: &TcMessage<A>) -> Key
+    ensures { result ≡ in_chain ingress.now dump.now }
 {
     Key::InChain {
         index: dump.header.index,
-        parent: u32::from(dump.header.parent),
+        parent: parent_of(ingress, &dump.header),
         number: chain_number(&dump.attributes),
+    }
+}
+
+// The hash table of a handle of u32.
+fn table_by(ingress: &[i32], header: &TcHeader, handle: u32) -> Key
+    ensures { result ≡ table_by ingress.now header.now handle }
+{
+    Key::Table {
+        index: header.index,
+        parent: parent_of(ingress, header),
+        number: handle / 0x10_0000,
+    }
+}
+
+// The hash table that a dump shows.
+fn table_of<A: Allocator>(ingress: &[i32], dump: &TcMessage<A>) -> Option<Key>
+    ensures { option_to_list result ≡ table_of ingress.now dump.now }
+{
+    let handle = u32::from(dump.header.handle);
+    if handle != 0 && handle % 0x10_0000 == 0 && is_of(dump, "u32") {
+        Some(table_by(ingress, &dump.header, handle))
+    } else {
+        None
+    }
+}
+
+// The hash table that a key is in.
+fn in_table<A: Allocator>(ingress: &[i32], dump: &TcMessage<A>) -> Option<Key>
+    ensures { option_to_list result ≡ in_table ingress.now dump.now }
+{
+    let handle = u32::from(dump.header.handle);
+    if handle % 0x10_0000 != 0 && is_of(dump, "u32") {
+        Some(table_by(ingress, &dump.header, handle))
+    } else {
+        None
+    }
+}
+
+// Keys, and the hash tables that these options link to.
+fn with_links<A: Allocator>(
+    keys: Vec<Key, A>,
+    ingress: &[i32],
+    header: &TcHeader,
+    options: &[TcOption<A>],
+) -> Result<Vec<Key, A>, AllocError>
+    ensures { IfOk result (λ made. made.items ≡ keys.items ++ flat_map (link_of ingress.now header.now) options.now) }
+{
+    let mut made = keys;
+    for option in options {
+        made = with(made, link_of(ingress, header, option))?;
+    }
+    Ok(made)
+}
+
+// The same of attributes.
+fn with_all_links<A: Allocator>(
+    keys: Vec<Key, A>,
+    ingress: &[i32],
+    header: &TcHeader,
+    attributes: &[TcAttribute<A>],
+) -> Result<Vec<Key, A>, AllocError>
+    ensures { IfOk result (λ made. made.items ≡ keys.items ++ flat_map (links_in ingress.now header.now) attributes.now) }
+{
+    let mut made = keys;
+    for attribute in attributes {
+        made = with_links(made, ingress, header, options_of(attribute))?;
+    }
+    Ok(made)
+}
+
+pub(crate) fn options_of<A: Allocator>(attribute: &TcAttribute<A>) -> &[TcOption<A>]
+    ensures { result.now ≡ options_of attribute.now }
+{
+    match attribute {
+        TcAttribute::Options(options) => options,
+        _ => &[],
+    }
+}
+
+// The hash table that an option links to.
+fn link_of<A: Allocator>(ingress: &[i32], header: &TcHeader, option: &TcOption<A>) -> Option<Key>
+    ensures { option_to_list result ≡ link_of ingress.now header.now option.now }
+{
+    match option {
+        TcOption::U32(TcFilterU32Option::Link(handle)) => Some(table_by(ingress, header, *handle)),
+        _ => None,
     }
 }
 
@@ -413,7 +544,10 @@ fn blocks<A: Allocator>(
 }
 
 // Keys, and one more if there is one.
-fn with<A: Allocator>(keys: Vec<Key, A>, key: Option<Key>) -> Result<Vec<Key, A>, AllocError>
+pub(crate) fn with<A: Allocator>(
+    keys: Vec<Key, A>,
+    key: Option<Key>,
+) -> Result<Vec<Key, A>, AllocError>
     ensures { IfOk result (λ made. made.items ≡ keys.items ++ option_to_list key) }
 {
     let mut made = keys;
@@ -456,9 +590,10 @@ fn chain_number<A: Allocator>(attributes: &[TcAttribute<A>]) -> u32
 fn wanted<A: Allocator + Copy>(
     alloc: A,
     kind: Object,
+    ingress: &[i32],
     dump: &TcMessage<A>,
 ) -> Result<Vec<Key, A>, AllocError>
-    ensures { IfOk result (λ keys. keys.items ≡ wants kind dump.now) }
+    ensures { IfOk result (λ keys. keys.items ≡ wants ingress.now kind dump.now) }
 {
     let header = &dump.header;
     let mut keys = parents(alloc, header)?;
@@ -471,36 +606,26 @@ fn wanted<A: Allocator + Copy>(
             })?;
             Ok(keys)
         }
-        Object::Filter => wanted_by_filter(keys, header, chain_number(&dump.attributes)),
+        Object::Filter => wanted_by_filter(keys, ingress, dump),
     }
 }
 
-// What a filter wants beside its parents: actions, its chain, and hash tables if it isn't one.
+// What a filter wants beside its parents: actions, its chain, and the hash tables that it is in or links to.
 fn wanted_by_filter<A: Allocator>(
     keys: Vec<Key, A>,
-    header: &TcHeader,
-    number: u32,
+    ingress: &[i32],
+    dump: &TcMessage<A>,
 ) -> Result<Vec<Key, A>, AllocError>
     ensures { IfOk result (λ made. made.items
-        ≡ (keys.items ++ Actions
-        ∷ Chain header.now.index (handle_number header.now.parent) number ∷ [])
-        ++ (if handle_number header.now.handle % 0x100000 == 0
-        then [] else Tables header.now.index (handle_number header.now.parent) ∷ [])) }
+        ≡ ((keys.items ++ Actions ∷ chain_of ingress.now dump.now ∷ []) ++ in_table ingress.now dump.now)
+        ++ flat_map (links_in ingress.now dump.now.header) dump.now.attributes.items) }
 {
-    let index = header.index;
-    let parent = u32::from(header.parent);
     let mut made = keys;
     made.push(Key::Actions)?;
-    made.push(Key::Chain {
-        index,
-        parent,
-        number,
-    })?;
-    if u32::from(header.handle) % 0x10_0000 == 0 {
-        Ok(made)
-    } else {
-        with(made, Some(Key::Tables { index, parent }))
-    }
+    made.push(chain_of(ingress, dump))?;
+    let made = with(made, in_table(ingress, dump))?;
+    let made = with_all_links(made, ingress, &dump.header, &dump.attributes)?;
+    Ok(made)
 }
 
 // The interface of what is in a block that interfaces share: `TCM_IFINDEX_MAGIC_BLOCK`.

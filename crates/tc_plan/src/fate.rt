@@ -3,6 +3,7 @@
 ghost use Rattle.std.specs.Prelude.{◌≡◌};
 ghost use Rattle.tc_plan.specs.Fates.{is_refused};
 
+use std::fmt;
 use tc_requests::RestoreError;
 use thiserror::Error;
 
@@ -13,6 +14,10 @@ pub enum Fate {
     Request,
     /// Another request makes it, or the kernel by itself.
     Made,
+    /// It is there already, as the request would make it.
+    There,
+    /// It is there, and a request with `NLM_F_REPLACE` changes it.
+    Change,
     /// It can't be made.
     Refused(Reason),
 }
@@ -24,8 +29,28 @@ impl Fate {
     {
         match self {
             Fate::Refused(_) => true,
-            Fate::Request | Fate::Made => false,
+            Fate::Request | Fate::Made | Fate::There | Fate::Change => false,
         }
+    }
+}
+
+/// The kind and the index of an action.
+#[derive(Clone, Copy, Drop, PartialEq, Eq, Debug)]
+pub struct Named {
+    /// The kind, with zeros behind it.
+    pub kind: [u8; 16],
+    /// The number among those of its kind.
+    pub index: u32,
+}
+
+impl fmt::Display for Named {
+    fn fmt<W: fmt::Write>(&self, f: &mut fmt::Formatter<W>) -> fmt::Result {
+        for c in self.kind {
+            if c.is_ascii_graphic() {
+                f.write_char(char::from(c))?;
+            }
+        }
+        write!(f, " {}", self.index)
     }
 }
 
@@ -43,6 +68,10 @@ pub enum Reason {
     /// A class whose parent, a class, isn't dumped: htb would put it at the root.
     #[error("the parent class is missing")]
     NoParent,
+
+    /// An action that is there is another one, and filters of other interfaces hold it.
+    #[error("the action {0} is there and differs, and others hold it")]
+    Held(Named),
 
     /// Its parent is ffff:0 under clsact, which has two sides: `ffff:fff2` (ingress) and `ffff:fff3` (egress).
     #[error("the parent ffff: doesn't say which side of clsact")]

@@ -38,10 +38,11 @@ pub enum Key {
         parent: u32,
         number: u32,
     },
-    /// The hash tables of u32 under this parent.
-    Tables {
+    /// A hash table of u32 under this parent, by the number in the upper 12 bits of its handle.
+    Table {
         index: i32,
         parent: u32,
+        number: u32,
     },
     /// A filter of a chain, by the numbers of its header: its handle, its priority and its protocol.
     Filter {

@@ -2,9 +2,13 @@
 //! each dump.
 //!
 //! ```
+//! let mut ingress = Vec::new(alloc);
+//! for (object, dump) in &dumps {
+//!     ingress.extend(ingress_of(*object, dump))?;
+//! }
 //! let mut entries = Vec::new(alloc);
 //! for (place, (object, dump)) in dumps.iter().enumerate() {
-//!     entries.push(entry_of(alloc, place, Fate::Request, *object, dump)?)?;
+//!     entries.push(entry_of(alloc, place, Fate::Request, *object, &ingress, dump)?)?;
 //! }
 //! let plan = plan(alloc, entries)?;
 //! for step in &plan.order {
@@ -21,10 +25,12 @@ pub mod entry;
 pub mod fate;
 pub mod key;
 mod keys;
+pub mod now;
 pub mod planned;
 
-pub use entry::{Entry, Item, entry_of, entry_of_actions};
-pub use fate::{Fate, Reason};
+pub use entry::{Entry, Item, entry_of, entry_of_actions, ingress_of, newest_first};
+pub use fate::{Fate, Named, Reason};
 pub use key::Key;
+pub use now::{Action, Now, fate_of_action, held_by, name_of_action};
 pub use planned::{circle, plan};
 pub use tc_order::{Order, Step, ordered};

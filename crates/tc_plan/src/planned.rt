@@ -208,6 +208,13 @@ fn fate_among<A: Allocator>(
                 Fate::Request
             }
         }
+        Fate::Change => {
+            if is_again(before, own) {
+                again(own)
+            } else {
+                Fate::Change
+            }
+        }
         fate => fate,
     }
 }

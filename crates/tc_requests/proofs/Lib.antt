@@ -4,3 +4,6 @@ mod Placing
 mod Naming
 mod Settling
 mod Steps
+mod Trees
+mod Anys
+mod Again

@@ -6,8 +6,13 @@ pub mod Numbers
 pub mod CodelTimes
 pub mod Restoring
 pub mod RestoredRaw
+pub mod Uses
 pub mod RestoredActions
+pub mod RestoredTrees
+pub mod RestoredFilters
 pub mod RestoredOptions
 pub mod Standing
 pub mod RestoredMessages
+pub mod RootTables
+pub mod Notices
 pub mod RequestOf

@@ -1,14 +1,19 @@
 -- What a request has that restores a dump, and why there is none.
-use Rattle.std.specs.Prelude.{◌≡◌, ℕ, ◌%◌, Bool, false, not, List, ◌==◌, ◌&&◌, ◌||◌, nat_le, codes, bytes_eq, Ok, Err, if◌then◌else◌}
+use Rattle.std.specs.Prelude.{◌≡◌, ℕ, Bool, true, false, not, List, ◌==◌, ◌&&◌, ◌||◌, codes, bytes_eq, Ok, Err, if◌then◌else◌}
 use Rattle.tc_meaning.specs.Message.{Message}
 use Rattle.tc_records.specs.Header.{handle_number}
 use Rattle.tc_messages.specs.declared.message.TcMessage.{TcMessage}
+use Rattle.tc_options.specs.declared.options.TcOption.{TcOption}
+use Rattle.tc_options.specs.declared.options.TcOption.TheVariants.{Flower}
+use Rattle.tc_flower.specs.declared.filters.flower.options.TcFilterFlowerOption.TheVariants as flower
 use Rattle.tc_requests.specs.declared.restore_error.RestoreError.{RestoreError}
-use Rattle.tc_requests.specs.declared.restore_error.RestoreError.TheVariants.{OutOfMemory, MadeByKernel, NotSettled}
+use Rattle.tc_requests.specs.declared.restore_error.RestoreError.TheVariants.{OutOfMemory, MadeByKernel, Terse, RootTables, LinkToRoot, NotSettled}
 use Rattle.tc_requests.specs.declared.restore_messages.Object.{Object}
 use Rattle.tc_requests.specs.declared.restore_messages.Object.TheVariants.{Qdisc, Class, Filter, Chain}
 use Rattle.tc_requests.specs.Restoring.{Restored}
 use Rattle.tc_requests.specs.RestoredMessages.{kind_of_message, tc_restored}
+use Rattle.tc_requests.specs.declared.root_tables.RootTable.{RootTable}
+use Rattle.tc_requests.specs.RootTables.{any_option, is_root, is_in_root, has_two_roots, links_to_root}
 
 -- `RTM_NEWQDISC`, `RTM_NEWTCLASS`, `RTM_NEWTFILTER`, `RTM_NEWCHAIN`
 abbrev pub new_type : Object → ℕ
@@ -32,14 +37,26 @@ has_own_classes kind =
 abbrev pub is_made : {A : Type 0} → Object → TcMessage A → Bool
 is_made Qdisc m = handle_number m.header.handle == 0
 is_made Class m = (m.header.handle.minor == 0) || not (has_own_classes (kind_of_message m))
-is_made Filter m =
-    (handle_number m.header.handle == 0)
-    || (nat_le 0x80000000 (handle_number m.header.handle) && (handle_number m.header.handle % 0x100000 == 0) && bytes_eq (kind_of_message m) (codes "u32"))
-is_made object m = false
+is_made Filter m = (handle_number m.header.handle == 0) || is_root Filter m
+is_made Chain m = false
 
--- what a dump becomes that the kernel doesn't make by itself
-abbrev pub request_restored : {A : Type 0} → Object → TcMessage A → Restored Message
-request_restored object m = if is_made object m then Err MadeByKernel else tc_restored m
+-- a flower filter of a terse dump lacks its count of hardware, and its keys
+unfoldable pub is_count : {A : Type 0} → TcOption A → Bool
+is_count (Flower (flower.InHwCount n)) = true
+is_count x = false
+
+abbrev pub is_terse : {A : Type 0} → Object → TcMessage A → Bool
+is_terse Filter m = bytes_eq (kind_of_message m) (codes "flower") && not (any_option is_count m)
+is_terse object m = false
+
+-- what a dump becomes that the kernel doesn't make by itself, among dumps that show these root tables
+abbrev pub request_restored : {A : Type 0} → List RootTable → Object → TcMessage A → Restored Message
+request_restored roots object m =
+    if has_two_roots roots object m then Err RootTables
+    else if is_made object m then Err MadeByKernel
+    else if is_terse object m then Err Terse
+    else if links_to_root roots object m then Err LinkToRoot
+    else tc_restored (is_in_root roots object m) m
 
 -- why there is no request: what the dump becomes isn't settled, or the dump can't be restored
 abbrev pub RefusedBy : (Message → Type 0) → Restored Message → RestoreError → Type 0

@@ -7,7 +7,8 @@ use Rattle.nla_frames.specs.declared.default_nla.DefaultNla.{DefaultNla}
 use Rattle.nla_frames.specs.Frame.{Frame, type_of}
 use Rattle.nla_frames.specs.Place.{kinds_set}
 use Rattle.tc_meaning.specs.Own.{kind_of_attribute}
-use Rattle.tc_meaning.specs.Tree.{Attribute, known, other, items, attributes_of}
+use Rattle.tc_meaning.specs.Tree.{Attribute, known, other, items, attributes_of, of_kind, record_of}
+use Rattle.tc_records.specs.Actions.{mirror_scalars, nat_scalars, tunnel_key_scalars}
 use Rattle.tc_stats.specs.declared.stats2.TcStats2.{TcStats2}
 use Rattle.tc_stats.specs.declared.stats2.TcStats2.TheVariants as stats2
 use Rattle.tc_action_options.specs.ActionOption.{action_option}
@@ -20,8 +21,9 @@ use Rattle.tc_action_options.specs.declared.option.TcActionOption.TheVariants.{M
 use Rattle.tc_action_options.specs.declared.mirror.TcActionMirrorOption.TheVariants as mirror
 use Rattle.tc_action_options.specs.declared.nat.TcActionNatOption.TheVariants as nat
 use Rattle.tc_action_options.specs.declared.tunnel_key.TcActionTunnelKeyOption.TheVariants as tunnel_key
-use Rattle.tc_requests.specs.declared.restore_error.RestoreError.TheVariants.{TooManyActions, ProgramByNumber, Estimator}
+use Rattle.tc_requests.specs.declared.restore_error.RestoreError.TheVariants.{TooManyActions, Terse, ProgramByNumber, Estimator}
 use Rattle.tc_requests.specs.Numbers.{number_at, with_number}
+use Rattle.tc_requests.specs.Uses.{parameters, mirror_restored, nat_restored, tunnel_key_restored, record_restored}
 use Rattle.tc_requests.specs.Restoring.{Restored, ◌>>=◌, stays, left_out, each, behind, sole_kind}
 use Rattle.tc_requests.specs.RestoredRaw.{with_value}
 
@@ -85,8 +87,15 @@ with_cell_log at bytes =
     if not (number_at (at + 8) bytes == 0) && (number_at at bytes % 0x100 == 0) then with_number at (number_at at bytes + 3) bytes else bytes
 
 -- the record of police (`TCA_POLICE_TBF`, 1): the rate is at byte 20, the peak rate at byte 32
-abbrev pub police_restored : List ℕ → List ℕ
-police_restored bytes = if nat_le 56 (length bytes) then with_cell_log 32 (with_cell_log 20 bytes) else bytes
+abbrev pub with_cell_logs : List ℕ → List ℕ
+with_cell_logs bytes = with_cell_log 32 (with_cell_log 20 bytes)
+
+-- the parameters of an action; in police's the counts are at bytes 44 and 48
+abbrev pub parameters_restored : List ℕ → List ℕ → List ℕ
+parameters_restored kind bytes =
+    if bytes_eq kind (codes "police") then (if nat_le 56 (length bytes) then record_restored 4 44 48 (with_cell_logs bytes) else bytes)
+    else if nat_le 20 (length bytes) then record_restored 8 12 16 bytes
+    else bytes
 
 -- it has a rate, whose number is at this byte
 abbrev pub has_rate : {A : Type 0} → ℕ → TcActionOption A → Bool
@@ -116,10 +125,13 @@ rate_tables kind options = if bytes_eq kind (codes "police") then police_tables 
 abbrev pub raw_option_restored : List ℕ → Frame → Restored Frame
 raw_option_restored kind f =
     if bytes_eq kind (codes "bpf") && (type_of f.word == 9) then Err ProgramByNumber
-    else if bytes_eq kind (codes "police") && (type_of f.word == 1) then Ok (with_value f (police_restored f.value))
+    else if list_any (λ n. n == type_of f.word) (parameters kind) then Ok (with_value f (parameters_restored kind f.value))
     else Ok f
 
 abbrev pub option_kept : {A : Type 0} → List ℕ → TcActionOption A → Restored (Option Attribute)
+option_kept kind (Mirror (mirror.Parms p)) = stays (of_kind (codes "mirred") (known 2 (record_of (mirror_scalars (mirror_restored p)))))
+option_kept kind (Nat (nat.Parms p)) = stays (of_kind (codes "nat") (known 1 (record_of (nat_scalars (nat_restored p)))))
+option_kept kind (TunnelKey (tunnel_key.Parms p)) = stays (of_kind (codes "tunnel_key") (known 2 (record_of (tunnel_key_scalars (tunnel_key_restored p)))))
 option_kept kind (Other nla) = raw_option_restored kind (kept_frame nla) >>= λ f. stays (other f.word f.value)
 option_kept kind x = stays (action_option x)
 
@@ -148,9 +160,15 @@ attribute_restored kind n x = stays (action_attribute x)
 abbrev pub kind_of_action : {A : Type 0} → List (TcActionAttribute A) → List ℕ
 kind_of_action attributes = sole_kind (kinds_set (λ x. kind_of_attribute (action_attribute x)) attributes)
 
+-- an action of a terse dump lacks its options
+abbrev pub has_options : {A : Type 0} → TcActionAttribute A → Bool
+has_options (attribute.Options options) = true
+has_options x = false
+
 -- an action has its place for its type, at most 32, since the kernel ignores those after it
 abbrev pub action_restored : {A : Type 0} → ℕ → TcAction A → Restored (Option Attribute)
 action_restored n action =
     if nat_lt 32 n then Err TooManyActions
+    else if not (list_any has_options action.attributes.items) then Err Terse
     else each (attribute_restored (kind_of_action action.attributes.items)) 1 action.attributes.items
     >>= λ xs. stays (known n (items (attributes_of xs)))

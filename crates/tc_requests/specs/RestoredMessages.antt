@@ -1,5 +1,5 @@
 -- What becomes of attributes and messages.
-use Rattle.std.specs.Prelude.{ℕ, Bool, List, [], ◌∷◌, ◌&&◌}
+use Rattle.std.specs.Prelude.{ℕ, Bool, true, false, List, [], ◌∷◌, ◌&&◌}
 use Rattle.std.specs.Prelude.{nat_lt, length, ◌+◌, slice_index, ◌==◌, Option, Ok, Err, if◌then◌else◌}
 use Rattle.std.specs.List.{list_any}
 use Rattle.nla_frames.specs.DefaultNla.{kept_frame}
@@ -7,7 +7,9 @@ use Rattle.nla_frames.specs.Place.{kinds_set}
 use Rattle.tc_meaning.specs.Own.{kind_of_attribute}
 use Rattle.tc_meaning.specs.Tree.{Attribute, known, kept, is_bytes, items, attributes_of}
 use Rattle.tc_meaning.specs.Message.{Message}
-use Rattle.tc_records.specs.Header.{header_scalars}
+use Rattle.tc_records.specs.Header.{handle_of, handle_number, header_scalars}
+use Rattle.tc_records.specs.declared.header.TcHandle.{TcHandle}
+use Rattle.tc_records.specs.declared.header.TcHeader.{TcHeader}
 use Rattle.tc_records.specs.Actions.{action_message_header_scalars}
 use Rattle.tc_attributes.specs.Attribute.{tc_attribute}
 use Rattle.tc_attributes.specs.declared.attribute.TcAttribute.{TcAttribute}
@@ -18,10 +20,11 @@ use Rattle.tc_action_messages.specs.declared.attribute.TcActionMessageAttribute.
 use Rattle.tc_action_messages.specs.declared.attribute.TcActionMessageAttribute.TheVariants as action_attribute
 use Rattle.tc_action_messages.specs.declared.message.TcActionMessage.{TcActionMessage}
 use Rattle.tc_requests.specs.declared.restore_error.RestoreError.TheVariants.{SizeTable, NothingLeft, Estimator}
+use Rattle.tc_requests.specs.declared.restore.Around.{Around}
 use Rattle.tc_requests.specs.Restoring.{Restored, ◌>>=◌, stays, left_out, each, sole_kind}
 use Rattle.tc_requests.specs.RestoredActions.{estimates, is_of}
-use Rattle.tc_requests.specs.RestoredRaw.{raw_restored}
-use Rattle.tc_requests.specs.RestoredOptions.{options_restored}
+use Rattle.tc_requests.specs.RestoredFilters.{kept_restored}
+use Rattle.tc_requests.specs.RestoredOptions.{within_table, options_restored}
 use Rattle.tc_requests.specs.Standing.{standing_restored}
 
 -- a size table is dumped as its parameters alone, 28 bytes, the last four of them the table's size
@@ -29,18 +32,18 @@ abbrev pub lacks_table : List ℕ → Bool
 lacks_table bytes = (length bytes == 28) && nat_lt 0 (slice_index bytes 24 + slice_index bytes 25 + slice_index bytes 26 + slice_index bytes 27)
 
 -- statistics are left out, and what else only the kernel writes: a count, an offload, padding (9) and a warning (16)
-abbrev pub attribute_restored : {A : Type 0} → List ℕ → ℕ → ℕ → TcAttribute A → Restored (Option Attribute)
-attribute_restored kind info n (attribute.Options options) =
-    options_restored kind info options.items >>= λ xs. stays (known 2 (items (attributes_of xs)))
-attribute_restored kind info n (attribute.OptionsRaw nla) = raw_restored kind (kept_frame nla) >>= λ f. stays (kept 2 f.word f.value)
-attribute_restored kind info n (attribute.Stats stats) = left_out
-attribute_restored kind info n (attribute.Xstats xstats) = left_out
-attribute_restored kind info n (attribute.Fcnt bytes) = left_out
-attribute_restored kind info n (attribute.Stats2 stats) = if list_any estimates stats.items then Err Estimator else left_out
-attribute_restored kind info n (attribute.HwOffload offload) = left_out
-attribute_restored kind info n (attribute.Stab bytes) = if lacks_table bytes.items then Err SizeTable else stays (known 8 (is_bytes bytes.items))
-attribute_restored kind info n (attribute.Other nla) = if is_of (9 ∷ 16 ∷ []) nla then left_out else stays (tc_attribute (attribute.Other nla))
-attribute_restored kind info n x = stays (tc_attribute x)
+abbrev pub attribute_restored : {A : Type 0} → List ℕ → Around → ℕ → TcAttribute A → Restored (Option Attribute)
+attribute_restored kind around n (attribute.Options options) =
+    options_restored kind around options.items >>= λ xs. stays (known 2 (items (attributes_of xs)))
+attribute_restored kind around n (attribute.OptionsRaw nla) = kept_restored kind (kept_frame nla) >>= λ f. stays (kept 2 f.word f.value)
+attribute_restored kind around n (attribute.Stats stats) = left_out
+attribute_restored kind around n (attribute.Xstats xstats) = left_out
+attribute_restored kind around n (attribute.Fcnt bytes) = left_out
+attribute_restored kind around n (attribute.Stats2 stats) = if list_any estimates stats.items then Err Estimator else left_out
+attribute_restored kind around n (attribute.HwOffload offload) = left_out
+attribute_restored kind around n (attribute.Stab bytes) = if lacks_table bytes.items then Err SizeTable else stays (known 8 (is_bytes bytes.items))
+attribute_restored kind around n (attribute.Other nla) = if is_of (9 ∷ 16 ∷ []) nla then left_out else stays (tc_attribute (attribute.Other nla))
+attribute_restored kind around n x = stays (tc_attribute x)
 
 -- something has to be left
 abbrev pub some_left : List Attribute → Restored (List Attribute)
@@ -51,10 +54,21 @@ some_left xs = Ok xs
 abbrev pub kind_of_message : {A : Type 0} → TcMessage A → List ℕ
 kind_of_message m = sole_kind (kinds_set (λ x. kind_of_attribute (tc_attribute x)) m.attributes.items)
 
--- the header stays as it is
-abbrev pub tc_restored : {A : Type 0} → TcMessage A → Restored Message
-tc_restored m =
-    each (attribute_restored (kind_of_message m) m.header.info) 1 m.attributes.items >>= some_left >>= λ body. Ok (record { header = header_scalars m.header; body = body })
+-- the header stays as it is, but that a u32 filter in the root table of its priority has a handle without the table's number
+abbrev pub handle_restored : Bool → TcHandle → TcHandle
+handle_restored true h = handle_of (within_table (handle_number h))
+handle_restored false h = h
+
+abbrev pub header_restored : Bool → TcHeader → TcHeader
+header_restored in_root h = record { family = h.family; index = h.index; handle = handle_restored in_root h.handle; parent = h.parent; info = h.info }
+
+abbrev pub around_of : Bool → TcHeader → Around
+around_of in_root h = record { info = h.info; in_root = in_root }
+
+abbrev pub tc_restored : {A : Type 0} → Bool → TcMessage A → Restored Message
+tc_restored in_root m =
+    each (attribute_restored (kind_of_message m) (around_of in_root m.header)) 1 m.attributes.items
+    >>= some_left >>= λ body. Ok (record { header = header_scalars (header_restored in_root m.header); body = body })
 
 -- actions that stand by themselves are restored; the number of them and a warning are left out
 abbrev pub action_attribute_restored : {A : Type 0} → ℕ → TcActionMessageAttribute A → Restored (Option Attribute)

@@ -1,7 +1,7 @@
 -- What becomes of options.
-use Rattle.std.specs.Prelude.{ℕ, Bool, true, false, ◌==◌, ◌||◌, List, [], ◌∷◌, codes, bytes_eq, bit_and, Option, Err, if◌then◌else◌}
-use Rattle.tc_meaning.specs.Tree.{Attribute, known, number, items, attributes_of, of_kind}
-use Rattle.tc_requests.specs.declared.restore_error.RestoreError.TheVariants.{ProgramByNumber, RawActions, PoliceOfFilter}
+use Rattle.std.specs.Prelude.{ℕ, ◌%◌, Bool, true, false, ◌==◌, ◌||◌, List, [], ◌∷◌, codes, bytes_eq, bit_and, Option, Err, if◌then◌else◌}
+use Rattle.tc_meaning.specs.Tree.{Attribute, known, other, number, items, attributes_of, of_kind}
+use Rattle.tc_requests.specs.declared.restore_error.RestoreError.TheVariants.{ProgramByNumber, PoliceOfFilter}
 use Rattle.tc_records.specs.FilterFlags.{option_flags_word}
 use Rattle.tc_qdiscs.specs.FqCodel.{fq_codel_option}
 use Rattle.tc_qdiscs.specs.declared.qdiscs.fq_codel.TcQdiscFqCodelOption.{TcQdiscFqCodelOption}
@@ -23,9 +23,12 @@ use Rattle.tc_options.specs.declared.options.TcOption.{TcOption}
 use Rattle.tc_options.specs.declared.options.TcOption.TheVariants.{FqCodel, Flower, U32, MatchAll, Bpf}
 use Rattle.tc_actions.specs.declared.actions.action.TcAction.{TcAction}
 use Rattle.tc_texts.specs.Info.{protocol_of}
+use Rattle.tc_requests.specs.declared.restore.Around.{Around}
 use Rattle.tc_requests.specs.CodelTimes.{time_set}
 use Rattle.tc_requests.specs.Restoring.{Restored, ◌>>=◌, stays, left_out, each, behind, seen_part}
 use Rattle.tc_requests.specs.RestoredActions.{action_restored, is_of}
+use Rattle.tc_requests.specs.RestoredTrees.{actions_restored as raw_actions_restored}
+use Rattle.nla_frames.specs.DefaultNla.{kept_frame}
 
 -- a filter's flags without `InHw` (4) and `NotInHw` (8)
 abbrev pub cleared : ℕ → ℕ
@@ -61,14 +64,24 @@ flower_restored info (flower.InHwCount n) = left_out
 flower_restored info (flower.Actions actions) = actions_restored 3 actions.items
 flower_restored info x = stays (flower_option x)
 
+-- what a handle of u32 says within its table, whose number is the upper 12 bits: 0 for the table itself
+abbrev pub within_table : ℕ → ℕ
+within_table handle = handle % 0x100000
+
+-- the hash of a filter in the root table of its priority is `TC_U32_ROOT`, which names that table without its number
+abbrev pub hash_restored : Bool → ℕ → ℕ
+hash_restored true n = 0xfff00000
+hash_restored false n = n
+
 -- the padding `TCA_U32_PAD` is of type 12; the rate table of police isn't dumped
-abbrev pub u32_restored : {A : Type 0} → TcFilterU32Option A → Restored (Option Attribute)
-u32_restored (u32.Flags flags) = stays (known 11 (number (cleared (option_flags_word flags))))
-u32_restored (u32.Pnct bytes) = left_out
-u32_restored (u32.Police bytes) = Err PoliceOfFilter
-u32_restored (u32.Action actions) = actions_restored 7 actions.items
-u32_restored (u32.Other nla) = if is_of (12 ∷ []) nla then left_out else stays (u32_option (u32.Other nla))
-u32_restored x = stays (u32_option x)
+abbrev pub u32_restored : {A : Type 0} → Bool → TcFilterU32Option A → Restored (Option Attribute)
+u32_restored in_root (u32.Hash n) = stays (known 2 (number (hash_restored in_root n)))
+u32_restored in_root (u32.Flags flags) = stays (known 11 (number (cleared (option_flags_word flags))))
+u32_restored in_root (u32.Pnct bytes) = left_out
+u32_restored in_root (u32.Police bytes) = Err PoliceOfFilter
+u32_restored in_root (u32.Action actions) = actions_restored 7 actions.items
+u32_restored in_root (u32.Other nla) = if is_of (12 ∷ []) nla then left_out else stays (u32_option (u32.Other nla))
+u32_restored in_root x = stays (u32_option x)
 
 -- the padding `TCA_MATCHALL_PAD` is of type 5
 abbrev pub matchall_restored : {A : Type 0} → TcFilterMatchAllOption A → Restored (Option Attribute)
@@ -78,23 +91,26 @@ matchall_restored (matchall.Action actions) = actions_restored 2 actions.items
 matchall_restored (matchall.Other nla) = if is_of (5 ∷ []) nla then left_out else stays (matchall_option (matchall.Other nla))
 matchall_restored x = stays (matchall_option x)
 
--- a program that is dumped by its number can't be loaded again, and actions (`TCA_BPF_ACT`, 1), which are kept raw, aren't
--- counted anew
+-- a program that is dumped by its number can't be loaded again; actions (`TCA_BPF_ACT`, 1) are kept raw; the rate table of police
+-- (`TCA_BPF_POLICE`, 2) isn't dumped
 abbrev pub bpf_restored : {A : Type 0} → TcFilterBpfOption A → Restored (Option Attribute)
 bpf_restored (bpf.FlagsGeneric flags) = stays (known 9 (number (cleared (option_flags_word flags))))
 bpf_restored (bpf.ProgId n) = Err ProgramByNumber
-bpf_restored (bpf.Other nla) = if is_of (1 ∷ []) nla then Err RawActions else stays (bpf_option (bpf.Other nla))
+bpf_restored (bpf.Other nla) =
+    if is_of (1 ∷ []) nla then (raw_actions_restored (kept_frame nla) >>= λ f. stays (other f.word f.value))
+    else if is_of (2 ∷ []) nla then Err PoliceOfFilter
+    else stays (bpf_option (bpf.Other nla))
 bpf_restored x = stays (bpf_option x)
 
--- an option of a message with this word `info` in its header
-abbrev pub option_restored : {A : Type 0} → ℕ → ℕ → TcOption A → Restored (Option Attribute)
-option_restored info n (FqCodel option) = stays (of_kind (codes "fq_codel") (fq_codel_restored option))
-option_restored info n (Flower option) = seen_part (of_kind (codes "flower")) (flower_restored info option)
-option_restored info n (U32 option) = seen_part (of_kind (codes "u32")) (u32_restored option)
-option_restored info n (MatchAll option) = seen_part (of_kind (codes "matchall")) (matchall_restored option)
-option_restored info n (Bpf option) = seen_part (of_kind (codes "bpf")) (bpf_restored option)
-option_restored info n x = stays (tc_option x)
+-- an option of a message
+abbrev pub option_restored : {A : Type 0} → Around → ℕ → TcOption A → Restored (Option Attribute)
+option_restored around n (FqCodel option) = stays (of_kind (codes "fq_codel") (fq_codel_restored option))
+option_restored around n (Flower option) = seen_part (of_kind (codes "flower")) (flower_restored around.info option)
+option_restored around n (U32 option) = seen_part (of_kind (codes "u32")) (u32_restored around.in_root option)
+option_restored around n (MatchAll option) = seen_part (of_kind (codes "matchall")) (matchall_restored option)
+option_restored around n (Bpf option) = seen_part (of_kind (codes "bpf")) (bpf_restored option)
+option_restored around n x = stays (tc_option x)
 
 -- options of a message of a kind
-abbrev pub options_restored : {A : Type 0} → List ℕ → ℕ → List (TcOption A) → Restored (List Attribute)
-options_restored kind info options = behind (outer_type kind info) (each (option_restored info) 1 options)
+abbrev pub options_restored : {A : Type 0} → List ℕ → Around → List (TcOption A) → Restored (List Attribute)
+options_restored kind around options = behind (outer_type kind around.info) (each (option_restored around) 1 options)

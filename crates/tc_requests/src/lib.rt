@@ -18,25 +18,33 @@ mod codel_times;
 pub mod error;
 pub mod handle;
 pub mod kinds;
+pub mod laws;
+pub mod notice;
 mod numbers;
 mod places;
 mod restore;
 mod restore_actions;
 pub mod restore_error;
+mod restore_filters;
 pub mod restore_messages;
 mod restore_options;
 mod restore_raw;
+pub mod root_tables;
 mod settled;
 pub mod standing;
 pub mod target;
+pub mod uses;
 
 pub use build::{action, action_message, chain, filter, plain_qdisc, qdisc, raw_action};
 pub use error::RequestError;
 pub use handle::TcText;
 pub use kinds::{ActionKindOption, FilterOption, OfKind, OptionOf, QdiscOption, TcKindOption};
+pub use notice::{Notice, notice_of};
 pub use restore_error::RestoreError;
 pub use restore_messages::{
     NEW_FLAGS, Object, RTM_NEWACTION, Request, request_of, request_of_actions,
 };
-pub use standing::{kind_of_action, standing_index};
+pub use root_tables::{RootTable, root_table};
+pub use standing::{kind_of_action, standing_index, use_of_action};
 pub use target::Target;
+pub use uses::Use;

@@ -2,7 +2,6 @@
 
 ghost use Rattle.std.specs.Prelude.{◌≡◌, ℕ, List, [], Option, map};
 ghost use Rattle.nla_frames.specs.Place.{kinds_set};
-ghost use Rattle.tc_meaning.specs.Tree.{Attribute};
 ghost use Rattle.tc_requests.specs.Restoring.{Restored, Gives, each, seen, seen_part, behind, sole_kind};
 ghost use Rattle.tc_requests.specs.RestoredActions.{is_of};
 
@@ -10,23 +9,42 @@ use crate::restore_error::RestoreError;
 use nla_frames::{DefaultNla, NLA_TYPE_MASK, Nla, OnlyKind, SetsKind, only_kind_set};
 use std::alloc::Allocator;
 
+// What is around an option of a message.
+#[derive(Clone, Copy)]
+pub(crate) struct Around {
+    // The word `info` of the message's header.
+    pub(crate) info: u32,
+    // Whether it is a u32 filter in the root table of its priority.
+    pub(crate) in_root: bool,
+}
+
+// What is around actions in messages of actions.
+pub(crate) const NOTHING_AROUND: Around = Around {
+    info: 0,
+    in_root: false,
+};
+
 // A part of a dump: what it becomes in a request.
 pub(crate) trait Restore<A: Allocator>: Drop {
-    ghost shown: { Self → Attribute };
+    ghost use Rattle.tc_requests.specs.declared.restore.Around.{Around};
 
-    ghost restored: { List ℕ → ℕ → List ℕ → ℕ → Self → Restored (Option Attribute) };
+    ghost Shown: { Type 0 };
 
-    // The part at this place of its list, counted from 1, under the kind that the list sets, or "", in a message with this word
-    // `info` in its header; of an action's options those of these types are left out.
+    ghost shown: { Self → Shown };
+
+    ghost restored: { List ℕ → Around → List ℕ → ℕ → Self → Restored (Option Shown) };
+
+    // The part at this place of its list, counted from 1, under the kind that the list sets, or "", with this around it; of an
+    // action's options those of these types are left out.
     fn restore(
         self,
         alloc: A,
         kind: &str,
-        info: u32,
+        around: Around,
         types: &[u16],
         place: usize,
     ) -> Result<Option<Self>, RestoreError>
-        ensures { Gives (seen_part shown result) (restored kind.now info types.now place self) };
+        ensures { Gives (seen_part shown result) (restored kind.now around types.now place self) };
 }
 
 // All parts of a list.
@@ -34,12 +52,12 @@ pub(crate) fn restore_all<T: Restore<A>, A: Allocator + Copy>(
     alloc: A,
     items: Vec<T, A>,
     kind: &str,
-    info: u32,
+    around: Around,
 ) -> Result<Vec<T, A>, RestoreError>
     ensures { Gives (seen (λ made. map T.shown made.items) result)
-        (each (T.restored kind.now info []) 1 items.items) }
+        (each (T.restored kind.now around []) 1 items.items) }
 {
-    restore_behind(alloc, Vec::new(alloc), items, kind, info, &[])
+    restore_behind(alloc, Vec::new(alloc), items, kind, around, &[])
 }
 
 // The same behind other parts, which are made already, and without those of these types.
@@ -48,18 +66,18 @@ pub(crate) fn restore_behind<T: Restore<A>, A: Allocator + Copy>(
     front: Vec<T, A>,
     items: Vec<T, A>,
     kind: &str,
-    info: u32,
+    around: Around,
     types: &[u16],
 ) -> Result<Vec<T, A>, RestoreError>
     ensures { Gives (seen (λ made. map T.shown made.items) result)
-        (behind (map T.shown front.items) (each (T.restored kind.now info types.now) 1 items.items)) }
+        (behind (map T.shown front.items) (each (T.restored kind.now around types.now) 1 items.items)) }
 {
     let mut made = front;
     made.reserve(items.len())?;
     let mut place = 0;
     for item in items {
         place += 1;
-        match item.restore(alloc, kind, info, types, place)? {
+        match item.restore(alloc, kind, around, types, place)? {
             Some(one) => made.push(one)?,
             None => {}
         }
@@ -71,14 +89,14 @@ pub(crate) fn restore_behind<T: Restore<A>, A: Allocator + Copy>(
 pub(crate) fn restore_own<T: Restore<A> + SetsKind, A: Allocator + Copy>(
     alloc: A,
     items: Vec<T, A>,
-    info: u32,
+    around: Around,
 ) -> Result<Vec<T, A>, RestoreError>
     ensures { Gives (seen (λ made. map T.shown made.items) result)
-        (each (T.restored (sole_kind (kinds_set T.sets items.items)) info []) 1 items.items) }
+        (each (T.restored (sole_kind (kinds_set T.sets items.items)) around []) 1 items.items) }
 {
     // The kind is in the list, which is taken apart.
     let kind = String::from_str(alloc, sole_kind(&items))?;
-    restore_all(alloc, items, kind.as_str(), info)
+    restore_all(alloc, items, kind.as_str(), around)
 }
 
 // The one kind that a list sets, or "".

@@ -6,14 +6,18 @@ ghost use Rattle.nla_frames.specs.DefaultNla.{kept_frame};
 ghost use Rattle.tc_actions.specs.Action.{tc_action};
 ghost use Rattle.tc_actions.specs.ActionAttribute.{action_attribute};
 ghost use Rattle.tc_action_options.specs.ActionOption.{action_option};
+ghost use Rattle.tc_meaning.specs.Tree.{Attribute};
 ghost use Rattle.tc_requests.specs.declared.restore_error.RestoreError.TheVariants.{OutOfMemory};
 ghost use Rattle.tc_requests.specs.Restoring.{Gives, seen, seen_part};
 ghost use Rattle.tc_requests.specs.RestoredActions.{only_dumped, is_only_dumped, changes_label, mpls_types, dumped_types, with_cell_log, has_rate, zeros, rate_table, table_if, rate_tables};
-ghost use Rattle.tc_requests.specs.RestoredActions.{raw_option_restored, option_kept, option_restored, options_restored, estimates, attribute_restored, action_restored};
+ghost use Rattle.tc_requests.specs.RestoredActions.{with_cell_logs, parameters_restored, raw_option_restored, has_options, option_kept, option_restored, options_restored, estimates, attribute_restored, action_restored};
 
 use crate::numbers::{number_at, with_number};
-use crate::restore::{Restore, is_of, restore_behind, restore_own};
+use crate::restore::{Around, Restore, is_of, restore_behind, restore_own};
 use crate::restore_error::RestoreError;
+use crate::uses::{
+    mirror_restored, nat_restored, parameters, record_restored, tunnel_key_restored,
+};
 use nla_frames::{DefaultNla, NLA_TYPE_MASK, Nla};
 use std::alloc::{AllocError, Allocator};
 use tc_actions::{
@@ -94,22 +98,27 @@ fn changes_label<A: Allocator>(option: &TcActionOption<A>) -> bool
 }
 
 impl<A: Allocator + Copy> Restore<A> for TcAction<A> {
+    ghost Shown = { Attribute };
+
     ghost shown = { tc_action };
 
-    ghost restored = { λ kind info types place action. action_restored place action };
+    ghost restored = { λ kind around types place action. action_restored place action };
 
     fn restore(
         self,
         alloc: A,
         _kind: &str,
-        info: u32,
+        around: Around,
         _types: &[u16],
         place: usize,
     ) -> Result<Option<TcAction<A>>, RestoreError> {
         if place > MOST_ACTIONS {
             return Err(RestoreError::TooManyActions);
         }
-        let attributes = restore_own(alloc, self.attributes, info)?;
+        if !any_options(&self.attributes) {
+            return Err(RestoreError::Terse);
+        }
+        let attributes = restore_own(alloc, self.attributes, around)?;
         Ok(Some(TcAction {
             tab: place as u16,
             attributes,
@@ -117,22 +126,37 @@ impl<A: Allocator + Copy> Restore<A> for TcAction<A> {
     }
 }
 
+// True unless the dump is terse.
+fn any_options<A: Allocator>(attributes: &[TcActionAttribute<A>]) -> bool
+    ensures { result ≡ list_any has_options attributes.now }
+{
+    attributes.iter().any(|attribute| has_options(attribute))
+}
+
+fn has_options<A: Allocator>(attribute: &TcActionAttribute<A>) -> bool
+    ensures { result ≡ has_options attribute.now }
+{
+    matches!(attribute, TcActionAttribute::Options(_))
+}
+
 impl<A: Allocator + Copy> Restore<A> for TcActionAttribute<A> {
+    ghost Shown = { Attribute };
+
     ghost shown = { action_attribute };
 
-    ghost restored = { λ kind info types place attribute. attribute_restored kind place attribute };
+    ghost restored = { λ kind around types place attribute. attribute_restored kind place attribute };
 
     fn restore(
         self,
         alloc: A,
         kind: &str,
-        info: u32,
+        around: Around,
         _types: &[u16],
         _place: usize,
     ) -> Result<Option<TcActionAttribute<A>>, RestoreError> {
         match self {
             TcActionAttribute::Options(options) => {
-                let options = restored_options(alloc, kind, info, options)?;
+                let options = restored_options(alloc, kind, around, options)?;
                 Ok(Some(TcActionAttribute::Options(options)))
             }
             TcActionAttribute::Stats(stats) => {
@@ -159,7 +183,7 @@ impl<A: Allocator + Copy> Restore<A> for TcActionAttribute<A> {
 fn restored_options<A: Allocator + Copy>(
     alloc: A,
     kind: &str,
-    info: u32,
+    around: Around,
     options: Vec<TcActionOption<A>, A>,
 ) -> Result<Vec<TcActionOption<A>, A>, RestoreError>
     ensures { Gives (seen (λ made. map action_option made.items) result)
@@ -167,7 +191,7 @@ fn restored_options<A: Allocator + Copy>(
 {
     let tables = rate_tables(alloc, kind, &options)?;
     let types = dumped_types(kind, &options);
-    restore_behind(alloc, tables, options, kind, info, types)
+    restore_behind(alloc, tables, options, kind, around, types)
 }
 
 // True if there are statistics of an estimator.
@@ -187,15 +211,17 @@ fn estimates<A: Allocator>(stats: &TcStats2<A>) -> bool
 }
 
 impl<A: Allocator + Copy> Restore<A> for TcActionOption<A> {
+    ghost Shown = { Attribute };
+
     ghost shown = { action_option };
 
-    ghost restored = { λ kind info types place option. option_restored kind types place option };
+    ghost restored = { λ kind around types place option. option_restored kind types place option };
 
     fn restore(
         self,
         alloc: A,
         kind: &str,
-        _info: u32,
+        _around: Around,
         types: &[u16],
         _place: usize,
     ) -> Result<Option<TcActionOption<A>>, RestoreError> {
@@ -216,6 +242,17 @@ fn kept_option<A: Allocator + Copy>(
     ensures { Gives (seen_part action_option result) (option_kept kind.now option) }
 {
     match option {
+        TcActionOption::Mirror(TcActionMirrorOption::Parms(p)) => {
+            Ok(Some(TcActionOption::Mirror(TcActionMirrorOption::Parms(mirror_restored(p)))))
+        }
+        TcActionOption::Nat(TcActionNatOption::Parms(p)) => {
+            Ok(Some(TcActionOption::Nat(TcActionNatOption::Parms(nat_restored(p)))))
+        }
+        TcActionOption::TunnelKey(TcActionTunnelKeyOption::Parms(p)) => {
+            Ok(Some(TcActionOption::TunnelKey(TcActionTunnelKeyOption::Parms(tunnel_key_restored(
+                p,
+            )))))
+        }
         TcActionOption::Other(nla) => {
             let nla = restored_raw_option(alloc, kind, nla)?;
             Ok(Some(TcActionOption::Other(nla)))
@@ -236,12 +273,42 @@ fn restored_raw_option<A: Allocator + Copy>(
     if kind == "bpf" && number == 9 {
         return Err(RestoreError::ProgramByNumber);
     }
-    if kind == "police" && number == 1 && nla.value().len() >= 56 {
-        let value = with_cell_log(alloc, nla.value(), 20)?;
-        let value = with_cell_log(alloc, &value, 32)?;
+    if is_of(parameters(kind), &nla) {
+        let value = restored_parameters(alloc, kind, nla.value())?;
         return Ok(DefaultNla::new(nla.kind(), value));
     }
     Ok(nla)
+}
+
+// The parameters of an action.
+fn restored_parameters<A: Allocator + Copy>(
+    alloc: A,
+    kind: &str,
+    bytes: &[u8],
+) -> Result<Vec<u8, A>, AllocError>
+    ensures { IfOk result (λ made. made.items ≡ parameters_restored kind.now bytes.now) }
+{
+    if kind == "police" {
+        if bytes.len() >= 56 {
+            let made = with_cell_logs(alloc, bytes)?;
+            record_restored(alloc, &made, 4, 44, 48)
+        } else {
+            Vec::from_slice(alloc, bytes)
+        }
+    } else if bytes.len() >= 20 {
+        record_restored(alloc, bytes, 8, 12, 16)
+    } else {
+        Vec::from_slice(alloc, bytes)
+    }
+}
+
+fn with_cell_logs<A: Allocator + Copy>(alloc: A, bytes: &[u8]) -> Result<Vec<u8, A>, AllocError>
+    requires { 56 ≤ length bytes.now }
+    ensures bytes { IfOk result (λ made. made.items ≡ with_cell_logs bytes.now) }
+    ensures len { IfOk result (λ made. length made.items ≡ length bytes.now) }
+{
+    let made = with_cell_log(alloc, bytes, 20)?;
+    with_cell_log(alloc, &made, 32)
 }
 
 // The record of police with a cell log in the rate at this place, if it is a rate that lacks one.

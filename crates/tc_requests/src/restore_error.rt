@@ -13,8 +13,8 @@ pub enum RestoreError {
     #[error("eBPF program by its number")]
     ProgramByNumber,
 
-    /// The actions of a bpf filter are kept raw (`Other`, `TCA_BPF_ACT`), so they can't be counted from 1.
-    #[error("actions that are kept raw")]
+    /// The actions of a filter whose options are kept raw, or those options themselves, don't read.
+    #[error("actions that don't read")]
     RawActions,
 
     /// A size table (`Stab`) is dumped as its parameters, without its data.
@@ -29,8 +29,8 @@ pub enum RestoreError {
     #[error("estimator, of which only statistics are dumped")]
     Estimator,
 
-    /// The rate table of a u32 filter's `Police` isn't dumped.
-    #[error("police of a u32 filter, without its rate table")]
+    /// The rate table of a filter's police without a list of actions (`TCA_U32_POLICE` and the like) isn't dumped.
+    #[error("police of a filter, without its rate table")]
     PoliceOfFilter,
 
     /// A list has more than 32 actions: the kernel takes so many, and ignores those after them.
@@ -41,13 +41,26 @@ pub enum RestoreError {
     #[error("goto chain of an action that no filter has")]
     GotoChain,
 
+    /// A flower filter has no `InHwCount`, or an action no `Options`, as in a terse dump (`tc -brief`).
+    #[error("a terse dump: keys are missing")]
+    Terse,
+
+    /// Two hash tables of u32 in one priority have a number from 800: on and one bucket, so that it can't be seen which of them
+    /// is the root table that the kernel makes.
+    #[error("two root tables of u32 in one priority")]
+    RootTables,
+
+    /// A u32 filter links to a root table, whose number the kernel gives.
+    #[error("link to a root table of u32")]
+    LinkToRoot,
+
     /// Statistics are all that there is.
     #[error("nothing but statistics")]
     NothingLeft,
 
     /// The kernel makes it by itself, or with another: a qdisc without a handle, which is a default; a class of a kind that makes
     /// its classes (prio, tbf, mq, ..), or a root class; a classifier, dumped without a handle before its filters; u32's root
-    /// table; actions that only filters hold.
+    /// table; actions that are one filter's own.
     #[error("made by the kernel itself")]
     MadeByKernel,
 

@@ -1,27 +1,35 @@
 //! Dumps made into the requests that restore them.
 
 ghost use Rattle.std.specs.Prelude.{◌≡◌, bytes_eq, codes, Ok, IfOk, IfErr};
+ghost use Rattle.std.specs.List.{list_any};
 ghost use Rattle.tc_canon.specs.Canonical.{CanonTc, CanonAct};
 ghost use Rattle.tc_meaning.specs.Whole.{tc_bytes, FitsTc, SettledTc, act_bytes, FitsAct, SettledAct};
 ghost use Rattle.tc_messages.specs.Message.{tc_message};
 ghost use Rattle.tc_attributes.specs.Attribute.{tc_attribute};
 ghost use Rattle.tc_action_messages.specs.ActionMessage.{action_message};
 ghost use Rattle.tc_action_messages.specs.ActionMessageAttribute.{action_message_attribute};
+ghost use Rattle.tc_meaning.specs.Tree.{Attribute};
 ghost use Rattle.tc_requests.specs.Restoring.{Gives, seen};
-ghost use Rattle.tc_requests.specs.RestoredMessages.{attribute_restored, lacks_table, kind_of_message};
+ghost use Rattle.tc_requests.specs.RestoredMessages.{attribute_restored, lacks_table, kind_of_message, handle_restored, header_restored};
 ghost use Rattle.tc_requests.specs.RestoredMessages.{tc_restored, action_attribute_restored, actions_message_restored};
-ghost use Rattle.tc_requests.specs.RequestOf.{new_type, has_own_classes, is_made, request_restored, RefusedBy};
+ghost use Rattle.tc_requests.specs.RootTables.{has_such, any_option};
+ghost use Rattle.tc_requests.specs.RequestOf.{new_type, has_own_classes, is_made, is_count, is_terse, request_restored, RefusedBy};
 
-use crate::restore::{Restore, is_of, restore_all, restore_own, sole_kind};
+use crate::restore::{Around, NOTHING_AROUND, Restore, is_of, restore_all, restore_own, sole_kind};
 use crate::restore_actions::has_estimator;
 use crate::restore_error::RestoreError;
+use crate::restore_filters::restored_kept;
 use crate::restore_options::restored_options;
-use crate::restore_raw::restored_raw;
+use crate::root_tables::{
+    RootTable, has_two_roots, is_in_root, is_root, links_to_root, within_table,
+};
 use crate::standing::standing_restored;
 use std::alloc::Allocator;
 use tc_action_messages::{TcActionMessage, TcActionMessageAttribute};
 use tc_attributes::TcAttribute;
 use tc_messages::TcMessage;
+use tc_options::{TcFilterFlowerOption, TcOption};
+use tc_records::{TcHandle, TcHeader};
 
 /// What a traffic control message is about.
 #[derive(Clone, Copy, PartialEq, Eq, Debug)]
@@ -69,23 +77,26 @@ pub struct Request<M> {
     pub message: M,
 }
 
-/// The request that restores what was dumped: with `InHw` and `NotInHw` cleared in a filter's flags, with actions counted from
-/// 1, and without statistics, times, padding and what else is only dumped.
+/// The request that restores what was dumped, among dumps that show these root tables of u32 (`root_table` of each dump): with
+/// `InHw` and `NotInHw` cleared in a filter's flags, with actions counted from 1, a filter's own with index 0, and without
+/// statistics, times, padding and what else is only dumped. A u32 filter in the root table of its priority has the hash
+/// `TC_U32_ROOT`, and a handle without the table's number.
 pub fn request_of<A: Allocator + Copy>(
     alloc: A,
+    roots: &[RootTable],
     object: Object,
     dump: TcMessage<A>,
 ) -> Result<Request<TcMessage<A>>, RestoreError>
     ensures message_type { IfOk result (λ r. r.message_type ≡ new_type object) }
     ensures flags { IfOk result (λ r. r.flags ≡ 0x605) }
     ensures restored { IfOk result (λ r.
-        request_restored object dump ≡ Ok (tc_message r.message)) }
+        request_restored roots.now object dump ≡ Ok (tc_message r.message)) }
     ensures settled { IfOk result (λ r. SettledTc (tc_message r.message)) }
     ensures canonical { IfOk result (λ r.
         FitsTc (tc_message r.message) → CanonTc (tc_bytes (tc_message r.message))) }
-    ensures refused { IfErr result (RefusedBy SettledTc (request_restored object dump)) }
+    ensures refused { IfErr result (RefusedBy SettledTc (request_restored roots.now object dump)) }
 {
-    let message = restored(alloc, object, dump)?;
+    let message = restored(alloc, roots, object, dump)?;
     if !message.is_settled() {
         return Err(RestoreError::NotSettled);
     }
@@ -96,7 +107,7 @@ pub fn request_of<A: Allocator + Copy>(
     })
 }
 
-/// The same of actions that stand by themselves: those that only filters hold are left out, as they are made with these.
+/// The same of actions that stand by themselves: one filter's own are left out, as they are made with it.
 pub fn request_of_actions<A: Allocator + Copy>(
     alloc: A,
     dump: TcActionMessage<A>,
@@ -128,12 +139,58 @@ fn is_made<A: Allocator>(object: Object, dump: &TcMessage<A>) -> bool
     match object {
         Object::Qdisc => u32::from(dump.header.handle) == 0,
         Object::Class => dump.header.handle.minor == 0 || !is_own_class(dump),
-        Object::Filter => {
-            let handle = u32::from(dump.header.handle);
-            handle == 0 || handle >= 0x8000_0000 && handle % 0x10_0000 == 0 && is_u32(dump)
-        }
+        Object::Filter => u32::from(dump.header.handle) == 0 || is_root(Object::Filter, dump),
         Object::Chain => false,
     }
+}
+
+// True of a flower filter of a terse dump.
+fn is_terse<A: Allocator>(object: Object, dump: &TcMessage<A>) -> bool
+    ensures { result ≡ is_terse object dump.now }
+{
+    match object {
+        Object::Filter => is_flower(dump) && !any_count(dump),
+        _ => false,
+    }
+}
+
+fn is_flower<A: Allocator>(dump: &TcMessage<A>) -> bool
+    ensures { result ≡ bytes_eq (kind_of_message dump.now) (codes "flower") }
+{
+    kind_of_message(dump) == "flower"
+}
+
+fn any_count<A: Allocator>(dump: &TcMessage<A>) -> bool
+    ensures { result ≡ any_option is_count dump.now }
+{
+    dump.attributes.iter().any(|attribute| has_count(attribute))
+}
+
+fn has_count<A: Allocator>(attribute: &TcAttribute<A>) -> bool
+    ensures { result ≡ has_such is_count attribute.now }
+{
+    match attribute {
+        TcAttribute::Options(options) => any_count_among(options),
+        _ => false,
+    }
+}
+
+fn any_count_among<A: Allocator>(options: &[TcOption<A>]) -> bool
+    ensures { result ≡ list_any is_count options.now }
+{
+    for option in options {
+        if is_count(option) {
+            return true;
+        }
+    }
+    false
+}
+
+#[tactic(auto, unfolding(crate::specs::RequestOf::is_count))]
+fn is_count<A: Allocator>(option: &TcOption<A>) -> bool
+    ensures { result ≡ is_count option.now }
+{
+    matches!(option, TcOption::Flower(TcFilterFlowerOption::InHwCount(_)))
 }
 
 // True of a class of a qdisc whose classes are made by requests.
@@ -143,14 +200,8 @@ fn is_own_class<A: Allocator>(dump: &TcMessage<A>) -> bool
     has_own_classes(kind_of_message(dump))
 }
 
-fn is_u32<A: Allocator>(dump: &TcMessage<A>) -> bool
-    ensures { result ≡ bytes_eq (kind_of_message dump.now) (codes "u32") }
-{
-    kind_of_message(dump) == "u32"
-}
-
 // The one kind that a message sets, or "".
-fn kind_of_message<A: Allocator>(dump: &TcMessage<A>) -> &str
+pub(crate) fn kind_of_message<A: Allocator>(dump: &TcMessage<A>) -> &str
     ensures { result.now ≡ kind_of_message dump.now }
 {
     sole_kind(&dump.attributes)
@@ -163,33 +214,72 @@ fn has_own_classes(kind: &str) -> bool
     matches!(kind, "htb" | "hfsc" | "drr" | "qfq" | "cbq" | "atm")
 }
 
-// What the kernel makes by itself is refused.
+// What the kernel makes by itself is refused, and what can't be made of this dump.
 fn restored<A: Allocator + Copy>(
     alloc: A,
+    roots: &[RootTable],
     object: Object,
     dump: TcMessage<A>,
 ) -> Result<TcMessage<A>, RestoreError>
-    ensures { Gives (seen tc_message result) (request_restored object dump) }
+    ensures { Gives (seen tc_message result) (request_restored roots.now object dump) }
 {
-    if is_made(object, &dump) {
+    if has_two_roots(roots, object, &dump) {
+        Err(RestoreError::RootTables)
+    } else if is_made(object, &dump) {
         Err(RestoreError::MadeByKernel)
+    } else if is_terse(object, &dump) {
+        Err(RestoreError::Terse)
+    } else if links_to_root(roots, object, &dump) {
+        Err(RestoreError::LinkToRoot)
     } else {
-        restored_message(alloc, dump)
+        let in_root = is_in_root(roots, object, &dump);
+        restored_message(alloc, in_root, dump)
     }
 }
 
 fn restored_message<A: Allocator + Copy>(
     alloc: A,
+    in_root: bool,
     dump: TcMessage<A>,
 ) -> Result<TcMessage<A>, RestoreError>
-    ensures { Gives (seen tc_message result) (tc_restored dump) }
+    ensures { Gives (seen tc_message result) (tc_restored in_root dump) }
 {
     let TcMessage { header, attributes } = dump;
-    let attributes = restore_own(alloc, attributes, header.info)?;
+    let around = Around {
+        info: header.info,
+        in_root,
+    };
+    let attributes = restore_own(alloc, attributes, around)?;
     if attributes.is_empty() {
         return Err(RestoreError::NothingLeft);
     }
-    Ok(TcMessage { header, attributes })
+    Ok(TcMessage {
+        header: header_restored(in_root, header),
+        attributes,
+    })
+}
+
+// The header of a request.
+fn header_restored(in_root: bool, header: TcHeader) -> TcHeader
+    ensures { result ≡ header_restored in_root header }
+{
+    TcHeader {
+        family: header.family,
+        index: header.index,
+        handle: handle_restored(in_root, header.handle),
+        parent: header.parent,
+        info: header.info,
+    }
+}
+
+fn handle_restored(in_root: bool, handle: TcHandle) -> TcHandle
+    ensures { result ≡ handle_restored in_root handle }
+{
+    if in_root {
+        TcHandle::from(within_table(u32::from(handle)))
+    } else {
+        handle
+    }
 }
 
 fn restored_actions<A: Allocator + Copy>(
@@ -199,7 +289,7 @@ fn restored_actions<A: Allocator + Copy>(
     ensures { Gives (seen action_message result) (actions_message_restored dump) }
 {
     let TcActionMessage { header, attributes } = dump;
-    let attributes = restore_all(alloc, attributes, "", 0)?;
+    let attributes = restore_all(alloc, attributes, "", NOTHING_AROUND)?;
     if attributes.is_empty() {
         return Err(RestoreError::NothingLeft);
     }
@@ -207,15 +297,17 @@ fn restored_actions<A: Allocator + Copy>(
 }
 
 impl<A: Allocator + Copy> Restore<A> for TcActionMessageAttribute<A> {
+    ghost Shown = { Attribute };
+
     ghost shown = { action_message_attribute };
 
-    ghost restored = { λ kind info types place attribute. action_attribute_restored place attribute };
+    ghost restored = { λ kind around types place attribute. action_attribute_restored place attribute };
 
     fn restore(
         self,
         alloc: A,
         _kind: &str,
-        _info: u32,
+        _around: Around,
         _types: &[u16],
         _place: usize,
     ) -> Result<Option<TcActionMessageAttribute<A>>, RestoreError> {
@@ -232,25 +324,27 @@ impl<A: Allocator + Copy> Restore<A> for TcActionMessageAttribute<A> {
 }
 
 impl<A: Allocator + Copy> Restore<A> for TcAttribute<A> {
+    ghost Shown = { Attribute };
+
     ghost shown = { tc_attribute };
 
-    ghost restored = { λ kind info types place attribute. attribute_restored kind info place attribute };
+    ghost restored = { λ kind around types place attribute. attribute_restored kind around place attribute };
 
     fn restore(
         self,
         alloc: A,
         kind: &str,
-        info: u32,
+        around: Around,
         _types: &[u16],
         _place: usize,
     ) -> Result<Option<TcAttribute<A>>, RestoreError> {
         match self {
             TcAttribute::Options(options) => {
-                let options = restored_options(alloc, kind, info, options)?;
+                let options = restored_options(alloc, kind, around, options)?;
                 Ok(Some(TcAttribute::Options(options)))
             }
             TcAttribute::OptionsRaw(nla) => {
-                let nla = restored_raw(alloc, kind, nla)?;
+                let nla = restored_kept(alloc, kind, nla)?;
                 Ok(Some(TcAttribute::OptionsRaw(nla)))
             }
             TcAttribute::Stats2(stats) => {

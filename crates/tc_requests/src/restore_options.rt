@@ -1,7 +1,7 @@
 //! Options of filters, as they are in a request: with their flags cleared, without counts, their actions counted from 1.
 
 ghost use Rattle.std.specs.Prelude.{◌≡◌, ◌∷◌, [], codes, map, IfOk, IfErr};
-ghost use Rattle.tc_meaning.specs.Tree.{known, number, of_kind};
+ghost use Rattle.tc_meaning.specs.Tree.{Attribute, known, number, of_kind};
 ghost use Rattle.tc_records.specs.FilterFlags.{option_flags_word};
 ghost use Rattle.tc_qdiscs.specs.FqCodel.{fq_codel_option};
 ghost use Rattle.tc_flower.specs.Flower.{flower_option};
@@ -11,11 +11,12 @@ ghost use Rattle.tc_filters.specs.Bpf.{bpf_option};
 ghost use Rattle.tc_options.specs.Options.{tc_option};
 ghost use Rattle.tc_requests.specs.declared.restore_error.RestoreError.TheVariants.{OutOfMemory};
 ghost use Rattle.tc_requests.specs.Restoring.{Gives, seen, seen_part};
-ghost use Rattle.tc_requests.specs.RestoredOptions.{cleared, fq_codel_restored, is_outer, type_if, outer_type, flower_restored, u32_restored, matchall_restored, bpf_restored, option_restored, options_restored};
+ghost use Rattle.tc_requests.specs.RestoredOptions.{cleared, fq_codel_restored, is_outer, type_if, outer_type, flower_restored, hash_restored, u32_restored, matchall_restored, bpf_restored, option_restored, options_restored};
 
 use crate::codel_times::time_set;
-use crate::restore::{Restore, is_of, restore_all, restore_behind};
+use crate::restore::{Around, NOTHING_AROUND, Restore, is_of, restore_all, restore_behind};
 use crate::restore_error::RestoreError;
+use crate::restore_filters::restored_actions;
 use bitflags::Flags;
 use std::alloc::{AllocError, Allocator};
 use tc_options::{
@@ -26,25 +27,27 @@ use tc_records::TcU32OptionFlags;
 use tc_texts::info_protocol;
 
 impl<A: Allocator + Copy> Restore<A> for TcOption<A> {
+    ghost Shown = { Attribute };
+
     ghost shown = { tc_option };
 
-    ghost restored = { λ kind info types place option. option_restored info place option };
+    ghost restored = { λ kind around types place option. option_restored around place option };
 
     fn restore(
         self,
         alloc: A,
         _kind: &str,
-        info: u32,
+        around: Around,
         _types: &[u16],
         _place: usize,
     ) -> Result<Option<TcOption<A>>, RestoreError> {
         match self {
             TcOption::FqCodel(option) => Ok(Some(TcOption::FqCodel(restored_fq_codel(option)))),
-            TcOption::Flower(option) => match restored_flower(alloc, info, option)? {
+            TcOption::Flower(option) => match restored_flower(alloc, around.info, option)? {
                 Some(option) => Ok(Some(TcOption::Flower(option))),
                 None => Ok(None),
             },
-            TcOption::U32(option) => match restored_u32(alloc, option)? {
+            TcOption::U32(option) => match restored_u32(alloc, around.in_root, option)? {
                 Some(option) => Ok(Some(TcOption::U32(option))),
                 None => Ok(None),
             },
@@ -52,7 +55,7 @@ impl<A: Allocator + Copy> Restore<A> for TcOption<A> {
                 Some(option) => Ok(Some(TcOption::MatchAll(option))),
                 None => Ok(None),
             },
-            TcOption::Bpf(option) => match restored_bpf(option)? {
+            TcOption::Bpf(option) => match restored_bpf(alloc, option)? {
                 Some(option) => Ok(Some(TcOption::Bpf(option))),
                 None => Ok(None),
             },
@@ -127,14 +130,14 @@ fn one_type<A: Allocator>(alloc: A, protocol: u16) -> Result<Vec<TcOption<A>, A>
 pub(crate) fn restored_options<A: Allocator + Copy>(
     alloc: A,
     kind: &str,
-    info: u32,
+    around: Around,
     options: Vec<TcOption<A>, A>,
 ) -> Result<Vec<TcOption<A>, A>, RestoreError>
     ensures { Gives (seen (λ made. map tc_option made.items) result)
-        (options_restored kind.now info options.items) }
+        (options_restored kind.now around options.items) }
 {
-    let front = outer_type(alloc, kind, info)?;
-    restore_behind(alloc, front, options, kind, info, &[])
+    let front = outer_type(alloc, kind, around.info)?;
+    restore_behind(alloc, front, options, kind, around, &[])
 }
 
 fn restored_flower<A: Allocator + Copy>(
@@ -155,7 +158,7 @@ fn restored_flower<A: Allocator + Copy>(
         TcFilterFlowerOption::Flags(n) => Ok(Some(TcFilterFlowerOption::Flags(n & KEPT_FLAGS))),
         TcFilterFlowerOption::InHwCount(_) => Ok(None),
         TcFilterFlowerOption::Actions(actions) => {
-            let actions = restore_all(alloc, actions, "", 0)?;
+            let actions = restore_all(alloc, actions, "", NOTHING_AROUND)?;
             Ok(Some(TcFilterFlowerOption::Actions(actions)))
         }
         option => Ok(Some(option)),
@@ -164,16 +167,20 @@ fn restored_flower<A: Allocator + Copy>(
 
 fn restored_u32<A: Allocator + Copy>(
     alloc: A,
+    in_root: bool,
     option: TcFilterU32Option<A>,
 ) -> Result<Option<TcFilterU32Option<A>>, RestoreError>
-    ensures { Gives (seen_part u32_option result) (u32_restored option) }
+    ensures { Gives (seen_part u32_option result) (u32_restored in_root option) }
 {
     match option {
+        TcFilterU32Option::Hash(n) => {
+            Ok(Some(TcFilterU32Option::Hash(hash_restored(in_root, n))))
+        }
         TcFilterU32Option::Flags(flags) => { Ok(Some(TcFilterU32Option::Flags(cleared(flags)))) }
         TcFilterU32Option::Pnct(_) => Ok(None),
         TcFilterU32Option::Police(_) => Err(RestoreError::PoliceOfFilter),
         TcFilterU32Option::Action(actions) => {
-            let actions = restore_all(alloc, actions, "", 0)?;
+            let actions = restore_all(alloc, actions, "", NOTHING_AROUND)?;
             Ok(Some(TcFilterU32Option::Action(actions)))
         }
         TcFilterU32Option::Other(nla) => {
@@ -185,6 +192,15 @@ fn restored_u32<A: Allocator + Copy>(
         }
         option => Ok(Some(option)),
     }
+}
+
+// `TC_U32_ROOT` of `linux/pkt_cls.h`: the root table of a priority.
+const ROOT: u32 = 0xFFF0_0000;
+
+fn hash_restored(in_root: bool, hash: u32) -> u32
+    ensures { result ≡ hash_restored in_root hash }
+{
+    if in_root { ROOT } else { hash }
 }
 
 fn cleared(flags: TcU32OptionFlags) -> TcU32OptionFlags
@@ -203,7 +219,7 @@ fn restored_matchall<A: Allocator + Copy>(
         TcFilterMatchAllOption::Flags(n) => Ok(Some(TcFilterMatchAllOption::Flags(n & KEPT_FLAGS))),
         TcFilterMatchAllOption::Pnct(_) => Ok(None),
         TcFilterMatchAllOption::Action(actions) => {
-            let actions = restore_all(alloc, actions, "", 0)?;
+            let actions = restore_all(alloc, actions, "", NOTHING_AROUND)?;
             Ok(Some(TcFilterMatchAllOption::Action(actions)))
         }
         TcFilterMatchAllOption::Other(nla) => {
@@ -217,7 +233,8 @@ fn restored_matchall<A: Allocator + Copy>(
     }
 }
 
-fn restored_bpf<A: Allocator>(
+fn restored_bpf<A: Allocator + Copy>(
+    alloc: A,
     option: TcFilterBpfOption<A>,
 ) -> Result<Option<TcFilterBpfOption<A>>, RestoreError>
     ensures { Gives (seen_part bpf_option result) (bpf_restored option) }
@@ -229,7 +246,10 @@ fn restored_bpf<A: Allocator>(
         TcFilterBpfOption::ProgId(_) => Err(RestoreError::ProgramByNumber),
         TcFilterBpfOption::Other(nla) => {
             if is_of(&[1], &nla) {
-                Err(RestoreError::RawActions)
+                let actions = restored_actions(alloc, nla)?;
+                Ok(Some(TcFilterBpfOption::Other(actions)))
+            } else if is_of(&[2], &nla) {
+                Err(RestoreError::PoliceOfFilter)
             } else {
                 Ok(Some(TcFilterBpfOption::Other(nla)))
             }

@@ -50,12 +50,12 @@ fn restored_list<A: Allocator + Copy>(
 }
 
 // The bytes of a list.
-fn emitted<A: Allocator + Copy>(
+pub(crate) fn emitted<T: Nla, A: Allocator + Copy>(
     alloc: A,
-    frames: &[DefaultNla<A>],
+    frames: &[T],
 ) -> Result<Vec<u8, A>, RestoreError>
     ensures bytes { IfOk result (λ bytes. bytes.items
-        ≡ list_bytes kept_codec.write (map kept_frame frames.now)) }
+        ≡ list_bytes T.codec.write (map T.see frames.now)) }
     ensures memory { IfErr result (λ e. e ≡ OutOfMemory) }
 {
     match list_checked_len(frames) {
@@ -64,7 +64,7 @@ fn emitted<A: Allocator + Copy>(
             emit_list(frames, &mut bytes);
             Ok(bytes)
         }
-        // Longer than what they were cut from, which was in memory.
+        // Longer than what they were cut from, which was in memory, or too long for a message.
         None => Err(RestoreError::OutOfMemory),
     }
 }

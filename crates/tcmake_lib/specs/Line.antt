@@ -1,5 +1,5 @@
 -- What a line of JSON says of its message.
-use Rattle.std.specs.Prelude.{◌≡◌, ◌⊎◌, ℕ, Bool, List, length, Option, Some, None, is_some, codes, ◌==◌, if◌then◌else◌, option_and_then, unwrap_or}
+use Rattle.std.specs.Prelude.{◌≡◌, ◌⊎◌, ℕ, Bool, List, length, Option, Some, None, is_some, codes, IsTrue, ◌==◌, if◌then◌else◌, option_and_then, unwrap_or}
 use Rattle.std.specs.List.{before_first, after_first}
 use Rattle.std.specs.Str.Parse.{IsNumeral, digits_value}
 use Rattle.serde_json.specs.Data.{Data, object, no_members}
@@ -76,6 +76,11 @@ pub record IsBeside (line message : Data) (g : Given) : Type 0 where
 -- an answer of the kernel, which holds no message
 abbrev pub IsOfKernel : Data → Type 0
 IsOfKernel json = text_in (codes "type") json ≡ Some (codes "NLMSG_ERROR")
+
+-- the first line of a save, or its last, which hold no message
+abbrev pub IsOfSave : Data → Type 0
+IsOfSave json =
+    (IsTrue (is_some (get (codes "save") json)) ⊎ IsTrue (is_some (get (codes "end") json))) × (get (codes "message") json ≡ None)
 
 abbrev pub IsGiven : Data → Given → Type 0
 IsGiven json g = IsBeside (beside json) (message_in json) g

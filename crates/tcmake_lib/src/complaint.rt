@@ -1,5 +1,6 @@
 //! Why no message is made of a line.
 
+use crate::save::SaveFault;
 use nla_frames::DecodeError;
 use std::alloc::{AllocError, AllocFailed};
 use std::fmt;
@@ -61,6 +62,16 @@ pub(crate) enum Complaint {
     Restore(RestoreError),
     /// The message is too long to be written.
     TooLong,
+    /// Its save isn't whole.
+    Save(SaveFault),
+    /// The first line of its save has no name for this interface.
+    NoName(u32),
+    /// There is no interface of this name now.
+    NoInterface(String),
+    /// Interfaces are asked for by names, and the input has none.
+    NoNames,
+    /// It can't be checked that a save is whole where a line is read at a time.
+    LineByLine,
     /// Memory ran out.
     NoMemory,
 }
@@ -98,6 +109,12 @@ impl From<RestoreError> for Complaint {
             RestoreError::OutOfMemory => Complaint::NoMemory,
             e => Complaint::Restore(e),
         }
+    }
+}
+
+impl From<SaveFault> for Complaint {
+    fn from(e: SaveFault) -> Complaint {
+        Complaint::Save(e)
     }
 }
 
@@ -188,12 +205,30 @@ impl fmt::Display for Complaint {
                 )
             }
             Complaint::Restore(error) => write!(f, "can't be restored: {error}"),
+            Complaint::Save(fault) => write!(f, "{fault}"),
+            Complaint::NoName(index) => write!(f, "no name for interface {index}"),
+            Complaint::NoInterface(name) => write!(
+                f,
+                "there is no interface {}",
+                Place(name.as_str())
+            ),
             _ => f.write_str(self.text()),
         }
     }
 }
 
 impl Complaint {
+    /// True of one for which no request at all is made.
+    pub(crate) fn is_of_all(&self) -> bool {
+        matches!(
+            self,
+            Complaint::Save(_)
+                | Complaint::NoName(_)
+                | Complaint::NoInterface(_)
+                | Complaint::NoNames
+        )
+    }
+
     // The text of one that holds nothing.
     fn text(&self) -> &'static str {
         match self {
@@ -206,6 +241,10 @@ impl Complaint {
             Complaint::DoesNotFit =>
                 "found a message that doesn't fit: a payload would have more than 65531 bytes",
             Complaint::TooLong => "the message is too long to be written",
+            Complaint::NoNames =>
+                "no names of interfaces: the first line of a save, with /names, is missing",
+            Complaint::LineByLine =>
+                "a save can't be checked with --in-order, which reads a line at a time",
             Complaint::NoMemory => "out of memory",
             _ => "",
         }

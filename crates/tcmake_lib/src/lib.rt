@@ -11,11 +11,15 @@
 pub mod arguments;
 mod complaint;
 mod given;
+pub mod lines;
 mod made;
 mod members;
 pub mod message;
-mod order;
+mod names;
+mod now;
+pub mod order;
 pub mod program;
 mod restore;
 pub mod run;
+mod save;
 mod verdict;

@@ -10,6 +10,7 @@ use crate::arguments::Making;
 use crate::complaint::Complaint;
 use crate::given::{given_of, is_answer};
 use crate::message::{Forms, Message, message_of};
+use crate::save::is_of_save;
 use serde_json::Value;
 use std::alloc::Global;
 use tc_capture::Holds;
@@ -27,7 +28,7 @@ pub(crate) struct Made {
     pub(crate) settled: Vec<Difference>,
 }
 
-/// The message of a line; none of an answer of the kernel.
+/// The message of a line; none of an answer of the kernel, and of the first and the last line of a save.
 pub(crate) fn made_of<T: Tables>(
     alloc: Global,
     forms: Forms<T>,
@@ -42,14 +43,14 @@ pub(crate) fn made_of<T: Tables>(
         Ok(json) => json,
         Err(error) => return Err(unread(error, line)),
     };
-    if is_answer(&json) {
+    if is_answer(&json) || is_of_save(&json) {
         return Ok(None);
     }
     let made = made_of_json(alloc, forms, &json, making)?;
     Ok(Some(made))
 }
 
-fn made_of_json<T: Tables>(
+pub(crate) fn made_of_json<T: Tables>(
     alloc: Global,
     forms: Forms<T>,
     json: &Value,
@@ -85,8 +86,8 @@ fn message_in<T: Tables>(
     }
 }
 
-// Why a line isn't read as JSON.
-fn unread(error: ReadError, line: &[u8]) -> Complaint {
+/// Why a line isn't read as JSON.
+pub(crate) fn unread(error: ReadError, line: &[u8]) -> Complaint {
     match error {
         ReadError::OutOfMemory => Complaint::NoMemory,
         ReadError::NotJson { .. } if is_one_part(line) => Complaint::OnePart,

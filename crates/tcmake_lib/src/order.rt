@@ -1,24 +1,83 @@
 //! Requests in an order in which each finds what it needs.
 
-use crate::arguments::{Making, Request};
-use crate::complaint::{Complaint, Found as FoundValue};
-use crate::made::{Made, made_of};
+use crate::arguments::Request;
+use crate::complaint::Complaint;
+use crate::lines::{Dumped, Lines, Reading, Remark, RemarkKind, Source, read_lines};
+use crate::made::Made;
 use crate::message::Forms;
+use crate::now::{Single, now_of, singles_of};
 use crate::restore::{Dump, dump_of, restored};
 use nla_frames::ParseableBytes;
 use std::alloc::{AllocError, Global};
 use std::io::{BufRead, Write};
 use tc_action_messages::TcActionMessage;
-use tc_capture::Holds;
 use tc_forms::Tables;
 use tc_messages::TcMessage;
 use tc_plan::{
-    Entry, Fate, Item, Key, Order, Reason, Step, circle, entry_of, entry_of_actions, plan,
+    Entry, Fate, Item, Key, Named, Now, Order, Reason, Step, circle, entry_of, entry_of_actions,
+    fate_of_action, ingress_of, newest_first, plan,
 };
-use tc_requests::{Object, RestoreError};
-use tc_streams::Stop;
-use tcmake_lines::run::{put_message, say};
-use tcmake_lines::{Found, Given, Output, is_blank, next_line};
+use tc_requests::{Object, RestoreError, RootTable, notice_of, root_table};
+use tc_streams::{Stop, write_all};
+use tcmake_lines::run::put_message;
+use tcmake_lines::{Form, Given, Output};
+
+/// What requests are made by, beside the lines of what is wanted.
+#[derive(Clone, Copy)]
+pub struct Asked<'a> {
+    /// The interface of requests, in place of that of the dumps.
+    pub index: Option<i32>,
+    /// What the kernel has now, as lines of JSON.
+    pub now: Option<&'a [u8]>,
+    /// True if actions are changed that filters of other interfaces hold too.
+    pub replaces_actions: bool,
+    /// The interfaces that there are now, by index and name: the indices of a save become these.
+    pub names: Option<&'a [(u32, &'a str)]>,
+}
+
+/// The request for what a line shows.
+#[derive(Drop)]
+pub struct LineRequest {
+    /// The number of the line, from 1.
+    pub number: u64,
+    /// What goes into its netlink header.
+    pub given: Given,
+    /// The message behind that.
+    pub bytes: Vec<u8>,
+}
+
+impl LineRequest {
+    /// The netlink message, with zeros up to a multiple of four. Fails where memory runs out, or with `Stop::Write` of one that is too long.
+    pub fn netlink(&self, alloc: Global) -> Result<Vec<u8>, Stop> {
+        let mut output = Output::new(alloc, Form::Stream);
+        let mut errors = Vec::new(alloc);
+        if put_message(
+            alloc,
+            &self.given,
+            &self.bytes,
+            &[],
+            self.number,
+            &mut output,
+            &mut errors,
+        )? {
+            return Err(Stop::Write);
+        }
+        let mut bytes = Vec::new(alloc);
+        output.write(&mut bytes)?;
+        Ok(bytes)
+    }
+}
+
+/// The requests that lines become.
+#[derive(Drop)]
+pub struct Restored {
+    /// The requests, each behind those that it needs.
+    pub requests: Vec<LineRequest>,
+    /// What is said of the lines.
+    pub remarks: Vec<Remark>,
+    /// True if something is wrong with all of them, so that there are no requests.
+    pub is_void: bool,
+}
 
 // The dumps of lines, and the requests that restore them.
 #[derive(Drop)]
@@ -27,6 +86,10 @@ struct Requests {
     entries: Vec<Entry<Global>>,
     // The line of each dump, and its request if there is one.
     lines: Vec<Planned>,
+    // Where the last filter of basic or bpf is among the entries, of each chain and priority.
+    last: Vec<(Key, usize)>,
+    // What isn't restored although there is a request, by the numbers of the lines.
+    notices: Vec<(u64, String)>,
 }
 
 // A dump of a line.
@@ -38,57 +101,152 @@ struct Planned {
     made: Option<Made>,
 }
 
+// What all dumps show, and what there is now.
+#[derive(Clone, Copy)]
+struct Known<'a> {
+    // The root tables of u32.
+    roots: &'a [RootTable],
+    // The interfaces that have ingress.
+    ingress: &'a [i32],
+    now: Option<&'a Now<Global>>,
+    replaces_actions: bool,
+}
+
 impl Requests {
     // None.
     fn new(alloc: Global) -> Requests {
         Requests {
             entries: Vec::new(alloc),
             lines: Vec::new(alloc),
+            last: Vec::new(alloc),
+            notices: Vec::new(alloc),
         }
     }
 
-    // Keeps the dump of a line.
-    fn keep(&mut self, alloc: Global, number: u64, dump: &Made) -> Result<(), Complaint> {
+    // Keeps the request of a dump, or of each of its actions.
+    fn keep(&mut self, alloc: Global, known: Known<'_>, dump: &Dumped) -> Result<(), Complaint> {
+        let kind = dump_of(dump.made.given.kind)?;
+        if kind == Dump::Actions {
+            let singles = singles_of(alloc, &dump.made)?;
+            if !singles.is_empty() {
+                return self.keep_actions(alloc, known, dump.number, &singles);
+            }
+        }
+        let (fate, made) = fate_of(restored(alloc, known.roots, &dump.made))?;
+        self.put(alloc, known, kind, dump.number, &dump.made, fate, made)
+    }
+
+    fn keep_actions(
+        &mut self,
+        alloc: Global,
+        known: Known<'_>,
+        number: u64,
+        singles: &[Single],
+    ) -> Result<(), Complaint> {
+        for single in singles {
+            let (fate, made) = fate_of(restored(alloc, known.roots, &single.made))?;
+            let (fate, made) = fate_of_single(known, single, fate, made);
+            self.put(
+                alloc,
+                known,
+                Dump::Actions,
+                number,
+                &single.made,
+                fate,
+                made,
+            )?;
+        }
+        Ok(())
+    }
+
+    fn put(
+        &mut self,
+        alloc: Global,
+        known: Known<'_>,
+        kind: Dump,
+        number: u64,
+        dump: &Made,
+        fate: Fate,
+        made: Option<Made>,
+    ) -> Result<(), Complaint> {
         let place = self.lines.len();
-        let (fate, made) = fate_of(restored(alloc, dump))?;
         self.lines.push(Planned { number, made })?;
-        let entry = entry_in(alloc, place, fate, dump)?;
-        Ok(self.entries.push(entry)?)
+        match kind {
+            Dump::Of(object) => {
+                let message = TcMessage::parse(alloc, &dump.bytes)?;
+                if let (Fate::Request, Some(notice)) = (&fate, notice_of(object, &message)) {
+                    self.notices.push((number, format!(in alloc; "{notice}")?))?;
+                }
+                let group = newest_first(object, known.ingress, &message);
+                let entry = entry_of(alloc, place, fate, object, known.ingress, &message)?;
+                Ok(self.put_ranked(entry, group)?)
+            }
+            Dump::Actions => {
+                let message = TcActionMessage::parse(alloc, &dump.bytes)?;
+                let entry = entry_of_actions(alloc, place, fate, &message)?;
+                Ok(self.entries.push(entry)?)
+            }
+        }
+    }
+
+    // Puts a dump. Of filters that the kernel keeps newest first the one dumped before waits for this one.
+    fn put_ranked(&mut self, entry: Entry<Global>, group: Option<Key>) -> Result<(), AllocError> {
+        let mut entry = entry;
+        if let (Some(group), Fate::Request) = (group, &entry.fate) {
+            let place = self.entries.len();
+            if let Some(before) = self.rank(group, place)? {
+                if let Some(newer) = self.entries.get_mut(before) {
+                    newer.wants.extend_from_slice(&entry.objects)?;
+                }
+            }
+            entry.gives.extend_from_slice(&entry.objects)?;
+        }
+        self.entries.push(entry)?;
+        Ok(())
+    }
+
+    // Makes this the last entry of a group, and returns the last one before.
+    fn rank(&mut self, group: Key, place: usize) -> Result<Option<usize>, AllocError> {
+        for (known, last) in self.last.iter_mut() {
+            if *known == group {
+                let before = *last;
+                *last = place;
+                return Ok(Some(before));
+            }
+        }
+        self.last.push((group, place))?;
+        Ok(None)
     }
 }
 
-// What a plan has to know of a dump.
-fn entry_in(
-    alloc: Global,
-    place: usize,
+// The flags of a request that changes what is there: `NLM_F_REQUEST`, `NLM_F_ACK`, `NLM_F_REPLACE` and `NLM_F_CREATE` of `linux/netlink.h`.
+const CHANGE_FLAGS: u16 = 0x505;
+
+// What becomes of an action by what there is now, and its request.
+fn fate_of_single(
+    known: Known<'_>,
+    single: &Single,
     fate: Fate,
-    dump: &Made,
-) -> Result<Entry<Global>, Complaint> {
-    match dump_of(dump.given.kind)? {
-        Dump::Of(object) => entry_in_tc(alloc, place, fate, object, &dump.bytes),
-        Dump::Actions => entry_in_actions(alloc, place, fate, &dump.bytes),
+    made: Option<Made>,
+) -> (Fate, Option<Made>) {
+    match (fate, made) {
+        (Fate::Request, Some(made)) => fate_by_now(known, single.name, made),
+        (fate, made) => (fate, made),
     }
 }
 
-fn entry_in_tc(
-    alloc: Global,
-    place: usize,
-    fate: Fate,
-    object: Object,
-    bytes: &[u8],
-) -> Result<Entry<Global>, Complaint> {
-    let message = TcMessage::parse(alloc, bytes)?;
-    Ok(entry_of(alloc, place, fate, object, &message)?)
-}
-
-fn entry_in_actions(
-    alloc: Global,
-    place: usize,
-    fate: Fate,
-    bytes: &[u8],
-) -> Result<Entry<Global>, Complaint> {
-    let message = TcActionMessage::parse(alloc, bytes)?;
-    Ok(entry_of_actions(alloc, place, fate, &message)?)
+fn fate_by_now(known: Known<'_>, name: Option<Named>, made: Made) -> (Fate, Option<Made>) {
+    match (known.now, name) {
+        (Some(now), Some(name)) => {
+            let mut made = made;
+            let fate = fate_of_action(now, known.replaces_actions, name, &made.bytes);
+            if fate == Fate::Change {
+                made.given.flags = CHANGE_FLAGS;
+            }
+            (fate, Some(made))
+        }
+        _ => (Fate::Request, Some(made)),
+    }
 }
 
 // What becomes of a dump by itself, and its request.
@@ -101,319 +259,205 @@ fn fate_of(made: Result<Made, Complaint>) -> Result<(Fate, Option<Made>), Compla
     }
 }
 
-// Flags of `linux/netlink.h`.
-const NLM_F_REQUEST: u16 = 1;
-
-// Its bits are those of `NLM_F_REPLACE` and `NLM_F_EXCL` where the type isn't a GET.
-const NLM_F_DUMP: u16 = 0x300;
-
-// True of the type of a GET: the types of rtnetlink go in fours, NEW, DEL, GET and SET.
-fn is_get(kind: Option<u16>) -> bool {
-    match kind {
-        Some(kind) => kind % 4 == 2,
-        None => false,
-    }
-}
-
-/// The dump of a line, of this interface if one is given. An answer of the kernel has none, nor has the request of a dump, which captures of
-/// dumps have.
-pub(crate) fn dump_in_line<T: Tables>(
+/// Makes the requests of all lines of an input, in an order in which each finds what it needs. Fails only where the input does, or where
+/// memory runs out.
+pub fn requests_of<T: Tables, R: BufRead>(
     alloc: Global,
     forms: Forms<T>,
-    index: Option<i32>,
-    line: &[u8],
-) -> Result<Option<Made>, Complaint> {
-    match made_of(alloc, forms, line, Making::Restored)? {
-        Some(made) => dumped(made, index),
-        None => Ok(None),
+    asked: &Asked<'_>,
+    reader: &mut R,
+) -> Result<Restored, Stop> {
+    let reading = Reading {
+        source: Source::Wanted,
+        index: asked.index,
+        names: asked.names,
+    };
+    let lines = read_lines(alloc, forms, reading, reader)?;
+    match asked.now {
+        None => requests_by(alloc, lines, None, false),
+        Some(text) => {
+            let mut there = lines_of_now(alloc, forms, text)?;
+            let now = now_of(alloc, &mut there)?;
+            let lines = with_remarks(lines, there)?;
+            requests_by(alloc, lines, Some(&now), asked.replaces_actions)
+        }
     }
 }
 
-fn dumped(made: Made, index: Option<i32>) -> Result<Option<Made>, Complaint> {
-    if is_dump(&made.given)? {
-        Ok(Some(with_index(made, index)))
-    } else {
-        Ok(None)
-    }
+fn lines_of_now<T: Tables>(alloc: Global, forms: Forms<T>, text: &[u8]) -> Result<Lines, Stop> {
+    let reading = Reading {
+        source: Source::Now,
+        index: None,
+        names: None,
+    };
+    let mut reader = text;
+    read_lines(alloc, forms, reading, &mut reader)
 }
 
-// True of a dump, false of the request of one.
-fn is_dump(given: &Given) -> Result<bool, Complaint> {
-    let flags = given.flags;
-    if flags & NLM_F_REQUEST == 0 {
-        return Ok(true);
+// Lines, with what is said of others.
+fn with_remarks(lines: Lines, others: Lines) -> Result<Lines, AllocError> {
+    let mut lines = lines;
+    lines.is_void = lines.is_void || others.is_void;
+    for remark in others.remarks {
+        lines.remarks.push(remark)?;
     }
-    if flags & NLM_F_DUMP == NLM_F_DUMP && is_get(given.kind) {
-        return Ok(false);
+    Ok(lines)
+}
+
+// The requests of what lines hold.
+fn requests_by(
+    alloc: Global,
+    lines: Lines,
+    now: Option<&Now<Global>>,
+    replaces_actions: bool,
+) -> Result<Restored, Stop> {
+    let Lines {
+        dumps,
+        mut remarks,
+        is_void,
+    } = lines;
+    let mut requests = Requests::new(alloc);
+    keep_all(
+        alloc,
+        &dumps,
+        now,
+        replaces_actions,
+        &mut requests,
+        &mut remarks,
+    )?;
+    let Requests {
+        entries,
+        lines,
+        notices,
+        ..
+    } = requests;
+    for (number, notice) in notices {
+        say(&mut remarks, number, RemarkKind::Notice, notice)?;
     }
-    Err(Complaint::Member {
-        name: "flags",
-        found: FoundValue::Number(u64::from(flags)),
-        wanted: "those of a dump, without NLM_F_REQUEST (1)",
+    let plan = plan(alloc, entries)?;
+    let is_void = say_left(alloc, &lines, &plan.left, &mut remarks)? || is_void;
+    let mut requests = requests_in_order(alloc, lines, &plan.order, &mut remarks)?;
+    if is_void {
+        requests.clear();
+    }
+    Ok(Restored {
+        requests,
+        remarks,
+        is_void,
     })
 }
 
-// A message of this interface, if one is given; what is in a block that interfaces share has none (its index is -1).
-fn with_index(mut made: Made, index: Option<i32>) -> Made {
-    if let (Holds::Tc, Some(index)) = (made.given.holds, index) {
-        set_index(&mut made.bytes, index);
-    }
-    made
-}
-
-fn set_index(bytes: &mut Vec<u8>, index: i32) {
-    if let [_, _, _, _, a, b, c, d, ..] = bytes.as_mut_slice() {
-        if i32::from_le_bytes([*a, *b, *c, *d]) != -1 {
-            [*a, *b, *c, *d] = index.to_le_bytes();
-        }
-    }
-}
-
-/// Makes the requests of all lines of an input, in an order in which each finds what it needs.
-pub(crate) fn restore_in_order<T: Tables, R: BufRead, W: Write, E: Write>(
+// Keeps the request of each dump.
+fn keep_all(
     alloc: Global,
-    forms: Forms<T>,
-    request: &Request,
-    reader: &mut R,
-    writer: &mut W,
-    errors: &mut E,
-    has_refused: &mut bool,
-) -> Result<(), Stop> {
-    let mut output = Output::new(alloc, request.form);
-    restore_on(
-        alloc,
-        forms,
-        request,
-        reader,
-        &mut output,
-        writer,
-        errors,
-        has_refused,
-    )
-}
-
-fn restore_on<T: Tables, R: BufRead, W: Write, E: Write>(
-    alloc: Global,
-    forms: Forms<T>,
-    request: &Request,
-    reader: &mut R,
-    output: &mut Output,
-    writer: &mut W,
-    errors: &mut E,
-    has_refused: &mut bool,
-) -> Result<(), Stop> {
-    output.begin()?;
-    output.write(writer)?;
-    let requests = read_all(alloc, forms, request, reader, errors, has_refused)?;
-    put_requests(
-        alloc,
-        request,
-        requests,
-        output,
-        writer,
-        errors,
-        has_refused,
-    )
-}
-
-// Reads all lines, and keeps what is dumped.
-fn read_all<T: Tables, R: BufRead, E: Write>(
-    alloc: Global,
-    forms: Forms<T>,
-    request: &Request,
-    reader: &mut R,
-    errors: &mut E,
-    has_refused: &mut bool,
-) -> Result<Requests, Stop> {
-    let mut requests = Requests::new(alloc);
-    let mut line = Vec::new(alloc);
-    read_into(
-        alloc,
-        forms,
-        request,
-        reader,
-        &mut line,
-        &mut requests,
-        errors,
-        has_refused,
-    )?;
-    Ok(requests)
-}
-
-fn read_into<T: Tables, R: BufRead, E: Write>(
-    alloc: Global,
-    forms: Forms<T>,
-    request: &Request,
-    reader: &mut R,
-    line: &mut Vec<u8>,
+    dumps: &[Dumped],
+    now: Option<&Now<Global>>,
+    replaces_actions: bool,
     requests: &mut Requests,
-    errors: &mut E,
-    has_refused: &mut bool,
-) -> Result<(), Stop> {
-    for number in 1..u64::MAX {
-        let found = next_line(reader, line)?;
-        if found == Found::End {
-            break;
-        }
-        if let Err(complaint) = keep_line(alloc, forms, request, found, line, number, requests) {
-            *has_refused = true;
-            say_complaint(alloc, errors, number, complaint)?;
+    remarks: &mut Vec<Remark>,
+) -> Result<(), AllocError> {
+    let mut roots = Vec::new(alloc);
+    let mut ingress = Vec::new(alloc);
+    for dump in dumps {
+        if let Err(complaint) = keep_shown(alloc, dump, &mut roots, &mut ingress) {
+            complain(alloc, remarks, dump.number, &complaint)?;
         }
     }
-    Ok(())
-}
-
-// Keeps the dump of a line, if it has one.
-fn keep_line<T: Tables>(
-    alloc: Global,
-    forms: Forms<T>,
-    request: &Request,
-    found: Found,
-    line: &[u8],
-    number: u64,
-    requests: &mut Requests,
-) -> Result<(), Complaint> {
-    match dump_in(alloc, forms, request, found, line)? {
-        Some(dump) => requests.keep(alloc, number, &dump),
-        None => Ok(()),
-    }
-}
-
-fn say_complaint<E: Write>(
-    alloc: Global,
-    errors: &mut E,
-    number: u64,
-    complaint: Complaint,
-) -> Result<(), AllocError> {
-    match format!(in alloc; "{complaint}") {
-        Ok(text) => say(alloc, errors, number, text.as_str()),
-        Err(_) => Err(AllocError),
-    }
-}
-
-// The dump of a line, which may be blank.
-fn dump_in<T: Tables>(
-    alloc: Global,
-    forms: Forms<T>,
-    request: &Request,
-    found: Found,
-    line: &[u8],
-) -> Result<Option<Made>, Complaint> {
-    match found {
-        Found::TooLong => Err(Complaint::LongLine),
-        Found::NoMemory => Err(Complaint::NoMemory),
-        Found::Whole | Found::End => if is_blank(line) {
-            Ok(None)
-        } else {
-            dump_in_line(alloc, forms, request.index, line)
-        },
-    }
-}
-
-// Writes the requests in an order, and says of each that has none why.
-fn put_requests<W: Write, E: Write>(
-    alloc: Global,
-    request: &Request,
-    requests: Requests,
-    output: &mut Output,
-    writer: &mut W,
-    errors: &mut E,
-    has_refused: &mut bool,
-) -> Result<(), Stop> {
-    let Requests { entries, lines } = requests;
-    let plan = plan(alloc, entries)?;
-    put_planned(
-        alloc,
-        request,
-        &lines,
-        &plan,
-        output,
-        writer,
-        errors,
-        has_refused,
-    )
-}
-
-fn put_planned<W: Write, E: Write>(
-    alloc: Global,
-    request: &Request,
-    lines: &[Planned],
-    plan: &Order<Item, Key, Global>,
-    output: &mut Output,
-    writer: &mut W,
-    errors: &mut E,
-    has_refused: &mut bool,
-) -> Result<(), Stop> {
-    if !plan.left.is_empty() {
-        *has_refused = true;
-        say_left(alloc, errors, lines, &plan.left)?;
-    }
-    put_all(
-        alloc,
-        request,
-        lines,
-        &plan.order,
-        output,
-        writer,
-        errors,
-        has_refused,
-    )
-}
-
-// Says that another request makes what a line shows, if that is asked for.
-fn say_made<E: Write>(
-    alloc: Global,
-    request: &Request,
-    errors: &mut E,
-    number: u64,
-) -> Result<(), AllocError> {
-    if request.verbose {
-        say(alloc, errors, number, MADE_BY_ANOTHER)
-    } else {
-        Ok(())
-    }
-}
-
-/// The notice on a dump that another request makes.
-pub(crate) const MADE_BY_ANOTHER: &str = "made by another request";
-
-// Says why each of these isn't made.
-fn say_left<E: Write>(
-    alloc: Global,
-    errors: &mut E,
-    lines: &[Planned],
-    left: &[Step<Item, Key, Global>],
-) -> Result<(), AllocError> {
-    let around = circle(alloc, left)?;
-    say_reasons(alloc, errors, lines, left, &around.left)
-}
-
-fn say_reasons<E: Write>(
-    alloc: Global,
-    errors: &mut E,
-    lines: &[Planned],
-    left: &[Step<Item, Key, Global>],
-    around: &[Step<usize, Key, Global>],
-) -> Result<(), AllocError> {
-    for step in left {
-        say_reason(alloc, errors, lines, &step.item, around)?;
-    }
-    Ok(())
-}
-
-fn say_reason<E: Write>(
-    alloc: Global,
-    errors: &mut E,
-    lines: &[Planned],
-    item: &Item,
-    around: &[Step<usize, Key, Global>],
-) -> Result<(), AllocError> {
-    let Some(planned) = lines.get(item.place) else {
-        return Ok(());
+    let known = Known {
+        roots: &roots,
+        ingress: &ingress,
+        now,
+        replaces_actions,
     };
-    let reason = reason_of(item, around);
-    let text = format!(in alloc; "{reason}")?;
-    say(alloc, errors, planned.number, text.as_str())
+    for dump in dumps {
+        if let Err(complaint) = requests.keep(alloc, known, dump) {
+            complain(alloc, remarks, dump.number, &complaint)?;
+        }
+    }
+    Ok(())
+}
+
+// Keeps the root table and the ingress qdisc that a dump shows. What isn't a dump is complained about where its request is made.
+fn keep_shown(
+    alloc: Global,
+    dump: &Dumped,
+    roots: &mut Vec<RootTable>,
+    ingress: &mut Vec<i32>,
+) -> Result<(), Complaint> {
+    if let Ok(Dump::Of(object)) = dump_of(dump.made.given.kind) {
+        let message = TcMessage::parse(alloc, &dump.made.bytes)?;
+        if let Some(root) = root_table(object, &message) {
+            roots.push(root)?;
+        }
+        if let Some(index) = ingress_of(object, &message) {
+            ingress.push(index)?;
+        }
+    }
+    Ok(())
+}
+
+// Keeps what is wrong with a line.
+fn complain(
+    alloc: Global,
+    remarks: &mut Vec<Remark>,
+    number: u64,
+    complaint: &Complaint,
+) -> Result<(), AllocError> {
+    let text = format!(in alloc; "{complaint}")?;
+    say(remarks, number, RemarkKind::Complaint, text)
+}
+
+fn say(
+    remarks: &mut Vec<Remark>,
+    number: u64,
+    kind: RemarkKind,
+    text: String,
+) -> Result<(), AllocError> {
+    remarks.push(Remark {
+        source: Source::Wanted,
+        number,
+        kind,
+        text,
+    })?;
+    Ok(())
+}
+
+// Says why each of these isn't made. True if nothing may be made then.
+fn say_left(
+    alloc: Global,
+    lines: &[Planned],
+    left: &[Step<Item, Key, Global>],
+    remarks: &mut Vec<Remark>,
+) -> Result<bool, AllocError> {
+    let mut is_void = false;
+    if !left.is_empty() {
+        let around = circle(alloc, left)?;
+        for step in left {
+            let reason = reason_of(&step.item, &around.left);
+            is_void = is_void || is_of_all(reason);
+            say_reason(alloc, lines, step.item.place, reason, remarks)?;
+        }
+    }
+    Ok(is_void)
+}
+
+// True of a reason for which no request at all is made: others hold an action that would have to be changed.
+fn is_of_all(reason: &Reason) -> bool {
+    matches!(reason, Reason::Held(_))
+}
+
+fn say_reason(
+    alloc: Global,
+    lines: &[Planned],
+    place: usize,
+    reason: &Reason,
+    remarks: &mut Vec<Remark>,
+) -> Result<(), AllocError> {
+    if let Some(planned) = lines.get(place) {
+        let text = format!(in alloc; "{reason}")?;
+        say(remarks, planned.number, RemarkKind::Complaint, text)?;
+    }
+    Ok(())
 }
 
 // Why a dump isn't made: a reason of its own, or that what it needs isn't, which may need the dump in turn.
@@ -437,41 +481,134 @@ fn is_around(place: usize, around: &[Step<usize, Key, Global>]) -> bool {
     false
 }
 
-// Writes requests in their order.
-fn put_all<W: Write, E: Write>(
+/// The notice on a dump that another request makes.
+pub(crate) const MADE_BY_ANOTHER: &str = "made by another request";
+
+// The notice on an action that is there as it is wanted.
+const THERE: &str = "there already";
+
+// The requests in their order, and notices on what needs none.
+fn requests_in_order(
     alloc: Global,
-    request: &Request,
-    lines: &[Planned],
+    lines: Vec<Planned>,
     order: &[Step<Item, Key, Global>],
-    output: &mut Output,
+    remarks: &mut Vec<Remark>,
+) -> Result<Vec<LineRequest>, AllocError> {
+    let mut lines = lines;
+    let mut requests = Vec::new(alloc);
+    for step in order {
+        if let Some(planned) = lines.get_mut(step.item.place) {
+            match &step.item.fate {
+                Fate::Request | Fate::Change => put_request(planned, &mut requests)?,
+                Fate::There => say_made(alloc, planned.number, THERE, remarks)?,
+                Fate::Made | Fate::Refused(_) => {
+                    say_made(alloc, planned.number, MADE_BY_ANOTHER, remarks)?
+                }
+            }
+        }
+    }
+    Ok(requests)
+}
+
+fn say_made(
+    alloc: Global,
+    number: u64,
+    text: &str,
+    remarks: &mut Vec<Remark>,
+) -> Result<(), AllocError> {
+    say(
+        remarks,
+        number,
+        RemarkKind::Made,
+        String::from_str(alloc, text)?,
+    )
+}
+
+// Puts the request of a line.
+fn put_request(planned: &mut Planned, requests: &mut Vec<LineRequest>) -> Result<(), AllocError> {
+    if let Some(made) = planned.made.take() {
+        requests.push(LineRequest {
+            number: planned.number,
+            given: made.given,
+            bytes: made.bytes,
+        })?;
+    }
+    Ok(())
+}
+
+/// Makes the requests of all lines of an input, and writes them and what is said of the lines.
+pub(crate) fn restore_in_order<T: Tables, R: BufRead, W: Write, E: Write>(
+    alloc: Global,
+    forms: Forms<T>,
+    request: &Request,
+    asked: &Asked<'_>,
+    reader: &mut R,
     writer: &mut W,
     errors: &mut E,
     has_refused: &mut bool,
 ) -> Result<(), Stop> {
-    for step in order {
-        if let Some(planned) = lines.get(step.item.place) {
-            match (&planned.made, &step.item.fate) {
-                (Some(made), Fate::Request) => {
-                    if put_request(alloc, made, planned.number, output, errors)? {
-                        *has_refused = true;
-                    }
-                    output.write(writer)?;
-                }
-                _ => say_made(alloc, request, errors, planned.number)?,
-            }
+    let restored = requests_of(alloc, forms, asked, reader)?;
+    *has_refused = restored.is_void;
+    for remark in &restored.remarks {
+        if remark.kind == RemarkKind::Complaint {
+            *has_refused = true;
         }
+        if remark.kind != RemarkKind::Made || request.verbose {
+            write_remark(alloc, remark, errors)?;
+        }
+    }
+    if restored.is_void {
+        return Ok(());
+    }
+    write_requests(
+        alloc,
+        request.form,
+        &restored.requests,
+        writer,
+        errors,
+        has_refused,
+    )
+}
+
+fn write_remark<E: Write>(
+    alloc: Global,
+    remark: &Remark,
+    errors: &mut E,
+) -> Result<(), AllocError> {
+    let place = match remark.source {
+        Source::Wanted => "line",
+        Source::Now => "--now, line",
+    };
+    let (number, said) = (remark.number, remark.text.as_str());
+    let text = format!(in alloc; "tcmake: {place} {number}: {said}\n")?;
+    let _ = write_all(errors, text.as_bytes());
+    Ok(())
+}
+
+fn write_requests<W: Write, E: Write>(
+    alloc: Global,
+    form: Form,
+    requests: &[LineRequest],
+    writer: &mut W,
+    errors: &mut E,
+    has_refused: &mut bool,
+) -> Result<(), Stop> {
+    let mut output = Output::new(alloc, form);
+    output.begin()?;
+    for request in requests {
+        if put_message(
+            alloc,
+            &request.given,
+            &request.bytes,
+            &[],
+            request.number,
+            &mut output,
+            errors,
+        )? {
+            *has_refused = true;
+        }
+        output.write(writer)?;
     }
     output.end()?;
     output.write(writer)
-}
-
-// Puts a request on the output. True if it can't be written.
-fn put_request<E: Write>(
-    alloc: Global,
-    made: &Made,
-    number: u64,
-    output: &mut Output,
-    errors: &mut E,
-) -> Result<bool, Stop> {
-    put_message(alloc, &made.given, &made.bytes, &[], number, output, errors)
 }

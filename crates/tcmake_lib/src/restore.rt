@@ -1,8 +1,8 @@
 //! The request that restores what a line shows of a dump.
 
-ghost use Rattle.std.specs.Prelude.{◌≡◌, Some, IfOk};
+ghost use Rattle.std.specs.Prelude.{◌≡◌, [], Some, IfOk};
 ghost use Rattle.tc_canon.specs.Canonical.{CanonTc, CanonAct};
-ghost use Rattle.tcmake_lib.specs.Restored.{IsDumpOf, held_by, request_type, Restores};
+ghost use Rattle.tcmake_lib.specs.Restored.{IsDumpOf, held_by, request_type, ShowsRoot, Restores};
 ghost use Rattle.tcmake_lib.specs.Written.{IsCanonical};
 ghost use Rattle.tcmake_lib.specs.declared.restore.Dump.{Dump as DumpType};
 ghost use Rattle.tcmake_lib.specs.declared.restore.Dump.TheVariants.{Of, Actions};
@@ -15,7 +15,9 @@ use std::alloc::Global;
 use tc_action_messages::TcActionMessage;
 use tc_capture::Holds;
 use tc_messages::TcMessage;
-use tc_requests::{Object, RTM_NEWACTION, Request, request_of, request_of_actions};
+use tc_requests::{
+    Object, RTM_NEWACTION, Request, RootTable, request_of, request_of_actions, root_table,
+};
 use tcmake_lines::{Given, packet_at};
 
 /// What is dumped.
@@ -32,18 +34,32 @@ const RTM_GETACTION: u16 = 50;
 
 const OBJECTS: [Object; 4] = [Object::Qdisc, Object::Class, Object::Filter, Object::Chain];
 
-/// Makes of the message of a dump the request that restores it, with the dump's sequence number and time.
-pub(crate) fn restored(alloc: Global, made: &Made) -> Result<Made, Complaint>
+/// The root table of u32 that the message of a dump shows, if it shows one.
+pub(crate) fn root_in(alloc: Global, made: &Made) -> Result<Option<RootTable>, Complaint>
+    ensures { IfOk result (ShowsRoot made.now.given.kind made.now.bytes.items) }
+{
+    match dump_of(made.given.kind)? {
+        Dump::Of(object) => {
+            let dump = TcMessage::parse(alloc, &made.bytes)?;
+            Ok(root_table(object, &dump))
+        }
+        Dump::Actions => Ok(None),
+    }
+}
+
+/// Makes of the message of a dump the request that restores it, with the dump's sequence number and time; `roots` are the root
+/// tables of u32 that all dumps show.
+pub(crate) fn restored(alloc: Global, roots: &[RootTable], made: &Made) -> Result<Made, Complaint>
     ensures canonical { IfOk result (λ r. IsCanonical r.given.holds r.bytes.items) }
     ensures restores { IfOk result (λ r. (dump : DumpType) × IsDumpOf made.now.given.kind dump
         × (r.given.kind ≡ Some (request_type dump))
-        × Restores dump made.now.bytes.items r.bytes.items) }
+        × Restores roots.now dump made.now.bytes.items r.bytes.items) }
     ensures flags { IfOk result (λ r. r.given.flags ≡ 0x605) }
     ensures sequence { IfOk result (λ r. r.given.sequence ≡ made.now.given.sequence) }
     ensures time { IfOk result (λ r. r.given.packet.time ≡ made.now.given.packet.time) }
 {
     let dump = dump_of(made.given.kind)?;
-    let request = request_for(alloc, dump, &made.bytes)?;
+    let request = request_for(alloc, roots, dump, &made.bytes)?;
     Ok(Made {
         given: Given {
             holds: held_by(dump),
@@ -68,14 +84,19 @@ fn held_by(dump: Dump) -> Holds
     }
 }
 
-fn request_for(alloc: Global, dump: Dump, bytes: &[u8]) -> Result<Request<Vec<u8>>, Complaint>
+fn request_for(
+    alloc: Global,
+    roots: &[RootTable],
+    dump: Dump,
+    bytes: &[u8],
+) -> Result<Request<Vec<u8>>, Complaint>
     ensures canonical { IfOk result (λ r. IsCanonical (held_by dump) r.message.items) }
-    ensures restores { IfOk result (λ r. Restores dump bytes.now r.message.items) }
+    ensures restores { IfOk result (λ r. Restores roots.now dump bytes.now r.message.items) }
     ensures message_type { IfOk result (λ r. r.message_type ≡ request_type dump) }
     ensures flags { IfOk result (λ r. r.flags ≡ 0x605) }
 {
     match dump {
-        Dump::Of(object) => restored_tc(alloc, object, bytes),
+        Dump::Of(object) => restored_tc(alloc, roots, object, bytes),
         Dump::Actions => restored_actions(alloc, bytes),
     }
 }
@@ -105,14 +126,19 @@ pub(crate) fn dump_of(kind: Option<u16>) -> Result<Dump, Complaint>
 }
 
 // The request that restores a qdisc, a class, a filter or a chain.
-fn restored_tc(alloc: Global, object: Object, bytes: &[u8]) -> Result<Request<Vec<u8>>, Complaint>
+fn restored_tc(
+    alloc: Global,
+    roots: &[RootTable],
+    object: Object,
+    bytes: &[u8],
+) -> Result<Request<Vec<u8>>, Complaint>
     ensures canonical { IfOk result (λ r. CanonTc r.message.items) }
-    ensures restores { IfOk result (λ r. Restores (Of object) bytes.now r.message.items) }
+    ensures restores { IfOk result (λ r. Restores roots.now (Of object) bytes.now r.message.items) }
     ensures message_type { IfOk result (λ r. r.message_type ≡ new_type object) }
     ensures flags { IfOk result (λ r. r.flags ≡ 0x605) }
 {
     let dump = TcMessage::parse(alloc, bytes)?;
-    let request = request_of(alloc, object, dump)?;
+    let request = request_of(alloc, roots, object, dump)?;
     Ok(Request {
         message_type: request.message_type,
         flags: request.flags,
@@ -123,7 +149,7 @@ fn restored_tc(alloc: Global, object: Object, bytes: &[u8]) -> Result<Request<Ve
 // The request that restores actions.
 fn restored_actions(alloc: Global, bytes: &[u8]) -> Result<Request<Vec<u8>>, Complaint>
     ensures canonical { IfOk result (λ r. CanonAct r.message.items) }
-    ensures restores { IfOk result (λ r. Restores Actions bytes.now r.message.items) }
+    ensures restores { IfOk result (λ r. Restores [] Actions bytes.now r.message.items) }
     ensures message_type { IfOk result (λ r. r.message_type ≡ 48) }
     ensures flags { IfOk result (λ r. r.flags ≡ 0x605) }
 {
@@ -136,8 +162,8 @@ fn restored_actions(alloc: Global, bytes: &[u8]) -> Result<Request<Vec<u8>>, Com
     })
 }
 
-// The bytes of a message.
-fn emitted<M: Emitable>(alloc: Global, message: &M) -> Result<Vec<u8>, Complaint>
+/// The bytes of a message.
+pub(crate) fn emitted<M: Emitable>(alloc: Global, message: &M) -> Result<Vec<u8>, Complaint>
     ensures fits { IfOk result (λ _. M.codec.Fits (M.see message.now)) }
     ensures written { IfOk result (λ bytes. bytes.items ≡ M.codec.write (M.see message.now)) }
 {

@@ -7,9 +7,10 @@ ghost use Rattle.tcmake_lines.specs.Parts.{Ran};
 
 use crate::arguments::{Making, Request};
 use crate::complaint::{Complaint, Notice};
+use crate::lines::dump_in_line;
 use crate::made::{Made, made_of};
 use crate::message::Forms;
-use crate::order::{MADE_BY_ANOTHER, dump_in_line, restore_in_order};
+use crate::order::{Asked, MADE_BY_ANOTHER, restore_in_order};
 use crate::restore::restored;
 use std::alloc::{AllocError, Global};
 use std::io::{BufRead, Write};
@@ -24,6 +25,7 @@ pub fn run<T: Tables, R: BufRead, W: Write, E: Write>(
     alloc: Global,
     forms: Forms<T>,
     request: &Request,
+    asked: &Asked<'_>,
     reader: &mut R,
     writer: &mut W,
     errors: &mut E,
@@ -33,7 +35,7 @@ pub fn run<T: Tables, R: BufRead, W: Write, E: Write>(
         (R.remaining reader.old) (W.contents writer.old) (W.contents writer.new)) }
 {
     if request.making == Making::Restored {
-        return restore(alloc, forms, request, reader, writer, errors);
+        return restore(alloc, forms, request, asked, reader, writer, errors);
     }
     let maker = MessageMaker {
         alloc,
@@ -48,6 +50,7 @@ fn restore<T: Tables, R: BufRead, W: Write, E: Write>(
     alloc: Global,
     forms: Forms<T>,
     request: &Request,
+    asked: &Asked<'_>,
     reader: &mut R,
     writer: &mut W,
     errors: &mut E,
@@ -56,7 +59,7 @@ fn restore<T: Tables, R: BufRead, W: Write, E: Write>(
         let maker = RequestMaker {
             alloc,
             forms,
-            index: request.index,
+            index: asked.index,
             verbose: request.verbose,
         };
         return run_lines(alloc, &maker, request.form, reader, writer, errors);
@@ -66,6 +69,7 @@ fn restore<T: Tables, R: BufRead, W: Write, E: Write>(
         alloc,
         forms,
         request,
+        asked,
         reader,
         writer,
         errors,
@@ -166,7 +170,7 @@ fn request_in<T: Tables>(
 }
 
 fn request_for(alloc: Global, dump: &Made) -> Result<Option<Made>, Complaint> {
-    Ok(Some(restored(alloc, dump)?))
+    Ok(Some(restored(alloc, &[], dump)?))
 }
 
 // The notice on a dump that another request makes, if notices are asked for.

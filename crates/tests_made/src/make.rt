@@ -5,5 +5,6 @@ mod dumps;
 mod packets;
 mod rows;
 mod runs;
+mod saves;
 mod streams;
 mod verdicts;

@@ -4,5 +4,6 @@
 mod actions;
 mod built;
 mod in_hex;
+mod numbered;
 mod planned;
 mod restored;

@@ -17,7 +17,7 @@ pub fn indices_in(line: &Value) -> BTreeSet<u32> {
     found
 }
 
-// What the message of a line speaks of.
+// The root of the columns of a line.
 fn root_of(line: &Value) -> Option<Root> {
     match line.get("type")?.as_str()?.get("RTM_".len() + 3..)? {
         "QDISC" => Some(Root::Qdisc),

@@ -10,6 +10,7 @@ pub mod message;
 pub mod socket;
 pub mod state;
 pub mod transport;
+mod u32_tables;
 
 pub use clear::clear;
 pub use devices::{Device, Devices};

@@ -4,7 +4,7 @@ use crate::netlink::message::{Header, Messages, NLM_F_REQUEST, NLMSG_MIN_TYPE, R
 use crate::netlink::{Fault, Kernel, Transport};
 use crate::status::{Ending, Status};
 
-/// The requests of a stream, of which each can be sent.
+/// The requests of a stream, checked.
 pub struct Stream<'a> {
     // With the number of the message in the stream, from 1.
     requests: Vec<(usize, Header, &'a [u8])>,
@@ -29,7 +29,7 @@ impl<'a> Stream<'a> {
                     return Err(wrong(format!("a message of type {}, which --any sends", header.kind)));
                 }
                 if message.len() > most {
-                    return Err(wrong(format!("a message of {} bytes, where {most} can be sent", message.len())));
+                    return Err(wrong(format!("a message of {} bytes; {most} can be sent", message.len())));
                 }
                 requests.push((number, header, message));
             }

@@ -10,7 +10,7 @@ use std::time::SystemTime;
 /// The version of the format, `save` of the head.
 pub const VERSION: u32 = 1;
 
-/// The text of a save of these interfaces, of which `lines` shows what they have. `devices` are all interfaces of the namespace.
+/// The text of a save of some interfaces. `lines` are those of their objects, `devices` all interfaces of the namespace.
 pub fn save_of(saved: &[&Device], devices: &Devices, lines: &[String]) -> Result<String, Error> {
     let mut text = to_string(&Head { saved, names: &names_of(saved, devices, lines)? })?;
     for line in lines {

@@ -16,8 +16,8 @@ DEV is the name of an interface, another name of it (an altname), or its index.
 
 Exit status: 0; 1 if there is no such interface, if the kernel refused something, if what is
 dumped kept changing, or if messages were lost; 2 for a wrong usage; 3 if a socket or a stream
-failed, or if a stream has something else than whole requests of traffic control, of which
-nothing is sent";
+failed, or if a stream has anything but whole requests of traffic control (nothing of it is
+sent)";
 
 const OBJECTS: [(&str, Objects); 5] = [
     ("qdisc", Objects { qdiscs: true, ..Objects::NONE }),
@@ -46,7 +46,7 @@ fn command() -> Command {
                 .about("Writes what the kernel has as a stream")
                 .override_usage("tcnl dump [--links] [qdisc|class|filter|chain|action] [dev DEV]")
                 .arg(links.clone())
-                .arg(words("WORDS", 3, "What to dump (all, if it isn't said), and of which interface (of all)")),
+                .arg(words("WORDS", 3, "The objects (default: all), and their interface (default: all)")),
         )
         .subcommand(Command::new("monitor").about("Writes what changes as a stream, until it is ended").arg(links))
         .subcommand(Command::new("send").about("Sends the requests of the stream at standard input").arg(any))

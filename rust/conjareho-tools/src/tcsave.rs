@@ -78,7 +78,7 @@ fn found_in(devices: &Devices, words: &[String]) -> Result<Vec<Device>, Ending> 
     Ok(found)
 }
 
-// An interface as it is after the dump; its name has to be that by which it was found.
+// An interface as it is after the dump, if it still has its name.
 fn same_in<'a>(devices: &'a Devices, before: &Device) -> Result<&'a Device, Ending> {
     let same = devices.at(before.index).filter(|device| device.name == before.name);
     same.ok_or_else(|| Ending::new(Status::Refused, format!("{}: it was renamed or replaced meanwhile", before.name)))

@@ -12,6 +12,7 @@ use std::cell::RefCell;
 use std::collections::{BTreeMap, VecDeque};
 use std::io;
 use std::rc::Rc;
+use std::sync::LazyLock;
 use std::time::Duration;
 
 const PORT: u32 = 4711;
@@ -73,7 +74,12 @@ impl Peer {
         let kind = header.kind;
         if header.flags & NLM_F_DUMP != NLM_F_DUMP || kind % 4 != 2 {
             let errno: i32 = if self.happens(self.manners.refuses) { -2 } else { 0 };
-            return vec![acknowledgement(header.sequence, errno)];
+            let found = if kind == RTM_GETTFILTER && errno == 0 {
+                vec![stamped(&root(request), header.sequence)]
+            } else {
+                Vec::new()
+            };
+            return [found, vec![acknowledgement(header.sequence, errno)]].concat();
         }
         let mut datagrams: Vec<Vec<u8>> = dumped(kind, request)
             .chunks(3)
@@ -226,6 +232,29 @@ const QDISCS: [(i32, u32, u32, &str); 6] = [
     (4, 0xffff_0000, 0xffff_fff1, "ingress"),
 ];
 
+// The root tables of u32 below a qdisc and a class, which the kernel keeps together.
+static ROOTS: LazyLock<BTreeMap<u32, u32>> =
+    LazyLock::new(|| BTreeMap::from([(0x1_0000, 0x8000_0000), (0x1_0001, 0x8010_0000)]));
+
+// A table of u32, or a key in it.
+fn key(parent: u32, handle: u32) -> Vec<u8> {
+    let mut message = object(RTM_NEWTFILTER, 2, handle, parent, "u32");
+    let mut options = Vec::new();
+    if handle & 0xf_ffff == 0 && handle != 0 {
+        put(&mut options, 4, &1u32.to_ne_bytes());
+    }
+    put(&mut message, 2, &options);
+    let len = message.len() as u32;
+    message[..4].copy_from_slice(&len.to_ne_bytes());
+    message
+}
+
+// The root table that a request asks for.
+fn root(request: &[u8]) -> Vec<u8> {
+    let parent = tcmsg_of(request).unwrap_or_default().parent;
+    key(parent, ROOTS.get(&parent).copied().unwrap_or_default())
+}
+
 // What a dump has, as Linux answers it: qdiscs of all interfaces, classes and filters of what is asked for.
 fn dumped(kind: u16, request: &[u8]) -> Vec<Vec<u8>> {
     let asked = tcmsg_of(request).unwrap_or_default();
@@ -242,6 +271,9 @@ fn dumped(kind: u16, request: &[u8]) -> Vec<Vec<u8>> {
             (3, 0) => (1..5).map(|number| object(RTM_NEWTCLASS, 3, number, u32::MAX, "mq")).collect(),
             _ => Vec::new(),
         },
+        RTM_GETTFILTER if ROOTS.contains_key(&asked.parent) => {
+            [0, 0x8000_0000, 0x8000_0800, 0x8010_0000, 0x8010_0800].map(|handle| key(asked.parent, handle)).into()
+        }
         RTM_GETTFILTER if asked.parent == 0xffff_fff2 => vec![object(RTM_NEWTFILTER, -1, 1, 22, "matchall")],
         RTM_GETCHAIN if asked.parent == 0xffff_fff2 => vec![object(RTM_NEWCHAIN, asked.index, 0, 0xffff_0000, "")],
         _ => Vec::new(),
@@ -282,10 +314,11 @@ fn without_sequences(lines: Vec<String>) -> Vec<String> {
 #[test]
 fn honest() {
     let lines = saved(Peer::new(1, Manners::default()), &[2, 3]).expect("nothing is broken");
-    // Five qdiscs, nineteen classes of htb and four of mq, a chain and a filter of a shared block; each once.
-    assert_eq!(lines.len(), 5 + 19 + 4 + 2);
+    // Five qdiscs, nineteen classes of htb and four of mq, a chain and a filter of a shared block, two priorities of u32 with a table and a key; each
+    // once.
+    assert_eq!(lines.len(), 5 + 19 + 4 + 2 + 2 * 3);
     let lines = saved(Peer::new(1, Manners::default()), &[2, 4]).expect("nothing is broken");
-    assert_eq!(lines.len(), 4 + 19 + 2 + 1, "the filter of the block that both have is there once");
+    assert_eq!(lines.len(), 4 + 19 + 2 + 1 + 2 * 3, "the filter of the block that both have is there once");
 }
 
 #[test]
@@ -305,13 +338,14 @@ fn a_dump_that_is_refused_or_lost_is_an_error() {
     for seed in first..first + runs / 10 {
         let refusing = Manners { refuses: 20, ..Manners::default() };
         match saved(Peer::new(seed, refusing), &[2]) {
-            Ok(lines) => assert_eq!(lines.len(), 24, "seed {seed}"),
+            // Without an answer about root tables, a priority has those of the other too.
+            Ok(lines) => assert!([30, 32, 34].contains(&lines.len()), "seed {seed}: {}", lines.len()),
             Err(Fault::Refused(refusal) | Fault::Cut(refusal)) => assert_eq!(refusal.name(), "ENOMEM", "seed {seed}"),
             Err(fault) => panic!("seed {seed}: {fault}"),
         }
         let losing = Manners { loses: 40, ..Manners::default() };
         if let Ok(lines) = saved(Peer::new(seed, losing), &[2]) {
-            assert_eq!(lines.len(), 24, "seed {seed}");
+            assert_eq!(lines.len(), 30, "seed {seed}");
         }
     }
 }

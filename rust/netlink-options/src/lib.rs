@@ -1,5 +1,5 @@
-//! Options of netlink sockets that netlink-sys has from 0.8.6 on, and Debian 12's 0.8.3 lacks. It holds the one `unsafe` call behind
-//! `rust/conjareho-tools` that no other crate has.
+//! Options of netlink sockets that netlink-sys has from version 0.8.6 on. Debian 12 has 0.8.3, so `rust/conjareho-tools` takes them from here: one
+//! `unsafe` call.
 
 use std::io;
 use std::os::fd::AsRawFd;

@@ -18,10 +18,10 @@ static DUMPS: &str = r#"{"type":"RTM_NEWQDISC","flags":0,"seq":13,"fits":true,"s
 {"type":"RTM_NEWTFILTER","flags":0,"seq":17,"fits":true,"settled":true,"canonical":true,"message":{"header":{"family":"Unspec","index":3,"handle":"0:0","parent":"1:","info":917512},"attributes":[{"Kind":"u32"},{"Options":[{"U32":{"Action":[{"tab":1,"attributes":[{"Kind":"mirred"},{"Options":[{"Mirror":{"Parms":{"generic":{"index":0,"capab":0,"action":"Stolen","refcnt":0,"bindcnt":0},"eaction":"EgressRedir","ifindex":4}}}]}]}]}},{"U32":{"Selector":{"flags":1,"offshift":0,"nkeys":1,"offmask":0,"off":0,"offoff":0,"hoff":0,"hmask":0,"keys":[{"mask":4294967295,"val":16909063,"off":12,"offmask":0}]}}}]}]}}
 {"type":"RTM_NEWTCLASS","flags":0,"seq":11,"message":{"header":{"family":"Unspec","index":7,"handle":"10:61","parent":"10:","info":0},"attributes":[{"Stats":{"bytes":0,"packets":0,"drops":0,"overlimits":0,"bps":0,"pps":0,"qlen":24,"backlog":15408}}]}}
 {"header":{"family":"Unspec"},"attributes":[{"Actions":[{"tab":0,"attributes":[{"Kind":"gact"}]}]}]}
-{"type":"RTM_GETACTION","time":"1764028801.123456789","flags":2,"seq":13,"message":{"header":{"family":"Unspec"},"attributes":[{"Actions":[{"tab":0,"attributes":[{"Kind":"gact"}]},{"tab":1,"attributes":[{"Kind":"nat"}]}]},{"RootCount":2}]}}
+{"type":"RTM_GETACTION","time":"1764028801.123456789","flags":2,"seq":13,"message":{"header":{"family":"Unspec"},"attributes":[{"Actions":[{"tab":0,"attributes":[{"Kind":"gact"},{"Options":[]}]},{"tab":1,"attributes":[{"Kind":"nat"},{"Options":[]}]}]},{"RootCount":2}]}}
 {"type":"RTM_NEWTFILTER","flags":0,"seq":14,"message":{"header":{"family":"Unspec","index":2,"handle":":1","parent":"ffff:fff2","info":39387144},"attributes":[{"Kind":"flower"},{"Options":[{"Flower":{"MplsBos":3}},{"Flower":{"Flags":8}}]}]}}
 {"type":"RTM_NEWQDISC","seq":15,"message":{"header":{"family":"Unspec","index":2,"index":3,"handle":"1:","parent":"root","info":0},"attributes":[{"Kind":"fq_codel"}]}}
-{"type":"RTM_NEWTFILTER","flags":2,"seq":99,"message":{"header":{"family":"Unspec","index":2,"handle":":1","parent":"ffff:","info":65544},"attributes":[{"Kind":"flower"},{"Options":[{"Flower":{"Flags":31}}]}]}}
+{"type":"RTM_NEWTFILTER","flags":2,"seq":99,"message":{"header":{"family":"Unspec","index":2,"handle":":1","parent":"ffff:","info":65544},"attributes":[{"Kind":"flower"},{"Options":[{"Flower":{"Flags":31}},{"Flower":{"InHwCount":2}}]}]}}
 {"type":"RTM_NEWTFILTER","flags":2,"seq":41,"message":{"header":{"family":"Unspec","index":7,"handle":":2","parent":"ffff:fff3","info":22610688},"attributes":[{"Kind":"matchall"},{"Chain":0},{"Options":[{"MatchAll":{"Action":[{"tab":1,"attributes":[{"Kind":"mirred"},{"Options":[{"Mirror":{"Parms":{"generic":{"index":7,"capab":0,"action":"Unspec","refcnt":2,"bindcnt":1},"eaction":"IngressMirror","ifindex":2}}}]}]}]}}]}]}}
 {"type":"RTM_GETACTION","flags":0,"seq":42,"fits":true,"settled":true,"canonical":false,"message":{"header":{"family":"Unspec"},"attributes":[{"Actions":[{"tab":1,"attributes":[{"Kind":"mirred"},{"Stats":[{"Basic":{"bytes":0,"packets":0}},{"BasicHw":{"bytes":0,"packets":0}},{"Queue":{"qlen":0,"backlog":0,"drops":0,"requeues":0,"overlimits":0}}]},{"Cookie":"00ff"},{"UsedHwStats":{"value":0,"selector":3}},{"InHwCount":0},{"Options":[{"Mirror":{"Parms":{"generic":{"index":7,"capab":0,"action":"Unspec","refcnt":1,"bindcnt":0},"eaction":"IngressMirror","ifindex":2}}},{"Mirror":{"Tm":{"install":29,"lastuse":29,"expires":0,"firstuse":0}}}],"word":2}]}]}]}}
 "#;
@@ -29,13 +29,12 @@ static DUMPS: &str = r#"{"type":"RTM_NEWQDISC","flags":0,"seq":13,"fits":true,"s
 // The requests, parents before what hangs below them.
 static REQUESTS: &str = "\
 50000000240005060d0000000000000000000000030000000000cdabffffffff0500000008000100687462002400020018000200030000000a00000000000000000000000400000008000500e8030000
-54000000300005061d0000000000000000000000400001003c0001000b0001006d697272656400000600060000ff000024000280200002000700000000000000ffffffff01000000000000000400000002000000
+54000000300005061d0000000000000000000000400001003c0001000b0001006d697272656400000600060000ff000024000280200002000700000000000000ffffffff00000000000000000400000002000000
 5c000000640005061e000000000000000000000007000000000000000000ffff0000000008000b00070000000b000100666c6f7765720000240002000a00040000000000000000000a000500ffffffffffff00000600080000000000
-34000000300005060d000000000000000000000020000100100001000900010067616374000000000c000200080001006e617400
+3c000000300005060d000000000000000000000028000100140001000900010067616374000000000400028010000200080001006e61740004000280
 3c0000002c00050663000000000000000000000002000000010000000000ffff080001000b000100666c6f77657200000c0002000800160013000000
-780000002c0005062900000000000000000000000700000002000000f3ffffff000359010d0001006d61746368616c6c0000000008000b00000000003c00020038000200340001000b0001006d6972726564000024000280200002000700000000000000ffffffff02000000010000000400000002000000
-5c0000002c0005061300000000000000000000000700000005000000f2ffffff080005000b000100666c6f776572000008000b000000000024000200080016000000000018000300140001000f00010074756e6e656c5f6b65790000
-880000002c0005062800000000000000000000000700000001000000f3ffffff000359010d0001006d61746368616c6c0000000008000b00000000004c0002000800030000000000400002003c00010008000100627066003000028018000200040000000000000003000000010000000100000006000300010000000c00040006000000ffffffff
+780000002c0005062900000000000000000000000700000002000000f3ffffff000359010d0001006d61746368616c6c0000000008000b00000000003c00020038000200340001000b0001006d6972726564000024000280200002000700000000000000ffffffff00000000000000000400000002000000
+880000002c0005062800000000000000000000000700000001000000f3ffffff000359010d0001006d61746368616c6c0000000008000b00000000004c0002000800030000000000400002003c00010008000100627066003000028018000200000000000000000003000000000000000000000006000300010000000c00040006000000ffffffff
 ";
 
 #[test]

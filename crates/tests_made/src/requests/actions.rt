@@ -1,4 +1,4 @@
-//! Actions that stand by themselves and those that only filters hold; places of actions in their lists.
+//! Actions that stand by themselves and those that are a filter's own; places of actions in their lists.
 
 use crate::requests::in_hex::{self, is_written};
 use nla_frames::DefaultNla;
@@ -36,7 +36,7 @@ b80001000b0001006d69727265640000040005005000040004000600140001000000000000000000
 // The last of them alone, as the first of its list.
 #[rattlefmt::skip]
 static STANDING_RESTORED: &str =
-"0000000038000100340001000b0001006d6972726564000024000280200002005800000000000000030000000100000000000000020000000b000000";
+"0000000038000100340001000b0001006d6972726564000024000280200002005800000000000000030000000000000000000000020000000b000000";
 
 // What it dumps of nat, pedit and police: each held by one filter, its counts at another byte.
 #[rattlefmt::skip]
@@ -64,7 +64,7 @@ fe0400000000000000000000000000000000000000000000";
 
 static HELD: [&str; 3] = [HELD_NAT, HELD_PEDIT, HELD_POLICE];
 
-// Actions that go on in chain 8: one that no filter holds, and one that only its filter holds.
+// Actions that go on in chain 8: one that no filter holds, and one that is its filter's own.
 static GOTO_CHAIN: &str =
     "00000000300001002c0000000900010067616374000000001c000200180002000400000000000000080000200100000000000000";
 

@@ -35,11 +35,17 @@ const TREE: &[(Dump, &str)] = &[
         "000000000300000000000000000001000000000008000b0005000000",
     ),
     // 1:0, chain 0: u32, 800::800
-    (Dump::Filter, "00000000030000000008008000000100080002c0"),
+    (
+        Dump::Filter,
+        "00000000030000000008008000000100080002c00800010075333200",
+    ),
     // 1:2 under 1:0
     (Dump::Class, "0000000003000000020001000000010000000000"),
     // 1:0, chain 0: the table 800: of u32
-    (Dump::Filter, "00000000030000000000008000000100080002c0"),
+    (
+        Dump::Filter,
+        "00000000030000000000008000000100080002c00800010075333200",
+    ),
     // 2: under 1:20
     (Dump::Qdisc, "0000000003000000000002002000010000000000"),
     // 1: at the root
@@ -60,6 +66,40 @@ const BLOCKS: &[(Dump, &str)] = &[
     (
         Dump::Qdisc,
         "00000000030000000000fffff1ffffff0000000008000d000700000008000e0009000000",
+    ),
+];
+
+// Filters of u32 and what they wait for: their own tables, and those that they link to.
+const LINKED: &[(Dump, &str)] = &[
+    // a classifier of flower
+    (
+        Dump::Filter,
+        "00000000030000000000000000000100080001c00b000100666c6f7765720000",
+    ),
+    // 801::800, which links to 9:
+    (
+        Dump::Filter,
+        "00000000030000000008108000000100080002c008000100753332000c0002000800030000009000",
+    ),
+    // 9:1:800
+    (
+        Dump::Filter,
+        "00000000030000000018900000000100080002c00800010075333200",
+    ),
+    // 800::800, whose table isn't there
+    (
+        Dump::Filter,
+        "00000000030000000008008000000100080001c00800010075333200",
+    ),
+    // the table 9:
+    (
+        Dump::Filter,
+        "00000000030000000000900000000100080002c00800010075333200",
+    ),
+    // the table 801:
+    (
+        Dump::Filter,
+        "00000000030000000000108000000100080002c00800010075333200",
     ),
 ];
 
@@ -170,7 +210,7 @@ fn entry_of_object(
     digits: &str,
 ) -> Result<Entry<Global>, Fail> {
     let dump = tc_message(alloc, digits)?;
-    Ok(entry_of(alloc, place, Fate::Request, object, &dump)?)
+    Ok(entry_of(alloc, place, Fate::Request, object, &[], &dump)?)
 }
 
 fn entry_of_dumped_actions(
@@ -230,8 +270,8 @@ fn come_in(
 }
 
 // Dumps, the places of those that come into an order, and of those that are left.
-static ORDERS: [(&[(Dump, &str)], &[usize], &[usize]); 5] = [
-    (TREE, &[7, 8, 2, 5, 0, 4, 1, 3, 6], &[]),
+static ORDERS: [(&[(Dump, &str)], &[usize], &[usize]); 6] = [
+    (TREE, &[7, 8, 2, 0, 4, 1, 5, 3, 6], &[]),
     // one that is left comes last
     (ONE_LEFT, &[1, 0], &[]),
     // root classes behind their qdisc
@@ -240,6 +280,8 @@ static ORDERS: [(&[(Dump, &str)], &[usize], &[usize]); 5] = [
     (BLOCKS, &[3, 0, 1, 2], &[]),
     // circles are left
     (CIRCLE, &[1], &[2, 0, 3]),
+    // keys behind their own tables and those that they link to, and behind no others
+    (LINKED, &[0, 3, 4, 5, 1, 2], &[]),
 ];
 
 #[test]
@@ -311,6 +353,8 @@ fn has_fate(alloc: Global, item: &Item, text: &str) -> bool {
     match &item.fate {
         Fate::Request => text == "request",
         Fate::Made => text == "made",
+        Fate::There => text == "there",
+        Fate::Change => text == "change",
         Fate::Refused(reason) => match format!(in alloc; "{reason}") {
             Ok(reason) => reason.as_str() == text,
             Err(_) => false,
@@ -349,5 +393,31 @@ fn each_with_its_fate(rt: HostRuntime) -> Result<(), Fail> {
     for (dumps, order, left) in &FATES {
         assert!(rt; come_to(rt.alloc(), dumps, order, left)?, "{order:?}");
     }
+    Ok(())
+}
+
+// A chain of ingress, dumped under ffff:0, and a filter in it, dumped under ffff:fff3.
+static INGRESS: [&str; 2] = [
+    "0000000003000000000000000000ffff0000000008000b0005000000",
+    "000000000300000001000000f3ffffff080001c008000b0005000000",
+];
+
+// True if the chain is made by its filter, where these interfaces have ingress.
+fn is_one_chain(alloc: Global, ingress: &[i32]) -> Result<bool, Fail> {
+    let mut entries = Vec::new(alloc);
+    let objects = [Object::Chain, Object::Filter];
+    for (place, (object, digits)) in objects.iter().zip(INGRESS.iter()).enumerate() {
+        let dump = tc_message(alloc, digits)?;
+        let entry = entry_of(alloc, place, Fate::Request, *object, ingress, &dump)?;
+        entries.push(entry)?;
+    }
+    let made = plan(alloc, entries)?;
+    Ok(made.order.iter().any(|step| step.item.fate == Fate::Made))
+}
+
+#[test]
+fn one_parent_below_ingress(rt: HostRuntime) -> Result<(), Fail> {
+    assert!(rt; is_one_chain(rt.alloc(), &[2, 3])?);
+    assert!(rt; !is_one_chain(rt.alloc(), &[2])?);
     Ok(())
 }

@@ -7,6 +7,6 @@ fn main() -> ExitCode {
 
 #[cfg(not(target_os = "linux"))]
 fn main() -> ExitCode {
-    eprintln!("tcnl: it speaks to a Linux kernel alone");
+    eprintln!("tcnl: it runs on Linux only");
     ExitCode::from(3)
 }

@@ -7,6 +7,6 @@ fn main() -> ExitCode {
 
 #[cfg(not(target_os = "linux"))]
 fn main() -> ExitCode {
-    eprintln!("tcsave: it speaks to a Linux kernel alone");
+    eprintln!("tcsave: it runs on Linux only");
     ExitCode::from(3)
 }

@@ -8,21 +8,21 @@ use std::{fmt, io};
 pub enum Fault {
     /// The kernel refused it.
     Refused(Refusal),
-    /// The kernel ended a dump with an error behind a part of it.
+    /// The kernel ended a dump with an error, after a part of it.
     Cut(Refusal),
     /// A call on the socket failed: which, and why.
     Socket(&'static str, io::Error),
     /// No answer came within ten seconds. The kernel may have done what was asked.
     Silent,
-    /// An answer isn't as netlink's answers are.
+    /// A malformed answer.
     Broken(&'static str),
     /// Messages were lost (`ENOBUFS` or `NLMSG_OVERRUN`). The kernel may have done what was asked.
     Lost,
-    /// `NLM_F_DUMP_INTR`: what was dumped changed meanwhile.
+    /// `NLM_F_DUMP_INTR`: something changed during the dump.
     Interrupted,
-    /// It changed during each of so many dumps.
+    /// Something changed during each of so many dumps.
     Changing(u32),
-    /// There is no interface of this index any more.
+    /// The interface of this index is gone.
     NoInterface(u32),
 }
 

@@ -19,8 +19,8 @@ const NLMSGERR_ATTR_OFFS: u16 = 2;
 /// The greatest error that the kernel answers with, `MAX_ERRNO`.
 const MAX_ERRNO: u32 = 4095;
 
-/// A conversation with the kernel. Each message goes once, and answers are matched by sequence number and port id; a datagram that isn't the
-/// kernel's is skipped.
+/// A conversation with the kernel. Each message is sent once. Answers are matched by sequence number and port id, and datagrams from other senders
+/// than the kernel are skipped.
 pub struct Kernel<T = Socket> {
     transport: T,
     sequence: u32,
@@ -199,7 +199,7 @@ fn ended(header: Header, message: &[u8]) -> Result<(), Fault> {
     Err(Fault::Refused(refusal))
 }
 
-// The attributes behind an error number, and behind the request or its header that an `NLMSG_ERROR` repeats.
+// The attributes after the error number and, in an `NLMSG_ERROR`, after the repeated request or its header.
 fn attributes_of(header: Header, message: &[u8]) -> Result<&[u8], Fault> {
     let mut at = HEADER + 4;
     if header.kind == NLMSG_ERROR {

@@ -18,7 +18,7 @@ const ROOM: usize = 4 << 20;
 /// What the kernel keeps of the room for what is sent.
 const SEND_OVERHEAD: usize = 32;
 
-/// A socket of route netlink that speaks to the kernel of its network namespace.
+/// A socket of route netlink, connected to the kernel of its network namespace.
 pub struct Socket {
     socket: netlink_sys::Socket,
     port: u32,

@@ -7,6 +7,7 @@ use super::kernel::Kernel;
 use super::listener::{Changes, Listener};
 use super::message::*;
 use super::transport::Transport;
+use super::u32_tables::own_tables;
 use nix::errno::Errno;
 use std::collections::BTreeSet;
 
@@ -140,12 +141,14 @@ impl<T: Transport, L: Transport> Dumper<'_, T, L> {
         if self.objects.classes || self.objects.are_below() {
             tree.extend(self.classes(index, &tree)?);
         }
+        let mut own = Vec::new();
         for parent in if self.objects.are_below() { parents(&tree)? } else { Vec::new() } {
             let mut found = self.below(index, parent)?;
             found.retain(|message| block_of(message).is_none_or(|block| !self.blocks.contains(&block)));
             self.blocks.extend(found.iter().filter_map(|message| block_of(message)));
-            below.extend(found);
+            own.extend(found);
         }
+        below.extend(own_tables(self.kernel, own)?);
         let is_asked = |kind| if kind == RTM_NEWQDISC { self.objects.qdiscs } else { self.objects.classes };
         dump.messages.extend(tree.into_iter().filter(|it| header_of(it).is_some_and(|header| is_asked(header.kind))));
         Ok(())
@@ -282,7 +285,7 @@ fn actions<T: Transport>(kernel: &mut Kernel<T>) -> Result<Vec<Vec<u8>>, Fault> 
     let mut actions = Vec::new();
     for kind in ACTIONS {
         match kernel.dump(&actions_request(kind)) {
-            // The kernel lacks the kind: EINVAL, or ENOENT where it looked for a module.
+            // The kernel lacks the kind.
             Err(Fault::Refused(refusal)) if refusal.is(Errno::EINVAL) || refusal.is(Errno::ENOENT) => {}
             dumped => actions.extend(dumped?),
         }

@@ -14,7 +14,7 @@ pub trait Transport {
     /// Sends a datagram to the kernel. Returns how many bytes of it were sent.
     fn send(&mut self, datagram: &[u8]) -> io::Result<usize>;
 
-    /// Receives a datagram in place of what `into` has. Returns the port id of its sender, 0 for the kernel.
-    /// Waits as long as `wait` says, without it for ever; `TimedOut` if none came.
+    /// Replaces the content of `into` with the next datagram, and returns the port id of its sender (0: the kernel). Waits for `wait`, or
+    /// forever if it is `None`. Fails with `TimedOut` if none came.
     fn receive(&mut self, into: &mut Vec<u8>, wait: Option<Duration>) -> io::Result<u32>;
 }

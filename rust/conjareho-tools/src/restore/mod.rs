@@ -9,6 +9,7 @@ mod plan;
 mod prepare;
 mod sending;
 mod state;
+mod staying;
 mod status;
 mod targets;
 #[cfg(test)]

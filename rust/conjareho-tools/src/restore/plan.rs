@@ -1,11 +1,10 @@
 //! Requests, in the order in which they are sent: those that `tcmake --request --stream` makes of the same lines.
 
-use super::messages::messages_of;
 use crate::tc_kinds::{ACTION_MESSAGE, TC_MESSAGE, TcTables};
-use crate::tcmake_lib::arguments::{Making, Request};
+use crate::tc_streams::Stop;
+use crate::tcmake_lib::lines::{RemarkKind, Source};
 use crate::tcmake_lib::message::Forms;
-use crate::tcmake_lib::program::serve;
-use crate::tcmake_lines::Form;
+use crate::tcmake_lib::order::{Asked, Restored, requests_of};
 
 /// What is to be made.
 #[derive(Clone, Copy, Default, Debug)]
@@ -37,20 +36,36 @@ pub(crate) struct Plan {
 /// The requests that make what lines say.
 pub(crate) fn requests(wanted: &Wanted<'_>) -> Plan {
     let forms = Forms { table: TcTables, tc: TC_MESSAGE, action: ACTION_MESSAGE };
-    let index = wanted.index.and_then(|index| i32::try_from(index).ok());
-    let request = Request { form: Form::Stream, making: Making::Restored, in_order: false, index, verbose: false };
-    let (mut stream, mut said) = (Vec::new(), Vec::new());
-    let lines: String = wanted.text.lines().map(|line| if is_mark(line) { "\n".to_string() } else { format!("{line}\n") }).collect();
-    let status = serve(forms, &request, &mut lines.as_bytes(), &mut stream, &mut said);
-    let said = String::from_utf8_lossy(&said);
-    Plan {
-        requests: messages_of(&stream),
-        complaints: said.lines().map(|line| line.strip_prefix("tcmake: ").unwrap_or(line).to_string()).collect(),
-        notices: Vec::new(),
-        is_void: status > 1,
-    }
+    let asked = Asked {
+        index: wanted.index.and_then(|index| i32::try_from(index).ok()),
+        now: wanted.now.map(str::as_bytes),
+        replaces_actions: wanted.replaces_actions,
+        names: wanted.names,
+    };
+    requests_of(forms, &asked, &mut wanted.text.as_bytes()).and_then(planned).unwrap_or_else(|_| {
+        let complaints = vec!["out of memory".to_string()];
+        Plan { complaints, is_void: true, ..Plan::default() }
+    })
 }
 
-fn is_mark(line: &str) -> bool {
-    line.starts_with("{\"save\":") || line.starts_with("{\"end\":")
+fn planned(restored: Restored) -> Result<Plan, Stop> {
+    let mut plan = Plan { is_void: restored.is_void, ..Plan::default() };
+    for remark in &restored.remarks {
+        let place = match (&remark.source, remark.number) {
+            (Source::Wanted, 0) => String::new(),
+            (Source::Wanted, number) => format!("line {number}: "),
+            (Source::Now, 0) => "what is there now: ".to_string(),
+            (Source::Now, number) => format!("what is there now, line {number}: "),
+        };
+        let said = format!("{place}{}", remark.text);
+        match remark.kind {
+            RemarkKind::Complaint => plan.complaints.push(said),
+            RemarkKind::Notice => plan.notices.push(said),
+            RemarkKind::Made => {}
+        }
+    }
+    for request in &restored.requests {
+        plan.requests.push(request.netlink()?);
+    }
+    Ok(plan)
 }

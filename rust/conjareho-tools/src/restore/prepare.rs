@@ -7,6 +7,7 @@ use super::messages::{blocks_of, type_of};
 use super::plan::{Plan, Wanted, requests};
 use super::sending::{PATIENCE, PAUSE};
 use super::state;
+use super::staying::staying;
 use super::status::Status;
 use super::targets::{Targets, targets_of};
 use super::world::{Place, World, text_of};
@@ -71,14 +72,14 @@ pub(crate) fn prepare<T: Transport, L: Transport>(
     let targets = targets_of(&save, arguments, &devices).map_err(|faults| Ended::because(Status::NothingSent, faults))?;
     said.extend(targets.warnings.iter().cloned());
     let names = names_of(&save, &targets);
-    let (dump, now, plan) = planned(arguments, &save, &targets, &names, world)?;
     let others = blocks_of_others(world, &targets)?;
+    let Planned { dump, now, stays, plan } = planned(arguments, &wanted_of(arguments, &save, &targets, &names), &targets, &others, world)?;
     let plan = checked(arguments, plan, said)?;
-    let wanted = requests(&wanted_of(arguments, &save, &targets, &names, None)).requests;
+    let wanted = requests(&wanted_of(arguments, &save, &targets, &names)).requests;
     check_blocks(world, &others, &wanted)?;
     let is_own = |request: &Vec<u8>| !is_in_block(request, &others);
     let blocks = wanted.iter().flat_map(|request| blocks_of(request)).chain(dump.blocks).collect();
-    let (back, before) = (requests(&of_now(&now, true)), requests(&of_now(&now, false)));
+    let (back, before) = (requests(&of_now(&now, Some(&stays))), requests(&of_now(&now, None)));
     check_back(arguments, &back)?;
     let kept = state::keep(&arguments.state, &targets.names(), &now)
         .map_err(|error| Ended::because(Status::Failed, vec![format!("what is there now can't be kept in {}: {error}", arguments.state.display())]))?;
@@ -110,37 +111,46 @@ fn names_of<'a>(save: &'a Save, targets: &Targets) -> Vec<(u32, &'a str)> {
     names.filter_map(|(index, name)| Some((*targets.indices.get(index)?, name.as_str()))).collect()
 }
 
-fn wanted_of<'a>(arguments: &Arguments, save: &'a Save, targets: &Targets, names: &'a [(u32, &'a str)], now: Option<&'a str>) -> Wanted<'a> {
+fn wanted_of<'a>(arguments: &Arguments, save: &'a Save, targets: &Targets, names: &'a [(u32, &'a str)]) -> Wanted<'a> {
     Wanted {
         text: &save.text,
-        now,
+        now: None,
         names: save.head.as_ref().map(|_| names),
         index: targets.only,
         replaces_actions: arguments.replace_actions,
     }
 }
 
-// The requests of what there is now, by themselves or beside what stays when the interfaces are cleared.
-fn of_now(now: &str, is_beside: bool) -> Wanted<'_> {
-    Wanted { text: now, now: Some(now).filter(|_| is_beside), replaces_actions: true, ..Wanted::default() }
+// What there is now, to be made by itself or beside what stays.
+fn of_now<'a>(now: &'a str, stays: Option<&'a str>) -> Wanted<'a> {
+    Wanted { text: now, now: stays, replaces_actions: true, ..Wanted::default() }
+}
+
+// What there is now, its save, the lines of it that stay when the interfaces are cleared, and the requests.
+struct Planned {
+    dump: Dump,
+    now: String,
+    stays: String,
+    plan: Plan,
 }
 
 // What there is now, and the requests beside it. The actions of filters that were just deleted are there for a time, and held by nobody's filter.
 fn planned<T: Transport, L: Transport>(
     arguments: &Arguments,
-    save: &Save,
+    wanted: &Wanted<'_>,
     targets: &Targets,
-    names: &[(u32, &str)],
+    others: &BTreeMap<u32, u32>,
     world: &mut World<'_, T, L>,
-) -> Result<(Dump, String, Plan), Ended> {
+) -> Result<Planned, Ended> {
     let until = Instant::now() + PATIENCE;
+    let can_be_made = !requests(wanted).is_void;
     loop {
         let dump = world.first_dump(&targets.own())?;
         let now = text_of(&dump, &targets.own())?;
-        let plan = requests(&wanted_of(arguments, save, targets, names, Some(&now)));
-        let may_pass = plan.is_void && !requests(&wanted_of(arguments, save, targets, names, None)).is_void;
-        if !may_pass || Instant::now() >= until {
-            return Ok((dump, now, plan));
+        let stays = staying(&now, |block| others.contains_key(&block));
+        let plan = requests(&Wanted { now: Some(if arguments.clear { &stays } else { &now }), ..*wanted });
+        if !(plan.is_void && can_be_made) || Instant::now() >= until {
+            return Ok(Planned { dump, now, stays, plan });
         }
         sleep(PAUSE);
     }

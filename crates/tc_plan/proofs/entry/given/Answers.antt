@@ -3,13 +3,13 @@ use Rattle.tc_plan.specs.Needs.{gives}
 use Rattle.tc_plan.proofs.entry.given.Goals as goal
 
 pub returns-in-Qdisc : goal.returns-in-Qdisc
-returns-in-Qdisc g c = subst (λ k. IfOk c.given_by_qdisc.result (λ keys. keys.items ≡ gives k c.args.dump.now)) (sym c.in-Qdisc.is) c.given_by_qdisc.ensures
+returns-in-Qdisc g c = subst (λ k. IfOk c.given_by_qdisc.result (λ keys. keys.items ≡ gives c.args.ingress.now k c.args.dump.now)) (sym c.in-Qdisc.is) c.given_by_qdisc.ensures
 
 pub returns-in-Class : goal.returns-in-Class
-returns-in-Class g c = subst (λ k. IfOk c.given_by_class.result (λ keys. keys.items ≡ gives k c.args.dump.now)) (sym c.in-Class.is) c.given_by_class.ensures
+returns-in-Class g c = subst (λ k. IfOk c.given_by_class.result (λ keys. keys.items ≡ gives c.args.ingress.now k c.args.dump.now)) (sym c.in-Class.is) c.given_by_class.ensures
 
 pub returns-in-Chain : goal.returns-in-Chain
-returns-in-Chain g c = subst (λ k. IfOk c.given_by_chain.result (λ keys. keys.items ≡ gives k c.args.dump.now)) (sym c.in-Chain.is) c.given_by_chain.ensures
+returns-in-Chain g c = subst (λ k. IfOk c.given_by_chain.result (λ keys. keys.items ≡ gives c.args.ingress.now k c.args.dump.now)) (sym c.in-Chain.is) c.given_by_chain.ensures
 
 pub returns-in-Filter : goal.returns-in-Filter
-returns-in-Filter g c = subst (λ k. IfOk c.given_by_filter.result (λ keys. keys.items ≡ gives k c.args.dump.now)) (sym c.in-Filter.is) c.given_by_filter.ensures
+returns-in-Filter g c = subst (λ k. IfOk c.given_by_filter.result (λ keys. keys.items ≡ gives c.args.ingress.now k c.args.dump.now)) (sym c.in-Filter.is) c.given_by_filter.ensures

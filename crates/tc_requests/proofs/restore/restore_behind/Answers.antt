@@ -9,7 +9,7 @@ use Rattle.tc_requests.proofs.restore.restore_behind.Goals as goal
 pub returns-in_err-one : goal.returns-in_err-one
 returns-in_err-one g c =
     let t = g.T.Restore in
-    let edit = t.restored c.args.kind.now c.args.info c.args.types.now in
+    let edit = t.restored c.args.kind.now c.args.around c.args.types.now in
     let xs = map t.shown c.loop-item.made.items in
     let p = err_from_is_err_and c.from_residual-in_err-one.result c.from_residual-in_err-one.ensures.1 in
     let here = ap (λ l. behind xs (each edit (c.loop-item.place + 1) l)) (sym c.in-Some.ensures.steps.0) ∙ c.loop-item.invariant.3 in
@@ -19,7 +19,7 @@ returns-in_err-one g c =
 pub loop-item-preserved-in-Continue-branch-4 : goal.loop-item-preserved-in-Continue-branch-4
 loop-item-preserved-in-Continue-branch-4 g c =
     let t = g.T.Restore in
-    let edit = t.restored c.args.kind.now c.args.info c.args.types.now in
+    let edit = t.restored c.args.kind.now c.args.around c.args.types.now in
     let xs = map t.shown c.loop-item.made.items in
     let here = ap (λ l. behind xs (each edit (c.loop-item.place + 1) l)) (sym c.in-Some.ensures.steps.0) ∙ c.loop-item.invariant.3 in
     let given = rw c.in-Some-2.is at c.in_ok-one.ensures in (
@@ -33,7 +33,7 @@ loop-item-preserved-in-Continue-branch-4 g c =
 pub loop-item-preserved : goal.loop-item-preserved
 loop-item-preserved g c =
     let t = g.T.Restore in
-    let edit = t.restored c.args.kind.now c.args.info c.args.types.now in
+    let edit = t.restored c.args.kind.now c.args.around c.args.types.now in
     let xs = map t.shown c.loop-item.made.items in
     let here = ap (λ l. behind xs (each edit (c.loop-item.place + 1) l)) (sym c.in-Some.ensures.steps.0) ∙ c.loop-item.invariant.3 in
     let given = rw c.in-None-2.is at c.in_ok-one.ensures in (
@@ -46,7 +46,7 @@ loop-item-preserved g c =
 pub returns : goal.returns
 returns g c =
     let t = g.T.Restore in
-    let edit = t.restored c.args.kind.now c.args.info c.args.types.now in
+    let edit = t.restored c.args.kind.now c.args.around c.args.types.now in
     let xs = map t.shown c.loop-item.made.items in
     let none : into_iter_items c.loop-item.item-iterator ≡ [] = nil_from_length _ (omega (arith, c.loop-item.item-iterator.rest.ok.0, c.in-None.ensures.steps.0)) in
     sym c.loop-item.invariant.3 ∙ ap (λ l. behind xs (each edit (c.loop-item.place + 1) l)) none ∙ step_end edit (c.loop-item.place + 1) xs

@@ -10,5 +10,5 @@ invariant-loop-item g l =
     (goal.iterator-loop-item g).can_next l.item-iterator
     × (goal.iterator-loop-item g).is_finite l.item-iterator
     × (l.place + length (into_iter_items l.item-iterator) ≡ length l.fn.items.items)
-    × (behind (map t.shown l.made.items) (each (t.restored l.kind l.info l.types) (l.place + 1) (into_iter_items l.item-iterator))
-    ≡ behind (map t.shown l.fn.front.items) (each (t.restored l.kind l.info l.types) 1 l.fn.items.items))
+    × (behind (map t.shown l.made.items) (each (t.restored l.kind l.around l.types) (l.place + 1) (into_iter_items l.item-iterator))
+    ≡ behind (map t.shown l.fn.front.items) (each (t.restored l.kind l.around l.types) 1 l.fn.items.items))

@@ -7,4 +7,4 @@ pub returns : goal.returns
 returns g c =
     let t = g.T.Restore in
     let kind : c.as_str.result.now ≡ sole_kind (kinds_set g.T.SetsKind.sets c.args.items.items) = search rules in
-    subst (λ k. Gives (seen (λ made. map t.shown made.items) c.restore_all.result) (each (t.restored k c.args.info []) 1 c.args.items.items)) kind c.restore_all.ensures
+    subst (λ k. Gives (seen (λ made. map t.shown made.items) c.restore_all.result) (each (t.restored k c.args.around []) 1 c.args.items.items)) kind c.restore_all.ensures

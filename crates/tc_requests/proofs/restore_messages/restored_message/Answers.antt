@@ -9,4 +9,5 @@ returns g c =
     rw (
       c.in_ok-attributes.ensures,
       some_is (map tc_attribute c.in_ok-attributes.attributes.items) (λ none. grind (arith, common_steps, ap length none, c.is_empty.ensures, c.if-is_empty.false)),
+      c.header_restored.ensures,
     ) refl

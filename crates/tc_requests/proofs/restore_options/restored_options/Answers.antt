@@ -8,5 +8,5 @@ pub returns : goal.returns
 returns g c =
     let kind = c.args.kind.now in
     let options = c.args.options.items in
-    let front : map tc_option c.in_ok-front.front.items ≡ outer_type kind c.args.info = search rules in
-    subst (λ xs. Gives (seen (λ made. map tc_option made.items) c.restore_behind.result) (behind xs (each (option_restored c.args.info) 1 options))) front c.restore_behind.ensures
+    let front : map tc_option c.in_ok-front.front.items ≡ outer_type kind c.args.around.info = search rules in
+    subst (λ xs. Gives (seen (λ made. map tc_option made.items) c.restore_behind.result) (behind xs (each (option_restored c.args.around) 1 options))) front c.restore_behind.ensures

@@ -24,6 +24,8 @@ const TC_H_ROOT: u32 = 0xFFFF_FFFF;
 /// kernel answers with an error in place of it, if there is one; 0 keeps silent.
 pub(super) type Hook = Box<dyn FnMut(&mut State, usize, &[u8]) -> Option<i32>>;
 
+pub(super) type LinksHook = Box<dyn FnMut(&mut State, usize)>;
+
 #[derive(Default)]
 pub(super) struct State {
     /// Index, name and MAC.
@@ -34,7 +36,7 @@ pub(super) struct State {
     pub(super) sent: Vec<Vec<u8>>,
     pub(super) signal: Option<&'static str>,
     /// What is called when interfaces are asked for, with the number of the call.
-    pub(super) on_links: Option<Box<dyn FnMut(&mut State, usize)>>,
+    pub(super) on_links: Option<LinksHook>,
     links_asked: usize,
     answers: VecDeque<Vec<u8>>,
     heard: [VecDeque<Vec<u8>>; 2],
@@ -152,7 +154,7 @@ impl State {
     fn change(&mut self, header: Header, message: &[u8]) -> i32 {
         let Some(tcmsg) = tcmsg_of(message) else { return 22 };
         let at = self.objects.iter().position(|it| is_same(it, header.kind / 4 * 4, tcmsg));
-        if header.kind % 4 == 0 {
+        if header.kind.is_multiple_of(4) {
             if at.is_some() && header.flags & NLM_F_EXCL != 0 {
                 return EEXIST;
             }

@@ -1,0 +1,57 @@
+//! The names of interfaces in a file, as `ip -o link` writes them.
+#![tactic(auto)]
+
+use std::alloc::{AllocError, Allocator};
+use std::str;
+use tc_words::link_of_line;
+
+/// The names in a text: on each line a number and a name, or what `ip -o link` writes, and comments after `#`. The number
+/// of the first line that is none of these, from 1 on, where there is one.
+pub fn names_in<'a, A: Allocator>(
+    alloc: A,
+    text: &'a str,
+) -> Result<Result<Vec<(u32, &'a str), A>, u64>, AllocError> {
+    let mut names = Vec::new(alloc);
+    match put_names(text, &mut names)? {
+        Some(line) => Ok(Err(line)),
+        None => Ok(Ok(names)),
+    }
+}
+
+// Puts the names, up to the first line that has none, of which the number is returned.
+fn put_names<'a, A: Allocator>(
+    text: &'a str,
+    names: &mut Vec<(u32, &'a str), A>,
+) -> Result<Option<u64>, AllocError> {
+    let mut count = 0u64;
+    for line in text.lines() {
+        count = count.saturating_add(1);
+        let line = without_comment(line).trim();
+        if !line.is_empty() {
+            match name_in(line) {
+                Some(named) => names.push(named)?,
+                None => return Ok(Some(count)),
+            }
+        }
+    }
+    Ok(None)
+}
+
+// A comment begins the line, or follows a blank; in a name `#` is a letter like others.
+fn without_comment(line: &str) -> &str {
+    if line.trim().starts_with('#') {
+        return "";
+    }
+    match line.split_once(" #") {
+        Some((front, _)) => front,
+        None => line,
+    }
+}
+
+fn name_in(line: &str) -> Option<(u32, &str)> {
+    let link = link_of_line(line.as_bytes())?;
+    match str::from_utf8(link.name) {
+        Ok(name) => Some((link.index, name)),
+        Err(_) => None,
+    }
+}

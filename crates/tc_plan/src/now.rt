@@ -1,0 +1,202 @@
+//! What the kernel has now, as far as requests depend on it.
+
+ghost use Rattle.std.specs.Prelude.{◌≡◌, ◌++◌, IfOk};
+ghost use Rattle.std.specs.List.{flat_map};
+ghost use Rattle.std.specs.Option.{option_to_list};
+ghost use Rattle.tc_requests.specs.Standing.{index_if};
+ghost use Rattle.tc_plan.specs.Now.{fate_now, fate_there, key_of, own, named, named_by, actions_of, held_action, held_in, held_under, held};
+
+use crate::entry::{name_of, options_of, with};
+use crate::fate::{Fate, Named, Reason};
+use crate::key::Key;
+use std::alloc::{AllocError, Allocator};
+use tc_actions::TcAction;
+use tc_attributes::TcAttribute;
+use tc_messages::TcMessage;
+use tc_options::{TcFilterFlowerOption, TcFilterMatchAllOption, TcFilterU32Option, TcOption};
+use tc_requests::{Use, kind_of_action, use_of_action};
+
+/// An action that is there.
+#[derive(Drop, Debug)]
+pub struct Action<A: Allocator> {
+    /// Its kind and its index.
+    pub name: Named,
+    /// The request that makes it, without a netlink header; empty if no request does.
+    pub request: Vec<u8, A>,
+    /// How many filters hold it (`tc_gen.bindcnt`).
+    pub filters: usize,
+}
+
+/// What the kernel has now.
+#[derive(Drop, Debug)]
+pub struct Now<A: Allocator> {
+    /// The actions.
+    pub actions: Vec<Action<A>, A>,
+    /// The actions that the filters of the interfaces to be restored hold: each as often as they hold it.
+    pub held: Vec<Key, A>,
+}
+
+/// What becomes of an action that is wanted and that this request makes: one that is there with the same request stays; another one
+/// is changed if only filters of the interfaces to be restored hold it, or none, or if `replaces`.
+pub fn fate_of_action<A: Allocator>(
+    now: &Now<A>,
+    replaces: bool,
+    name: Named,
+    request: &[u8],
+) -> Fate
+    ensures { result ≡ fate_now replaces now.now.held.items now.now.actions.items name request.now }
+{
+    fate_among(&now.actions, &now.held, replaces, name, request)
+}
+
+// The same by the actions that are left.
+fn fate_among<A: Allocator>(
+    actions: &[Action<A>],
+    held: &[Key],
+    replaces: bool,
+    name: Named,
+    request: &[u8],
+) -> Fate
+    ensures { result ≡ fate_now replaces held.now actions.now name request.now }
+{
+    for action in actions {
+        if key_of(name) == key_of(action.name) {
+            return fate_there(action, held, replaces, name, request);
+        }
+    }
+    Fate::Request
+}
+
+// What becomes of an action that is there.
+fn fate_there<A: Allocator>(
+    action: &Action<A>,
+    held: &[Key],
+    replaces: bool,
+    name: Named,
+    request: &[u8],
+) -> Fate
+    ensures { result ≡ fate_there replaces held.now action.now name request.now }
+{
+    if action.request.as_slice() == request {
+        Fate::There
+    } else if replaces || action.filters == own(held, name) {
+        Fate::Change
+    } else {
+        Fate::Refused(Reason::Held(name))
+    }
+}
+
+fn key_of(name: Named) -> Key
+    ensures { result ≡ key_of name }
+{
+    let Named { kind, index } = name;
+    Key::Action { kind, index }
+}
+
+// How often filters hold an action.
+fn own(held: &[Key], name: Named) -> usize
+    ensures { result ≡ own held.now name }
+{
+    let wanted = key_of(name);
+    held.iter().filter(|key| wanted == **key).count()
+}
+
+/// The kind and the index of an action, whoever holds it; none of one whose parameters name no index, or 0.
+pub fn name_of_action<A: Allocator>(action: &TcAction<A>) -> Option<Named>
+    ensures { result ≡ named action.now }
+{
+    named_by(
+        name_of(kind_of_action(action)),
+        index_if(use_of_action(action)),
+    )
+}
+
+fn named_by(kind: Option<[u8; 16]>, index: Option<u32>) -> Option<Named>
+    ensures { result ≡ named_by kind index }
+{
+    match (kind, index) {
+        (Some(kind), Some(index)) => Some(Named { kind, index }),
+        _ => None,
+    }
+}
+
+fn index_if(found: Option<Use>) -> Option<u32>
+    ensures { result ≡ index_if found }
+{
+    match found {
+        Some(found) if found.index != 0 => Some(found.index),
+        _ => None,
+    }
+}
+
+/// The actions that a filter of flower, u32 or matchall holds, each as often as it holds it.
+pub fn held_by<A: Allocator + Copy>(
+    alloc: A,
+    filter: &TcMessage<A>,
+) -> Result<Vec<Key, A>, AllocError>
+    ensures { IfOk result (λ keys. keys.items ≡ held filter.now) }
+{
+    held_under_all(alloc, &filter.attributes)
+}
+
+fn held_under_all<A: Allocator + Copy>(
+    alloc: A,
+    attributes: &[TcAttribute<A>],
+) -> Result<Vec<Key, A>, AllocError>
+    ensures { IfOk result (λ keys. keys.items ≡ flat_map held_under attributes.now) }
+{
+    let mut keys = Vec::new(alloc);
+    for attribute in attributes {
+        keys = with_options(keys, options_of(attribute))?;
+    }
+    Ok(keys)
+}
+
+// Keys, and the actions that these options hold.
+fn with_options<A: Allocator>(
+    keys: Vec<Key, A>,
+    options: &[TcOption<A>],
+) -> Result<Vec<Key, A>, AllocError>
+    ensures { IfOk result (λ made. made.items ≡ keys.items ++ flat_map held_in options.now) }
+{
+    let mut made = keys;
+    for option in options {
+        made = with_held(made, actions_of(option))?;
+    }
+    Ok(made)
+}
+
+// Keys, and those of these actions.
+fn with_held<A: Allocator>(
+    keys: Vec<Key, A>,
+    actions: &[TcAction<A>],
+) -> Result<Vec<Key, A>, AllocError>
+    ensures { IfOk result (λ made. made.items ≡ keys.items ++ flat_map held_action actions.now) }
+{
+    let mut made = keys;
+    for action in actions {
+        made = with(made, held_action(action))?;
+    }
+    Ok(made)
+}
+
+fn held_action<A: Allocator>(action: &TcAction<A>) -> Option<Key>
+    ensures { option_to_list result ≡ held_action action.now }
+{
+    match name_of_action(action) {
+        Some(name) => Some(key_of(name)),
+        None => None,
+    }
+}
+
+// The actions of a filter's option.
+fn actions_of<A: Allocator>(option: &TcOption<A>) -> &[TcAction<A>]
+    ensures { result.now ≡ actions_of option.now }
+{
+    match option {
+        TcOption::Flower(TcFilterFlowerOption::Actions(actions)) => actions,
+        TcOption::U32(TcFilterU32Option::Action(actions)) => actions,
+        TcOption::MatchAll(TcFilterMatchAllOption::Action(actions)) => actions,
+        _ => &[],
+    }
+}

@@ -1,0 +1,298 @@
+//! Lines of an input, and what they hold of dumps.
+
+use crate::arguments::Making;
+use crate::complaint::{Complaint, Found as FoundValue};
+use crate::given::is_answer;
+use crate::made::{Made, made_of_json, unread};
+use crate::message::Forms;
+use crate::names::{Interfaces, mapped};
+use crate::save::{Names, Save, is_of_save};
+use serde_json::Value;
+use std::alloc::{AllocError, Global};
+use std::io::BufRead;
+use tc_capture::Holds;
+use tc_forms::Tables;
+use tc_forms_text::read_json;
+use tc_streams::Stop;
+use tcmake_lines::{Found, Given, is_blank, next_line};
+
+/// Where a line is.
+#[derive(Clone, Copy, PartialEq, Eq, Debug)]
+pub enum Source {
+    /// Among those of what is wanted.
+    Wanted,
+    /// Among those of what there is now.
+    Now,
+}
+
+/// What kind of a remark it is.
+#[derive(Clone, Copy, PartialEq, Eq, Debug)]
+pub enum RemarkKind {
+    /// Something is wrong.
+    Complaint,
+    /// Nothing is wrong, but something is to be known.
+    Notice,
+    /// No request is needed.
+    Made,
+}
+
+/// What is said of a line.
+#[derive(Drop)]
+pub struct Remark {
+    pub source: Source,
+    /// The number of the line, from 1; 0 of an input without lines.
+    pub number: u64,
+    pub kind: RemarkKind,
+    pub text: String,
+}
+
+/// A dump, and the number of its line.
+#[derive(Drop)]
+pub(crate) struct Dumped {
+    pub(crate) number: u64,
+    pub(crate) made: Made,
+}
+
+/// What lines hold, and what is said of them.
+#[derive(Drop)]
+pub(crate) struct Lines {
+    pub(crate) dumps: Vec<Dumped>,
+    pub(crate) remarks: Vec<Remark>,
+    /// True if something is wrong with all of them.
+    pub(crate) is_void: bool,
+}
+
+/// How lines are read.
+#[derive(Clone, Copy)]
+pub(crate) struct Reading<'a> {
+    pub(crate) source: Source,
+    /// The interface of dumps, in place of their own.
+    pub(crate) index: Option<i32>,
+    /// The interfaces of now.
+    pub(crate) names: Option<&'a [(u32, &'a str)]>,
+}
+
+impl Lines {
+    // None yet.
+    fn new(alloc: Global) -> Lines {
+        Lines {
+            dumps: Vec::new(alloc),
+            remarks: Vec::new(alloc),
+            is_void: false,
+        }
+    }
+
+    // Keeps a dump.
+    fn keep(&mut self, number: u64, made: Made) -> Result<(), AllocError> {
+        self.dumps.push(Dumped { number, made })?;
+        Ok(())
+    }
+
+    /// Keeps what is wrong with a line.
+    pub(crate) fn complain(
+        &mut self,
+        alloc: Global,
+        source: Source,
+        number: u64,
+        complaint: &Complaint,
+    ) -> Result<(), AllocError> {
+        if complaint.is_of_all() || source == Source::Now {
+            self.is_void = true;
+        }
+        self.remarks.push(Remark {
+            source,
+            number,
+            kind: RemarkKind::Complaint,
+            text: format!(in alloc; "{complaint}")?,
+        })?;
+        Ok(())
+    }
+}
+
+/// Reads all lines of an input, and keeps what is dumped.
+pub(crate) fn read_lines<T: Tables, R: BufRead>(
+    alloc: Global,
+    forms: Forms<T>,
+    reading: Reading<'_>,
+    reader: &mut R,
+) -> Result<Lines, Stop> {
+    let mut lines = Lines::new(alloc);
+    let mut save = Save::new();
+    let mut line = Vec::new(alloc);
+    for number in 1..u64::MAX {
+        let found = next_line(reader, &mut line)?;
+        if found == Found::End {
+            break;
+        }
+        match dump_in(alloc, forms, reading, &mut save, found, &line, number) {
+            Ok(Some(made)) => lines.keep(number, made)?,
+            Ok(None) => {}
+            Err(complaint) => lines.complain(alloc, reading.source, number, &complaint)?,
+        }
+    }
+    end(alloc, reading, &save, &mut lines)?;
+    Ok(lines)
+}
+
+// What is wrong at the end of the input.
+fn end(
+    alloc: Global,
+    reading: Reading<'_>,
+    save: &Save,
+    lines: &mut Lines,
+) -> Result<(), AllocError> {
+    if let Some((number, fault)) = save.fault_at_end() {
+        lines.complain(alloc, reading.source, number, &Complaint::Save(fault))?;
+    }
+    if reading.names.is_some() && save.names().is_none() {
+        lines.complain(alloc, reading.source, 1, &Complaint::NoNames)?;
+    }
+    Ok(())
+}
+
+// The dump of a line, which may be blank.
+fn dump_in<T: Tables>(
+    alloc: Global,
+    forms: Forms<T>,
+    reading: Reading<'_>,
+    save: &mut Save,
+    found: Found,
+    line: &[u8],
+    number: u64,
+) -> Result<Option<Made>, Complaint> {
+    match found {
+        Found::TooLong => Err(without_json(save, number, Complaint::LongLine)),
+        Found::NoMemory => Err(Complaint::NoMemory),
+        Found::Whole | Found::End => if is_blank(line) {
+            Ok(None)
+        } else {
+            dump_in_text(alloc, forms, reading, save, line, number)
+        },
+    }
+}
+
+// The complaint about a line that isn't read as JSON: that it is behind the end, or this one.
+fn without_json(save: &mut Save, number: u64, complaint: Complaint) -> Complaint {
+    match save.take_line(number) {
+        Ok(()) => complaint,
+        Err(fault) => Complaint::Save(fault),
+    }
+}
+
+fn dump_in_text<T: Tables>(
+    alloc: Global,
+    forms: Forms<T>,
+    reading: Reading<'_>,
+    save: &mut Save,
+    line: &[u8],
+    number: u64,
+) -> Result<Option<Made>, Complaint> {
+    match read_json(alloc, line) {
+        Ok(json) => {
+            if save.take(alloc, number, &json)? || is_answer(&json) {
+                return Ok(None);
+            }
+            dump_in_json(alloc, forms, reading, save.names(), &json)
+        }
+        Err(error) => Err(without_json(save, number, unread(error, line))),
+    }
+}
+
+fn dump_in_json<T: Tables>(
+    alloc: Global,
+    forms: Forms<T>,
+    reading: Reading<'_>,
+    saved: Option<&Names>,
+    json: &Value,
+) -> Result<Option<Made>, Complaint> {
+    match (reading.names, saved) {
+        (Some(now), Some(saved)) => {
+            let text = json.to_vec(alloc)?;
+            let text = mapped(alloc, &text, Interfaces { saved, now })?;
+            match read_json(alloc, &text) {
+                Ok(json) => as_dump(made_of_json(alloc, forms, &json, Making::Restored)?, None),
+                Err(error) => Err(unread(error, &text)),
+            }
+        }
+        _ => as_dump(
+            made_of_json(alloc, forms, json, Making::Restored)?,
+            reading.index,
+        ),
+    }
+}
+
+/// The dump of a line by itself, of this interface if one is given. An answer of the kernel has none, nor has the request of a dump, which
+/// captures of dumps have. The first and the last line of a save are refused, since they are to be compared with the others.
+pub(crate) fn dump_in_line<T: Tables>(
+    alloc: Global,
+    forms: Forms<T>,
+    index: Option<i32>,
+    line: &[u8],
+) -> Result<Option<Made>, Complaint> {
+    match read_json(alloc, line) {
+        Ok(json) => {
+            if is_of_save(&json) {
+                return Err(Complaint::LineByLine);
+            }
+            if is_answer(&json) {
+                return Ok(None);
+            }
+            as_dump(made_of_json(alloc, forms, &json, Making::Restored)?, index)
+        }
+        Err(error) => Err(unread(error, line)),
+    }
+}
+
+fn as_dump(made: Made, index: Option<i32>) -> Result<Option<Made>, Complaint> {
+    if is_dump(&made.given)? {
+        Ok(Some(with_index(made, index)))
+    } else {
+        Ok(None)
+    }
+}
+
+// Flags of `linux/netlink.h`.
+const NLM_F_REQUEST: u16 = 1;
+
+// Its bits are those of `NLM_F_REPLACE` and `NLM_F_EXCL` where the type isn't a GET.
+const NLM_F_DUMP: u16 = 0x300;
+
+// True of the type of a GET: the types of rtnetlink go in fours, NEW, DEL, GET and SET.
+fn is_get(kind: Option<u16>) -> bool {
+    match kind {
+        Some(kind) => kind % 4 == 2,
+        None => false,
+    }
+}
+
+// True of a dump, false of the request of one.
+fn is_dump(given: &Given) -> Result<bool, Complaint> {
+    let flags = given.flags;
+    if flags & NLM_F_REQUEST == 0 {
+        return Ok(true);
+    }
+    if flags & NLM_F_DUMP == NLM_F_DUMP && is_get(given.kind) {
+        return Ok(false);
+    }
+    Err(Complaint::Member {
+        name: "flags",
+        found: FoundValue::Number(u64::from(flags)),
+        wanted: "those of a dump, without NLM_F_REQUEST (1)",
+    })
+}
+
+// A message of this interface, if one is given; what is in a block that interfaces share has none (its index is -1).
+fn with_index(mut made: Made, index: Option<i32>) -> Made {
+    if let (Holds::Tc, Some(index)) = (made.given.holds, index) {
+        set_index(&mut made.bytes, index);
+    }
+    made
+}
+
+fn set_index(bytes: &mut Vec<u8>, index: i32) {
+    if let [_, _, _, _, a, b, c, d, ..] = bytes.as_mut_slice() {
+        if i32::from_le_bytes([*a, *b, *c, *d]) != -1 {
+            [*a, *b, *c, *d] = index.to_le_bytes();
+        }
+    }
+}

@@ -1,0 +1,169 @@
+//! What the kernel has now, by the lines of a dump of it.
+
+use crate::complaint::Complaint;
+use crate::lines::{Dumped, Lines, Source};
+use crate::made::Made;
+use crate::restore::{Dump, dump_of, emitted, restored};
+use nla_frames::ParseableBytes;
+use std::alloc::{AllocError, Global};
+use tc_action_messages::{TcActionMessage, TcActionMessageAttribute};
+use tc_actions::TcAction;
+use tc_messages::TcMessage;
+use tc_plan::{Action, Entry, Fate, Key, Named, Now, entry_of, held_by, name_of_action};
+use tc_records::TcActionMessageHeader;
+use tc_requests::{Object, use_of_action};
+use tcmake_lines::Given;
+
+/// An action of a dump by itself.
+#[derive(Drop)]
+pub(crate) struct Single {
+    /// Its dump.
+    pub(crate) made: Made,
+    /// Its kind and its index, if it has one.
+    pub(crate) name: Option<Named>,
+    /// How many filters hold it.
+    pub(crate) filters: usize,
+}
+
+/// The actions of a dump of actions, each by itself.
+pub(crate) fn singles_of(alloc: Global, dump: &Made) -> Result<Vec<Single>, Complaint> {
+    let TcActionMessage { header, attributes } = TcActionMessage::parse(alloc, &dump.bytes)?;
+    let mut singles = Vec::new(alloc);
+    for attribute in attributes {
+        if let TcActionMessageAttribute::Actions(actions) = attribute {
+            put_singles(alloc, &dump.given, &header, actions, &mut singles)?;
+        }
+    }
+    Ok(singles)
+}
+
+fn put_singles(
+    alloc: Global,
+    given: &Given,
+    header: &TcActionMessageHeader,
+    actions: Vec<TcAction>,
+    singles: &mut Vec<Single>,
+) -> Result<(), Complaint> {
+    for action in actions {
+        let single = single_of(alloc, given, header, action)?;
+        singles.push(single)?;
+    }
+    Ok(())
+}
+
+fn single_of(
+    alloc: Global,
+    given: &Given,
+    header: &TcActionMessageHeader,
+    action: TcAction,
+) -> Result<Single, Complaint> {
+    let name = name_of_action(&action);
+    let filters = match use_of_action(&action) {
+        Some(found) => found.filters as usize,
+        None => 0,
+    };
+    let mut actions = Vec::new(alloc);
+    actions.push(action)?;
+    let mut attributes = Vec::new(alloc);
+    attributes.push(TcActionMessageAttribute::Actions(actions))?;
+    let message = TcActionMessage {
+        header: header.clone()?,
+        attributes,
+    };
+    let bytes = emitted(alloc, &message)?;
+    let made = Made {
+        given: *given,
+        bytes,
+        settled: Vec::new(alloc),
+    };
+    Ok(Single {
+        made,
+        name,
+        filters,
+    })
+}
+
+/// What the kernel has now.
+pub(crate) fn now_of(alloc: Global, lines: &mut Lines) -> Result<Now<Global>, AllocError> {
+    let mut found = Now {
+        actions: Vec::new(alloc),
+        held: Vec::new(alloc),
+    };
+    let mut shared = Vec::new(alloc);
+    let mut wrong = Vec::new(alloc);
+    for dump in &lines.dumps {
+        if let Err(complaint) = keep(alloc, dump, &mut found, &mut shared) {
+            wrong.push((dump.number, complaint))?;
+        }
+    }
+    for (number, complaint) in &wrong {
+        lines.complain(alloc, Source::Now, *number, complaint)?;
+    }
+    Ok(found)
+}
+
+// Keeps what a dump shows.
+fn keep(
+    alloc: Global,
+    dump: &Dumped,
+    found: &mut Now<Global>,
+    shared: &mut Vec<Key>,
+) -> Result<(), Complaint> {
+    match dump_of(dump.made.given.kind)? {
+        Dump::Actions => keep_actions(alloc, &dump.made, found),
+        Dump::Of(Object::Filter) => keep_filter(alloc, &dump.made.bytes, found, shared),
+        Dump::Of(_) => Ok(()),
+    }
+}
+
+fn keep_actions(alloc: Global, dump: &Made, found: &mut Now<Global>) -> Result<(), Complaint> {
+    for single in singles_of(alloc, dump)? {
+        let Single {
+            made,
+            name,
+            filters,
+        } = single;
+        if let Some(name) = name {
+            let request = request_bytes(alloc, &made)?;
+            found.actions.push(Action {
+                name,
+                request,
+                filters,
+            })?;
+        }
+    }
+    Ok(())
+}
+
+// The request that makes an action; none of one that its filter makes, or that can't be made.
+fn request_bytes(alloc: Global, made: &Made) -> Result<Vec<u8>, Complaint> {
+    match restored(alloc, &[], made) {
+        Ok(made) => Ok(made.bytes),
+        Err(Complaint::Restore(_)) => Ok(Vec::new(alloc)),
+        Err(complaint) => Err(complaint),
+    }
+}
+
+// Keeps the actions that a filter holds. One of a block that interfaces share may be dumped more than once.
+fn keep_filter(
+    alloc: Global,
+    bytes: &[u8],
+    found: &mut Now<Global>,
+    shared: &mut Vec<Key>,
+) -> Result<(), Complaint> {
+    let filter = TcMessage::parse(alloc, bytes)?;
+    if filter.header.index == -1 {
+        let entry = entry_of(alloc, 0, Fate::Request, Object::Filter, &[], &filter)?;
+        if is_known(shared, &entry) {
+            return Ok(());
+        }
+        shared.extend_from_slice(&entry.objects)?;
+    }
+    let held = held_by(alloc, &filter)?;
+    found.held.extend_from_slice(&held)?;
+    Ok(())
+}
+
+fn is_known(shared: &[Key], entry: &Entry<Global>) -> bool {
+    entry.objects.iter().any(|key| shared.contains(key))
+}

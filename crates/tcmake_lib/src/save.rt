@@ -1,0 +1,210 @@
+//! The first and the last line of a save: `{"save":1,"names":{"2":"wan"},..}` and `{"end":39}`.
+
+ghost use Rattle.std.specs.Prelude.{IsTrue};
+ghost use Rattle.serde_json.specs.View.{view};
+ghost use Rattle.tcmake_lib.specs.Line.{IsOfSave};
+
+use crate::complaint::Complaint;
+use crate::members::{Numbered, number_of, wrong};
+use serde_json::Value;
+use std::alloc::Global;
+use std::fmt;
+
+/// True of the first line of a save, and of the last.
+pub(crate) fn is_of_save(json: &Value) -> bool
+    ensures { IsTrue result → IsOfSave (view json.now) }
+{
+    is_head(json) || is_end(json)
+}
+
+// True of the first line of a save.
+fn is_head(json: &Value) -> bool
+    ensures { IsTrue result → IsOfSave (view json.now) }
+{
+    json.get("save").is_some() && json.get("message").is_none()
+}
+
+// True of the last line of a save.
+fn is_end(json: &Value) -> bool
+    ensures { IsTrue result → IsOfSave (view json.now) }
+{
+    json.get("end").is_some() && json.get("message").is_none()
+}
+
+/// Why a save isn't taken.
+#[derive(Clone, Copy)]
+pub(crate) enum SaveFault {
+    /// Its last line isn't there.
+    NoEnd,
+    /// A last line, and no first one.
+    NoHead,
+    /// A first line that isn't the first.
+    LateHead,
+    /// A line behind the last one.
+    Behind,
+    /// It has another number of lines between the two than the last one says.
+    Count { found: u64, wanted: u64 },
+}
+
+impl fmt::Display for SaveFault {
+    fn fmt<W: fmt::Write>(&self, f: &mut fmt::Formatter<W>) -> fmt::Result {
+        match self {
+            SaveFault::NoEnd => f.write_str(
+                "the save is cut: its last line, with /end, is missing",
+            ),
+            SaveFault::NoHead => f.write_str(
+                "the last line of a save, whose first line is missing",
+            ),
+            SaveFault::LateHead => f.write_str("the first line of a save behind other lines"),
+            SaveFault::Behind => f.write_str("a line behind the last line of a save"),
+            SaveFault::Count { found, wanted } => {
+                write!(
+                    f,
+                    "/end: found {wanted}, wanted {found}, the number of lines between it and the first"
+                )
+            }
+        }
+    }
+}
+
+/// The names of interfaces when they were saved, by their indices.
+pub(crate) type Names = Vec<(u32, String)>;
+
+/// How far a save was read.
+#[derive(Drop)]
+pub(crate) struct Save {
+    // The names in its first line, if it has one.
+    names: Option<Names>,
+    // How many lines were read that aren't blank, behind the first line of a save.
+    lines: u64,
+    // The number of the last line that was read; 0 before the first.
+    last: u64,
+    // True behind the last line of a save.
+    is_ended: bool,
+}
+
+impl Save {
+    /// Nothing is read yet.
+    pub(crate) fn new() -> Save {
+        Save {
+            names: None,
+            lines: 0,
+            last: 0,
+            is_ended: false,
+        }
+    }
+
+    /// The names in the first line, if it is that of a save.
+    pub(crate) fn names(&self) -> Option<&Names> {
+        self.names.as_ref()
+    }
+
+    /// Takes a line that isn't blank, and that isn't read as JSON. Fails behind the last line of a save.
+    pub(crate) fn take_line(&mut self, number: u64) -> Result<(), SaveFault> {
+        self.last = number;
+        self.lines = self.lines.saturating_add(1);
+        if self.is_ended {
+            return Err(SaveFault::Behind);
+        }
+        Ok(())
+    }
+
+    /// Takes a line of JSON. True if it is the first or the last line of a save.
+    pub(crate) fn take(
+        &mut self,
+        alloc: Global,
+        number: u64,
+        json: &Value,
+    ) -> Result<bool, Complaint> {
+        if is_head(json) {
+            self.take_head(alloc, number, json)?;
+            return Ok(true);
+        }
+        if is_end(json) {
+            self.take_end(alloc, number, json)?;
+            return Ok(true);
+        }
+        self.take_line(number)?;
+        Ok(false)
+    }
+
+    fn take_head(&mut self, alloc: Global, number: u64, json: &Value) -> Result<(), Complaint> {
+        let is_first = self.last == 0;
+        self.last = number;
+        if !is_first {
+            return Err(Complaint::Save(SaveFault::LateHead));
+        }
+        let names = names_in(alloc, json)?;
+        self.names = Some(names);
+        Ok(())
+    }
+
+    fn take_end(&mut self, alloc: Global, number: u64, json: &Value) -> Result<(), Complaint> {
+        self.last = number;
+        if self.is_ended {
+            return Err(Complaint::Save(SaveFault::Behind));
+        }
+        if self.names.is_none() {
+            return Err(Complaint::Save(SaveFault::NoHead));
+        }
+        self.is_ended = true;
+        match count_in(alloc, json)? {
+            Some(wanted) if wanted != self.lines => {
+                let found = self.lines;
+                Err(Complaint::Save(SaveFault::Count { found, wanted }))
+            }
+            _ => Ok(()),
+        }
+    }
+
+    /// The fault at the end of the input, if there is one, and the number of the last line.
+    pub(crate) fn fault_at_end(&self) -> Option<(u64, SaveFault)> {
+        if self.names.is_some() && !self.is_ended {
+            Some((self.last, SaveFault::NoEnd))
+        } else {
+            None
+        }
+    }
+}
+
+const FORM: Numbered = Numbered {
+    name: "save",
+    most: 1,
+    wanted: "1, the form of saves that is known",
+};
+
+const COUNT: Numbered = Numbered {
+    name: "end",
+    most: u64::MAX,
+    wanted: "a number of lines, or true",
+};
+
+// The number of lines that the last line of a save says; none of one that says true.
+fn count_in(alloc: Global, json: &Value) -> Result<Option<u64>, Complaint> {
+    match json.get("end") {
+        Some(held) if held.as_bool() == Some(true) => Ok(None),
+        _ => number_of(alloc, json, &COUNT),
+    }
+}
+
+// The names in the first line of a save.
+fn names_in(alloc: Global, json: &Value) -> Result<Names, Complaint> {
+    if number_of(alloc, json, &FORM)? != Some(1) {
+        return Err(Complaint::Save(SaveFault::LateHead));
+    }
+    let mut names = Vec::new(alloc);
+    if let Some(held) = json.get("names") {
+        let Some(members) = held.as_object() else {
+            return Err(wrong(alloc, "names", held, NAMES));
+        };
+        for (index, name) in members {
+            match (index.as_str().parse::<u32>(), name.as_str()) {
+                (Ok(index), Some(name)) => names.push((index, String::from_str(alloc, name)?))?,
+                _ => return Err(wrong(alloc, "names", held, NAMES)),
+            }
+        }
+    }
+    Ok(names)
+}
+
+const NAMES: &str = "names of interfaces by their indices";

@@ -1,0 +1,399 @@
+//! Saves, what there is now, and names of interfaces.
+
+use crate::make::runs::FORMS;
+use std::alloc::Global;
+use tcmake_lib::arguments::{Making, Request, arguments_of};
+use tcmake_lib::order::Asked;
+use tcmake_lib::program::serve_asked;
+use tcmake_lines::Form;
+
+// The first line of a save of the interface wan.
+#[rattlefmt::skip]
+const HEAD: &str = r#"{"save":1,"devs":{"wan":{"index":2}},"names":{"2":"wan","3":"ids"},"kernel":"6.12.48","by":"tcsave","time":"x"}
+"#;
+
+// Its root qdisc and its clsact qdisc.
+#[rattlefmt::skip]
+const QDISCS: &str = r#"{"type":"RTM_NEWQDISC","flags":0,"seq":11,"message":{"header":{"family":"Unspec","index":2,"handle":"1:","parent":"root","info":2},"attributes":[{"Kind":"fq_codel"},{"Options":[{"FqCodel":{"Limit":10240}}]}]}}
+{"type":"RTM_NEWQDISC","flags":0,"seq":11,"message":{"header":{"family":"Unspec","index":2,"handle":"ffff:","parent":"ffff:fff1","info":2},"attributes":[{"Kind":"clsact"}]}}
+"#;
+
+// Two actions: one that two filters hold, and one that stands by itself.
+#[rattlefmt::skip]
+const ACTIONS: &str = r#"{"type":"RTM_GETACTION","flags":0,"seq":29,"message":{"header":{"family":"Unspec"},"attributes":[{"Actions":[{"tab":1,"attributes":[{"Kind":"mirred"},{"Stats":[{"Basic":{"bytes":0,"packets":0}}]},{"Options":[{"Mirror":{"Parms":{"generic":{"index":7,"capab":0,"action":"Pipe","refcnt":3,"bindcnt":2},"eaction":"EgressMirror","ifindex":3}}},{"Mirror":{"Tm":{"install":29,"lastuse":29,"expires":0,"firstuse":0}}}],"word":2}]},{"tab":2,"attributes":[{"Kind":"mirred"},{"Stats":[{"Basic":{"bytes":0,"packets":0}}]},{"Options":[{"Mirror":{"Parms":{"generic":{"index":8,"capab":0,"action":"Pipe","refcnt":1,"bindcnt":0},"eaction":"EgressMirror","ifindex":3}}},{"Mirror":{"Tm":{"install":29,"lastuse":29,"expires":0,"firstuse":0}}}],"word":2}]}]}]}}
+"#;
+
+// A filter that holds the first of them, and one with an action of its own.
+#[rattlefmt::skip]
+const FILTERS: &str = r#"{"type":"RTM_NEWTFILTER","flags":0,"seq":40,"message":{"header":{"family":"Unspec","index":2,"handle":":1","parent":"ffff:fff2","info":22610688},"attributes":[{"Kind":"matchall"},{"Chain":0},{"Options":[{"MatchAll":{"Action":[{"tab":1,"attributes":[{"Kind":"mirred"},{"Stats":[{"Basic":{"bytes":0,"packets":0}}]},{"Options":[{"Mirror":{"Parms":{"generic":{"index":7,"capab":0,"action":"Pipe","refcnt":3,"bindcnt":2},"eaction":"EgressMirror","ifindex":3}}},{"Mirror":{"Tm":{"install":29,"lastuse":29,"expires":0,"firstuse":0}}}],"word":2}]}]}}]}]}}
+{"type":"RTM_NEWTFILTER","flags":0,"seq":40,"message":{"header":{"family":"Unspec","index":2,"handle":":2","parent":"ffff:fff2","info":22610688},"attributes":[{"Kind":"matchall"},{"Chain":0},{"Options":[{"MatchAll":{"Action":[{"tab":1,"attributes":[{"Kind":"mirred"},{"Stats":[{"Basic":{"bytes":0,"packets":0}}]},{"Options":[{"Mirror":{"Parms":{"generic":{"index":9,"capab":0,"action":"Pipe","refcnt":1,"bindcnt":1},"eaction":"EgressMirror","ifindex":3}}},{"Mirror":{"Tm":{"install":29,"lastuse":29,"expires":0,"firstuse":0}}}],"word":2}]}]}}]}]}}
+"#;
+
+// The same two actions now: the first is as it was saved, and the second is another one.
+#[rattlefmt::skip]
+const SAME: &str = r#"{"type":"RTM_GETACTION","flags":0,"seq":29,"message":{"header":{"family":"Unspec"},"attributes":[{"Actions":[{"tab":1,"attributes":[{"Kind":"mirred"},{"Stats":[{"Basic":{"bytes":0,"packets":0}}]},{"Options":[{"Mirror":{"Parms":{"generic":{"index":7,"capab":0,"action":"Pipe","refcnt":1,"bindcnt":0},"eaction":"EgressMirror","ifindex":3}}},{"Mirror":{"Tm":{"install":29,"lastuse":29,"expires":0,"firstuse":0}}}],"word":2}]},{"tab":2,"attributes":[{"Kind":"mirred"},{"Stats":[{"Basic":{"bytes":0,"packets":0}}]},{"Options":[{"Mirror":{"Parms":{"generic":{"index":8,"capab":0,"action":"Pipe","refcnt":1,"bindcnt":0},"eaction":"EgressMirror","ifindex":4}}},{"Mirror":{"Tm":{"install":29,"lastuse":29,"expires":0,"firstuse":0}}}],"word":2}]}]}]}}
+"#;
+
+// The first is another one now, and one filter holds it, which is one of this interface.
+#[rattlefmt::skip]
+const OWN: &str = r#"{"type":"RTM_GETACTION","flags":0,"seq":29,"message":{"header":{"family":"Unspec"},"attributes":[{"Actions":[{"tab":1,"attributes":[{"Kind":"mirred"},{"Stats":[{"Basic":{"bytes":0,"packets":0}}]},{"Options":[{"Mirror":{"Parms":{"generic":{"index":7,"capab":0,"action":"Pipe","refcnt":2,"bindcnt":1},"eaction":"EgressMirror","ifindex":4}}},{"Mirror":{"Tm":{"install":29,"lastuse":29,"expires":0,"firstuse":0}}}],"word":2}]}]}]}}
+{"type":"RTM_NEWTFILTER","flags":0,"seq":40,"message":{"header":{"family":"Unspec","index":2,"handle":":1","parent":"ffff:fff2","info":22610688},"attributes":[{"Kind":"matchall"},{"Chain":0},{"Options":[{"MatchAll":{"Action":[{"tab":1,"attributes":[{"Kind":"mirred"},{"Stats":[{"Basic":{"bytes":0,"packets":0}}]},{"Options":[{"Mirror":{"Parms":{"generic":{"index":7,"capab":0,"action":"Pipe","refcnt":2,"bindcnt":1},"eaction":"EgressMirror","ifindex":4}}},{"Mirror":{"Tm":{"install":29,"lastuse":29,"expires":0,"firstuse":0}}}],"word":2}]}]}}]}]}}
+"#;
+
+// The first is another one now, and two filters hold it, of which one is of this interface.
+#[rattlefmt::skip]
+const OTHERS: &str = r#"{"type":"RTM_GETACTION","flags":0,"seq":29,"message":{"header":{"family":"Unspec"},"attributes":[{"Actions":[{"tab":1,"attributes":[{"Kind":"mirred"},{"Stats":[{"Basic":{"bytes":0,"packets":0}}]},{"Options":[{"Mirror":{"Parms":{"generic":{"index":7,"capab":0,"action":"Pipe","refcnt":2,"bindcnt":2},"eaction":"EgressMirror","ifindex":4}}},{"Mirror":{"Tm":{"install":29,"lastuse":29,"expires":0,"firstuse":0}}}],"word":2}]}]}]}}
+{"type":"RTM_NEWTFILTER","flags":0,"seq":40,"message":{"header":{"family":"Unspec","index":2,"handle":":1","parent":"ffff:fff2","info":22610688},"attributes":[{"Kind":"matchall"},{"Chain":0},{"Options":[{"MatchAll":{"Action":[{"tab":1,"attributes":[{"Kind":"mirred"},{"Stats":[{"Basic":{"bytes":0,"packets":0}}]},{"Options":[{"Mirror":{"Parms":{"generic":{"index":7,"capab":0,"action":"Pipe","refcnt":2,"bindcnt":2},"eaction":"EgressMirror","ifindex":4}}},{"Mirror":{"Tm":{"install":29,"lastuse":29,"expires":0,"firstuse":0}}}],"word":2}]}]}}]}]}}
+"#;
+
+// The requests, without netlink headers.
+const QDISC_REQUESTS: &str = "\
+000000000200000000000100ffffffff020000000d00010066715f636f64656c000000000c0002000800020000280000
+00000000020000000000fffff1ffffff020000000b000100636c736163740000
+";
+
+const SHARED_REQUEST: &str =
+    "0000000038000100340001000b0001006d69727265640000240002802000020007000000000000000300000000000000000000000200000003000000\n";
+
+const ALONE_REQUEST: &str =
+    "0000000038000100340001000b0001006d69727265640000240002802000020008000000000000000300000000000000000000000200000003000000\n";
+
+#[rattlefmt::skip]
+const FILTER_REQUESTS: &str = "\
+000000000200000001000000f2ffffff000359010d0001006d61746368616c6c0000000008000b00000000003c00020038000200340001000b0001006d69727265640000240002802000020007000000000000000300000000000000000000000200000003000000
+000000000200000002000000f2ffffff000359010d0001006d61746368616c6c0000000008000b00000000003c00020038000200340001000b0001006d69727265640000240002802000020000000000000000000300000000000000000000000200000003000000
+";
+
+// The request of the second action behind its netlink header: with NLM_F_CREATE and NLM_F_EXCL (0x605), and with NLM_F_REPLACE and NLM_F_CREATE (0x505).
+const MAKES: &str = "4c000000300005061d00000000000000";
+
+const CHANGES: &str = "4c000000300005051d00000000000000";
+
+const BARE: Request = Request {
+    form: Form::Bare,
+    making: Making::Restored,
+    in_order: false,
+    index: None,
+    verbose: false,
+};
+
+const HEX: Request = Request {
+    form: Form::Hex,
+    making: Making::Restored,
+    in_order: false,
+    index: None,
+    verbose: true,
+};
+
+const ALONE: Asked<'static> = Asked {
+    index: None,
+    now: None,
+    replaces_actions: false,
+    names: None,
+};
+
+// What is asked for where this is what there is now.
+fn now(lines: &str, replaces_actions: bool) -> Asked<'_> {
+    Asked {
+        index: None,
+        now: Some(lines.as_bytes()),
+        replaces_actions,
+        names: None,
+    }
+}
+
+// What is asked for where interfaces have these names now.
+fn named<'a>(names: &'a [(u32, &'a str)]) -> Asked<'a> {
+    Asked {
+        index: None,
+        now: None,
+        replaces_actions: false,
+        names: Some(names),
+    }
+}
+
+// True if a run over these parts of an input ends with this status, having written these texts one after the other and said this.
+fn makes(
+    alloc: Global,
+    request: &Request,
+    asked: &Asked<'_>,
+    input: &[&str],
+    status: u8,
+    written: &[&str],
+    said: &str,
+) -> bool {
+    match (joined(alloc, input), joined(alloc, written)) {
+        (Some(lines), Some(wanted)) => {
+            let (mut reader, mut output, mut errors) = (
+                lines.as_bytes(),
+                Vec::new(alloc),
+                Vec::new(alloc),
+            );
+            let ended = serve_asked(
+                alloc,
+                FORMS,
+                request,
+                asked,
+                &mut reader,
+                &mut output,
+                &mut errors,
+            );
+            ended == status
+                && output.as_slice() == wanted.as_bytes()
+                && errors.as_slice() == said.as_bytes()
+        }
+        _ => false,
+    }
+}
+
+fn joined(alloc: Global, parts: &[&str]) -> Option<String> {
+    let mut text = String::new(alloc);
+    for part in parts {
+        text.push_str(part).ok()?;
+    }
+    Some(text)
+}
+
+#[test]
+fn whole_saves(rt: HostRuntime) {
+    let alloc = rt.alloc();
+    let objects = [HEAD, QDISCS, ACTIONS, FILTERS, "{\"end\":5}\n"];
+    let requests = [
+        QDISC_REQUESTS,
+        SHARED_REQUEST,
+        ALONE_REQUEST,
+        FILTER_REQUESTS,
+    ];
+    assert!(rt; makes(alloc, &BARE, &ALONE, &objects, 0, &requests, ""));
+    assert!(rt;
+        makes(
+            alloc,
+            &BARE,
+            &ALONE,
+            &[HEAD, "\n", QDISCS, "{\"end\":true}\n"],
+            0,
+            &[QDISC_REQUESTS],
+            ""
+        )
+    );
+    assert!(rt; makes(alloc, &BARE, &ALONE, &[HEAD, "{\"end\":0}\n"], 0, &[], ""));
+}
+
+// Saves that aren't whole, and what is said of them.
+static BROKEN: [(&[&str], &str); 5] = [
+    (
+        &[HEAD, QDISCS],
+        "tcmake: line 3: the save is cut: its last line, with /end, is missing\n",
+    ),
+    (
+        &[HEAD, QDISCS, "{\"end\":3}\n"],
+        "tcmake: line 4: /end: found 3, wanted 2, the number of lines between it and the first\n",
+    ),
+    (
+        &[QDISCS, "{\"end\":2}\n"],
+        "tcmake: line 3: the last line of a save, whose first line is missing\n",
+    ),
+    (
+        &[QDISCS, HEAD, "{\"end\":0}\n"],
+        "tcmake: line 3: the first line of a save behind other lines\n\
+tcmake: line 4: the last line of a save, whose first line is missing\n",
+    ),
+    (
+        &[HEAD, "{\"end\":0}\n", ACTIONS],
+        "tcmake: line 3: a line behind the last line of a save\n",
+    ),
+];
+
+#[test]
+fn saves_that_are_cut(rt: HostRuntime) {
+    for (lines, said) in &BROKEN {
+        assert!(rt;
+            makes(rt.alloc(), &BARE, &ALONE, *lines, 1, &[], *said),
+            "{said}"
+        );
+    }
+}
+
+#[test]
+fn actions_that_are_there(rt: HostRuntime) {
+    let alloc = rt.alloc();
+    assert!(rt;
+        makes(
+            alloc,
+            &HEX,
+            &ALONE,
+            &[ACTIONS],
+            0,
+            &[MAKES, SHARED_REQUEST, MAKES, ALONE_REQUEST],
+            ""
+        )
+    );
+    let there = "tcmake: line 1: there already\n";
+    assert!(rt;
+        makes(
+            alloc,
+            &HEX,
+            &now(SAME, false),
+            &[ACTIONS],
+            0,
+            &[CHANGES, ALONE_REQUEST],
+            there
+        )
+    );
+    assert!(rt;
+        makes(
+            alloc,
+            &HEX,
+            &now(OWN, false),
+            &[ACTIONS],
+            0,
+            &[CHANGES, SHARED_REQUEST, MAKES, ALONE_REQUEST],
+            ""
+        )
+    );
+    let held = "tcmake: line 1: the action mirred 7 is there and differs, and others hold it\n";
+    assert!(rt; makes(alloc, &HEX, &now(OTHERS, false), &[ACTIONS], 1, &[], held));
+    assert!(rt;
+        makes(
+            alloc,
+            &HEX,
+            &now(OTHERS, true),
+            &[ACTIONS],
+            0,
+            &[CHANGES, SHARED_REQUEST, MAKES, ALONE_REQUEST],
+            ""
+        )
+    );
+    let broken = "tcmake: --now, line 1: not JSON at byte 1\n";
+    assert!(rt; makes(alloc, &BARE, &now("?\n", false), &[QDISCS], 1, &[], broken));
+}
+
+// The qdiscs and the actions for the interfaces 12 and 13.
+const NAMED_REQUESTS: &str = "\
+000000000c00000000000100ffffffff020000000d00010066715f636f64656c000000000c0002000800020000280000
+000000000c0000000000fffff1ffffff020000000b000100636c736163740000
+0000000038000100340001000b0001006d6972726564000024000280200002000700000000000000030000000000000000000000020000000d000000
+0000000038000100340001000b0001006d6972726564000024000280200002000800000000000000030000000000000000000000020000000d000000
+";
+
+#[test]
+fn interfaces_by_name(rt: HostRuntime) {
+    let alloc = rt.alloc();
+    let lines = [HEAD, QDISCS, ACTIONS, "{\"end\":true}\n"];
+    assert!(rt;
+        makes(
+            alloc,
+            &BARE,
+            &named(&[(12, "wan"), (13, "ids")]),
+            &lines,
+            0,
+            &[NAMED_REQUESTS],
+            ""
+        )
+    );
+    let missing = "tcmake: line 4: there is no interface ids\n";
+    assert!(rt;
+        makes(
+            alloc,
+            &BARE,
+            &named(&[(12, "wan")]),
+            &lines,
+            1,
+            &[],
+            missing
+        )
+    );
+    let none =
+        "tcmake: line 1: no names of interfaces: the first line of a save, with /names, is missing\n";
+    assert!(rt;
+        makes(
+            alloc,
+            &BARE,
+            &named(&[(12, "wan")]),
+            &[QDISCS],
+            1,
+            &[],
+            none
+        )
+    );
+    let without = [
+        "{\"save\":1,\"names\":{\"3\":\"ids\"}}\n",
+        QDISCS,
+        "{\"end\":2}\n",
+    ];
+    let unknown =
+        "tcmake: line 2: no name for interface 2\ntcmake: line 3: no name for interface 2\n";
+    assert!(rt;
+        makes(
+            alloc,
+            &BARE,
+            &named(&[(13, "ids")]),
+            &without,
+            1,
+            &[],
+            unknown
+        )
+    );
+}
+
+// Options that go with no other of these, or want one.
+static WRONG: [&[&str]; 5] = [
+    &["tcmake", "--now", "now"],
+    &["tcmake", "--request", "--replace-actions"],
+    &["tcmake", "--request", "--in-order", "--now", "now"],
+    &["tcmake", "--request", "--names", "names", "--index", "7"],
+    &["tcmake", "--request", "--names", "names", "--in-order"],
+];
+
+#[test]
+fn options_of_saves(rt: HostRuntime) -> Result<(), std::test::Fail> {
+    let alloc = rt.alloc();
+    let words = [
+        "tcmake",
+        "--request",
+        "--now",
+        "n",
+        "--replace-actions",
+        "--names",
+        "m",
+    ];
+    let arguments = arguments_of(alloc, &words)?;
+    assert!(rt;
+        arguments.now == Some("n") && arguments.names == Some("m") && arguments.replaces_actions
+    );
+    for words in &WRONG {
+        assert!(rt; arguments_of(alloc, *words).is_err(), "{words:?}");
+    }
+    Ok(())
+}
+
+// Two filters of basic with one priority, the newest first, as they are dumped.
+#[rattlefmt::skip]
+const NEWEST_FIRST: &str = r#"{"type":"RTM_NEWTFILTER","flags":0,"seq":1,"message":{"header":{"family":"Unspec","index":2,"handle":":2","parent":"1:","info":65544},"attributes":[{"Kind":"basic"},{"Options":[{"Basic":{"ClassId":"1:2"}}]}]}}
+{"type":"RTM_NEWTFILTER","flags":0,"seq":2,"message":{"header":{"family":"Unspec","index":2,"handle":":1","parent":"1:","info":65544},"attributes":[{"Kind":"basic"},{"Options":[{"Basic":{"ClassId":"1:1"}}]}]}}
+"#;
+
+// Their requests, the oldest first.
+const OLDEST_FIRST: &str = "\
+0000000002000000010000000000010008000100\
+0a0001006261736963000000\
+0c0002000800010001000100
+0000000002000000020000000000010008000100\
+0a0001006261736963000000\
+0c0002000800010002000100
+";
+
+#[test]
+fn oldest_first(rt: HostRuntime) {
+    assert!(rt;
+        makes(
+            rt.alloc(),
+            &BARE,
+            &ALONE,
+            &[NEWEST_FIRST],
+            0,
+            &[OLDEST_FIRST],
+            ""
+        )
+    );
+}
