@@ -8,7 +8,8 @@
 //           dump NUMBER                 asks for all that the link dNUMBER has, and for all actions (see `dump_link`)
 //           into FILE                   what comes back from here on is written to FILE too, as a netlink stream
 //           run COMMAND                 runs a command by the shell
-//           watch FILE                  writes each message of route netlink that a process of the try sends from here on
+//           watch FILE                  writes all messages of route netlink, in both directions, that processes of the try exchange with
+//                                       the kernel from here on
 //           unwatch                     the end of that
 // answers:  try NAME
 //           got TYPE PAYLOAD            a message that came back, masked (see `mask`)
@@ -368,7 +369,7 @@ static void make_link(int number, const char *kind, int flags, int queues) {
     ask(RTM_NEWLINK, NLM_F_REQUEST | NLM_F_ACK | NLM_F_CREATE | NLM_F_EXCL, &m, sizeof m, ignore);
 }
 
-// ---- What others send
+// ---- What others say
 
 enum { MONITOR = 99 }; // the link by which the kernel passes on what goes through netlink sockets
 static pid_t watcher;
@@ -386,7 +387,7 @@ static void write_watched(int s, FILE *file) {
         ssize_t got = recvfrom(s, frame, sizeof frame, 0, (struct sockaddr *)&from, &size);
         if (got < 0 && is_over)
             break;
-        if (got > 0 && from.sll_pkttype == PACKET_USER && from.sll_protocol == htons(NETLINK_ROUTE))
+        if (got > 0 && from.sll_protocol == htons(NETLINK_ROUTE))
             fwrite(frame, 1, got, file);
     }
     fclose(file);

@@ -12,26 +12,35 @@ SENDERS = 0x1 | 0x4 | 0x8
 
 
 def messages(data):
-    """The messages of a netlink stream: type, flags, and the bytes behind the header."""
+    """The messages of a netlink stream: type, flags, sequence number with port id, and the bytes behind the header."""
     out, at = [], 0
     while at + 16 <= len(data):
-        length, type_, flags = struct.unpack_from("<IHH", data, at)
+        length, type_, flags, *number = struct.unpack_from("<IHHII", data, at)
         if length < 16:
             break
-        out.append((type_, flags, data[at + 16 : at + length]))
+        out.append((type_, flags, tuple(number), data[at + 16 : at + length]))
         at += -(-length // 4) * 4
     return out
 
 
 def stream_of(data):
     """The messages of a netlink stream, each a type and the bytes behind its header."""
-    return [(type_, payload) for type_, _, payload in messages(data)]
+    return [(type_, payload) for type_, *_, payload in messages(data)]
 
 
-def requests_in(data):
-    """The requests of a stream that make or change something. What is sent again after a refusal counts once."""
+def asked(data):
+    """Of what a process and the kernel said to each other, what the process said: the first message of each number. Of what the kernel does by
+    itself it tells with port id 0."""
+    first = {}
+    for it in messages(data):
+        first.setdefault(it[2], it)
+    return [it for (_, port), it in first.items() if port]
+
+
+def requests_in(some):
+    """Of messages, the requests that make or change something. What is sent again after a refusal counts once."""
     out = []
-    for type_, flags, payload in messages(data):
+    for type_, flags, _, payload in some:
         it = type_, flags & ~SENDERS, payload
         if type_ in NEW and it not in out[-1:]:
             out.append(it)
@@ -44,7 +53,7 @@ def is_of_block(request):
 
 def as_made(sent, made):
     """Compares what was sent with what tcmake makes; a block's filters may be left out, since others may hold it. "" where it is the same."""
-    sent, made = requests_in(sent), requests_in(made)
+    sent, made = requests_in(asked(sent)), requests_in(messages(made))
     if sent in (made, [it for it in made if not is_of_block(it)]):
         return ""
     for number, (one, two) in enumerate(zip(sent, made), 1):
@@ -56,7 +65,7 @@ def as_made(sent, made):
 
 def leftovers(sent):
     """What a request has that only a kernel writes: statistics and times of an action. "" for nothing."""
-    for type_, _, data in requests_in(sent):
+    for type_, _, data in requests_in(asked(sent)):
         if type_ == 48:
             lists = [it for number, it in attributes(data[4:]) if number == 1]
         elif type_ == FILTER:
