@@ -5,4 +5,4 @@
 mod root;
 mod tables;
 
-pub use root::{KindColumns, Root};
+pub use root::{KindColumns, Root, kernel_name};

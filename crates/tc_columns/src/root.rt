@@ -83,6 +83,16 @@ pub struct KindColumns<'a> {
     pub all: bool,
 }
 
+/// What the kernel calls the member of a column at a place; empty if it has no name for it.
+pub fn kernel_name(place: usize, column: Column<'static>) -> &'static str {
+    for (member, kernel) in tables::kernels_at(place) {
+        if *member == column.key {
+            return *kernel;
+        }
+    }
+    column.kernel
+}
+
 // The place of the columns of a kind, or else this one.
 fn kind_place(kind: &str, others: usize, kinds: &[KindRows<'_>]) -> usize
     ensures { result ≡ kind_place kind.now others (kinds_view kinds.now) }

@@ -301,3 +301,11 @@ pub(crate) fn all_names(place: usize) -> &'static [Name<'static>]
 {
     names_in(names_of(place / 24), place % 24)
 }
+
+/// The members of the part at a place, each with the kernel's name, of parts with so many that their columns don't have it.
+pub(crate) fn kernels_at(place: usize) -> &'static [(&'static str, &'static str)] {
+    match place {
+        648 => &columns_of_filters::KERNELS_AT_648,
+        _ => &[],
+    }
+}

@@ -1,7 +1,7 @@
 //! What the columns tell of each member of the table, for explanations.
 
 use std::alloc::{AllocError, Allocator};
-use tc_columns::{KindColumns, Root};
+use tc_columns::{KindColumns, Root, kernel_name};
 use tc_form_values::{Form, Part, Tables};
 use tc_kinds::{PLACES, TcTables};
 use tc_lines::{Column, Columns, How};
@@ -80,7 +80,7 @@ fn note_of_column(place: usize, column: Column<'static>) -> Note {
     Note {
         place,
         member: column.key,
-        kernel: column.kernel,
+        kernel: kernel_name(place, column),
         unit,
         names: names_at(names),
         numbers,
