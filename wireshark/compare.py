@@ -59,6 +59,11 @@ RAW = ('tc.raw', 'tc.rest', 'tc.other')
 EACH = {'tc.' + name: each for name, each in notation.EACH.items() if ('struct', name) not in notation.blocks}
 
 
+def joined(item):
+    """The mask or the end that is joined with a line: it is below it."""
+    return [x for x in item.below if is_leaf(item) and x.name.startswith('tc.') and not x.name.startswith(item.name + '.')]
+
+
 def leaves_of_items(items):
     for item in items:
         if item.name in EACH:
@@ -75,8 +80,7 @@ def leaves_of_items(items):
             yield from leaves_of_items(item.below)
         for name, value in item.odd():
             yield name, str(value), item
-        if is_leaf(item):
-            yield from leaves_of_items(x for x in item.below if x.name.startswith('tc.') and not x.name.startswith(item.name + '.'))
+        yield from leaves_of_items(joined(item))
 
 
 def leaves_of_json(value, name=''):
@@ -143,7 +147,7 @@ def lines_of(items, depth):
                 yield depth + 1, ' '.join(x for _, x in lines_of([element], 0))
         elif not is_leaf(item):
             yield from lines_of(item.below, depth + 1)
-        for name, value in item.odd():
+        for name, value in [x for part in [item] + joined(item) for x in part.odd()]:
             yield depth, ('word 0x%04x' % value) if name == 'word' else 'pad %s' % (value or '""')
 
 
