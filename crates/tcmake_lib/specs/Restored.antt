@@ -1,5 +1,5 @@
 -- The request that restores what was dumped.
-use Rattle.std.specs.Prelude.{◌≡◌, ◌⊎◌, ℕ, List, Option, Some, None, Ok}
+use Rattle.std.specs.Prelude.{◌≡◌, ◌⊎◌, ℕ, List, Option, Some, Ok}
 use Rattle.std.specs.declared.alloc.Global.{Global}
 use Rattle.tc_action_messages.specs.ActionMessage.{action_message}
 use Rattle.tc_action_messages.specs.declared.message.TcActionMessage.{TcActionMessage}
@@ -12,7 +12,6 @@ use Rattle.tc_meaning.specs.Whole.{ReadsTc, tc_bytes, ReadsAct, act_bytes}
 use Rattle.tc_messages.specs.Message.{tc_message}
 use Rattle.tc_messages.specs.declared.message.TcMessage.{TcMessage}
 use Rattle.tc_requests.specs.declared.root_tables.RootTable.{RootTable}
-use Rattle.tc_requests.specs.RootTables.{root_table}
 use Rattle.tc_requests.specs.RequestOf.{new_type, request_restored}
 use Rattle.tc_requests.specs.RestoredMessages.{actions_message_restored}
 
@@ -30,15 +29,6 @@ held_by Actions = Action
 abbrev pub request_type : Dump → ℕ
 request_type (Of object) = new_type object
 request_type Actions = 48
-
--- the bytes of a message of this read as a dump that shows this root table of u32, or none; actions show none
-abbrev pub Shows : Dump → List ℕ → Option RootTable → Type 0
-Shows (Of object) dumped root = (dump : TcMessage Global) × ReadsTc dumped (tc_message dump) × (root ≡ root_table object dump)
-Shows Actions dumped root = root ≡ None
-
--- the same of a message type
-abbrev pub ShowsRoot : Option ℕ → List ℕ → Option RootTable → Type 0
-ShowsRoot kind dumped root = (dump : Dump) × IsDumpOf kind dump × Shows dump dumped root
 
 -- the bytes read as a dump, and what restores it, among dumps that show these root tables, is written as the other bytes
 abbrev pub Restores : List RootTable → Dump → List ℕ → List ℕ → Type 0

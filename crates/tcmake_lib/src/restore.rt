@@ -2,7 +2,7 @@
 
 ghost use Rattle.std.specs.Prelude.{◌≡◌, [], Some, IfOk};
 ghost use Rattle.tc_canon.specs.Canonical.{CanonTc, CanonAct};
-ghost use Rattle.tcmake_lib.specs.Restored.{IsDumpOf, held_by, request_type, ShowsRoot, Restores};
+ghost use Rattle.tcmake_lib.specs.Restored.{IsDumpOf, held_by, request_type, Restores};
 ghost use Rattle.tcmake_lib.specs.Written.{IsCanonical};
 ghost use Rattle.tcmake_lib.specs.declared.restore.Dump.{Dump as DumpType};
 ghost use Rattle.tcmake_lib.specs.declared.restore.Dump.TheVariants.{Of, Actions};
@@ -15,13 +15,11 @@ use std::alloc::Global;
 use tc_action_messages::TcActionMessage;
 use tc_capture::Holds;
 use tc_messages::TcMessage;
-use tc_requests::{
-    Object, RTM_NEWACTION, Request, RootTable, request_of, request_of_actions, root_table,
-};
+use tc_requests::{Object, RTM_NEWACTION, Request, RootTable, request_of, request_of_actions};
 use tcmake_lines::{Given, packet_at};
 
 /// What is dumped.
-#[derive(Clone, Copy)]
+#[derive(Clone, Copy, PartialEq, Eq)]
 pub(crate) enum Dump {
     /// A qdisc, a class, a filter or a chain.
     Of(Object),
@@ -33,19 +31,6 @@ pub(crate) enum Dump {
 const RTM_GETACTION: u16 = 50;
 
 const OBJECTS: [Object; 4] = [Object::Qdisc, Object::Class, Object::Filter, Object::Chain];
-
-/// The root table of u32 that the message of a dump shows, if it shows one.
-pub(crate) fn root_in(alloc: Global, made: &Made) -> Result<Option<RootTable>, Complaint>
-    ensures { IfOk result (ShowsRoot made.now.given.kind made.now.bytes.items) }
-{
-    match dump_of(made.given.kind)? {
-        Dump::Of(object) => {
-            let dump = TcMessage::parse(alloc, &made.bytes)?;
-            Ok(root_table(object, &dump))
-        }
-        Dump::Actions => Ok(None),
-    }
-}
 
 /// Makes of the message of a dump the request that restores it, with the dump's sequence number and time; `roots` are the root
 /// tables of u32 that all dumps show.
