@@ -3,23 +3,28 @@
 //! Requests that `tc_requests` makes of dumps have neither statistics nor times. What is left to be passed over is what the kernel counts or
 //! gives in a field of a configuration, and what it shows otherwise from one dump to the next.
 
-use super::messages::{messages_of, payload_of, type_of};
-use crate::netlink::message::{RTM_NEWACTION, RTM_NEWCHAIN, RTM_NEWQDISC, RTM_NEWTCLASS, RTM_NEWTFILTER};
+use super::messages::{actions_of, chain_of, kind_of, payload_of, type_of};
+use crate::netlink::message::{RTM_NEWACTION, RTM_NEWCHAIN, RTM_NEWQDISC, RTM_NEWTCLASS, RTM_NEWTFILTER, Tcmsg, tcmsg_of};
 use crate::tc_forms::Shown;
 use crate::tc_kinds::{ACTION_MESSAGE, TC_MESSAGE, TcTables};
+use crate::tc_texts::handle_text;
 use ::serde_json::{Value, json};
-use std::collections::BTreeMap;
+use std::borrow::Cow;
+use std::collections::{BTreeMap, BTreeSet};
 use std::fmt;
+
+/// The parent of filters of `ingress`: `TC_H_INGRESS`. Both sides of clsact, `ffff:fff2` and `ffff:fff3`, have its major number.
+const INGRESS: u32 = 0xFFFF_0000;
 
 /// What an object is.
 #[derive(Clone, PartialEq, Eq, PartialOrd, Ord, Debug)]
 pub(crate) enum Key {
     /// An action that stands by itself, by its kind and its index.
-    Action(String, u64),
+    Action(String, u32),
     /// A qdisc, a class, a filter or a chain, by what its header has.
-    Object { kind: u16, index: i64, parent: String, chain: u64, info: u64, handle: String },
+    Object { kind: u16, index: i32, parent: u32, chain: u32, info: u32, handle: u32 },
     /// The order of the filters of a priority, where packets are matched in this order.
-    Order { index: i64, parent: String, chain: u64, info: u64 },
+    Order { index: i32, parent: u32, chain: u32, info: u32 },
 }
 
 impl fmt::Display for Key {
@@ -27,26 +32,29 @@ impl fmt::Display for Key {
         match self {
             Key::Action(kind, index) => write!(f, "action {kind} index {index}"),
             Key::Order { index, parent, chain, info } => {
-                write!(f, "order of filters {}, parent {parent}, chain {chain}, pref {}", Place(*index), info >> 16)
+                write!(f, "order of filters {}, chain {chain}, pref {}", Place(*index, *parent), info >> 16)
             }
-            Key::Object { kind, index, parent, chain, info, handle } => match *kind {
-                RTM_NEWQDISC => write!(f, "qdisc {}, parent {parent}, handle {handle}", Place(*index)),
-                RTM_NEWTCLASS => write!(f, "class {}, parent {parent}, handle {handle}", Place(*index)),
-                RTM_NEWTFILTER => write!(f, "filter {}, parent {parent}, chain {chain}, pref {}, handle {handle}", Place(*index), info >> 16),
-                _ => write!(f, "chain {}, parent {parent}, chain {chain}", Place(*index)),
-            },
+            Key::Object { kind, index, parent, chain, info, handle } => {
+                let (place, handle) = (Place(*index, *parent), handle_text(*handle));
+                match *kind {
+                    RTM_NEWQDISC => write!(f, "qdisc {place}, handle {}", handle.as_str()),
+                    RTM_NEWTCLASS => write!(f, "class {place}, handle {}", handle.as_str()),
+                    RTM_NEWTFILTER => write!(f, "filter {place}, chain {chain}, pref {}, handle {}", info >> 16, handle.as_str()),
+                    _ => write!(f, "chain {place}, chain {chain}"),
+                }
+            }
         }
     }
 }
 
-// An interface, or a block, whose number is the parent.
-struct Place(i64);
+// An interface and a parent; of a block, whose number is the parent, the interface is -1.
+struct Place(i32, u32);
 
 impl fmt::Display for Place {
     fn fmt(&self, f: &mut fmt::Formatter<'_>) -> fmt::Result {
         match self.0 {
-            -1 => f.write_str("of a block"),
-            index => write!(f, "of interface {index}"),
+            -1 => write!(f, "of block {}", self.1),
+            index => write!(f, "of interface {index}, parent {}", handle_text(self.1).as_str()),
         }
     }
 }
@@ -58,34 +66,81 @@ impl Key {
     }
 }
 
-/// What requests make, by what it is.
-pub(crate) type Objects = BTreeMap<Key, Value>;
+/// What there is of an object.
+#[derive(Clone, PartialEq, Eq, Debug)]
+pub(crate) enum Held {
+    /// Its request.
+    Request(Vec<u8>),
+    /// The handles of filters in their order.
+    Handles(Vec<u32>),
+}
 
-/// What the requests of a stream make.
-pub(crate) fn objects_of(stream: &[u8]) -> Objects {
-    let messages = messages_of(stream);
-    let all: Vec<(Key, Value)> = messages.iter().flat_map(|message| objects_in(message)).collect();
-    let of_ingress: Vec<i64> = all.iter().filter(|(_, value)| kind_in(value) == Some("ingress")).filter_map(|(key, _)| index_of(key)).collect();
-    let all = all.into_iter().map(|(key, value)| under_ingress(&of_ingress, key, value));
-    let mut objects = Objects::new();
-    for (key, value) in all {
-        if let Some((order, handle)) = order_of(&key, &value) {
-            let handles = objects.entry(order).or_insert_with(|| json!([]));
-            handles.as_array_mut().into_iter().for_each(|handles| handles.push(json!(handle)));
+impl Held {
+    // The same, but for what isn't configuration.
+    fn normal(&self) -> Value {
+        let request = match self {
+            Held::Request(request) => request,
+            Held::Handles(handles) => return json!(handles),
+        };
+        let form = if type_of(request) == RTM_NEWACTION { ACTION_MESSAGE } else { TC_MESSAGE };
+        // It fails where memory runs out.
+        let mut value = ::serde_json::to_value(Shown { table: TcTables, form, bytes: payload_of(request) }).unwrap_or_default();
+        if let Some(header) = value.get_mut("header") {
+            // What the key has, a qdisc's count of references, a class's qdisc.
+            *header = json!({});
         }
-        objects.insert(key, value);
+        pass_over(&mut value);
+        value
+    }
+
+    /// True if both are the same configuration.
+    pub(crate) fn is_same(&self, other: &Held) -> bool {
+        let are_bytes = match (self, other) {
+            (Held::Request(left), Held::Request(right)) => payload_of(left) == payload_of(right),
+            _ => self == other,
+        };
+        are_bytes || self.normal() == other.normal()
+    }
+}
+
+/// What requests make, by what it is.
+pub(crate) type Objects = BTreeMap<Key, Held>;
+
+/// What requests make.
+pub(crate) fn objects_of(requests: &[Vec<u8>]) -> Objects {
+    let is_ingress = |it: &&Vec<u8>| type_of(it) == RTM_NEWQDISC && kind_of(it) == Some(b"ingress");
+    let of_ingress: BTreeSet<i32> = requests.iter().filter(is_ingress).filter_map(|it| tcmsg_of(it)).map(|header| header.index).collect();
+    let mut objects = Objects::new();
+    for request in requests {
+        if type_of(request) == RTM_NEWACTION {
+            let actions = actions_of(request).into_iter();
+            objects.extend(actions.map(|action| (Key::Action(action.kind.clone(), action.index), Held::Request(action.change()))));
+        } else if let Some(header) = tcmsg_of(request) {
+            put_object(request, header, of_ingress.contains(&header.index), &mut objects);
+        }
     }
     objects
 }
 
-// Filters of basic and bpf are matched in the order in which they stand.
-fn order_of(key: &Key, value: &Value) -> Option<(Key, String)> {
-    match key {
-        Key::Object { kind: RTM_NEWTFILTER, index, parent, chain, info, handle } if matches!(kind_in(value), Some("basic" | "bpf")) => {
-            Some((Key::Order { index: *index, parent: parent.clone(), chain: *chain, info: *info }, handle.clone()))
+// Filters of basic and bpf are matched in the order in which they stand. The one block of ingress is dumped under the parent of who asked last.
+fn put_object(request: &[u8], header: Tcmsg, is_ingress: bool, objects: &mut Objects) {
+    let kind = type_of(request);
+    let is_below = matches!(kind, RTM_NEWTFILTER | RTM_NEWCHAIN);
+    let (index, chain, handle) = (header.index, chain_of(request), header.handle);
+    let parent = if is_below && is_ingress && header.parent >> 16 == 0xFFFF { INGRESS } else { header.parent };
+    let info = if is_below { header.info } else { 0 };
+    if kind == RTM_NEWTFILTER && matches!(kind_of(request), Some(b"basic" | b"bpf")) {
+        let handles = objects.entry(Key::Order { index, parent, chain, info }).or_insert_with(|| Held::Handles(Vec::new()));
+        if let Held::Handles(handles) = handles {
+            handles.push(handle);
         }
-        _ => None,
     }
+    objects.insert(Key::Object { kind, index, parent, chain, info, handle }, Held::Request(request.to_vec()));
+}
+
+/// What a request or a notification is about.
+pub(crate) fn key_of(message: &[u8]) -> Option<Key> {
+    objects_of(&[message.to_vec()]).into_keys().find(|key| !matches!(key, Key::Order { .. }))
 }
 
 /// How an object differs from what is wanted.
@@ -110,104 +165,29 @@ impl fmt::Display for Difference {
 }
 
 /// The differences between what is wanted and what is there. What isn't wanted is none where `may_be` says so.
-pub(crate) fn differences(wanted: &Objects, found: &Objects, may_be: impl Fn(&Key, &Value) -> bool) -> Vec<Difference> {
+pub(crate) fn differences(wanted: &Objects, found: &Objects, may_be: impl Fn(&Key, &Held) -> bool) -> Vec<Difference> {
     let mut all = Vec::new();
-    for (key, value) in wanted {
-        match found.get(key) {
-            None => all.push(Difference::Missing(key.clone())),
-            Some(other) => {
-                let other = if matches!(key, Key::Order { .. }) { &among(other, value) } else { other };
-                let first = first_difference(value, other, "");
-                all.extend(first.map(|(at, wanted, found)| Difference::Other { key: key.clone(), at, wanted, found }));
-            }
+    for (key, held) in wanted {
+        let Some(other) = found.get(key) else {
+            all.push(Difference::Missing(key.clone()));
+            continue;
+        };
+        let other = among(other, held);
+        if !held.is_same(&other) {
+            let first = first_difference(&held.normal(), &other.normal(), "");
+            all.extend(first.map(|(at, wanted, found)| Difference::Other { key: key.clone(), at, wanted, found }));
         }
     }
     let others = found.iter().filter(|(key, _)| !wanted.contains_key(key));
-    all.extend(others.filter(|(key, value)| !may_be(key, value)).map(|(key, _)| Difference::Unwanted(key.clone())));
+    all.extend(others.filter(|(key, held)| !may_be(key, held)).map(|(key, _)| Difference::Unwanted(key.clone())));
     all
 }
 
-// The handles of a list that are in another one: filters that were there before may stand between those of a save.
-fn among(list: &Value, wanted: &Value) -> Value {
-    let wanted = wanted.as_array().map_or(&[][..], Vec::as_slice);
-    list.as_array().into_iter().flatten().filter(|handle| wanted.contains(handle)).cloned().collect()
-}
-
-fn objects_in(message: &[u8]) -> Vec<(Key, Value)> {
-    let kind = type_of(message);
-    let form = if kind == RTM_NEWACTION { ACTION_MESSAGE } else { TC_MESSAGE };
-    let shown = Shown { table: TcTables, form, bytes: payload_of(message) };
-    // It fails where memory runs out.
-    let Ok(mut value) = ::serde_json::to_value(&shown) else { return Vec::new() };
-    pass_over(&mut value);
-    if kind == RTM_NEWACTION { actions_in(value) } else { vec![object_in(kind, value)] }
-}
-
-fn object_in(kind: u16, mut value: Value) -> (Key, Value) {
-    let text = |value: &Value| value.as_str().unwrap_or_default().to_string();
-    let header = &mut value["header"];
-    let own = matches!(kind, RTM_NEWTFILTER | RTM_NEWCHAIN);
-    if !own {
-        // A qdisc's count of references, a class's qdisc.
-        header["info"] = json!(0);
-    }
-    let key = Key::Object {
-        kind,
-        index: header["index"].as_i64().unwrap_or_default(),
-        parent: text(&header["parent"]),
-        info: header["info"].as_u64().unwrap_or_default(),
-        handle: text(&header["handle"]),
-        chain: attributes(&value).find_map(|it| it["Chain"].as_u64()).unwrap_or_default(),
-    };
-    (key, value)
-}
-
-fn attributes(value: &Value) -> impl Iterator<Item = &Value> {
-    value["attributes"].as_array().into_iter().flatten()
-}
-
-fn kind_in(value: &Value) -> Option<&str> {
-    attributes(value).find_map(|it| it["Kind"].as_str())
-}
-
-fn index_of(key: &Key) -> Option<i64> {
-    match key {
-        Key::Object { index, .. } | Key::Order { index, .. } => Some(*index),
-        Key::Action(..) => None,
-    }
-}
-
-// The actions of a message, each by itself.
-fn actions_in(value: Value) -> Vec<(Key, Value)> {
-    let lists = attributes(&value).filter_map(|it| it["Actions"].as_array());
-    let actions = lists.flatten().map(|action| {
-        let kind = kind_in(action).unwrap_or_default().to_string();
-        let index = index_in(action).unwrap_or_default();
-        (Key::Action(kind, index), action["attributes"].clone())
-    });
-    actions.collect()
-}
-
-// The index among the parameters of an action.
-fn index_in(value: &Value) -> Option<u64> {
-    match value {
-        Value::Object(members) if members.contains_key("bindcnt") || members.contains_key("refcnt") => members.get("index")?.as_u64(),
-        Value::Object(members) => members.values().find_map(index_in),
-        Value::Array(items) => items.iter().find_map(index_in),
-        _ => None,
-    }
-}
-
-// The one block of ingress is dumped under the parent of who asked last.
-fn under_ingress(all: &[i64], key: Key, mut value: Value) -> (Key, Value) {
-    match key {
-        Key::Object { kind: kind @ (RTM_NEWTFILTER | RTM_NEWCHAIN), index, parent, chain, info, handle }
-            if all.contains(&index) && parent.starts_with("ffff:") | matches!(parent.as_str(), "ingress" | "egress") =>
-        {
-            value["header"]["parent"] = json!("ffff:");
-            (Key::Object { kind, index, parent: "ffff:".to_string(), chain, info, handle }, value)
-        }
-        key => (key, value),
+// Of handles those that are wanted: filters that were there before may stand between those of a save.
+fn among<'a>(found: &'a Held, wanted: &Held) -> Cow<'a, Held> {
+    match (found, wanted) {
+        (Held::Handles(found), Held::Handles(wanted)) => Cow::Owned(Held::Handles(found.iter().copied().filter(|handle| wanted.contains(handle)).collect())),
+        _ => Cow::Borrowed(found),
     }
 }
 

@@ -2,7 +2,7 @@
 
 use crate::netlink::attributes::{attribute, put};
 use crate::netlink::message::{
-    HEADER, Messages, NLM_F_ACK, RTM_NEWACTION, RTM_NEWCHAIN, RTM_NEWTFILTER, TCMSG, Tcmsg, header_of, request, tc_request, tcmsg_of,
+    HEADER, NLM_F_ACK, RTM_NEWACTION, RTM_NEWCHAIN, RTM_NEWTFILTER, TCMSG, Tcmsg, header_of, request, tc_request, tcmsg_of,
 };
 use crate::nla_frames::{Emitable as _, ParseableBytes as _};
 use crate::tc_action_messages::{TcActionMessage, TcActionMessageAttribute};
@@ -18,11 +18,6 @@ const TCA_CHAIN: u16 = 11;
 const TCA_INGRESS_BLOCK: u16 = 13;
 const TCA_EGRESS_BLOCK: u16 = 14;
 
-/// The messages of a stream, up to one that is broken.
-pub(crate) fn messages_of(stream: &[u8]) -> Vec<Vec<u8>> {
-    Messages::of(stream).map_while(Result::ok).map(|(_, message)| message.to_vec()).collect()
-}
-
 /// The type of a message.
 pub(crate) fn type_of(message: &[u8]) -> u16 {
     header_of(message).map_or(0, |header| header.kind)
@@ -36,6 +31,16 @@ pub(crate) fn replaces(message: &[u8]) -> bool {
 /// What follows the netlink header.
 pub(crate) fn payload_of(message: &[u8]) -> &[u8] {
     message.get(HEADER..).unwrap_or_default()
+}
+
+/// The kind that a message about a qdisc, a class, a filter or a chain has.
+pub(crate) fn kind_of(message: &[u8]) -> Option<&[u8]> {
+    tca(message, TCA_KIND)?.split(|byte| *byte == 0).next()
+}
+
+/// The chain that a filter or a chain names; 0 if it names none.
+pub(crate) fn chain_of(message: &[u8]) -> u32 {
+    tca(message, TCA_CHAIN).and_then(number_of).unwrap_or_default()
 }
 
 /// The blocks that a qdisc names for its sides.
@@ -134,14 +139,6 @@ mod tests {
         put(&mut body, TCA_CHAIN, &7u32.to_ne_bytes());
         put(&mut body, 2, &[1, 2, 3, 4]);
         request(RTM_NEWTFILTER, 0x604, &body)
-    }
-
-    #[test]
-    fn a_stream_is_its_messages() {
-        let both = [filter(0x800), filter(0x801)];
-        let stream = both.concat();
-        assert_eq!(messages_of(&stream), both);
-        assert_eq!(messages_of(&stream[..stream.len() - 5]), both[..1]);
     }
 
     #[test]

@@ -17,7 +17,7 @@ mod tests;
 mod world;
 
 use arguments::{Arguments, arguments_of};
-use compare::{Key, Objects, differences, objects_of};
+use compare::{Held, Key, Objects, differences, objects_of};
 use plan::{Wanted, requests};
 use prepare::{Prepared, prepare};
 use sending::{PATIENCE, PAUSE, Sending};
@@ -26,7 +26,6 @@ use world::{Stop, World};
 
 use crate::netlink::fault::Printable;
 use crate::netlink::{Fault, Kernel, Listener, Transport};
-use ::serde_json::Value;
 use signal_hook::consts::{SIGHUP, SIGINT, SIGTERM};
 use std::fs;
 use std::io::{self, Read as _, Write as _};
@@ -134,7 +133,8 @@ fn carried_out<T: Transport, L: Transport>(
     }
     sending.send_all(&prepared.requests)?;
     // Without --clear what was there stays; actions belong to no interface.
-    let may_be = |key: &Key, value: &Value| key.is_action() || !arguments.clear && prepared.before.get(key) == Some(value);
+    let was_there = |key: &Key, held: &Held| prepared.before.get(key).is_some_and(|before| before.is_same(held));
+    let may_be = |key: &Key, held: &Held| key.is_action() || !arguments.clear && was_there(key, held);
     let after = same(sending, &prepared.wanted, |_| true, may_be)?;
     said.extend(hardware::lost(&prepared.save, &after));
     Ok(())
@@ -145,7 +145,7 @@ fn same<T: Transport, L: Transport>(
     sending: &mut Sending<'_, '_, T, L>,
     wanted: &Objects,
     is_seen: impl Fn(&Key) -> bool,
-    may_be: impl Fn(&Key, &Value) -> bool,
+    may_be: impl Fn(&Key, &Held) -> bool,
 ) -> Result<String, Stop> {
     let seen = |objects: Objects| objects.into_iter().filter(|(key, _)| is_seen(key)).collect::<Objects>();
     let wanted = seen(wanted.clone());
@@ -153,10 +153,10 @@ fn same<T: Transport, L: Transport>(
     let until = Instant::now() + PATIENCE;
     loop {
         sending.world.check_devices(place)?;
-        let after = sending.world.save(&place.indices())?;
+        let after = sending.world.lines(&place.indices())?;
         sending.world.look(place, None)?;
         let all = requests(&Wanted { text: &after, ..Wanted::default() }).requests;
-        let found = differences(&wanted, &seen(objects_of(&all.concat())), &may_be);
+        let found = differences(&wanted, &seen(objects_of(&all)), &may_be);
         if found.is_empty() {
             return Ok(after);
         }

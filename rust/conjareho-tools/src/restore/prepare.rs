@@ -73,22 +73,25 @@ pub(crate) fn prepare<T: Transport, L: Transport>(
     said.extend(targets.warnings.iter().cloned());
     let names = names_of(&save, &targets);
     let others = blocks_of_others(world, &targets)?;
-    let Planned { dump, now, stays, plan } = planned(arguments, &wanted_of(arguments, &save, &targets, &names), &targets, &others, world)?;
+    let wanted = wanted_of(arguments, &save, &targets, &names);
+    let alone = requests(&wanted);
+    let Planned { dump, now, stays, plan } = planned(arguments, &wanted, !alone.is_void, &targets, &others, world)?;
     let plan = checked(arguments, plan, said)?;
-    let wanted = requests(&wanted_of(arguments, &save, &targets, &names)).requests;
+    let wanted = alone.requests;
     check_blocks(world, &others, &wanted)?;
     let is_own = |request: &Vec<u8>| !is_in_block(request, &others);
     let blocks = wanted.iter().flat_map(|request| blocks_of(request)).chain(dump.blocks).collect();
-    let (back, before) = (requests(&of_now(&now, Some(&stays))), requests(&of_now(&now, None)));
+    let before = requests(&of_now(&now, None));
+    let back = if arguments.clear { requests(&of_now(&now, Some(&stays))) } else { Plan::default() };
     check_back(arguments, &back)?;
     let kept = state::keep(&arguments.state, &targets.names(), &now)
         .map_err(|error| Ended::because(Status::Failed, vec![format!("what is there now can't be kept in {}: {error}", arguments.state.display())]))?;
     Ok(Prepared {
         place: Place { devices: targets.devices, blocks },
         requests: plan.requests.into_iter().filter(is_own).collect(),
-        wanted: objects_of(&wanted.concat()),
+        wanted: objects_of(&wanted),
         back: back.requests.into_iter().filter(is_own).collect(),
-        before: objects_of(&before.requests.concat()),
+        before: objects_of(&before.requests),
         before_all: before.requests,
         kept: kept.display().to_string(),
         save,
@@ -138,12 +141,12 @@ struct Planned {
 fn planned<T: Transport, L: Transport>(
     arguments: &Arguments,
     wanted: &Wanted<'_>,
+    can_be_made: bool,
     targets: &Targets,
     others: &BTreeMap<u32, u32>,
     world: &mut World<'_, T, L>,
 ) -> Result<Planned, Ended> {
     let until = Instant::now() + PATIENCE;
-    let can_be_made = !requests(wanted).is_void;
     loop {
         let dump = world.first_dump(&targets.own())?;
         let now = text_of(&dump, &targets.own())?;
@@ -204,8 +207,8 @@ fn check_blocks<T: Transport, L: Transport>(world: &mut World<'_, T, L>, others:
     let mut holders: Vec<u32> = used.values().copied().collect();
     holders.sort_unstable();
     holders.dedup();
-    let theirs = requests(&Wanted { text: &world.save(&holders)?, ..Wanted::default() }).requests;
-    let in_blocks = |all: &[Vec<u8>]| objects_of(&all.iter().filter(|it| is_in_block(it, &used)).cloned().collect::<Vec<_>>().concat());
+    let theirs = requests(&Wanted { text: &world.lines(&holders)?, ..Wanted::default() }).requests;
+    let in_blocks = |all: &[Vec<u8>]| objects_of(&all.iter().filter(|it| is_in_block(it, &used)).cloned().collect::<Vec<_>>());
     let found = differences(&in_blocks(wanted), &in_blocks(&theirs), |_, _| false);
     if found.is_empty() {
         return Ok(());

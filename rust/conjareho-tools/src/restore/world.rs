@@ -1,6 +1,6 @@
 //! The kernel, what is heard of others' changes, and signals.
 
-use super::compare::objects_of;
+use super::compare::key_of;
 use super::messages::type_of;
 use crate::netlink::message::{NLM_F_DUMP, RTM_GETQDISC, Tcmsg, tc_request};
 use crate::netlink::{Device, Devices, Dump, Fault, Kernel, Listener, Notice, Refusal, Transport, state_of};
@@ -95,10 +95,11 @@ impl<'s, T: Transport, L: Transport> World<'s, T, L> {
         state_of(&mut self.kernel, &mut self.dumps, interfaces)
     }
 
-    /// The save of what interfaces have.
-    pub(crate) fn save(&mut self, interfaces: &[u32]) -> Result<String, Fault> {
-        let dump = self.dump(interfaces)?;
-        text_of(&dump, interfaces)
+    /// The lines of what interfaces have, without a head.
+    pub(crate) fn lines(&mut self, interfaces: &[u32]) -> Result<String, Fault> {
+        let mut lines = lines_of(&self.dump(interfaces)?.messages)?.lines;
+        lines.push(String::new());
+        Ok(lines.join("\n"))
     }
 
     /// The qdiscs of all interfaces.
@@ -169,7 +170,7 @@ pub(crate) fn what_of(message: &[u8]) -> String {
     if let Some(place) = as_new.get_mut(4..6) {
         place.copy_from_slice(&kind.to_ne_bytes());
     }
-    match objects_of(&as_new).into_keys().next() {
+    match key_of(&as_new) {
         Some(key) => format!("{verb}{key}"),
         None => format!("a message of type {number}"),
     }

@@ -3,7 +3,7 @@
 mod fake;
 
 use super::arguments::{Arguments, arguments_of};
-use super::messages::{messages_of, type_of};
+use super::messages::type_of;
 use super::plan::{Wanted, requests};
 use super::restore;
 use super::status::Status;
@@ -323,7 +323,7 @@ fn sends_what_tcmake_makes() {
     let without_numbers = |message: &[u8]| [&message[..8], &message[HEADER..]].concat();
     let sent: Vec<Vec<u8>> = sent.map(|it| without_numbers(it)).collect();
     let made = made_by_tcmake(&file);
-    let made: Vec<Vec<u8>> = messages_of(&made).iter().map(|it| without_numbers(it)).collect();
+    let made: Vec<Vec<u8>> = Messages::of(&made).map(|it| without_numbers(it.expect("a message").1)).collect();
     assert_eq!((made.len(), sent), (6, made));
 }
 
