@@ -83,9 +83,11 @@ def leftovers(sent):
     return ""
 
 
-def judged(programs, save, state, sent, options=""):
-    """What is wrong with what was sent when a save was restored with these options, beside what was kept in the folder `state`. "" for nothing."""
+def judged(programs, save, state, sent, options="", names=""):
+    """What is wrong with what was sent when a save was restored with these options, beside what was kept in the folder `state`; `names` is a
+    file with the interfaces of then, where they weren't those of the save. "" for nothing."""
     wrong = leftovers(sent)
     if wrong or {"--map", "--partial"} & set(options.split()):
         return wrong
-    return as_made(sent, programs.requests(save, state, [it for it in options.split() if it == "--replace-actions"]))
+    more = [it for it in options.split() if it == "--replace-actions"] + (["--names", names] if names else [])
+    return as_made(sent, programs.requests(save, state, more))
