@@ -66,7 +66,7 @@ class Run:
             _, _, options = rest.partition(" ")
             own = f"{self.file}.{self.count}"
             restore = self.programs.restore(f"{self.file}.json", f"{own}.state", options)
-            return ["dump 7", f"watch {own}.sent", f"run {restore}", "unwatch", "dump 7"]
+            return [f"run ip -o link > {own}.names", "dump 7", f"watch {own}.sent", f"run {restore}", "unwatch", "dump 7"]
         if verb == "shows":
             return [f"run {rest.partition(': ')[2]}"]
         return []
@@ -105,6 +105,7 @@ class Run:
 
     def judge_restore(self, rest):
         self.count += 1
+        next(self.answers)
         self.before, self.said, self.after = self.state(), next(self.answers), self.state()
         if str(self.said.status) != rest.split()[0]:
             return f"{self.said}"
@@ -112,7 +113,7 @@ class Run:
             return ""
         own = f"{self.file}.{self.count}"
         with open(f"{own}.sent", "rb") as file:
-            return judged(self.programs, f"{self.file}.json", f"{own}.state", file.read(), rest)
+            return judged(self.programs, f"{self.file}.json", f"{own}.state", file.read(), rest, f"{own}.names")
 
     def judge_says(self, rest):
         return "" if any(re.fullmatch(rest, it) for it in self.said.lines) else f"it says {self.said.lines}"

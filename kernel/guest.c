@@ -337,6 +337,8 @@ static void dump_link(int number) {
     for (size_t at = 0; at < tree_length; at += NLMSG_ALIGN(h->nlmsg_len)) {
         h = (struct nlmsghdr *)(tree + at);
         __u32 handle = ((struct tcmsg *)NLMSG_DATA(h))->tcm_handle;
+        if (h->nlmsg_type == RTM_NEWTCLASS && !TC_H_MIN(handle))
+            continue; // a root class, whose filters are the qdisc's
         if (h->nlmsg_type == RTM_NEWQDISC && is_clsact(h)) {
             dump_block(TC_H_MAKE(TC_H_CLSACT, TC_H_MIN_INGRESS));
             dump_block(TC_H_MAKE(TC_H_CLSACT, TC_H_MIN_EGRESS));

@@ -68,7 +68,8 @@ class Trial:
             wrong = self.before.differences(after)
             if wrong:
                 return f"{where}: restored otherwise: {'; '.join(wrong[:4])}"
-            return judged(self.programs, f"{self.file}.json", f"{self.file}.{name}.state", sent)
+            options, has_others = "--clear" if name == "here" else "", any(" dev d8 ingress_block" in it for it in self.commands)
+            return judged(self.programs, f"{self.file}.json", f"{self.file}.{name}.state", sent, options, has_others=has_others)
         if said.status == 0:
             return f"{where}: restored, though it has {', '.join(self.unmade)}"
         named = {why for why in self.unmade if any(why in it for it in said.lines)}

@@ -84,10 +84,8 @@ class Programs:
         """A netlink stream as lines of JSON."""
         return self.command(f"$TCSHOW --json < {stream} > {file}")
 
-    def requests(self, file, state="", options=()):
-        """The requests that tcmake makes of a save beside what is kept in the folder `state`, as a netlink stream."""
-        now = [word for it in glob.glob(f"{state}/*") for word in ("--now", it)] if state else []
+    def requests(self, file, *options):
+        """The requests that tcmake makes of a save, as a netlink stream."""
         with open(file) as lines:
-            words = [self.paths["tcmake"], "--request", "--stream", *now, *options]
-            done = subprocess.run(words, stdin=lines, capture_output=True)
-        return done.stdout
+            words = [self.paths["tcmake"], "--request", "--stream", *options]
+            return subprocess.run(words, stdin=lines, capture_output=True).stdout

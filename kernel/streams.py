@@ -1,5 +1,8 @@
 """What tcrestore sends: streams of requests, compared with what tcmake makes of the same files."""
 
+import collections
+import glob
+import json
 import struct
 
 from states import ACTIONS_OF, CHAIN, CLASS, COUNTED_OF_ACTION, FILTER, QDISC, TIMES_OF, Object, attributes, text
@@ -83,9 +86,52 @@ def leftovers(sent):
     return ""
 
 
-def judged(programs, save, state, sent, options=""):
-    """What is wrong with what was sent when a save was restored with these options, beside what was kept in the folder `state`. "" for nothing."""
-    wrong = leftovers(sent)
-    if wrong or {"--map", "--partial"} & set(options.split()):
+def named(value):
+    """The actions anywhere in a value of JSON: kind, number, and the record with the counts of who holds them."""
+    if isinstance(value, list):
+        for it in value:
+            yield from named(it)
+    elif isinstance(value, dict) and "tab" in value:
+        own = {name: it for attribute in value["attributes"] if isinstance(attribute, dict) for name, it in attribute.items()}
+        counts = counts_in(own.get("Options"))
+        if counts:
+            yield own["Kind"], counts["index"], counts
+    elif isinstance(value, dict):
+        for it in value.values():
+            yield from named(it)
+
+
+def counts_in(value):
+    if isinstance(value, dict) and {"refcnt", "bindcnt"} <= value.keys():
+        return value
+    inner = value.values() if isinstance(value, dict) else value if isinstance(value, list) else []
+    return next((it for it in map(counts_in, inner) if it), None)
+
+
+def left_by_clearing(path, has_others):
+    """The actions of a save without what its filters hold, as when they are deleted; filters of blocks stay if others have the block."""
+    lines = [json.loads(it) for it in open(path) if it.startswith('{"type"')]
+    filters = [it for it in lines if it["type"] == "RTM_NEWTFILTER" and not (has_others and it["message"]["header"]["index"] == OF_BLOCK)]
+    held = collections.Counter((kind, number) for it in filters for kind, number, _ in named(it["message"]["attributes"]))
+    out = [it for it in lines if it["type"] in ("RTM_GETACTION", "RTM_NEWACTION")]
+    for kind, number, counts in named([it["message"]["attributes"] for it in out]):
+        counts["refcnt"] -= held[kind, number]
+        counts["bindcnt"] -= held[kind, number]
+    for actions in [it["Actions"] for line in out for it in line["message"]["attributes"] if "Actions" in it]:
+        actions[:] = [it for it in actions if all(counts["refcnt"] for _, _, counts in named(it))]
+    with open(f"{path}.left", "w") as file:
+        file.writelines(json.dumps(it) + "\n" for it in out if any(named(it["message"]["attributes"])))
+    return f"{path}.left"
+
+
+def judged(programs, save, state, sent, options="", names="", has_others=False):
+    """What is wrong with what was sent when a save was restored with these options, beside what was kept in the folder `state`; `names` is a
+    file with the interfaces of then, where they weren't those of the save. "" for nothing."""
+    wrong, words = leftovers(sent), options.split()
+    if wrong or {"--map", "--partial"} & set(words):
         return wrong
-    return as_made(sent, programs.requests(save, state, [it for it in options.split() if it == "--replace-actions"]))
+    now = glob.glob(f"{state}/*.json")[0]
+    if "--clear" in words:
+        now = left_by_clearing(now, has_others)
+    more = [it for it in words if it == "--replace-actions"] + (["--names", names] if names else [])
+    return as_made(sent, programs.requests(save, "--now", now, *more))
