@@ -8,19 +8,17 @@ use std::collections::BTreeMap;
 // The kind and the index of an action.
 type Named = (String, u64);
 
-/// The action lines of a save, without the actions that only filters of it hold: with these filters they go. `is_left` says of the number of a
-/// block whether other interfaces hold it, so that its filters stay.
+/// The lines of a save, without the actions that only filters of it hold: with these filters they go. The filters are there, since what else they
+/// hold is held by no others. `is_left` says of the number of a block whether other interfaces hold it, so that its filters stay.
 pub(crate) fn staying(save: &str, is_left: impl Fn(u32) -> bool) -> String {
     let Ok(Save { lines, .. }) = read_save(save.as_bytes()) else { return String::new() };
     let values: Vec<Value> = lines.iter().filter_map(|(_, line)| ::serde_json::from_str(line).ok()).collect();
     let held = held_by(&values, is_left);
     let mut text = String::new();
     for mut value in values {
-        if value["type"] == "RTM_GETACTION" || value["type"] == "RTM_NEWACTION" {
-            let left = keep_others(&mut value, &held);
-            if left {
-                text.push_str(&format!("{value}\n"));
-            }
+        let is_of_actions = value["type"] == "RTM_GETACTION" || value["type"] == "RTM_NEWACTION";
+        if !is_of_actions || keep_others(&mut value, &held) {
+            text.push_str(&format!("{value}\n"));
         }
     }
     text
@@ -111,7 +109,8 @@ mod tests {
     fn left(actions: &[Value], filters: &[String], is_left: bool) -> Vec<u64> {
         let line = json!({"type": "RTM_GETACTION", "message": {"header": {}, "attributes": [{"RootCount": 1}, {"Actions": actions}]}});
         let text = staying(&format!("{line}\n{}\n", filters.join("\n")), |_| is_left);
-        let value: Value = ::serde_json::from_str(&text).unwrap_or_default();
+        let line = text.lines().next().unwrap_or_default();
+        let value: Value = ::serde_json::from_str(line).unwrap_or_default();
         let actions = value["message"]["attributes"][1]["Actions"].as_array().cloned().unwrap_or_default();
         actions.iter().filter_map(|it| Some(named(it)?.0.1)).collect()
     }
