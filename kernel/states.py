@@ -109,6 +109,8 @@ class Object:
     def config(self):
         """All that it has, in a form that can be compared."""
         options = tuple(it for it in self.options if it[0] not in (PAD_OF.get(self.kind), ACTIONS_OF.get(self.kind) if self.actions else None))
+        if self.kind == "u32":  # police of the filter itself, with its times
+            options = tuple((n, tuple(y for y in attributes(x) if y[0] != TIMES_OF["police"]) if n == 6 else x) for n, x in options)
         others = tuple(it for it in sorted(self.own.items()) if it[0] not in COUNTED | {2})
         info = 0 if self.type == QDISC else self.info  # of a qdisc a count of references
         return self.type, self.index, self.handle, self.parent, info, others, options, tuple(it.config for it in self.actions)

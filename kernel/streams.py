@@ -109,19 +109,22 @@ def counts_in(value):
 
 
 def left_by_clearing(path, has_others):
-    """The actions of a save without what its filters hold, as when they are deleted; filters of blocks stay if others have the block."""
+    """A save without the actions that only its filters hold, as when these are deleted; a block's filters stay if others have the block."""
     lines = [json.loads(it) for it in open(path) if it.startswith('{"type"')]
     filters = [it for it in lines if it["type"] == "RTM_NEWTFILTER" and not (has_others and it["message"]["header"]["index"] == OF_BLOCK)]
     held = collections.Counter((kind, number) for it in filters for kind, number, _ in named(it["message"]["attributes"]))
-    out = [it for it in lines if it["type"] in ("RTM_GETACTION", "RTM_NEWACTION")]
-    for kind, number, counts in named([it["message"]["attributes"] for it in out]):
-        counts["refcnt"] -= held[kind, number]
-        counts["bindcnt"] -= held[kind, number]
-    for actions in [it["Actions"] for line in out for it in line["message"]["attributes"] if "Actions" in it]:
-        actions[:] = [it for it in actions if all(counts["refcnt"] for _, _, counts in named(it))]
+    for it in lines:
+        if it["type"] in ("RTM_GETACTION", "RTM_NEWACTION"):
+            for attribute in it["message"]["attributes"]:
+                if "Actions" in attribute:
+                    attribute["Actions"] = [one for one in attribute["Actions"] if not goes(one, held)]
     with open(f"{path}.left", "w") as file:
-        file.writelines(json.dumps(it) + "\n" for it in out if any(named(it["message"]["attributes"])))
+        file.writelines(json.dumps(it) + "\n" for it in lines)
     return f"{path}.left"
+
+
+def goes(action, held):
+    return any(counts["refcnt"] == counts["bindcnt"] == held[kind, number] for kind, number, counts in named(action))
 
 
 def judged(programs, save, state, sent, options="", names="", has_others=False):
