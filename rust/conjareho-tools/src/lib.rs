@@ -14,12 +14,10 @@ mod fallible;
 mod hex;
 #[path = "../../erase/shims/host.rs"]
 pub mod host;
-#[path = "../../erase/shims/jsontext.rs"]
-mod jsontext;
-#[path = "../../erase/shims/events.rs"]
-mod serde;
 #[cfg(target_os = "linux")]
 mod interfaces;
+#[path = "../../erase/shims/jsontext.rs"]
+mod jsontext;
 #[cfg(target_os = "linux")]
 pub mod netlink;
 #[cfg(target_os = "linux")]
@@ -28,18 +26,20 @@ pub mod requests;
 mod restore;
 #[cfg(target_os = "linux")]
 pub mod save;
+#[path = "../../erase/shims/events.rs"]
+mod serde;
 #[cfg(target_os = "linux")]
 pub mod shown;
+#[path = "../../erase/shims/small.rs"]
+mod small;
 #[cfg(target_os = "linux")]
 pub mod status;
+#[path = "../../erase/shims/strict.rs"]
+mod strict;
 #[cfg(target_os = "linux")]
 mod tcnl;
 #[cfg(target_os = "linux")]
 mod tcsave;
-#[path = "../../erase/shims/small.rs"]
-mod small;
-#[path = "../../erase/shims/strict.rs"]
-mod strict;
 #[path = "../../erase/shims/user.rs"]
 #[allow(dead_code)] // what tests use besides
 mod user;

@@ -221,7 +221,9 @@ fn parents(tree: &[Vec<u8>]) -> Result<Vec<u32>, Fault> {
         match kind.as_deref() {
             Some("clsact") => parents.extend(SIDES),
             Some("ingress") => parents.push(SIDES[0]),
-            _ if tcmsg.handle != 0 || (is_qdisc && tcmsg.parent == TC_H_ROOT) => parents.push(tcmsg.handle),
+            _ if is_qdisc && (tcmsg.handle != 0 || tcmsg.parent == TC_H_ROOT) => parents.push(tcmsg.handle),
+            // A root class, such as hfsc's, has the handle of its qdisc.
+            _ if !is_qdisc && tcmsg.handle & 0xffff != 0 => parents.push(tcmsg.handle),
             _ => {}
         }
     }

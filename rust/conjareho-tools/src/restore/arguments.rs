@@ -64,7 +64,13 @@ fn command() -> Command {
         .version(env!("CARGO_PKG_VERSION"))
         .about(ABOUT)
         .after_help(NOTES)
-        .arg(Arg::new("file").value_name("FILE").required(true).value_parser(::clap::value_parser!(OsString)).help("What tcsave wrote; - for standard input"))
+        .arg(
+            Arg::new("file")
+                .value_name("FILE")
+                .required(true)
+                .value_parser(::clap::value_parser!(OsString))
+                .help("What tcsave wrote; - for standard input"),
+        )
         .arg(
             Arg::new("dev")
                 .long("dev")
@@ -113,7 +119,8 @@ mod tests {
 
     #[test]
     fn reads_words() {
-        let all = of(&["--dev", "eth1", "--map", "ids=ids0", "--map", "a=b", "--clear", "--state", "/tmp/x", "f"]).expect("read");
+        let all = of(&["--dev", "eth1", "--map", "ids=ids0", "--map", "a=b", "--clear", "--state", "/tmp/x", "f"])
+            .expect("read");
         assert_eq!(all.dev.as_deref(), Some("eth1"));
         assert_eq!(all.map["ids"], "ids0");
         assert_eq!(all.map["a"], "b");

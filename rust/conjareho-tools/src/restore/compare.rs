@@ -4,7 +4,9 @@
 //! gives in a field of a configuration, and what it shows otherwise from one dump to the next.
 
 use super::messages::{actions_of, chain_of, kind_of, payload_of, type_of};
-use crate::netlink::message::{RTM_NEWACTION, RTM_NEWCHAIN, RTM_NEWQDISC, RTM_NEWTCLASS, RTM_NEWTFILTER, Tcmsg, tcmsg_of};
+use crate::netlink::message::{
+    RTM_NEWACTION, RTM_NEWCHAIN, RTM_NEWQDISC, RTM_NEWTCLASS, RTM_NEWTFILTER, Tcmsg, tcmsg_of,
+};
 use crate::tc_forms::Shown;
 use crate::tc_kinds::{ACTION_MESSAGE, TC_MESSAGE, TcTables};
 use crate::tc_texts::handle_text;
@@ -39,7 +41,9 @@ impl fmt::Display for Key {
                 match *kind {
                     RTM_NEWQDISC => write!(f, "qdisc {place}, handle {}", handle.as_str()),
                     RTM_NEWTCLASS => write!(f, "class {place}, handle {}", handle.as_str()),
-                    RTM_NEWTFILTER => write!(f, "filter {place}, chain {chain}, pref {}, handle {}", info >> 16, handle.as_str()),
+                    RTM_NEWTFILTER => {
+                        write!(f, "filter {place}, chain {chain}, pref {}, handle {}", info >> 16, handle.as_str())
+                    }
                     _ => write!(f, "chain {place}, chain {chain}"),
                 }
             }
@@ -84,7 +88,8 @@ impl Held {
         };
         let form = if type_of(request) == RTM_NEWACTION { ACTION_MESSAGE } else { TC_MESSAGE };
         // It fails where memory runs out.
-        let mut value = ::serde_json::to_value(Shown { table: TcTables, form, bytes: payload_of(request) }).unwrap_or_default();
+        let mut value =
+            ::serde_json::to_value(Shown { table: TcTables, form, bytes: payload_of(request) }).unwrap_or_default();
         if let Some(header) = value.get_mut("header") {
             // What the key has, a qdisc's count of references, a class's qdisc.
             *header = json!({});
@@ -109,12 +114,15 @@ pub(crate) type Objects = BTreeMap<Key, Held>;
 /// What requests make.
 pub(crate) fn objects_of(requests: &[Vec<u8>]) -> Objects {
     let is_ingress = |it: &&Vec<u8>| type_of(it) == RTM_NEWQDISC && kind_of(it) == Some(b"ingress");
-    let of_ingress: BTreeSet<i32> = requests.iter().filter(is_ingress).filter_map(|it| tcmsg_of(it)).map(|header| header.index).collect();
+    let of_ingress: BTreeSet<i32> =
+        requests.iter().filter(is_ingress).filter_map(|it| tcmsg_of(it)).map(|header| header.index).collect();
     let mut objects = Objects::new();
     for request in requests {
         if type_of(request) == RTM_NEWACTION {
             let actions = actions_of(request).into_iter();
-            objects.extend(actions.map(|action| (Key::Action(action.kind.clone(), action.index), Held::Request(action.change()))));
+            objects.extend(
+                actions.map(|action| (Key::Action(action.kind.clone(), action.index), Held::Request(action.change()))),
+            );
         } else if let Some(header) = tcmsg_of(request) {
             put_object(request, header, of_ingress.contains(&header.index), &mut objects);
         }
@@ -130,7 +138,8 @@ fn put_object(request: &[u8], header: Tcmsg, is_ingress: bool, objects: &mut Obj
     let parent = if is_below && is_ingress && header.parent >> 16 == 0xFFFF { INGRESS } else { header.parent };
     let info = if is_below { header.info } else { 0 };
     if kind == RTM_NEWTFILTER && matches!(kind_of(request), Some(b"basic" | b"bpf")) {
-        let handles = objects.entry(Key::Order { index, parent, chain, info }).or_insert_with(|| Held::Handles(Vec::new()));
+        let handles =
+            objects.entry(Key::Order { index, parent, chain, info }).or_insert_with(|| Held::Handles(Vec::new()));
         if let Held::Handles(handles) = handles {
             handles.push(handle);
         }
@@ -186,7 +195,9 @@ pub(crate) fn differences(wanted: &Objects, found: &Objects, may_be: impl Fn(&Ke
 // Of handles those that are wanted: filters that were there before may stand between those of a save.
 fn among<'a>(found: &'a Held, wanted: &Held) -> Cow<'a, Held> {
     match (found, wanted) {
-        (Held::Handles(found), Held::Handles(wanted)) => Cow::Owned(Held::Handles(found.iter().copied().filter(|handle| wanted.contains(handle)).collect())),
+        (Held::Handles(found), Held::Handles(wanted)) => {
+            Cow::Owned(Held::Handles(found.iter().copied().filter(|handle| wanted.contains(handle)).collect()))
+        }
         _ => Cow::Borrowed(found),
     }
 }
@@ -206,9 +217,15 @@ fn pass_over(value: &mut Value) {
     }
 }
 
-// Counts of basic, and its padding, which depends on the place in the dump.
+// Counts of basic; padding (`TCA_HTB_PAD` and the like), which is there or not by the place in the dump.
 fn is_passed(item: &Value) -> bool {
-    item.get("Basic").and_then(Value::as_object).is_some_and(|it| it.contains_key("Pcnt") || it.contains_key("Pad"))
+    item.pointer("/Basic/Pcnt").is_some()
+        || is_padding(item)
+        || item.as_object().is_some_and(|layer| layer.values().any(is_padding))
+}
+
+fn is_padding(attribute: &Value) -> bool {
+    attribute.get("Pad").is_some()
 }
 
 fn pass_over_record(value: &mut Value) {
@@ -246,10 +263,40 @@ fn first_difference(wanted: &Value, found: &Value, at: &str) -> Option<(String, 
         (Value::Object(left), Value::Object(right)) if left.keys().eq(right.keys()) => {
             left.iter().find_map(|(name, value)| first_difference(value, &right[name], &format!("{at}/{name}")))
         }
-        (Value::Array(left), Value::Array(right)) if left.len() == right.len() => {
-            left.iter().zip(right).enumerate().find_map(|(place, (value, other))| first_difference(value, other, &format!("{at}/{place}")))
-        }
+        (Value::Array(left), Value::Array(right)) if left.len() == right.len() => left
+            .iter()
+            .zip(right)
+            .enumerate()
+            .find_map(|(place, (value, other))| first_difference(value, other, &format!("{at}/{place}"))),
         _ if wanted == found => None,
         _ => Some((at.to_string(), wanted.clone(), found.clone())),
+    }
+}
+
+#[cfg(test)]
+mod tests {
+    use super::*;
+
+    fn passed_over(mut value: Value) -> Value {
+        pass_over(&mut value);
+        value
+    }
+
+    #[test]
+    fn padding_and_counts_are_passed_over() {
+        let rate = json!({"Htb": {"Rate64": 5_000_000_000_u64}});
+        assert_eq!(passed_over(json!([rate, {"Htb": {"Pad": true}}])), json!([rate]));
+        assert_eq!(
+            passed_over(json!([{"Basic": {"Pcnt": {"rcnt": 3, "rhit": 1}}}, {"Basic": {"Classid": "1:1"}}])),
+            json!([{"Basic": {"Classid": "1:1"}}])
+        );
+        assert_eq!(passed_over(json!([{"Pad": ""}, {"Chain": 3}])), json!([{"Chain": 3}]));
+    }
+
+    #[test]
+    fn a_filter_s_own_action_has_no_number() {
+        let parameters = |index, filters| json!({"index": index, "capab": 0, "action": "Pipe", "refcnt": filters, "bindcnt": filters});
+        assert_eq!(passed_over(parameters(4, 1)), passed_over(parameters(9, 1)));
+        assert_ne!(passed_over(parameters(4, 2)), passed_over(parameters(9, 2)));
     }
 }

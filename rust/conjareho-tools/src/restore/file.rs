@@ -65,7 +65,9 @@ pub(crate) enum FileError {
 impl fmt::Display for FileError {
     fn fmt(&self, f: &mut fmt::Formatter<'_>) -> fmt::Result {
         match self {
-            FileError::Empty => f.write_str("it is empty; the save of an interface without anything has a head and an end"),
+            FileError::Empty => {
+                f.write_str("it is empty; the save of an interface without anything has a head and an end")
+            }
             FileError::NoText => f.write_str("it isn't UTF-8"),
             FileError::Version(number) => write!(f, "a save of version {number}; this program reads version {VERSION}"),
             FileError::Head(wanted) => write!(f, "line 1: the head lacks {wanted}"),
@@ -74,7 +76,10 @@ impl fmt::Display for FileError {
             FileError::LineBehind(number) => write!(f, "line {number}: a line behind the end"),
             FileError::End => f.write_str("its end is neither a number of lines nor true"),
             FileError::Count { said, found } => {
-                write!(f, "its end counts {said} lines, and there are {found}: it was cut, or edited (an edited save ends with {{\"end\":true}})")
+                write!(
+                    f,
+                    "its end counts {said} lines, and there are {found}: it was cut, or edited (an edited save ends with {{\"end\":true}})"
+                )
             }
         }
     }
@@ -143,7 +148,11 @@ fn head_of(value: &Value) -> Result<Head, FileError> {
         None => return Err(FileError::Head("a version")),
     }
     let devs = value["devs"].as_object().ok_or(FileError::Head("devs"))?;
-    let devs = devs.iter().map(|(name, it)| device_of(name, it)).collect::<Option<Vec<_>>>().ok_or(FileError::Head("the index of an interface"))?;
+    let devs = devs
+        .iter()
+        .map(|(name, it)| device_of(name, it))
+        .collect::<Option<Vec<_>>>()
+        .ok_or(FileError::Head("the index of an interface"))?;
     let names = value["names"].as_object().ok_or(FileError::Head("names"))?;
     let names = names.iter().map(|(index, name)| Some((index.parse().ok()?, name.as_str()?.to_string())));
     let mut names = names.collect::<Option<BTreeMap<_, _>>>().ok_or(FileError::Head("names by index"))?;

@@ -20,6 +20,7 @@ fn count(save: &Save) -> usize {
 fn is_in_hardware(line: &Value) -> bool {
     let attributes = line["message"]["attributes"].as_array().into_iter().flatten();
     let options = attributes.filter_map(|it| it["Options"].as_array()).flatten().filter_map(Value::as_object);
-    let flags = options.flat_map(|option| option.values()).filter_map(|it| it.get("Flags").or_else(|| it.get("FlagsGeneric")));
+    let flags =
+        options.flat_map(|option| option.values()).filter_map(|it| it.get("Flags").or_else(|| it.get("FlagsGeneric")));
     flags.filter_map(Value::as_u64).any(|flags| flags & IN_HW != 0)
 }

@@ -2,7 +2,8 @@
 
 use crate::netlink::attributes::{attribute, put};
 use crate::netlink::message::{
-    HEADER, NLM_F_ACK, RTM_NEWACTION, RTM_NEWCHAIN, RTM_NEWTFILTER, TCMSG, Tcmsg, header_of, request, tc_request, tcmsg_of,
+    HEADER, NLM_F_ACK, RTM_NEWACTION, RTM_NEWCHAIN, RTM_NEWTFILTER, TCMSG, Tcmsg, header_of, request, tc_request,
+    tcmsg_of,
 };
 use crate::nla_frames::{Emitable as _, ParseableBytes as _};
 use crate::tc_action_messages::{TcActionMessage, TcActionMessageAttribute};
@@ -56,7 +57,12 @@ pub(crate) fn actions_of(message: &[u8]) -> Vec<Action> {
         TcActionMessageAttribute::Actions(actions) => Some(actions),
         _ => None,
     });
-    actions.flatten().filter_map(|parts| Some(Action { kind: kind_of_action(&parts).to_string(), index: standing_index(&parts)?, parts })).collect()
+    actions
+        .flatten()
+        .filter_map(|parts| {
+            Some(Action { kind: kind_of_action(&parts).to_string(), index: standing_index(&parts)?, parts })
+        })
+        .collect()
 }
 
 /// An action that stands by itself.
@@ -75,7 +81,11 @@ impl Action {
 
     /// The request that deletes it.
     pub(crate) fn deletion(self) -> Vec<u8> {
-        action_request(RTM_NEWACTION + 1, NLM_F_ACK, vec![TcActionAttribute::Kind(self.kind), TcActionAttribute::Index(self.index)])
+        action_request(
+            RTM_NEWACTION + 1,
+            NLM_F_ACK,
+            vec![TcActionAttribute::Kind(self.kind), TcActionAttribute::Index(self.index)],
+        )
     }
 }
 
@@ -145,7 +155,10 @@ mod tests {
     fn deletes_a_filter_by_the_handle_that_the_kernel_gave() {
         let [deletion] = &deletions_of(&filter(0x800), Some(&filter(0x8010_0800)))[..] else { panic!("one request") };
         assert_eq!((type_of(deletion), header_of(deletion).map(|header| header.flags)), (45, Some(5)));
-        assert_eq!(tcmsg_of(deletion), Some(Tcmsg { index: 7, handle: 0x8010_0800, parent: 0xFFFF_FFF2, info: 0x0001_0008 }));
+        assert_eq!(
+            tcmsg_of(deletion),
+            Some(Tcmsg { index: 7, handle: 0x8010_0800, parent: 0xFFFF_FFF2, info: 0x0001_0008 })
+        );
         assert_eq!((tca(deletion, TCA_KIND), tca(deletion, TCA_CHAIN)), (Some(&b"u32\0"[..]), Some(&[7, 0, 0, 0][..])));
         assert_eq!(tca(deletion, 2), None);
         assert_eq!(tcmsg_of(&deletions_of(&filter(0x800), None)[0]).map(|header| header.handle), Some(0x800));
@@ -153,9 +166,13 @@ mod tests {
 
     #[test]
     fn deletes_actions_by_kind_and_index() {
-        let made = Action { kind: "gact".to_string(), index: 77, parts: TcAction { tab: 9, attributes: Vec::new() } }.deletion();
+        let made = Action { kind: "gact".to_string(), index: 77, parts: TcAction { tab: 9, attributes: Vec::new() } }
+            .deletion();
         // struct tcamsg, and TCA_ACT_TAB with one action of TCA_ACT_KIND and TCA_ACT_INDEX.
-        let wanted = [0, 0, 0, 0, 28, 0, 1, 0, 24, 0, 1, 0, 9, 0, 1, 0, b'g', b'a', b'c', b't', 0, 0, 0, 0, 8, 0, 3, 0, 77, 0, 0, 0];
+        let wanted = [
+            0, 0, 0, 0, 28, 0, 1, 0, 24, 0, 1, 0, 9, 0, 1, 0, b'g', b'a', b'c', b't', 0, 0, 0, 0, 8, 0, 3, 0, 77, 0, 0,
+            0,
+        ];
         assert_eq!((type_of(&made), payload_of(&made)), (49, &wanted[..]));
     }
 }

@@ -9,8 +9,8 @@ mod plan;
 mod prepare;
 mod sending;
 mod state;
-mod staying;
 mod status;
+mod staying;
 mod targets;
 #[cfg(test)]
 mod tests;
@@ -55,7 +55,12 @@ fn obey(arguments: &Arguments) -> Status {
     let mut said = Vec::new();
     let status = match open(arguments) {
         Ok((file, kernel, listeners, caught)) => {
-            let signal = || SIGNALS.iter().find(|(number, _)| *number as usize == caught.load(Ordering::Relaxed)).map(|(_, name)| *name);
+            let signal = || {
+                SIGNALS
+                    .iter()
+                    .find(|(number, _)| *number as usize == caught.load(Ordering::Relaxed))
+                    .map(|(_, name)| *name)
+            };
             let [dumps, watch] = listeners;
             restore(arguments, &file, &mut World::new(kernel, dumps, watch, &signal), &mut said)
         }
@@ -79,7 +84,8 @@ fn open(arguments: &Arguments) -> Result<Opened, String> {
     let listeners = [Listener::open().map_err(said)?, Listener::open().map_err(said)?];
     let caught = Arc::new(AtomicUsize::new(0));
     for (number, name) in SIGNALS {
-        signal_hook::flag::register_usize(number, Arc::clone(&caught), number as usize).map_err(|error| format!("{name}: {error}"))?;
+        signal_hook::flag::register_usize(number, Arc::clone(&caught), number as usize)
+            .map_err(|error| format!("{name}: {error}"))?;
     }
     Ok((file, kernel, listeners, caught))
 }
@@ -96,7 +102,12 @@ fn read(arguments: &Arguments) -> io::Result<Vec<u8>> {
 }
 
 /// Restores a save. What is to be said is added to `said`.
-fn restore<T: Transport, L: Transport>(arguments: &Arguments, file: &[u8], world: &mut World<'_, T, L>, said: &mut Vec<String>) -> Status {
+fn restore<T: Transport, L: Transport>(
+    arguments: &Arguments,
+    file: &[u8],
+    world: &mut World<'_, T, L>,
+    said: &mut Vec<String>,
+) -> Status {
     let prepared = match prepare(arguments, file, world, said) {
         Ok(prepared) => prepared,
         Err(ended) => {
@@ -105,7 +116,10 @@ fn restore<T: Transport, L: Transport>(arguments: &Arguments, file: &[u8], world
             return ended.status;
         }
     };
-    let looked = world.check_signal().and_then(|()| world.check_devices(&prepared.place)).and_then(|()| world.look(&prepared.place, None));
+    let looked = world
+        .check_signal()
+        .and_then(|()| world.check_devices(&prepared.place))
+        .and_then(|()| world.look(&prepared.place, None));
     if let Err(stop) = looked {
         said.push(format!("{stop}; nothing is sent"));
         return Status::NothingSent;

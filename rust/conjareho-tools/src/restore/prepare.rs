@@ -7,8 +7,8 @@ use super::messages::{blocks_of, type_of};
 use super::plan::{Plan, Wanted, requests};
 use super::sending::{PATIENCE, PAUSE};
 use super::state;
-use super::staying::staying;
 use super::status::Status;
+use super::staying::staying;
 use super::targets::{Targets, targets_of};
 use super::world::{Place, World, text_of};
 use crate::netlink::message::{MAGIC_BLOCK, RTM_NEWQDISC, tcmsg_of};
@@ -33,7 +33,9 @@ impl Ended {
 impl From<Fault> for Ended {
     fn from(fault: Fault) -> Ended {
         let status = match fault {
-            Fault::Refused(_) | Fault::Cut(_) | Fault::Interrupted | Fault::Changing(_) | Fault::NoInterface(_) => Status::NothingSent,
+            Fault::Refused(_) | Fault::Cut(_) | Fault::Interrupted | Fault::Changing(_) | Fault::NoInterface(_) => {
+                Status::NothingSent
+            }
             Fault::Socket(..) | Fault::Silent | Fault::Broken(_) | Fault::Lost => Status::Failed,
         };
         Ended::because(status, vec![fault.to_string()])
@@ -69,7 +71,8 @@ pub(crate) fn prepare<T: Transport, L: Transport>(
 ) -> Result<Prepared, Ended> {
     let save = save_in(arguments, file)?;
     let devices = Devices::of(&mut world.kernel)?;
-    let targets = targets_of(&save, arguments, &devices).map_err(|faults| Ended::because(Status::NothingSent, faults))?;
+    let targets =
+        targets_of(&save, arguments, &devices).map_err(|faults| Ended::because(Status::NothingSent, faults))?;
     said.extend(targets.warnings.iter().cloned());
     let names = names_of(&save, &targets);
     let others = blocks_of_others(world, &targets)?;
@@ -84,8 +87,12 @@ pub(crate) fn prepare<T: Transport, L: Transport>(
     let before = requests(&of_now(&now, None));
     let back = if arguments.clear { requests(&of_now(&now, Some(&stays))) } else { Plan::default() };
     check_back(arguments, &back)?;
-    let kept = state::keep(&arguments.state, &targets.names(), &now)
-        .map_err(|error| Ended::because(Status::Failed, vec![format!("what is there now can't be kept in {}: {error}", arguments.state.display())]))?;
+    let kept = state::keep(&arguments.state, &targets.names(), &now).map_err(|error| {
+        Ended::because(
+            Status::Failed,
+            vec![format!("what is there now can't be kept in {}: {error}", arguments.state.display())],
+        )
+    })?;
     Ok(Prepared {
         place: Place { devices: targets.devices, blocks },
         requests: plan.requests.into_iter().filter(is_own).collect(),
@@ -175,13 +182,17 @@ fn check_back(arguments: &Arguments, back: &Plan) -> Result<(), Ended> {
     if !arguments.clear || arguments.no_rollback || back.complaints.is_empty() && !back.is_void {
         return Ok(());
     }
-    let mut said: Vec<String> = back.complaints.iter().map(|complaint| format!("what is there now: {complaint}")).collect();
+    let mut said: Vec<String> =
+        back.complaints.iter().map(|complaint| format!("what is there now: {complaint}")).collect();
     said.push("what is there now can't be made again, so that it isn't deleted without --no-rollback".to_string());
     Err(Ended::because(Status::NothingSent, said))
 }
 
 // The blocks that interfaces hold which aren't restored, each with one of these.
-fn blocks_of_others<T: Transport, L: Transport>(world: &mut World<'_, T, L>, targets: &Targets) -> Result<BTreeMap<u32, u32>, Ended> {
+fn blocks_of_others<T: Transport, L: Transport>(
+    world: &mut World<'_, T, L>,
+    targets: &Targets,
+) -> Result<BTreeMap<u32, u32>, Ended> {
     let own = targets.own();
     let mut others = BTreeMap::new();
     for qdisc in world.qdiscs()? {
@@ -199,8 +210,16 @@ fn is_in_block(request: &[u8], blocks: &BTreeMap<u32, u32>) -> bool {
 }
 
 // What is in a block of others has to be there as it is wanted.
-fn check_blocks<T: Transport, L: Transport>(world: &mut World<'_, T, L>, others: &BTreeMap<u32, u32>, wanted: &[Vec<u8>]) -> Result<(), Ended> {
-    let used: BTreeMap<u32, u32> = others.iter().filter(|(block, _)| wanted.iter().any(|it| blocks_of(it).contains(block))).map(|(b, i)| (*b, *i)).collect();
+fn check_blocks<T: Transport, L: Transport>(
+    world: &mut World<'_, T, L>,
+    others: &BTreeMap<u32, u32>,
+    wanted: &[Vec<u8>],
+) -> Result<(), Ended> {
+    let used: BTreeMap<u32, u32> = others
+        .iter()
+        .filter(|(block, _)| wanted.iter().any(|it| blocks_of(it).contains(block)))
+        .map(|(b, i)| (*b, *i))
+        .collect();
     if used.is_empty() {
         return Ok(());
     }
@@ -208,7 +227,8 @@ fn check_blocks<T: Transport, L: Transport>(world: &mut World<'_, T, L>, others:
     holders.sort_unstable();
     holders.dedup();
     let theirs = requests(&Wanted { text: &world.lines(&holders)?, ..Wanted::default() }).requests;
-    let in_blocks = |all: &[Vec<u8>]| objects_of(&all.iter().filter(|it| is_in_block(it, &used)).cloned().collect::<Vec<_>>());
+    let in_blocks =
+        |all: &[Vec<u8>]| objects_of(&all.iter().filter(|it| is_in_block(it, &used)).cloned().collect::<Vec<_>>());
     let found = differences(&in_blocks(wanted), &in_blocks(&theirs), |_, _| false);
     if found.is_empty() {
         return Ok(());

@@ -41,7 +41,8 @@ impl<'w, 's, T: Transport, L: Transport> Sending<'w, 's, T, L> {
         self.has_cleared = true;
         for device in &self.place.devices {
             self.look(None)?;
-            clear(&mut self.world.kernel, device.index).map_err(|fault| refused(&format!("the qdiscs of {}", device.name), fault))?;
+            clear(&mut self.world.kernel, device.index)
+                .map_err(|fault| refused(&format!("the qdiscs of {}", device.name), fault))?;
         }
         self.look(None)?;
         self.world.check_devices(self.place)
@@ -87,7 +88,9 @@ impl<'w, 's, T: Transport, L: Transport> Sending<'w, 's, T, L> {
 
     fn undo(&mut self, made: &Made, before: &[Vec<u8>]) -> Result<(), Stop> {
         if !replaces(&made.request) {
-            return deletions_of(&made.request, made.told.as_deref()).iter().try_for_each(|deletion| self.delete(deletion));
+            return deletions_of(&made.request, made.told.as_deref())
+                .iter()
+                .try_for_each(|deletion| self.delete(deletion));
         }
         for action in actions_of(&made.request) {
             if let Some(old) = same_in(before, &action) {
@@ -163,6 +166,7 @@ fn is_gone(refusal: &Refusal) -> bool {
 
 // The same action among those of these requests.
 fn same_in(requests: &[Vec<u8>], wanted: &Action) -> Option<Action> {
-    let actions = requests.iter().filter(|request| type_of(request) == RTM_NEWACTION).flat_map(|request| actions_of(request));
+    let actions =
+        requests.iter().filter(|request| type_of(request) == RTM_NEWACTION).flat_map(|request| actions_of(request));
     actions.into_iter().find(|action| action.kind == wanted.kind && action.index == wanted.index)
 }

@@ -53,7 +53,10 @@ mod tests {
         let _ = fs::remove_dir_all(&folder);
         let paths: Vec<PathBuf> = (0..12).map(|n| keep(&folder, &["wan"], &n.to_string()).expect("written")).collect();
         fs::write(folder.join("other"), "").expect("written");
-        assert_eq!(paths.iter().map(|path| path.exists()).collect::<Vec<_>>(), [vec![false; 2], vec![true; 10]].concat());
+        assert_eq!(
+            paths.iter().map(|path| path.exists()).collect::<Vec<_>>(),
+            [vec![false; 2], vec![true; 10]].concat()
+        );
         assert_eq!(fs::read_to_string(&paths[11]).expect("read"), "11");
         assert_eq!(fs::metadata(&paths[11]).expect("there").permissions().mode() & 0o777, 0o600);
         fs::remove_dir_all(&folder).expect("removed");

@@ -58,7 +58,9 @@ fn by_name(head: &Head, arguments: &Arguments, devices: &Devices) -> Result<Targ
             },
             None => match named_so(devices, name) {
                 Some(device) => drop(targets.indices.insert(*index, device.index)),
-                None => faults.push(format!("there is no interface {name}, which the save names (--map {name}=NAME says otherwise)")),
+                None => faults.push(format!(
+                    "there is no interface {name}, which the save names (--map {name}=NAME says otherwise)"
+                )),
             },
         }
     }
@@ -89,7 +91,8 @@ fn twice(devices: &[Device]) -> Option<String> {
 fn changes(saved: &file::Device, device: &Device) -> Vec<String> {
     let mut said = Vec::new();
     let mut compare = |what: &str, old: Option<String>, new: String| match old {
-        Some(old) if old != new => said.push(format!("{} has another {what} than {} when it was saved: {new} for {old}", device.name, saved.name)),
+        Some(old) if old != new => said
+            .push(format!("{} has another {what} than {} when it was saved: {new} for {old}", device.name, saved.name)),
         _ => {}
     };
     compare("MAC", saved.mac.clone(), device.mac_text());
@@ -125,7 +128,9 @@ fn by_index(save: &Save, arguments: &Arguments, devices: &Devices) -> Result<Tar
             }
         }
     }
-    targets.warnings.push(format!("the save has no head with names; interfaces are taken by index: {}", listed(&targets.devices)));
+    targets
+        .warnings
+        .push(format!("the save has no head with names; interfaces are taken by index: {}", listed(&targets.devices)));
     if faults.is_empty() { Ok(targets) } else { Err(faults) }
 }
 

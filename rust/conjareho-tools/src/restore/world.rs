@@ -40,7 +40,9 @@ impl fmt::Display for Stop {
             Stop::Refused { what, refusal } => write!(f, "{what}: {refusal}"),
             Stop::Fault(fault) => fault.fmt(f),
             Stop::Signal(name) => write!(f, "{name} came"),
-            Stop::Other { port, what } => write!(f, "another program (netlink port {port}) changed it meanwhile: {what}"),
+            Stop::Other { port, what } => {
+                write!(f, "another program (netlink port {port}) changed it meanwhile: {what}")
+            }
             Stop::Moved(how) => f.write_str(how),
             Stop::Differs(how) => write!(f, "what is there isn't what was wanted: {}", how.join("; ")),
         }
@@ -128,7 +130,9 @@ impl<'s, T: Transport, L: Transport> World<'s, T, L> {
             return Err(Stop::Fault(Fault::Lost));
         }
         let ours = self.kernel.port();
-        let is_other = |notice: &&Notice| notice.port != 0 && notice.port != ours && notice.concerns(&place.indices(), &place.blocks);
+        let is_other = |notice: &&Notice| {
+            notice.port != 0 && notice.port != ours && notice.concerns(&place.indices(), &place.blocks)
+        };
         if let Some(notice) = heard.notices.iter().find(is_other) {
             return Err(Stop::Other { port: notice.port, what: what_of(&notice.message) });
         }
@@ -142,12 +146,18 @@ impl<'s, T: Transport, L: Transport> World<'s, T, L> {
         let devices = Devices::of(&mut self.kernel)?;
         for device in &place.devices {
             let (name, index) = (&device.name, device.index);
-            let today = devices.at(index).ok_or_else(|| Stop::Moved(format!("there is no interface {name} ({index}) any more")))?;
+            let today = devices
+                .at(index)
+                .ok_or_else(|| Stop::Moved(format!("there is no interface {name} ({index}) any more")))?;
             if today.name != *name {
                 return Err(Stop::Moved(format!("interface {index} was {name}, and is {} now", today.name)));
             }
             if today.mac != device.mac {
-                return Err(Stop::Moved(format!("{name} has another MAC: {} for {}", today.mac_text(), device.mac_text())));
+                return Err(Stop::Moved(format!(
+                    "{name} has another MAC: {} for {}",
+                    today.mac_text(),
+                    device.mac_text()
+                )));
             }
         }
         Ok(())

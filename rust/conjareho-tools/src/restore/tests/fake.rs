@@ -71,7 +71,10 @@ pub(super) fn object(kind: u16, header: Tcmsg, name: &str, options: &[(u16, u32)
 
 impl Fake {
     pub(super) fn new(hook: Hook) -> Fake {
-        let state = State { devices: vec![(7, "wan".to_string(), [2, 0, 0, 0, 0, 7]), (8, "ids".to_string(), [2, 0, 0, 0, 0, 8])], ..State::default() };
+        let state = State {
+            devices: vec![(7, "wan".to_string(), [2, 0, 0, 0, 0, 7]), (8, "ids".to_string(), [2, 0, 0, 0, 0, 8])],
+            ..State::default()
+        };
         Fake { state: Rc::new(RefCell::new(state)), hook: Rc::new(RefCell::new(hook)) }
     }
 
@@ -87,7 +90,9 @@ impl Fake {
         let Some(header) = header_of(message) else { panic!("a request without a header") };
         match header.kind {
             RTM_GETLINK => self.answer_links(header),
-            kind if header.flags & NLM_F_DUMP == NLM_F_DUMP && kind % 4 == 2 => self.state.borrow_mut().answer_dump(header, message),
+            kind if header.flags & NLM_F_DUMP == NLM_F_DUMP && kind % 4 == 2 => {
+                self.state.borrow_mut().answer_dump(header, message)
+            }
             _ => self.answer_change(header, message),
         }
     }
@@ -186,7 +191,9 @@ fn is_below(header: Tcmsg, is_root: bool) -> bool {
 fn is_same(message: &[u8], kind: u16, wanted: Tcmsg) -> bool {
     let own = header_of(message).map_or(0, |header| header.kind);
     let found = tcmsg_of(message).unwrap_or_default();
-    own == kind && (found.index, found.handle, found.parent) == (wanted.index, wanted.handle, wanted.parent) && (own != RTM_NEWTFILTER || found.info == wanted.info)
+    own == kind
+        && (found.index, found.handle, found.parent) == (wanted.index, wanted.handle, wanted.parent)
+        && (own != RTM_NEWTFILTER || found.info == wanted.info)
 }
 
 fn answered(header: Header, kind: u16, body: &[u8]) -> Vec<u8> {

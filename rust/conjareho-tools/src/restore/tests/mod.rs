@@ -19,7 +19,12 @@ use std::sync::atomic::{AtomicUsize, Ordering};
 const WAN: i32 = 7;
 
 fn of(kind: u16, handle: u32, parent: u32, name: &str, options: &[(u16, u32)]) -> Vec<u8> {
-    object(kind, Tcmsg { index: WAN, handle, parent, info: if kind == RTM_NEWTFILTER { 0x0003_0008 } else { 0 } }, name, options)
+    object(
+        kind,
+        Tcmsg { index: WAN, handle, parent, info: if kind == RTM_NEWTFILTER { 0x0003_0008 } else { 0 } },
+        name,
+        options,
+    )
 }
 
 // drr with two classes and a filter, and clsact with one.
@@ -50,7 +55,11 @@ fn arguments(words: &[&str]) -> Arguments {
     static COUNT: AtomicUsize = AtomicUsize::new(0);
     let number = COUNT.fetch_add(1, Ordering::Relaxed);
     let folder = std::env::temp_dir().join(format!("conjareho-restore-{}-{number}", std::process::id()));
-    let words = ["tcrestore", "--state", &folder.display().to_string(), "-"].iter().chain(words).map(OsString::from).collect::<Vec<_>>();
+    let words = ["tcrestore", "--state", &folder.display().to_string(), "-"]
+        .iter()
+        .chain(words)
+        .map(OsString::from)
+        .collect::<Vec<_>>();
     arguments_of(words).expect("arguments")
 }
 
@@ -128,7 +137,9 @@ fn a_refusal_brings_back_what_was_there() {
 
 #[test]
 fn without_clear_only_what_was_made_is_deleted() {
-    let (root, clsact): (Vec<_>, Vec<_>) = tree(1000).into_iter().partition(|it| tcmsg_of(it).is_some_and(|it| it.handle >> 16 == 1 || it.parent >> 16 == 1));
+    let (root, clsact): (Vec<_>, Vec<_>) = tree(1000)
+        .into_iter()
+        .partition(|it| tcmsg_of(it).is_some_and(|it| it.handle >> 16 == 1 || it.parent >> 16 == 1));
     for at in 1..=4 {
         let refusing: Hook = Box::new(move |_, number, _| (number == at).then_some(EEXIST));
         let ran = run(&[], &saved(root.clone()), clsact.clone(), &Fake::new(refusing));
@@ -331,7 +342,12 @@ fn made_by_tcmake(file: &str) -> Vec<u8> {
     let Some(program) = std::env::var_os("TCMAKE") else {
         return requests(&Wanted { text: file, ..Wanted::default() }).requests.concat();
     };
-    let mut child = Command::new(program).args(["--request", "--stream"]).stdin(Stdio::piped()).stdout(Stdio::piped()).spawn().expect("tcmake");
+    let mut child = Command::new(program)
+        .args(["--request", "--stream"])
+        .stdin(Stdio::piped())
+        .stdout(Stdio::piped())
+        .spawn()
+        .expect("tcmake");
     child.stdin.take().expect("a pipe").write_all(file.as_bytes()).expect("written");
     child.wait_with_output().expect("its output").stdout
 }
