@@ -10,7 +10,7 @@ ghost use Rattle.tc_meaning.specs.Content.{pair_codec, flags_pair};
 ghost use Rattle.tc_action_messages.specs.Flags.{flags_words, flags_codec};
 
 use bitflags::Flags;
-use nla_frames::laws::in_hand::u32_in_hand;
+use nla_frames::laws::in_range::u32_is_in_range;
 use nla_frames::{
     DecodeError, FrameMeaning, Nla, NlaBuffer, Parseable, Res, Settle, put_bytes, u32_bytes,
 };
@@ -81,8 +81,8 @@ impl TcActionMessageFlagsWithSelector {
     fn in_hand(&self)
         ensures { pair_codec.Typed (flags_words self.now) }
     {
-        u32_in_hand(self.flags.bits());
-        u32_in_hand(self.selector.bits());
+        u32_is_in_range(self.flags.bits());
+        u32_is_in_range(self.selector.bits());
     }
 }
 

@@ -4,7 +4,7 @@ ghost use Rattle.std.specs.Prelude.{◌≡◌, ◌↔◌, fold, Some, IsTrue, []
 ghost use Rattle.std.specs.Ordering.{is_eq};
 ghost use Rattle.tc_meaning.specs.Tree.{plain};
 ghost use Rattle.tc_meaning.specs.Whole.{OneOutcome, action_words, act_bytes, FitsAct, SettledAct};
-ghost use Rattle.tc_meaning.specs.Equal.{TellsSeen};
+ghost use Rattle.tc_meaning.specs.Equal.{IsEqualityOf};
 ghost use Rattle.tc_values.specs.Forgets.{ForgetsNothing};
 ghost use Rattle.tc_records.specs.Defaults.{DefaultsTo};
 ghost use Rattle.tc_action_messages.specs.Flags.{flags_words, flags_cmp, flags_fed};
@@ -61,10 +61,10 @@ pub fn one_outcome(bytes: &[u8])
 
 /// `==` holds exactly where contracts see two action messages, or two parts of them, as equal.
 pub fn equal<A: Allocator>()
-    ensures flags { TellsSeen ⟦<TcActionMessageFlagsWithSelector as PartialEq>⟧.eq flags_words }
-    ensures attribute { TellsSeen ⟦<TcActionMessageAttribute<A> as PartialEq>⟧.eq
+    ensures flags { IsEqualityOf ⟦<TcActionMessageFlagsWithSelector as PartialEq>⟧.eq flags_words }
+    ensures attribute { IsEqualityOf ⟦<TcActionMessageAttribute<A> as PartialEq>⟧.eq
         action_message_attribute }
-    ensures message { TellsSeen ⟦<TcActionMessage<A> as PartialEq>⟧.eq action_message }
+    ensures message { IsEqualityOf ⟦<TcActionMessage<A> as PartialEq>⟧.eq action_message }
 {}
 
 /// What contracts see of an attribute forgets nothing that it holds.

@@ -2,7 +2,7 @@
 
 ghost use Rattle.std.specs.Prelude.{◌<◌, ◌^◌, ◌≡◌, ◌≤◌, ◌↔◌, [], length, drop, false, IfOk, IsTrue};
 ghost use Rattle.std.specs.Ordering.{on};
-ghost use Rattle.nla_frames.specs.Fault.{Gives, IfRefused, UnlessMemory, seen};
+ghost use Rattle.nla_frames.specs.Fault.{Returns, IfRefused, UnlessMemory, seen};
 ghost use Rattle.nla_frames.specs.Reading.{keep};
 ghost use Rattle.nla_frames.specs.Emission.{HasRoom, Writes};
 ghost use Rattle.nla_frames.specs.declared.family.AddressFamily.TheVariants.{Unspec};
@@ -24,7 +24,7 @@ use nla_frames::{
 use std::alloc::{Allocator, Global};
 use tc_laws::{places, rewriting};
 use tc_meaning::laws;
-use tc_records::laws::in_hand::action_message_header_in_hand;
+use tc_records::laws::in_range::action_message_header_in_hand;
 use tc_records::{TCA_HEADER_LEN, TcActionMessageHeader};
 
 /// A message about actions: a header and attributes.
@@ -66,7 +66,7 @@ impl<A: Allocator + Copy> ParseableBytes<A> for TcActionMessage<A> {
         // What is refused has this fault, and it is the first.
         ensures refused { IfRefused result (FaultAct bytes.now) }
         // The function that computes both gives what is returned, unless memory ran out.
-        ensures exact { Gives (seen action_message result) (read_act bytes.now) }
+        ensures exact { Returns (seen action_message result) (read_act bytes.now) }
         // What fits is written as the same bytes if and only if these are canonical.
         ensures same { IfOk result (λ m.
             FitsAct (action_message m)
@@ -91,7 +91,7 @@ impl<A: Allocator + Copy> ParseableBytes<A> for TcActionMessage<A> {
 
 #[tactic(auto, unfolding(tc_meaning::specs::Message::read_with))]
 fn read<A: Allocator + Copy>(alloc: A, bytes: &[u8]) -> Res<TcActionMessage<A>>
-    ensures { Gives (seen action_message result) (read_act bytes.now) }
+    ensures { Returns (seen action_message result) (read_act bytes.now) }
 {
     let header = TcActionMessageHeader::parse(bytes)?;
     let attributes = parse_list(alloc, after_header(bytes))?;

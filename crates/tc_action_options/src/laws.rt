@@ -1,6 +1,6 @@
 //! What contracts see of a type is all that it holds, and what `==` compares.
 
-ghost use Rattle.tc_meaning.specs.Equal.{TellsSeen};
+ghost use Rattle.tc_meaning.specs.Equal.{IsEqualityOf};
 ghost use Rattle.tc_values.specs.Forgets.{ForgetsNothing};
 ghost use Rattle.tc_action_options.specs.Mirror.{mirror_option, SameMirror};
 ghost use Rattle.tc_action_options.specs.Nat.{nat_option, SameNat};
@@ -12,11 +12,11 @@ use std::alloc::Allocator;
 
 /// `==` of options is true if and only if contracts see both alike.
 pub fn equal<A: Allocator>()
-    ensures mirror { TellsSeen ⟦<TcActionMirrorOption<A> as PartialEq>⟧.eq mirror_option }
-    ensures nat { TellsSeen ⟦<TcActionNatOption<A> as PartialEq>⟧.eq nat_option }
-    ensures tunnel_key { TellsSeen ⟦<TcActionTunnelKeyOption<A> as PartialEq>⟧.eq
+    ensures mirror { IsEqualityOf ⟦<TcActionMirrorOption<A> as PartialEq>⟧.eq mirror_option }
+    ensures nat { IsEqualityOf ⟦<TcActionNatOption<A> as PartialEq>⟧.eq nat_option }
+    ensures tunnel_key { IsEqualityOf ⟦<TcActionTunnelKeyOption<A> as PartialEq>⟧.eq
         tunnel_key_option }
-    ensures option { TellsSeen ⟦<TcActionOption<A> as PartialEq>⟧.eq action_option }
+    ensures option { IsEqualityOf ⟦<TcActionOption<A> as PartialEq>⟧.eq action_option }
 {}
 
 /// What contracts see of options forgets nothing that they hold.

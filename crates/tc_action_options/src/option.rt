@@ -1,7 +1,7 @@
 //! An action's options, by its kind.
 
 ghost use Rattle.std.specs.Prelude.{◌≡◌, map};
-ghost use Rattle.nla_frames.specs.Fault.{Gives, seen};
+ghost use Rattle.nla_frames.specs.Fault.{Returns, seen};
 ghost use Rattle.nla_frames.specs.Reading.{read_list, keep};
 ghost use Rattle.tc_canon.specs.Descriptor.{by_kind, is_known};
 ghost use Rattle.tc_canon.specs.Tables.Actions.{action_option_kinds};
@@ -63,7 +63,7 @@ pub fn read_options<A: Allocator + Copy>(
     bytes: &[u8],
     kind: &str,
 ) -> Res<Vec<TcActionOption<A>, A>>
-    ensures { Gives (seen (λ v. map action_option v.items) result)
+    ensures { Returns (seen (λ v. map action_option v.items) result)
         (read_list (table_codec (by_kind action_option_kinds)).read keep kind.now bytes.now) }
 {
     if kind == TcActionMirror::KIND {

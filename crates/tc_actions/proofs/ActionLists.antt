@@ -2,11 +2,11 @@
 use Rattle.std.proofs.Common.{◌≡◌, ℕ, ◌≤◌, ◌<◌, ◌^◌, Option, ◌↔◌, List, [], Bool, IsTrue, Ok, refl, sym, subst, ◌∙◌, map}
 use Rattle.std.specs.List.{AllByRecursion}
 use Rattle.nla_frames.specs.declared.error.DecodeError.{DecodeError}
-use Rattle.nla_frames.specs.Fault.{Gives, refused}
+use Rattle.nla_frames.specs.Fault.{Returns, refused}
 use Rattle.nla_frames.specs.Frame.{Frame}
 use Rattle.nla_frames.specs.Emission.{list_bytes, ListFits, NestedFits, Measures}
 use Rattle.nla_frames.specs.OnlyKind.{SettledUnderOwn}
-use Rattle.nla_frames.proofs.Outcomes.{Gives-err}
+use Rattle.nla_frames.proofs.Outcomes.{Returns-err}
 use Rattle.nla_frames.proofs.OwnKinds.{kinds_set-map}
 use Rattle.tc_canon.specs.Descriptor.{table}
 use Rattle.tc_canon.specs.Tables.Actions.{action_attributes}
@@ -20,9 +20,9 @@ use Rattle.tc_actions.specs.Action.{an_action, KeepsOrder}
 use Rattle.tc_actions.specs.declared.actions.attribute.TcActionAttribute.{TcActionAttribute}
 
 -- the fault of the list is that of the action
-pub action_refused : (e : DecodeError) (f : Frame) → Gives (refused e) (read_own read_action_attribute f.value)
-    → Gives (refused e) ((table_codec an_action).read [] f)
-action_refused e f given = Gives-err e _ _ given (λ is. rw is refl)
+pub action_refused : (e : DecodeError) (f : Frame) → Returns (refused e) (read_own read_action_attribute f.value)
+    → Returns (refused e) ((table_codec an_action).read [] f)
+action_refused e f given = Returns-err e _ _ given (λ is. rw is refl)
 
 -- an action that is read keeps the order of its frames
 pub keeps_order : (f : Frame) (xs : List Attribute) → Exchanges (ReadsAction [] f.word) → read_own read_action_attribute f.value ≡ Ok xs → KeepsOrder f xs

@@ -2,7 +2,7 @@
 
 ghost use Rattle.tc_actions.specs.ActionAttribute.{action_attribute, SameActionAttribute};
 ghost use Rattle.tc_actions.specs.Action.{tc_action, SameAction};
-ghost use Rattle.tc_meaning.specs.Equal.{TellsSeen};
+ghost use Rattle.tc_meaning.specs.Equal.{IsEqualityOf};
 ghost use Rattle.tc_values.specs.Forgets.{ForgetsNothing};
 
 use crate::{TcAction, TcActionAttribute};
@@ -10,8 +10,8 @@ use std::alloc::Allocator;
 
 /// `==` of actions and of their attributes is true if and only if contracts see both alike.
 pub fn equal<A: Allocator>()
-    ensures attribute { TellsSeen ⟦<TcActionAttribute<A> as PartialEq>⟧.eq action_attribute }
-    ensures action { TellsSeen ⟦<TcAction<A> as PartialEq>⟧.eq tc_action }
+    ensures attribute { IsEqualityOf ⟦<TcActionAttribute<A> as PartialEq>⟧.eq action_attribute }
+    ensures action { IsEqualityOf ⟦<TcAction<A> as PartialEq>⟧.eq tc_action }
 {}
 
 /// What contracts see of actions and of their attributes forgets nothing that they hold.

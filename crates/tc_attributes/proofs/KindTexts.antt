@@ -3,11 +3,11 @@ use Rattle.std.proofs.Common.{◌≡◌, ℕ, List, [], Bool, true, false, Optio
 use Rattle.std.proofs.lemmas.Bool.Decides.{Decides-eqb}
 use Rattle.nla_frames.specs.declared.error.DecodeError.TheVariants.{NotUtf8}
 use Rattle.nla_frames.specs.declared.error.DecodeError.{DecodeError}
-use Rattle.nla_frames.specs.Fault.{Outcome, Gives, read_as, refused, seen}
+use Rattle.nla_frames.specs.Fault.{Outcome, Returns, read_as, refused, seen}
 use Rattle.nla_frames.specs.Place.{kind_then}
 use Rattle.nla_frames.specs.OnlyKind.{kind_after}
-use Rattle.nla_frames.proofs.Outcomes.{Gives-exact}
-use Rattle.tc_canon.specs.Kind.{tells_kind, kind_of_frame}
+use Rattle.nla_frames.proofs.Outcomes.{Returns-exact}
+use Rattle.tc_canon.specs.Kind.{is_kind_frame, kind_of_frame}
 use Rattle.tc_canon.specs.Descriptor.{table}
 use Rattle.tc_canon.specs.Tables.Messages.{attributes}
 use Rattle.tc_meaning.specs.Tree.{known, is_bytes}
@@ -39,13 +39,13 @@ text_read kind f o is = go (type_of f.word == 1) ((Decides-eqb (type_of f.word) 
 
 -- where its text is refused, so is the attribute
 pub not_read : (kind : List ℕ) (f : Frame) (e : DecodeError) → refused e ≡ first_look [] f
-    → Gives (refused e) ((table_codec (table attributes)).read kind f)
-not_read kind f e is = Gives-exact e _ (text_read kind f (Err e) (sym is))
+    → Returns (refused e) ((table_codec (table attributes)).read kind f)
+not_read kind f e is = Returns-exact e _ (text_read kind f (Err e) (sym is))
 
 -- the kind after it is the one that it sets
 pub kind_told_then : (kind : List ℕ) (f : Frame) (told : Option (List ℕ)) → read_as told ≡ first_look [] f
     → kind_after kind told ≡ kind_then kind_of_frame kind f
-kind_told_then kind f told is = go (tells_kind f) is
+kind_told_then kind f told is = go (is_kind_frame f) is
   where
     go : (b : Bool) → read_as told ≡ cond b (seen Some (text f.value)) (Ok None) → kind_after kind told ≡ kind_after kind (cond b (Some (strip f.value)) None)
     go true same = of_test (is_utf8 (strip f.value)) same

@@ -2,7 +2,7 @@
 
 ghost use Rattle.std.specs.Prelude.{◌≡◌, ◌↔◌, false, List, ℕ, [], map, IfOk, IsTrue};
 ghost use Rattle.std.specs.Ordering.{on};
-ghost use Rattle.nla_frames.specs.Fault.{Gives, IfRefused, seen, read_as};
+ghost use Rattle.nla_frames.specs.Fault.{Returns, IfRefused, seen, read_as};
 ghost use Rattle.nla_frames.specs.Frame.{type_of};
 ghost use Rattle.nla_frames.specs.Buffer.{frame_of};
 ghost use Rattle.nla_frames.specs.DefaultNla.{kept_frame};
@@ -26,7 +26,7 @@ use crate::types::{
     TCA_CHAIN, TCA_DUMP_INVISIBLE, TCA_FCNT, TCA_HW_OFFLOAD, TCA_KIND, TCA_OPTIONS, TCA_RATE,
     TCA_STAB, TCA_STATS, TCA_STATS2, TCA_XSTATS,
 };
-use nla_frames::laws::in_hand::{bytes_in_hand, text_in_hand, u8_in_hand, u32_in_hand};
+use nla_frames::laws::in_range::{bytes_are_in_range, text_is_utf8, u8_is_in_range, u32_is_in_range};
 use nla_frames::laws::list_grammar;
 use nla_frames::{
     BytesMeaning, DefaultNla, FrameMeaning, NLA_TYPE_MASK, Nla, NlaBuffer, NlasIterator, Parseable,
@@ -119,7 +119,7 @@ impl<A: Allocator + Copy> TcAttribute<A> {
     #[inline(always)]
     fn read_options(alloc: A, buf: &NlaBuffer<'_>, kind: &str) -> Res<TcAttribute<A>>
         requires { type_of (frame_of buf.now).word ≡ 2 }
-        ensures { Gives (seen tc_attribute result)
+        ensures { Returns (seen tc_attribute result)
             (attribute_codec.read kind.now (frame_of buf.now)) }
     {
         if is_known_kind(kind) {
@@ -133,7 +133,7 @@ impl<A: Allocator + Copy> TcAttribute<A> {
     // An attribute that is kept raw.
     #[inline(always)]
     fn read_other(alloc: A, buf: &NlaBuffer<'_>) -> Res<TcAttribute<A>>
-        ensures { Gives (seen tc_attribute result)
+        ensures { Returns (seen tc_attribute result)
             (read_as (other (frame_of buf.now).word (frame_of buf.now).value)) }
     {
         Ok(TcAttribute::Other(DefaultNla::parse(alloc, buf)?))
@@ -233,7 +233,7 @@ impl<A: Allocator> Settle for TcAttribute<A> {
         // 256, a text is UTF-8.
         match self {
             TcAttribute::Kind(text) => {
-                text_in_hand(text.as_str());
+                text_is_utf8(text.as_str());
                 true
             }
             TcAttribute::Options(options) => {
@@ -244,16 +244,16 @@ impl<A: Allocator> Settle for TcAttribute<A> {
             TcAttribute::Xstats(xstats) => xstats.is_settled_under(kind),
             TcAttribute::Stats2(stats) => list_settled_under(stats, kind),
             TcAttribute::Rate(bytes) | TcAttribute::Fcnt(bytes) | TcAttribute::Stab(bytes) => {
-                bytes_in_hand(bytes);
+                bytes_are_in_range(bytes);
                 true
             }
             TcAttribute::DumpInvisible(is_set) => *is_set,
             TcAttribute::Chain(chain) => {
-                u32_in_hand(*chain);
+                u32_is_in_range(*chain);
                 true
             }
             TcAttribute::HwOffload(offload) => {
-                u8_in_hand(*offload);
+                u8_is_in_range(*offload);
                 true
             }
             TcAttribute::Other(nla) => nla.is_settled_under(kind) && !is_read(nla.kind()),
@@ -292,7 +292,7 @@ impl<A: Allocator + Copy> ParseableBytes<A> for VecTcAttribute<A> {
         // What is refused has this fault, and it is the first.
         ensures refused { IfRefused result (AttributesFault bytes.now) }
         // The function that computes both gives what is returned, unless memory ran out.
-        ensures exact { Gives (seen (λ list. map tc_attribute list.0.items) result)
+        ensures exact { Returns (seen (λ list. map tc_attribute list.0.items) result)
             (read_list attribute_codec.read kind_of_frame [] bytes.now) }
     {
         // Does nothing at run time: its law, that `read_list` is what the grammar reads, gives the clauses `found` and
@@ -303,7 +303,7 @@ impl<A: Allocator + Copy> ParseableBytes<A> for VecTcAttribute<A> {
 }
 
 fn read_attributes<A: Allocator + Copy>(alloc: A, bytes: &[u8]) -> Res<VecTcAttribute<A>>
-    ensures { Gives (seen (λ list. map tc_attribute list.0.items) result)
+    ensures { Returns (seen (λ list. map tc_attribute list.0.items) result)
         (read_list attribute_codec.read kind_of_frame [] bytes.now) }
 {
     let mut list = Vec::with_capacity(alloc, first_capacity(bytes))?;
@@ -328,7 +328,7 @@ fn read_attribute<A: Allocator + Copy>(
     kind: &str,
 ) -> Res<TcAttribute<A>>
     requires { first_look [] (frame_of frame.now) ≡ read_as (text_set told) }
-    ensures { Gives (seen tc_attribute result)
+    ensures { Returns (seen tc_attribute result)
         (attribute_codec.read kind.now (frame_of frame.now)) }
 {
     match told {

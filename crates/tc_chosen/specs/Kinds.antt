@@ -3,7 +3,7 @@ use Rattle.std.specs.Prelude.{ℕ, ◌==◌, List, [], ◌∷◌, ◌++◌, drop
 use Rattle.nla_frames.specs.Frame.{Frame, type_of}
 use Rattle.nla_frames.specs.Cutting.{cut}
 use Rattle.nla_frames.specs.Place.{kind_then}
-use Rattle.tc_canon.specs.Kind.{kind_of_frame, kinds_told}
+use Rattle.tc_canon.specs.Kind.{kind_of_frame, kinds_of_frames}
 use Rattle.tc_capture.specs.declared.kind.Holds.{Holds}
 use Rattle.tc_capture.specs.declared.kind.Holds.TheVariants.{Tc, Action}
 
@@ -29,7 +29,7 @@ actions_type kind =
 
 -- the kinds of the actions of a list: each frame is an action, and TCA_ACT_KIND its kind
 abbrev pub action_kinds : List ℕ → List (List ℕ)
-action_kinds bytes = flat_map (λ action. kinds_told (frames_in action.value)) (frames_in bytes)
+action_kinds bytes = flat_map (λ action. kinds_of_frames (frames_in action.value)) (frames_in bytes)
 
 -- the kinds of the actions in the frames of one type
 abbrev pub kinds_under : Option ℕ → List Frame → List (List ℕ)
@@ -42,7 +42,7 @@ filter_kinds kind options = kinds_under (actions_type kind) (frames_in options)
 
 -- what an attribute of a message says, under the kind before it: TCA_KIND (1) a kind, TCA_OPTIONS (2) the kinds of a filter's actions
 abbrev pub kinds_at : List ℕ → Frame → List (List ℕ)
-kinds_at kind f = kinds_told (f ∷ []) ++ (if type_of f.word == 2 then filter_kinds kind f.value else [])
+kinds_at kind f = kinds_of_frames (f ∷ []) ++ (if type_of f.word == 2 then filter_kinds kind f.value else [])
 
 abbrev pub kinds_from : List ℕ → List Frame → List (List ℕ)
 kinds_from kind [] = []

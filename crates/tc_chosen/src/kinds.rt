@@ -4,7 +4,7 @@ ghost use Rattle.std.specs.Prelude.{◌≡◌, ◌||◌, drop, option_map, optio
 ghost use Rattle.std.specs.List.{list_any};
 ghost use Rattle.nla_frames.specs.Place.{kind_then};
 ghost use Rattle.nla_frames.specs.Buffer.{frame_of};
-ghost use Rattle.tc_canon.specs.Kind.{kind_of_frame, kinds_told};
+ghost use Rattle.tc_canon.specs.Kind.{kind_of_frame, kinds_of_frames};
 ghost use Rattle.tc_chosen.specs.Kinds.{frames_in, actions_type, action_kinds, kinds_under, filter_kinds, kinds_at, kinds_from, kinds_in};
 ghost use Rattle.tc_chosen.specs.Chosen.{is_kind};
 
@@ -152,7 +152,7 @@ fn in_actions(asked: &[&str], bytes: &[u8]) -> bool
 // True if an action is of one of these kinds.
 #[tactic(auto, using(crate::proofs::Frames::frames_of_cut, crate::proofs::Frames::any_more))]
 fn in_action(asked: &[&str], bytes: &[u8]) -> bool
-    ensures { result ≡ list_any (is_kind asked.now) (kinds_told (frames_in bytes.now)) }
+    ensures { result ≡ list_any (is_kind asked.now) (kinds_of_frames (frames_in bytes.now)) }
 {
     for frame in NlasIterator::new(bytes) {
         match frame {

@@ -1,7 +1,7 @@
 -- A list of actions as the value of an option.
 use Rattle.std.proofs.Common.{◌≡◌, ℕ, List, [], Ok, refl}
 use Rattle.nla_frames.specs.declared.error.DecodeError.{DecodeError}
-use Rattle.nla_frames.specs.Fault.{Gives, read_as, refused}
+use Rattle.nla_frames.specs.Fault.{Returns, read_as, refused}
 use Rattle.nla_frames.specs.Frame.{Frame, type_of}
 use Rattle.nla_frames.specs.Reading.{read_list, keep}
 use Rattle.tc_canon.specs.Descriptor.{Rows, table, list_of}
@@ -16,6 +16,6 @@ module _ (rows : Rows) (n : ℕ) (row : rows_codec rows n ≡ row_frames n n (cl
       → (table_codec (table rows)).read [] f ≡ read_as (known n (items (attributes_of xs)))
   actions_read = list_read rows n an_action [] f (rw (here, row) refl)
 
-  pub actions_refused : (e : DecodeError) → Gives (refused e) (read_list (table_codec an_action).read keep [] f.value)
-      → Gives (refused e) ((table_codec (table rows)).read [] f)
+  pub actions_refused : (e : DecodeError) → Returns (refused e) (read_list (table_codec an_action).read keep [] f.value)
+      → Returns (refused e) ((table_codec (table rows)).read [] f)
   actions_refused = list_refused rows n an_action [] f (rw (here, row) refl)

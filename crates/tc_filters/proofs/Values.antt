@@ -1,10 +1,10 @@
 -- The value of an option, as its row reads it.
 use Rattle.std.proofs.Common.{◌≡◌, ℕ, List, [], ap, refl, ◌∙◌}
 use Rattle.nla_frames.specs.declared.error.DecodeError.{DecodeError}
-use Rattle.nla_frames.specs.Fault.{Gives, seen, read_as, refused}
+use Rattle.nla_frames.specs.Fault.{Returns, seen, read_as, refused}
 use Rattle.nla_frames.specs.Frame.{Frame, type_of}
 use Rattle.nla_frames.specs.Codec.{Codec}
-use Rattle.nla_frames.proofs.Outcomes.{Gives-err}
+use Rattle.nla_frames.proofs.Outcomes.{Returns-err}
 use Rattle.tc_canon.specs.Descriptor.{Rows, table}
 use Rattle.tc_meaning.specs.Tree.{known}
 use Rattle.tc_meaning.specs.Content.{Shape, via}
@@ -19,5 +19,5 @@ module _ {X : Type 0} (rows : Rows) (n : ℕ) (shape : Shape X) (codec : Codec (
   pub value_read : (x : X) → codec.read [] f.value ≡ read_as x → (table_codec (table rows)).read [] f ≡ read_as (known n (shape.into x))
   value_read x is = by_row ∙ ap (λ o. seen (known n) (seen shape.into o)) is
 
-  pub value_refused : (e : DecodeError) → Gives (refused e) (codec.read [] f.value) → Gives (refused e) ((table_codec (table rows)).read [] f)
-  value_refused e given = Gives-err e _ _ given (λ is. by_row ∙ ap (λ o. seen (known n) (seen shape.into o)) is)
+  pub value_refused : (e : DecodeError) → Returns (refused e) (codec.read [] f.value) → Returns (refused e) ((table_codec (table rows)).read [] f)
+  value_refused e given = Returns-err e _ _ given (λ is. by_row ∙ ap (λ o. seen (known n) (seen shape.into o)) is)

@@ -3,7 +3,7 @@
 ghost use Rattle.tc_filters.specs.U32.{u32_option, SameU32};
 ghost use Rattle.tc_filters.specs.MatchAll.{matchall_option, SameMatchAll};
 ghost use Rattle.tc_filters.specs.Bpf.{bpf_option, SameBpf};
-ghost use Rattle.tc_meaning.specs.Equal.{TellsSeen};
+ghost use Rattle.tc_meaning.specs.Equal.{IsEqualityOf};
 ghost use Rattle.tc_values.specs.Forgets.{ForgetsNothing};
 
 use crate::filters::bpf::TcFilterBpfOption;
@@ -13,9 +13,9 @@ use std::alloc::Allocator;
 
 /// `==` of options is true if and only if contracts see both alike.
 pub fn equal<A: Allocator>()
-    ensures u32 { TellsSeen ⟦<TcFilterU32Option<A> as PartialEq>⟧.eq u32_option }
-    ensures matchall { TellsSeen ⟦<TcFilterMatchAllOption<A> as PartialEq>⟧.eq matchall_option }
-    ensures bpf { TellsSeen ⟦<TcFilterBpfOption<A> as PartialEq>⟧.eq bpf_option }
+    ensures u32 { IsEqualityOf ⟦<TcFilterU32Option<A> as PartialEq>⟧.eq u32_option }
+    ensures matchall { IsEqualityOf ⟦<TcFilterMatchAllOption<A> as PartialEq>⟧.eq matchall_option }
+    ensures bpf { IsEqualityOf ⟦<TcFilterBpfOption<A> as PartialEq>⟧.eq bpf_option }
 {}
 
 /// What contracts see of an option forgets nothing that it holds.

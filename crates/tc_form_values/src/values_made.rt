@@ -13,7 +13,7 @@ use crate::maker::{Maker, Stop};
 use crate::numbers::{make_named, make_number};
 use crate::places::names_at;
 use crate::tables::Tables;
-use nla_frames::laws::in_hand::bytes_in_hand;
+use nla_frames::laws::in_range::bytes_are_in_range;
 use serde_json::Value;
 use std::alloc::{AllocError, Global};
 use tc_texts::{handle_from_tc_text, read_hex, read_ipv4, read_ipv6, read_mac};
@@ -54,7 +54,7 @@ fn bytes_of_hex(alloc: Global, text: &str) -> Result<Option<Vec<u8>>, AllocError
 {
     match read_hex(alloc, text) {
         Ok(Some(bytes)) => {
-            bytes_in_hand(&bytes);
+            bytes_are_in_range(&bytes);
             Ok(Some(bytes))
         }
         Ok(None) => Ok(None),

@@ -2,7 +2,7 @@
 
 ghost use Rattle.std.specs.Prelude.{◌≡◌, ◌↔◌, IsTrue};
 ghost use Rattle.tc_meaning.specs.Whole.{OneOutcome, tc_words, tc_bytes, FitsTc, SettledTc};
-ghost use Rattle.tc_meaning.specs.Equal.{TellsSeen};
+ghost use Rattle.tc_meaning.specs.Equal.{IsEqualityOf};
 ghost use Rattle.tc_attributes.specs.Attribute.{tc_attribute};
 ghost use Rattle.tc_messages.specs.Message.{tc_message};
 
@@ -22,8 +22,8 @@ pub fn one_outcome(bytes: &[u8])
 
 /// `==` holds exactly where contracts see two messages, or two of their attributes, as equal.
 pub fn equal<A: Allocator>()
-    ensures attribute { TellsSeen ⟦<TcAttribute<A> as PartialEq>⟧.eq tc_attribute }
-    ensures message { TellsSeen ⟦<TcMessage<A> as PartialEq>⟧.eq tc_message }
+    ensures attribute { IsEqualityOf ⟦<TcAttribute<A> as PartialEq>⟧.eq tc_attribute }
+    ensures message { IsEqualityOf ⟦<TcMessage<A> as PartialEq>⟧.eq tc_message }
 {}
 
 /// Two settled messages that fit are `==` if and only if `emit` writes the same bytes for both.

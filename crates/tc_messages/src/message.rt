@@ -2,7 +2,7 @@
 
 ghost use Rattle.std.specs.Prelude.{◌≡◌, ◌≤◌, ◌↔◌, [], length, drop, false, IfOk, IsTrue};
 ghost use Rattle.std.specs.Ordering.{on};
-ghost use Rattle.nla_frames.specs.Fault.{Gives, IfRefused, UnlessMemory, seen};
+ghost use Rattle.nla_frames.specs.Fault.{Returns, IfRefused, UnlessMemory, seen};
 ghost use Rattle.nla_frames.specs.Emission.{Writes, HasRoom};
 ghost use Rattle.tc_canon.specs.Layouts.{tc_header};
 ghost use Rattle.tc_canon.specs.Tables.Messages.{attributes};
@@ -21,7 +21,7 @@ use std::alloc::{Allocator, Global};
 use tc_attributes::{TcAttribute, VecTcAttribute};
 use tc_laws::{places, rewriting};
 use tc_meaning::laws;
-use tc_records::laws::in_hand::header_in_hand;
+use tc_records::laws::in_range::header_in_hand;
 use tc_records::{TC_HEADER_LEN, TcHeader};
 
 /// A message about a queueing discipline, a class, a filter or a chain: a header and attributes.
@@ -90,7 +90,7 @@ impl<A: Allocator + Copy> ParseableBytes<A> for TcMessage<A> {
         // What is refused has this fault, and it is the first.
         ensures refused { IfRefused result (FaultTc bytes.now) }
         // The function that computes both gives what is returned, unless memory ran out.
-        ensures exact { Gives (seen tc_message result) (read_tc bytes.now) }
+        ensures exact { Returns (seen tc_message result) (read_tc bytes.now) }
         // What fits is written as the same bytes if and only if these are canonical.
         ensures same { IfOk result (λ m.
             FitsTc (tc_message m) → (tc_bytes (tc_message m) ≡ bytes.now) ↔ CanonTc bytes.now) }
@@ -113,7 +113,7 @@ impl<A: Allocator + Copy> ParseableBytes<A> for TcMessage<A> {
 
 #[tactic(auto, unfolding(tc_meaning::specs::Message::read_with))]
 fn read<A: Allocator + Copy>(alloc: A, bytes: &[u8]) -> Res<TcMessage<A>>
-    ensures { Gives (seen tc_message result) (read_tc bytes.now) }
+    ensures { Returns (seen tc_message result) (read_tc bytes.now) }
 {
     let header = TcHeader::parse(bytes)?;
     let attributes = VecTcAttribute::parse(alloc, after_header(bytes))?.0;

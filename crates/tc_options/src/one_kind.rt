@@ -1,7 +1,7 @@
 //! Readers of the options of one kind, for lists whose kind is known before their first option.
 
 ghost use Rattle.std.specs.Prelude.{codes};
-ghost use Rattle.nla_frames.specs.Fault.{Gives, seen};
+ghost use Rattle.nla_frames.specs.Fault.{Returns, seen};
 ghost use Rattle.nla_frames.specs.Reading.{read_list, keep};
 ghost use Rattle.tc_options.specs.Options.{listed, read_option};
 
@@ -96,7 +96,7 @@ pub(crate) fn read_list_of<A: Allocator + Copy, K: FrameReader<A, TcOption<A>>>(
     bytes: &[u8],
     reader: &K,
 ) -> Res<VecTcOption<A>>
-    ensures { Gives (seen listed result)
+    ensures { Returns (seen listed result)
         (read_list read_option keep (K.kind reader.now) bytes.now) }
 {
     Ok(VecTcOption(parse_list_by(alloc, bytes, reader)?))

@@ -2,7 +2,7 @@
 
 ghost use Rattle.std.specs.Prelude.{◌≡◌, ◌↔◌, List, IsTrue, IfOk};
 ghost use Rattle.std.specs.Ordering.{on};
-ghost use Rattle.nla_frames.specs.Fault.{Gives, IfRefused, seen};
+ghost use Rattle.nla_frames.specs.Fault.{Returns, IfRefused, seen};
 ghost use Rattle.nla_frames.specs.Buffer.{frame_of};
 ghost use Rattle.tc_canon.specs.Descriptor.{by_kind, is_known};
 ghost use Rattle.tc_canon.specs.Tables.Options.{option_kinds};
@@ -13,7 +13,7 @@ ghost use Rattle.tc_meaning.specs.Equal.{same_attribute, attribute_equiv, attrib
 ghost use Rattle.tc_options.specs.Options.{tc_option, listed, read_options, ReadsOptions, OptionsFault};
 
 use crate::one_kind::{Bpf, Flower, FqCodel, Ingress, MatchAll, U32, read_list_of};
-use nla_frames::laws::in_hand::bytes_in_hand;
+use nla_frames::laws::in_range::bytes_are_in_range;
 use nla_frames::{
     DefaultNla, FrameMeaning, FrameReader, Nla, NlaBuffer, Parseable, ParseableParametrized, Res,
     Settle,
@@ -182,10 +182,10 @@ impl<A: Allocator + Copy> VecTcOption<A> {
         // What is refused has this fault, and it is the first.
         ensures refused { IfRefused result (OptionsFault kind.now (frame_of buf.now)) }
         // What is found and what is refused, by the function that computes both.
-        ensures exact { Gives (seen listed result) (read_options kind.now (frame_of buf.now)) }
+        ensures exact { Returns (seen listed result) (read_options kind.now (frame_of buf.now)) }
     {
         // Does nothing at run time: it says that the value is bytes, for the clauses `found` and `refused`.
-        bytes_in_hand(buf.value());
+        bytes_are_in_range(buf.value());
         read_by_kind(alloc, buf, kind)
     }
 }
@@ -196,7 +196,7 @@ fn read_by_kind<A: Allocator + Copy>(
     buf: &NlaBuffer<'_>,
     kind: &str,
 ) -> Res<VecTcOption<A>>
-    ensures { Gives (seen listed result) (read_options kind.now (frame_of buf.now)) }
+    ensures { Returns (seen listed result) (read_options kind.now (frame_of buf.now)) }
 {
     if kind == TcQdiscFqCodel::KIND {
         return read_list_of(alloc, buf.value(), &FqCodel);

@@ -2,7 +2,7 @@
 
 ghost use Rattle.tc_qdiscs.specs.FqCodel.{fq_codel_option, SameFqCodel};
 ghost use Rattle.tc_qdiscs.specs.Ingress.{ingress_option, SameIngress};
-ghost use Rattle.tc_meaning.specs.Equal.{TellsSeen};
+ghost use Rattle.tc_meaning.specs.Equal.{IsEqualityOf};
 ghost use Rattle.tc_values.specs.Forgets.{ForgetsNothing};
 
 use crate::qdiscs::fq_codel::TcQdiscFqCodelOption;
@@ -11,8 +11,8 @@ use std::alloc::Allocator;
 
 /// `==` of options is true if and only if contracts see both alike.
 pub fn equal<A: Allocator>()
-    ensures fq_codel { TellsSeen ⟦<TcQdiscFqCodelOption<A> as PartialEq>⟧.eq fq_codel_option }
-    ensures ingress { TellsSeen ⟦<TcQdiscIngressOption<A> as PartialEq>⟧.eq ingress_option }
+    ensures fq_codel { IsEqualityOf ⟦<TcQdiscFqCodelOption<A> as PartialEq>⟧.eq fq_codel_option }
+    ensures ingress { IsEqualityOf ⟦<TcQdiscIngressOption<A> as PartialEq>⟧.eq ingress_option }
 {}
 
 /// What contracts see of an option forgets nothing that it holds.

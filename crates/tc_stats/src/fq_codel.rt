@@ -2,14 +2,14 @@
 
 ghost use Rattle.std.specs.Prelude.{◌≡◌, ◌≤◌, ◌↔◌, [], IsTrue, length, take, drop};
 ghost use Rattle.std.specs.Ordering.{on};
-ghost use Rattle.nla_frames.specs.Fault.{Gives, seen};
+ghost use Rattle.nla_frames.specs.Fault.{Returns, seen};
 ghost use Rattle.nla_frames.specs.Value.{IsBytes, le_value};
 ghost use Rattle.tc_meaning.specs.Tree.{Content};
 ghost use Rattle.tc_meaning.specs.Equal.{same_content, content_equiv, content_per};
 ghost use Rattle.tc_stats.specs.FqCodel.{fq_codel_xstats, fq_codel_xstats_codec, IsNoNumber};
 
 use crate::types::{TCA_FQ_CODEL_XSTATS_CLASS, TCA_FQ_CODEL_XSTATS_QDISC};
-use nla_frames::laws::in_hand::bytes_in_hand;
+use nla_frames::laws::in_range::bytes_are_in_range;
 use nla_frames::{
     BytesMeaning, DecodeError, Emitable, ParseableBytes, Res, SettleBytes, emit_u32, put_bytes,
 };
@@ -140,7 +140,7 @@ fn is_no_number(bytes: &[u8]) -> bool
     ensures typed { IsBytes bytes.now }
 {
     // Does nothing at run time: it says that each byte is below 256.
-    bytes_in_hand(bytes);
+    bytes_are_in_range(bytes);
     bytes.len() >= XSTATS_NUMBER_LEN && split_number(bytes).0 > TCA_FQ_CODEL_XSTATS_CLASS
 }
 

@@ -1,6 +1,6 @@
 //! What contracts see of a type is all that it holds, and what `==` compares.
 
-ghost use Rattle.tc_meaning.specs.Equal.{TellsSeen};
+ghost use Rattle.tc_meaning.specs.Equal.{IsEqualityOf};
 ghost use Rattle.tc_values.specs.Forgets.{ForgetsNothing};
 ghost use Rattle.tc_stats.specs.Stats2.{tc_stats2, SameStats2};
 ghost use Rattle.tc_stats.specs.Xstats.{tc_xstats, SameXstats};
@@ -11,9 +11,9 @@ use std::alloc::Allocator;
 
 /// `==` of statistics is true if and only if contracts see both alike.
 pub fn equal<A: Allocator>()
-    ensures several { TellsSeen ⟦<TcStats2<A> as PartialEq>⟧.eq tc_stats2 }
-    ensures own { TellsSeen ⟦<TcXstats<A> as PartialEq>⟧.eq tc_xstats }
-    ensures of_fq_codel { TellsSeen ⟦<TcFqCodelXstats<A> as PartialEq>⟧.eq fq_codel_xstats }
+    ensures several { IsEqualityOf ⟦<TcStats2<A> as PartialEq>⟧.eq tc_stats2 }
+    ensures own { IsEqualityOf ⟦<TcXstats<A> as PartialEq>⟧.eq tc_xstats }
+    ensures of_fq_codel { IsEqualityOf ⟦<TcFqCodelXstats<A> as PartialEq>⟧.eq fq_codel_xstats }
 {}
 
 /// What contracts see of statistics forgets nothing that they hold.

@@ -2,7 +2,7 @@
 
 ghost use Rattle.std.specs.Prelude.{◌≡◌, true};
 ghost use Rattle.std.specs.Ordering.{on};
-ghost use Rattle.nla_frames.specs.Fault.{Gives, seen};
+ghost use Rattle.nla_frames.specs.Fault.{Returns, seen};
 ghost use Rattle.nla_frames.specs.Buffer.{frame_of};
 ghost use Rattle.tc_meaning.specs.Tree.{Content};
 ghost use Rattle.tc_meaning.specs.Content.{xstats_codec};
@@ -10,7 +10,7 @@ ghost use Rattle.tc_meaning.specs.Equal.{same_content, content_equiv, content_pe
 ghost use Rattle.tc_stats.specs.Xstats.{tc_xstats};
 
 use crate::fq_codel::{TcFqCodelXstats, TcQdiscFqCodel};
-use nla_frames::laws::in_hand::bytes_in_hand;
+use nla_frames::laws::in_range::bytes_are_in_range;
 use nla_frames::{BytesMeaning, Emitable, NlaBuffer, ParseableBytes, Res, SettleBytes, put_bytes};
 use std::alloc::{Allocator, Global};
 
@@ -37,7 +37,7 @@ impl<A: Allocator> TcXstats<A> {
     /// The statistics that are a frame's value, under a kind. A fault of the bytes is found under `fq_codel` alone, as
     /// [`TcFqCodelXstats`] finds it; `OutOfMemory` under any kind.
     pub fn parse_with_param(alloc: A, buf: &NlaBuffer<'_>, kind: &str) -> Res<TcXstats<A>>
-        ensures { Gives (seen tc_xstats result)
+        ensures { Returns (seen tc_xstats result)
             (xstats_codec.read kind.now (frame_of buf.now).value) }
     {
         if kind == TcQdiscFqCodel::KIND {
@@ -71,7 +71,7 @@ impl<A: Allocator> SettleBytes for TcXstats<A> {
             Self::FqCodel(stats) => stats.is_settled() && kind == TcQdiscFqCodel::KIND,
             Self::Other(bytes) => {
                 // Does nothing at run time: it says that each byte is below 256.
-                bytes_in_hand(bytes);
+                bytes_are_in_range(bytes);
                 kind != TcQdiscFqCodel::KIND
             }
         }

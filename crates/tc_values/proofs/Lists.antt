@@ -2,12 +2,12 @@
 use Rattle.std.proofs.Common.{◌≡◌, ◌↔◌, ℕ, List, Bool, IsTrue, Ok, map, refl, sym, ap, ◌∙◌}
 use Rattle.std.specs.List.{AllByRecursion}
 use Rattle.nla_frames.specs.declared.error.DecodeError.{DecodeError}
-use Rattle.nla_frames.specs.Fault.{Gives, seen, read_as, refused}
+use Rattle.nla_frames.specs.Fault.{Returns, seen, read_as, refused}
 use Rattle.nla_frames.specs.Frame.{Frame}
 use Rattle.nla_frames.specs.Reading.{read_list, keep}
 use Rattle.nla_frames.specs.Emission.{list_bytes, NestedFits}
 use Rattle.nla_frames.specs.Codec.{SettledEach}
-use Rattle.nla_frames.proofs.Outcomes.{Gives-err}
+use Rattle.nla_frames.proofs.Outcomes.{Returns-err}
 use Rattle.tc_canon.specs.Descriptor.{Table, Rows, table, list_of}
 use Rattle.tc_meaning.specs.Tree.{Attribute, known, items, attributes_of, list_of_attributes}
 use Rattle.tc_meaning.specs.Meaning.{a_list, class_codec, table_codec, IsShort}
@@ -24,9 +24,9 @@ module _ (rows : Rows) (n : ℕ) (t : Table) (kind : List ℕ) (f : Frame)
       → (table_codec (table rows)).read kind f ≡ read_as (known n (items (attributes_of xs)))
   list_read xs is = rw (row, is) refl
 
-  pub list_refused : (e : DecodeError) → Gives (refused e) (read_list (table_codec t).read keep kind f.value)
-      → Gives (refused e) ((table_codec (table rows)).read kind f)
-  list_refused e given = Gives-err e _ _ given (λ is. rw (row, is) refl)
+  pub list_refused : (e : DecodeError) → Returns (refused e) (read_list (table_codec t).read keep kind f.value)
+      → Returns (refused e) ((table_codec (table rows)).read kind f)
+  list_refused e given = Returns-err e _ _ given (λ is. rw (row, is) refl)
 
 -- what is known of a list in hand, of the content that it is seen as
 module _ {T : Type 0} (see : T → Attribute) (t : Table) (slice list : List T) (same : slice ≡ list) where

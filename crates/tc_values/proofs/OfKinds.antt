@@ -3,10 +3,10 @@ use Rattle.std.proofs.Common.{◌≡◌, ℕ, Bool, true, false, List, [], cond,
 use Rattle.std.specs.Str.{bytes_eq}
 use Rattle.std.proofs.lemmas.Slice.Eq.{bytes_eq-Decides}
 use Rattle.nla_frames.specs.declared.error.DecodeError.{DecodeError}
-use Rattle.nla_frames.specs.Fault.{Gives, seen, read_as, refused}
+use Rattle.nla_frames.specs.Fault.{Returns, seen, read_as, refused}
 use Rattle.nla_frames.specs.Frame.{Frame, type_of}
 use Rattle.nla_frames.specs.Reading.{Reads}
-use Rattle.nla_frames.proofs.Outcomes.{Gives-err}
+use Rattle.nla_frames.proofs.Outcomes.{Returns-err}
 use Rattle.tc_canon.specs.Descriptor.{Rows, table, Kinds, unknown, kind, by_kind, is_known}
 use Rattle.tc_meaning.specs.Tree.{Attribute, other, of_kind}
 use Rattle.tc_meaning.specs.Meaning.{table_codec, kinds_codec}
@@ -27,8 +27,8 @@ module _ (kinds : Kinds) (name : List ℕ) (rows : Rows)
   pub option_read : (x : Attribute) → (table_codec (table rows)).read [] f ≡ read_as x → read_option kinds k f ≡ read_as (of_kind name x)
   option_read x reads = by_rows ∙ ap (seen (of_kind name)) reads
 
-  pub option_refused : (e : DecodeError) → Gives (refused e) ((table_codec (table rows)).read [] f) → Gives (refused e) (read_option kinds k f)
-  option_refused e given = Gives-err e _ _ given (λ refuses. by_rows ∙ ap (seen (of_kind name)) refuses)
+  pub option_refused : (e : DecodeError) → Returns (refused e) ((table_codec (table rows)).read [] f) → Returns (refused e) (read_option kinds k f)
+  option_refused e given = Returns-err e _ _ given (λ refuses. by_rows ∙ ap (seen (of_kind name)) refuses)
 
 -- no table has the kind
 kinds_kept : (kinds : Kinds) (k : List ℕ) (f : Frame) → is_known kinds k ≡ false → (kinds_codec kinds).read k f ≡ read_as (other f.word f.value)

@@ -6,8 +6,8 @@ ghost use Rattle.nla_frames.specs.Value.{terminated, strip};
 ghost use Rattle.tc_values.specs.Value.{value_bytes, ValueFits, TypedValue, SettledAs};
 
 use crate::body::{Body, NoBody};
-use nla_frames::laws::in_hand::{
-    bytes_in_hand, text_in_hand, u8_in_hand, u16_in_hand, u32_in_hand,
+use nla_frames::laws::in_range::{
+    bytes_are_in_range, text_is_utf8, u8_is_in_range, u16_is_in_range, u32_is_in_range,
 };
 use nla_frames::{
     NLA_VALUE_MAX_SIZE, checked_value_len, put_bytes, put_text, put_u8, put_u16, put_u16_be,
@@ -137,15 +137,15 @@ impl<'a, N: Body> Value<'a, N> {
         ensures { TypedValue (λ _. Unit {0}) self.now }
     {
         match self {
-            Value::U8(n) | Value::Bits1(n) | Value::Bits3(n) => u8_in_hand(*n),
-            Value::U16(n) | Value::U16Be(n) => u16_in_hand(*n),
-            Value::U32(n) | Value::U32Be(n) | Value::Bits20(n) => u32_in_hand(*n),
-            Value::Octets4(octets) => bytes_in_hand(octets),
-            Value::Octets6(octets) => bytes_in_hand(octets),
-            Value::Octets8(octets) => bytes_in_hand(octets),
-            Value::Octets16(octets) => bytes_in_hand(octets),
-            Value::Bytes(bytes) | Value::Kept(bytes) => bytes_in_hand(bytes),
-            Value::Text(text) | Value::Warning(text) => text_in_hand(text),
+            Value::U8(n) | Value::Bits1(n) | Value::Bits3(n) => u8_is_in_range(*n),
+            Value::U16(n) | Value::U16Be(n) => u16_is_in_range(*n),
+            Value::U32(n) | Value::U32Be(n) | Value::Bits20(n) => u32_is_in_range(*n),
+            Value::Octets4(octets) => bytes_are_in_range(octets),
+            Value::Octets6(octets) => bytes_are_in_range(octets),
+            Value::Octets8(octets) => bytes_are_in_range(octets),
+            Value::Octets16(octets) => bytes_are_in_range(octets),
+            Value::Bytes(bytes) | Value::Kept(bytes) => bytes_are_in_range(bytes),
+            Value::Text(text) | Value::Warning(text) => text_is_utf8(text),
             Value::Presence(_) | Value::Truth(_) | Value::Nested(_) => {}
         }
     }

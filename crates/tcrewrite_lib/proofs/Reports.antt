@@ -12,9 +12,9 @@ use Rattle.tc_meaning.specs.Own.{kind_of_attribute}
 use Rattle.tc_meaning.specs.Message.{Message}
 use Rattle.tc_meaning.specs.Whole.{Correspond}
 use Rattle.tc_meaning.proofs.MessageTheorems.{tc_correspond, action_correspond}
-use Rattle.tc_meaning.proofs.Telling.{Told}
-use Rattle.tc_meaning.proofs.FitTests.{told_fits}
-use Rattle.tc_meaning.proofs.SettledTests.{told_settled}
+use Rattle.tc_meaning.proofs.Decidable.{Decidable}
+use Rattle.tc_meaning.proofs.FitTests.{decidable_fits}
+use Rattle.tc_meaning.proofs.SettledTests.{decidable_settled}
 use Rattle.tcrewrite_lib.specs.Text.{most_text, without_spaces}
 use Rattle.tcrewrite_lib.specs.Report.{Report, one_line, words_of, ReportsDecoded, IsReport}
 use Rattle.tcrewrite_lib.specs.declared.mode.Mode.{Mode}
@@ -27,13 +27,13 @@ laws : (mode : Mode) (bytes : List ℕ) → IsWireBytes bytes → Correspond (wo
 laws Tc = tc_correspond
 laws Action = action_correspond
 
-fits : (mode : Mode) (m : Message) → Told ((words_of mode).Fits m)
-fits Tc = told_fits tc_header attributes
-fits Action = told_fits action_message_header action_message_attributes
+fits : (mode : Mode) (m : Message) → Decidable ((words_of mode).Fits m)
+fits Tc = decidable_fits tc_header attributes
+fits Action = decidable_fits action_message_header action_message_attributes
 
-settled : (mode : Mode) (m : Message) → Told ((words_of mode).Settled m)
-settled Tc = told_settled tc_header attributes kind_of_attribute
-settled Action = told_settled action_message_header action_message_attributes keep
+settled : (mode : Mode) (m : Message) → Decidable ((words_of mode).Settled m)
+settled Tc = decidable_settled tc_header attributes kind_of_attribute
+settled Action = decidable_settled action_message_header action_message_attributes keep
 
 -- a text of a length that is read, without its spaces, decoded
 module _ (mode : Mode) (text : List ℕ) (short : length text ≤ most_text) where

@@ -1,7 +1,7 @@
 //! An action: one attribute, whose payload is a list of attributes that holds its own kind.
 
 ghost use Rattle.std.specs.Prelude.{◌≡◌, [], IfOk};
-ghost use Rattle.nla_frames.specs.Fault.{Gives, IfRefused, seen};
+ghost use Rattle.nla_frames.specs.Fault.{Returns, IfRefused, seen};
 ghost use Rattle.nla_frames.specs.Buffer.{frame_of};
 ghost use Rattle.tc_meaning.specs.OwnGrammar.{OwnReads, OwnFault};
 ghost use Rattle.tc_laws.specs.Order.{read_action_attribute};
@@ -11,7 +11,7 @@ ghost use Rattle.tc_actions.specs.Action.{an_action, listed, tc_action, KeepsOrd
 use crate::actions::attribute::TcActionAttribute;
 use crate::actions::scan::parse_list_own;
 use crate::actions::types::TCA_ACT_TAB;
-use nla_frames::laws::in_hand::u16_in_hand;
+use nla_frames::laws::in_range::u16_is_in_range;
 use nla_frames::{
     FrameMeaning, NLA_TYPE_MASK, Nla, NlaBuffer, Parseable, Res, Settle, list_settled_own,
     nested_checked_len, put_list,
@@ -67,7 +67,7 @@ impl<A: Allocator + Copy> Parseable<A> for TcAction<A> {
         // Two neighbours exchanged, where all are padded in full, exchange what they read as, and change nothing else.
         ensures order { IfOk result (λ action. KeepsOrder (frame_of buf.now) (listed action)) }
         // What is found and what is refused, by the function that computes both.
-        ensures exact { Gives (seen tc_action result)
+        ensures exact { Returns (seen tc_action result)
             ((table_codec an_action).read [] (frame_of buf.now)) }
     {
         // Does nothing at run time: its law gives the clause `order`.
@@ -91,7 +91,7 @@ impl<A: Allocator> Nla for TcAction<A> {
 
     fn put_value(&self, buffer: &mut [u8]) -> usize {
         // Does nothing at run time: it says that `tab` is below 2^16, for the clause `typed`.
-        u16_in_hand(self.tab);
+        u16_is_in_range(self.tab);
         put_list(&self.attributes, buffer)
     }
 
@@ -103,7 +103,7 @@ impl<A: Allocator> Settle for TcAction<A> {
     /// around the action doesn't matter.
     fn is_settled_under(&self, _kind: &str) -> bool {
         // Does nothing at run time: it says that `tab` is below 2^16, for the clause `typed`.
-        u16_in_hand(self.tab);
+        u16_is_in_range(self.tab);
         self.tab <= NLA_TYPE_MASK && list_settled_own(&self.attributes)
     }
 }

@@ -1,7 +1,7 @@
 //! The attributes of an action.
 
 ghost use Rattle.std.specs.Prelude.{◌≡◌, string_bytes};
-ghost use Rattle.nla_frames.specs.Fault.{Gives, seen};
+ghost use Rattle.nla_frames.specs.Fault.{Returns, seen};
 ghost use Rattle.nla_frames.specs.Value.{text};
 ghost use Rattle.tc_canon.specs.Tables.Actions.{action_attributes};
 ghost use Rattle.tc_meaning.specs.Own.{kind_of_attribute};
@@ -79,7 +79,7 @@ impl<A: Allocator + Copy> ParseableParametrized<A> for TcActionAttribute<A> {
 // The text of a kind. Where its bytes are those of the kind in force, as in every action, they are a text: that isn't
 // tested again.
 fn read_kind<A: Allocator>(alloc: A, value: &[u8], kind: &str) -> Res<String<A>>
-    ensures { Gives (seen string_bytes result) (text value.now) }
+    ensures { Returns (seen string_bytes result) (text value.now) }
 {
     if strip_nul(value) == kind.as_bytes() {
         return Ok(String::from_str(alloc, kind)?);

@@ -3,7 +3,7 @@
 
 ghost use Rattle.std.specs.Prelude.{◌≡◌, List, ℕ, [], Option, map, IfOk};
 ghost use Rattle.std.specs.Result.{MatchResult};
-ghost use Rattle.nla_frames.specs.Fault.{Gives, IfRefused, seen, refused};
+ghost use Rattle.nla_frames.specs.Fault.{Returns, IfRefused, seen, refused};
 ghost use Rattle.nla_frames.specs.Buffer.{frame_of};
 ghost use Rattle.nla_frames.specs.Reading.{read_list, keep};
 ghost use Rattle.tc_meaning.specs.Own.{read_own};
@@ -26,7 +26,7 @@ pub(crate) fn parse_list_own<A: Allocator + Copy, T: ParseableParametrized<A> + 
 ) -> Res<Vec<T, A>>
     ensures found { IfOk result (λ v. OwnReads T.codec.read bytes.now (map T.see v.items)) }
     ensures refused { IfRefused result (OwnFault T.codec.read bytes.now) }
-    ensures exact { Gives (seen (λ v. map T.see v.items) result) (read_own T.codec.read bytes.now) }
+    ensures exact { Returns (seen (λ v. map T.see v.items) result) (read_own T.codec.read bytes.now) }
 {
     // Does nothing at run time: its law, that `read_own` is what the grammar reads, gives the clauses `found` and `refused`.
     own_grammar::<T>(bytes);
@@ -37,7 +37,7 @@ fn parse_own<A: Allocator + Copy, T: ParseableParametrized<A> + Drop>(
     alloc: A,
     bytes: &[u8],
 ) -> Res<Vec<T, A>>
-    ensures { Gives (seen (λ v. map T.see v.items) result) (read_own T.codec.read bytes.now) }
+    ensures { Returns (seen (λ v. map T.see v.items) result) (read_own T.codec.read bytes.now) }
 {
     let (frames, only) = scan(alloc, bytes)?;
     match only {
@@ -50,7 +50,7 @@ fn parse_own<A: Allocator + Copy, T: ParseableParametrized<A> + Drop>(
 // The frames that the bytes are, and the kinds that they set; or the first broken frame or kind that isn't UTF-8.
 fn scan<'a, A: Allocator>(alloc: A, bytes: &'a [u8]) -> Res<(Vec<NlaBuffer<'a>, A>, OnlyKind<'a>)>
     ensures { MatchResult result (λ found. Scanned bytes.now found.0.items found.1) (λ e.
-        Gives (refused e) (read_list first_look keep [] bytes.now)) }
+        Returns (refused e) (read_list first_look keep [] bytes.now)) }
 {
     let mut frames = Vec::with_capacity(alloc, first_capacity(bytes))?;
     let mut only = OnlyKind::Missing;

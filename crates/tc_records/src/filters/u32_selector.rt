@@ -4,7 +4,7 @@ ghost use Rattle.std.specs.Prelude.{◌≡◌, ◌≤◌, ◌<◌, ◌^◌, ◌*
 ghost use Rattle.std.specs.List.{AllByRecursion};
 ghost use Rattle.std.specs.Int.{w16, cast_unsigned};
 ghost use Rattle.std.specs.Ordering.{on};
-ghost use Rattle.nla_frames.specs.Fault.{Gives, seen, read_as};
+ghost use Rattle.nla_frames.specs.Fault.{Returns, seen, read_as};
 ghost use Rattle.nla_frames.specs.Emission.{Writes, HasRoom};
 ghost use Rattle.tc_canon.specs.Layouts.{selector_head, selector_key};
 ghost use Rattle.tc_meaning.specs.Tree.{Scalar};
@@ -16,7 +16,7 @@ ghost use Rattle.tc_records.specs.Selector.{key_scalars, keys_bytes, head_scalar
 use crate::TcU32SelectorFlags;
 use crate::same::both;
 use bitflags::Flags;
-use nla_frames::laws::in_hand::{u8_in_hand, u16_in_hand, u32_in_hand};
+use nla_frames::laws::in_range::{u8_is_in_range, u16_is_in_range, u32_is_in_range};
 use nla_frames::{BytesMeaning, DecodeError, Emitable, Res, SettleBytes, put_bytes};
 use std::alloc::{Allocator, Global};
 use tc_fields::{
@@ -143,7 +143,7 @@ impl SettleBytes for TcU32Key {
 // So many keys, one after the other.
 fn parse_keys<A: Allocator>(alloc: A, count: u8, fields: Fields<'_>) -> Res<Vec<TcU32Key, A>>
     requires { 16 * count ≤ length fields.0.now }
-    ensures { Gives (seen (λ v. map key_scalars v.items) result)
+    ensures { Returns (seen (λ v. map key_scalars v.items) result)
         (read_as (read_keys count fields.entry.0.now)) }
 {
     let mut keys = Vec::with_capacity(alloc, count as usize)?;
@@ -257,7 +257,7 @@ impl<A: Allocator> TcU32Selector<A> {
     /// The selector that bytes begin with, and the keys that it counts; what follows is dropped. Where they aren't
     /// all there, that is `SelectorShort`; it may be `OutOfMemory`.
     pub fn parse(alloc: A, payload: &[u8]) -> Res<TcU32Selector<A>>
-        ensures { Gives (seen selector_of result) (read_selector payload.now) }
+        ensures { Returns (seen selector_of result) (read_selector payload.now) }
     {
         if payload.len() < TC_U32_SELECTOR_LEN {
             return Err(DecodeError::SelectorShort {
@@ -360,14 +360,14 @@ pub fn selector_in_hand<A: Allocator>(selector: &TcU32Selector<A>)
 fn selector_head_in_hand<A: Allocator>(selector: &TcU32Selector<A>)
     ensures { TypedFields selector_head (head_scalars selector.now) }
 {
-    u8_in_hand(selector.flags.bits());
-    u8_in_hand(selector.offshift);
-    u8_in_hand(selector.nkeys);
-    u16_in_hand(selector.offmask);
-    u16_in_hand(selector.off);
+    u8_is_in_range(selector.flags.bits());
+    u8_is_in_range(selector.offshift);
+    u8_is_in_range(selector.nkeys);
+    u16_is_in_range(selector.offmask);
+    u16_is_in_range(selector.off);
     i16_in_hand(selector.offoff);
     i16_in_hand(selector.hoff);
-    u32_in_hand(selector.hmask);
+    u32_is_in_range(selector.hmask);
 }
 
 // Keys of a selector.

@@ -2,11 +2,11 @@ use Rattle.std.proofs.Common.{◌≡◌}
 use Rattle.nla_frames.specs.Iterator.{items_left}
 use Rattle.tc_chosen.proofs.Frames.{frames_of}
 use Rattle.std.specs.List.{list_any}
-use Rattle.tc_canon.specs.Kind.{kinds_told}
+use Rattle.tc_canon.specs.Kind.{kinds_of_frames}
 use Rattle.tc_chosen.specs.Chosen.{is_kind}
 use Rattle.tc_chosen.specs.Kinds.{frames_in}
 use Rattle.tc_chosen.proofs.kinds.in_action.Given as goal
 
 abbrev pub invariant-loop-frame : goal.invariant-loop-frame
 invariant-loop-frame l =
-    list_any (is_kind l.asked) (kinds_told (frames_of (items_left l.frame-iterator))) ≡ list_any (is_kind l.asked) (kinds_told (frames_in l.bytes))
+    list_any (is_kind l.asked) (kinds_of_frames (frames_of (items_left l.frame-iterator))) ≡ list_any (is_kind l.asked) (kinds_of_frames (frames_in l.bytes))

@@ -3,12 +3,12 @@ use Rattle.nla_frames.specs.Iterator.{items_left}
 use Rattle.tc_chosen.proofs.Frames.{frames_of}
 use Rattle.std.specs.Prelude.{flat_map}
 use Rattle.std.specs.List.{list_any}
-use Rattle.tc_canon.specs.Kind.{kinds_told}
+use Rattle.tc_canon.specs.Kind.{kinds_of_frames}
 use Rattle.tc_chosen.specs.Chosen.{is_kind}
 use Rattle.tc_chosen.specs.Kinds.{frames_in, action_kinds}
 use Rattle.tc_chosen.proofs.kinds.in_actions.Given as goal
 
 abbrev pub invariant-loop-action : goal.invariant-loop-action
 invariant-loop-action l =
-    list_any (is_kind l.asked) (flat_map (λ f. kinds_told (frames_in f.value)) (frames_of (items_left l.action-iterator)))
+    list_any (is_kind l.asked) (flat_map (λ f. kinds_of_frames (frames_in f.value)) (frames_of (items_left l.action-iterator)))
     ≡ list_any (is_kind l.asked) (action_kinds l.bytes)

@@ -6,7 +6,7 @@ use Rattle.tc_form_values.proofs.values_made.bytes_of_hex.Goals as goal
 pub returns-in-Ok-Some : goal.returns-in-Ok-Some
 returns-in-Ok-Some c =
     let same : c.deref.result.now ≡ c.in-Ok-Some.bytes.items = search rules in
-    hex_so c.args.text.now (Some c.in-Ok-Some.bytes.items) (subst IsBytes same c.bytes_in_hand.ensures)
+    hex_so c.args.text.now (Some c.in-Ok-Some.bytes.items) (subst IsBytes same c.bytes_are_in_range.ensures)
     (seen_as c.args.text.now (λ v. v.items) c.in-Ok-Some.field-0 (Some c.in-Ok-Some.bytes) c.in-Ok-Some.field-0-is c.in-Ok-Some.ensures)
 
 pub returns-in-Ok-None : goal.returns-in-Ok-None
