@@ -20,7 +20,7 @@ use Rattle.tc_capture.specs.Message.{padding}
 use Rattle.tc_capture.specs.Packet.{Captured}
 use Rattle.tc_capture.specs.Front.{Front}
 use Rattle.tc_capture.specs.PcapNg.{Block, Section, block_order, block_of_length, block_in, next_block, interface_at, time_after, held_in, timed_of}
-use Rattle.tc_capture.specs.PcapNg.{timed_packet, with_packet, said_by, next_in_section}
+use Rattle.tc_capture.specs.PcapNg.{timed_packet, with_packet, effect_of, next_in_section}
 use Rattle.tc_capture.specs.Capture.{in_section}
 use Rattle.tc_capture_laws.specs.Pieces.{pieces_up_to, pieces_in}
 use Rattle.tc_capture_laws.specs.Reading.{Read, read_in, reading}
@@ -165,7 +165,7 @@ timed-body Big p most is small =
 
 -- what a section is after a block
 abbrev pub after_block : Section → Block → Outcome (Front × Section)
-after_block s b = let said = said_by s b in Ok (record { used = 12 + length b.body; packet = said.0 }, said.1)
+after_block s b = let said = effect_of s b in Ok (record { used = 12 + length b.body; packet = said.0 }, said.1)
 
 -- blocks of these types are in the order of their section
 in_section_order : (order : Order) (body more : List ℕ) → block_order order (block order 6 body ++ more) ≡ Ok order
@@ -175,7 +175,7 @@ in_section_order Big body more = refl
 next-packet : (order : Order) (p : Packet) (most : ℕ) (more : List ℕ) → IsPacket most p → most + 35 < 2 ^ 32
     → next_in_section (described order) (enhanced_packet order p ++ more)
     ≡ Ok (record { used = 12 + length (packet_body order p); packet = Ok (Some (captured p.time (packet_bytes p) 28)) }, described order)
-unfolding next_in_section said_by
+unfolding next_in_section effect_of
 next-packet order p most more is small =
     let within = is.length in
     let len = length-packet_body order p in
@@ -214,7 +214,7 @@ interface_body order =
 
 next-section : (order : Order) (more : List ℕ)
     → next_in_section (new Little) (section_header order ++ more) ≡ Ok (record { used = 28; packet = Ok None }, new order)
-unfolding next_in_section said_by
+unfolding next_in_section effect_of
 next-section Little more =
     ap (λ (o : Outcome Block). then_read o (after_block (new Little))) (next_block-block Little Little 0x0a0d0d0a (section_body Little) more (omega arith)
     (omega arith) refl refl)
@@ -224,7 +224,7 @@ next-section Big more =
 
 next-interface : (order : Order) (more : List ℕ)
     → next_in_section (new order) (interface order ++ more) ≡ Ok (record { used = 32; packet = Ok None }, described order)
-unfolding next_in_section said_by entry_in entry_up_to
+unfolding next_in_section effect_of entry_in entry_up_to
 next-interface Little more =
     ap (λ (o : Outcome Block). then_read o (after_block (new Little))) (next_block-block Little Little 1 (interface_body Little) more (omega arith)
     (omega arith) refl refl)

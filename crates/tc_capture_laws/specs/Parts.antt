@@ -81,10 +81,10 @@ abbrev pub joined : List Part → List ℕ
 joined parts = flat_map (λ (p : Part). p.bytes) parts
 
 -- what a part says: a message, or what is wrong in the messages
-abbrev pub said_by : Kind → List (Outcome Message)
-said_by (message m) = Ok m ∷ []
-said_by (broken e) = Err e ∷ []
-said_by _ = []
+abbrev pub outcomes_of : Kind → List (Outcome Message)
+outcomes_of (message m) = Ok m ∷ []
+outcomes_of (broken e) = Err e ∷ []
+outcomes_of _ = []
 
 abbrev pub messages_of : List Part → List (Outcome Message)
-messages_of parts = flat_map (λ (p : Part). said_by p.kind) parts
+messages_of parts = flat_map (λ (p : Part). outcomes_of p.kind) parts

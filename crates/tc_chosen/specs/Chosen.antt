@@ -2,7 +2,7 @@
 use Rattle.std.specs.Prelude.{ℕ, ◌+◌, ◌*◌, ◌==◌, ◌&&◌, ◌||◌, Bool, true, false, List, [], ◌∷◌, Option, Some, None, bytes_eq, nat_le, not}
 use Rattle.std.specs.Borrow.{Bor}
 use Rattle.std.specs.List.{list_any}
-use Rattle.tc_capture.specs.declared.kind.Holds.{Holds}
+use Rattle.tc_capture.specs.declared.kind.MessageType.{MessageType}
 use Rattle.tc_capture.specs.declared.time.Time.{Time}
 use Rattle.tc_chosen.specs.declared.types.Types.{Types}
 use Rattle.tc_chosen.specs.declared.chosen.Chosen.{Chosen}
@@ -57,7 +57,7 @@ is_within since until time = is_since since time && is_until until time
 pub record Message : Type 0 where
   pub time : Option Time
   pub rtm : Option ℕ
-  pub holds : Holds
+  pub holds : MessageType
   pub payload : List ℕ
 
 -- what contracts see of one

@@ -3,22 +3,22 @@
 use Rattle.std.specs.Prelude.{ℕ, ◌+◌, ◌/◌, ◌==◌, ◌&&◌, ◌||◌, Bool, true, List, [], ◌∷◌, length, drop, Option, Some, None, nat_le, if◌then◌else◌}
 use Rattle.byteorder.specs.Endian.{little_number}
 use Rattle.nla_frames.specs.Frame.{Frame, type_of}
-use Rattle.tc_capture.specs.declared.kind.Holds.{Holds}
-use Rattle.tc_capture.specs.declared.kind.Holds.TheVariants.{Tc, Action}
+use Rattle.tc_capture.specs.declared.kind.MessageType.{MessageType}
+use Rattle.tc_capture.specs.declared.kind.MessageType.TheVariants.{Tc, Action}
 use Rattle.tc_chosen.specs.Kinds.{frames_in}
 
 -- the number of four bytes at a place of a traffic control message, where it is there
-abbrev pub number_at : ℕ → Holds → List ℕ → Option ℕ
+abbrev pub number_at : ℕ → MessageType → List ℕ → Option ℕ
 number_at at Tc message = if nat_le (at + 4) (length message) then Some (little_number 4 (drop at message)) else None
 number_at at Action message = None
 
-abbrev pub interface_in : Holds → List ℕ → Option ℕ
+abbrev pub interface_in : MessageType → List ℕ → Option ℕ
 interface_in holds message = number_at 4 holds message
 
-abbrev pub handle_in : Holds → List ℕ → Option ℕ
+abbrev pub handle_in : MessageType → List ℕ → Option ℕ
 handle_in holds message = number_at 8 holds message
 
-abbrev pub parent_in : Holds → List ℕ → Option ℕ
+abbrev pub parent_in : MessageType → List ℕ → Option ℕ
 parent_in holds message = number_at 12 holds message
 
 -- filters are of the types 44 to 46 (RTM_NEWTFILTER and so on), chains of 100 to 102; what has no netlink header may be either
@@ -35,7 +35,7 @@ abbrev pub priority_of : Option ℕ → Option ℕ
 priority_of None = None
 priority_of (Some info) = Some (info / 65536)
 
-abbrev pub priority_in : Option ℕ → Holds → List ℕ → Option ℕ
+abbrev pub priority_in : Option ℕ → MessageType → List ℕ → Option ℕ
 priority_in rtm holds message = if may_be_filter rtm then priority_of (number_at 16 holds message) else None
 
 -- the chain of a filter, or the chain itself: the last TCA_CHAIN (11) of four bytes, and 0 where there is none
@@ -46,9 +46,9 @@ abbrev pub chain_from : ℕ → List Frame → ℕ
 chain_from chain [] = chain
 chain_from chain (f ∷ frames) = chain_from (if is_chain f then little_number 4 f.value else chain) frames
 
-abbrev pub chain_of : Holds → List ℕ → Option ℕ
+abbrev pub chain_of : MessageType → List ℕ → Option ℕ
 chain_of Tc message = if nat_le 20 (length message) then Some (chain_from 0 (frames_in (drop 20 message))) else None
 chain_of Action message = None
 
-abbrev pub chain_in : Option ℕ → Holds → List ℕ → Option ℕ
+abbrev pub chain_in : Option ℕ → MessageType → List ℕ → Option ℕ
 chain_in rtm holds message = if may_be_filter rtm || may_be_chain rtm then chain_of holds message else None

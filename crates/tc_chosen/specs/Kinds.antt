@@ -4,8 +4,8 @@ use Rattle.nla_frames.specs.Frame.{Frame, type_of}
 use Rattle.nla_frames.specs.Cutting.{cut}
 use Rattle.nla_frames.specs.Place.{kind_then}
 use Rattle.tc_canon.specs.Kind.{kind_of_frame, kinds_of_frames}
-use Rattle.tc_capture.specs.declared.kind.Holds.{Holds}
-use Rattle.tc_capture.specs.declared.kind.Holds.TheVariants.{Tc, Action}
+use Rattle.tc_capture.specs.declared.kind.MessageType.{MessageType}
+use Rattle.tc_capture.specs.declared.kind.MessageType.TheVariants.{Tc, Action}
 
 -- the frames of a list, up to the first broken one
 abbrev pub frames_in : List ℕ → List Frame
@@ -50,6 +50,6 @@ kinds_from kind (f ∷ frames) = kinds_at kind f ++ kinds_from (kind_then kind_o
 
 -- the kinds in a message behind its header, `struct tcmsg` of 20 bytes or `struct tcamsg` of 4: of a message of actions those in the
 -- attributes of type 1 (TCA_ACT_TAB)
-abbrev pub kinds_in : Holds → List ℕ → List (List ℕ)
+abbrev pub kinds_in : MessageType → List ℕ → List (List ℕ)
 kinds_in Tc message = kinds_from [] (frames_in (drop 20 message))
 kinds_in Action message = kinds_under (Some 1) (frames_in (drop 4 message))

@@ -6,7 +6,7 @@ ghost use Rattle.tc_chosen.specs.Chosen.{asks, is_among, is_in, is_by, is_since,
 use crate::header::{chain_in, handle_in, interface_in, parent_in, priority_in};
 use crate::kinds::has_kind;
 use crate::types::Types;
-use tc_capture::{Holds, Time};
+use tc_capture::{MessageType, Time};
 
 /// Which messages are chosen: those that each option takes. An option takes a message that has one of its values, and an
 /// option without values takes each.
@@ -42,7 +42,7 @@ pub struct Message<'a> {
     /// `nlmsg_type`; `None` of a message without a netlink header.
     pub rtm: Option<u16>,
     /// Which of the two messages it is.
-    pub holds: Holds,
+    pub holds: MessageType,
     /// What follows the netlink header.
     pub payload: &'a [u8],
 }

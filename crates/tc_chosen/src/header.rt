@@ -7,7 +7,7 @@ ghost use Rattle.tc_chosen.specs.Kinds.{frames_in};
 
 use crate::kinds::behind;
 use nla_frames::NlasIterator;
-use tc_capture::Holds;
+use tc_capture::MessageType;
 use tc_capture::order::Order;
 
 // Where `struct tcmsg` has its fields, and how long it is.
@@ -25,28 +25,28 @@ const TCMSG_LEN: usize = 20;
 const TCA_CHAIN: u16 = 11;
 
 /// The number of the interface of a message; `None` of an action message.
-pub fn interface_in(holds: Holds, message: &[u8]) -> Option<u32>
+pub fn interface_in(holds: MessageType, message: &[u8]) -> Option<u32>
     ensures { result ≡ interface_in holds message.now }
 {
     number_at(IFINDEX, holds, message)
 }
 
 /// The handle of a message; `None` of an action message.
-pub fn handle_in(holds: Holds, message: &[u8]) -> Option<u32>
+pub fn handle_in(holds: MessageType, message: &[u8]) -> Option<u32>
     ensures { result ≡ handle_in holds message.now }
 {
     number_at(HANDLE, holds, message)
 }
 
 /// The parent of a message; `None` of an action message.
-pub fn parent_in(holds: Holds, message: &[u8]) -> Option<u32>
+pub fn parent_in(holds: MessageType, message: &[u8]) -> Option<u32>
     ensures { result ≡ parent_in holds message.now }
 {
     number_at(PARENT, holds, message)
 }
 
 /// The priority of a filter; `None` of any other message.
-pub fn priority_in(rtm: Option<u16>, holds: Holds, message: &[u8]) -> Option<u32>
+pub fn priority_in(rtm: Option<u16>, holds: MessageType, message: &[u8]) -> Option<u32>
     ensures { result ≡ priority_in rtm holds message.now }
 {
     if !may_be_filter(rtm) {
@@ -59,7 +59,7 @@ pub fn priority_in(rtm: Option<u16>, holds: Holds, message: &[u8]) -> Option<u32
 }
 
 /// The chain of a filter, or the chain itself; `None` of any other message.
-pub fn chain_in(rtm: Option<u16>, holds: Holds, message: &[u8]) -> Option<u32>
+pub fn chain_in(rtm: Option<u16>, holds: MessageType, message: &[u8]) -> Option<u32>
     ensures { result ≡ chain_in rtm holds message.now }
 {
     if may_be_filter(rtm) || may_be_chain(rtm) {
@@ -90,35 +90,35 @@ fn may_be_chain(rtm: Option<u16>) -> bool
 }
 
 // The number of four bytes at a place of a traffic control message, where it is there.
-fn number_at(at: usize, holds: Holds, message: &[u8]) -> Option<u32>
+fn number_at(at: usize, holds: MessageType, message: &[u8]) -> Option<u32>
     requires { at ≤ 16 }
     ensures { result ≡ number_at at holds message.now }
 {
     match holds {
-        Holds::Tc => {
+        MessageType::Tc => {
             if at + 4 <= message.len() {
                 Some(Order::Little.u32_at(message, at))
             } else {
                 None
             }
         }
-        Holds::Action => None,
+        MessageType::Action => None,
     }
 }
 
 // The chain that a message is of.
-fn chain_of(holds: Holds, message: &[u8]) -> Option<u32>
+fn chain_of(holds: MessageType, message: &[u8]) -> Option<u32>
     ensures { result ≡ chain_of holds message.now }
 {
     match holds {
-        Holds::Tc => {
+        MessageType::Tc => {
             if TCMSG_LEN <= message.len() {
                 Some(last_chain(behind(TCMSG_LEN, message)))
             } else {
                 None
             }
         }
-        Holds::Action => None,
+        MessageType::Action => None,
     }
 }
 

@@ -9,15 +9,15 @@ ghost use Rattle.tc_chosen.specs.Kinds.{frames_in, actions_type, action_kinds, k
 ghost use Rattle.tc_chosen.specs.Chosen.{is_kind};
 
 use nla_frames::{NlaBuffer, NlasIterator, strip_nul};
-use tc_capture::Holds;
+use tc_capture::MessageType;
 
 /// True if one of these kinds is in a message: its own, or that of one of its actions.
-pub fn has_kind(asked: &[&str], holds: Holds, message: &[u8]) -> bool
+pub fn has_kind(asked: &[&str], holds: MessageType, message: &[u8]) -> bool
     ensures { result ≡ list_any (is_kind asked.now) (kinds_in holds message.now) }
 {
     match holds {
-        Holds::Tc => in_message(asked, behind(20, message)),
-        Holds::Action => in_frames(asked, 1, behind(4, message)),
+        MessageType::Tc => in_message(asked, behind(20, message)),
+        MessageType::Action => in_frames(asked, 1, behind(4, message)),
     }
 }
 

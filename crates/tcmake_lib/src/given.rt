@@ -10,7 +10,7 @@ use crate::complaint::Complaint;
 use crate::members::{Numbered, missing, number_of, number_or, wrong};
 use serde_json::Value;
 use std::alloc::Global;
-use tc_capture::{Holds, Time, rtm_of};
+use tc_capture::{MessageType, Time, rtm_of};
 use tcmake_lines::{Given, OUTGOING, PacketOf, packet_at};
 
 const NO_TIME: Time = Time {
@@ -180,7 +180,7 @@ const PACKET_TYPE: Numbered = Numbered {
 };
 
 // The message type, and what the payload is; a line without a type shows that by its header.
-fn type_in(alloc: Global, json: &Value, message: &Value) -> Result<(Option<u16>, Holds), Complaint>
+fn type_in(alloc: Global, json: &Value, message: &Value) -> Result<(Option<u16>, MessageType), Complaint>
     ensures { IfOk result (λ given. IsTyped (view json.now) (view message.now) given.0 given.1) }
 {
     match json.get("type") {
@@ -201,7 +201,7 @@ fn type_in(alloc: Global, json: &Value, message: &Value) -> Result<(Option<u16>,
 }
 
 // The number of the message type of this name, and what its payload is.
-fn type_named(name: &str) -> Option<(u16, Holds)>
+fn type_named(name: &str) -> Option<(u16, MessageType)>
     ensures { IfSome result (λ found. rtm_at found.0 ≡ Some (record { holds = found.1; name = name.now })) }
 {
     for kind in 36..103u16 {
@@ -215,15 +215,15 @@ fn type_named(name: &str) -> Option<(u16, Holds)>
 }
 
 // What a message of this JSON is: the header of an action message has no interface.
-fn holds_by_header(message: &Value) -> Holds
+fn holds_by_header(message: &Value) -> MessageType
     ensures { result ≡ holds_by_header (view message.now) }
 {
     match message.get("header") {
         Some(header) => match header.get("index") {
-            Some(_) => Holds::Tc,
-            None => Holds::Action,
+            Some(_) => MessageType::Tc,
+            None => MessageType::Action,
         },
-        None => Holds::Tc,
+        None => MessageType::Tc,
     }
 }
 

@@ -10,7 +10,7 @@ use crate::save::{Names, Save, is_of_save};
 use serde_json::Value;
 use std::alloc::{AllocError, Global};
 use std::io::BufRead;
-use tc_capture::Holds;
+use tc_capture::MessageType;
 use tc_forms::Tables;
 use tc_forms_text::read_json;
 use tc_streams::Stop;
@@ -283,7 +283,7 @@ fn is_dump(given: &Given) -> Result<bool, Complaint> {
 
 // A message of this interface, if one is given; what is in a block that interfaces share has none (its index is -1).
 fn with_index(mut made: Made, index: Option<i32>) -> Made {
-    if let (Holds::Tc, Some(index)) = (made.given.holds, index) {
+    if let (MessageType::Tc, Some(index)) = (made.given.holds, index) {
         set_index(&mut made.bytes, index);
     }
     made

@@ -13,7 +13,7 @@ use crate::message::{Forms, Message, message_of};
 use crate::save::is_of_save;
 use serde_json::Value;
 use std::alloc::Global;
-use tc_capture::Holds;
+use tc_capture::MessageType;
 use tc_forms::Tables;
 use tc_forms_strict::Difference;
 use tc_forms_text::{ReadError, read_json};
@@ -74,7 +74,7 @@ fn message_in<T: Tables>(
     alloc: Global,
     forms: Forms<T>,
     making: Making,
-    holds: Holds,
+    holds: MessageType,
     json: &Value,
 ) -> Result<Message, Complaint>
     ensures { IfOk result (λ m. IsMade (T.parts_of forms.table) (form_of forms.tc forms.action holds) making holds

@@ -3,12 +3,12 @@
 ghost use Rattle.std.specs.Prelude.{◌≡◌, None};
 ghost use Rattle.tcmake_lines.specs.Written.{is_same, same_number};
 
-use tc_capture::{Holds, Time};
+use tc_capture::{MessageType, Time};
 
 /// What a line says of its message, beside the message.
 #[derive(Clone, Copy)]
 pub struct Given {
-    pub holds: Holds,
+    pub holds: MessageType,
     /// `nlmsg_type`; none where the line holds the message alone.
     pub kind: Option<u16>,
     pub flags: u16,

@@ -1,18 +1,18 @@
 -- The line of a message, by which of the two it is.
 use Rattle.std.proofs.Common.{◌≡◌, ℕ, Bool, true, false, List, subst, sym, ap}
 use Rattle.nla_frames.specs.declared.error.DecodeError.{DecodeError}
-use Rattle.tc_capture.specs.declared.kind.Holds.{Holds}
+use Rattle.tc_capture.specs.declared.kind.MessageType.{MessageType}
 use Rattle.tc_meaning.specs.Message.{Message as Meaning}
 use Rattle.tc_meaning.specs.Whole.{Words, Correspond}
 use Rattle.tcshow_lib.specs.ByWords.{words_by, is_fault, is_refused, IsLineOf}
 use Rattle.tcshow_lib.specs.Found.{Message}
 use Rattle.tcshow_lib.specs.Line.{IsLine}
 
-pub line_is : (h : Holds) (m : Message) (line : List ℕ) → m.holds ≡ h → IsLine (words_by h) m line → IsLineOf m line
+pub line_is : (h : MessageType) (m : Message) (line : List ℕ) → m.holds ≡ h → IsLine (words_by h) m line → IsLineOf m line
 unfolding IsLineOf
 line_is h m line e x = subst (λ k. IsLine (words_by k) m line) (sym e) x
 
-pub refused_is : (h : Holds) (m : Message) (b : Bool) → m.holds ≡ h → b ≡ is_fault ((words_by h).read m.payload) → b ≡ is_refused m
+pub refused_is : (h : MessageType) (m : Message) (b : Bool) → m.holds ≡ h → b ≡ is_fault ((words_by h).read m.payload) → b ≡ is_refused m
 unfolding is_refused
 refused_is h m b e x = subst (λ k. b ≡ is_fault ((words_by k).read m.payload)) (sym e) x
 

@@ -2,7 +2,7 @@
 use Rattle.std.proofs.Common.{◌≡◌, ◌∙◌, ◌<◌, ℕ, Bool, true, false, List, [], ◌∷◌, ◌++◌, length, take, refl, sym, ap, subst, append_assoc, append-nil}
 use Rattle.std.specs.Prelude.{Option, Some, None, IfSome, if◌then◌else◌}
 use Rattle.std.specs.Io.KnownBytes.{Keeps, prepend_known}
-use Rattle.tc_capture.specs.declared.kind.Holds.{Holds}
+use Rattle.tc_capture.specs.declared.kind.MessageType.{MessageType}
 use Rattle.tc_capture.specs.Capture.{State, capture_at}
 use Rattle.tc_capture_laws.specs.Pieces.{What, skipped, rest}
 use Rattle.tc_input.specs.declared.lines.LineGap.TheVariants as line_gap
@@ -77,7 +77,7 @@ same_place n s t on xs before after same given = subst (λ (k : State). GivesUpT
 
 -- ---- of lines of hex
 
-module _ (header : Option Holds) (dump line : List ℕ) where
+module _ (header : Option MessageType) (dump line : List ℕ) where
   pub line_gives : (next : List ℕ) (before : Option (List ℕ)) (now gone : List ℕ) (reader : Option (List ℕ))
       → Gives (lines_left before) (line ∷ []) (lines_left (prepend_known gone reader)) → now ≡ gone → next ≡ dump_after dump line
       → Gives (text_left header dump before) (things_at header dump line) (text_left header next (prepend_known now reader))
@@ -123,30 +123,30 @@ module _ (header : Option Holds) (dump line : List ℕ) where
         ap (λ d. things_at header dump line ++ things_dumped header d) no_dump ∙ append-nil (things_at header dump line) ∙ long_things in
         subst (λ xs. Gives (text_left header dump before) xs (Some [])) all (last_gives before h)
 
-pub text_kept : (header : Option Holds) (dump : List ℕ) (before after : Option (List ℕ)) → Keeps before after
+pub text_kept : (header : Option MessageType) (dump : List ℕ) (before after : Option (List ℕ)) → Keeps before after
     → Gives (text_left header dump before) [] (text_left header dump after)
 text_kept header dump None after kept = tt
 text_kept header dump (Some x) None kept = absurd kept
 text_kept header dump (Some x) (Some y) kept = ap (λ l. things_on_lines header dump (lines_of l)) (sym kept)
 
-pub long_gives : (header : Option Holds) (dump next : List ℕ) (n : ℕ) (on : Bool) (now : List ℕ) (before after : Option (List ℕ))
+pub long_gives : (header : Option MessageType) (dump next : List ℕ) (n : ℕ) (on : Bool) (now : List ℕ) (before after : Option (List ℕ))
     → IsLineGap (line_gap.Long n on) now before after → next ≡ []
     → GivesUpTo on (text_left header dump before) (things_dumped header dump ++ (hole false ∷ [])) (text_left header next after)
 long_gives header dump next n true now before after h none = long_goes_on header dump h.0 h.1 next before after h.2 none
 long_gives header dump next n false now before after h none = long_ends header dump h.0 h.1 before h.2
 
 -- the header that lines have stays
-pub same_header : (h k : Option Holds) (d e : List ℕ) (on : Bool) (xs : List Thing) (before after : Option (List ℕ)) → h ≡ k
+pub same_header : (h k : Option MessageType) (d e : List ℕ) (on : Bool) (xs : List Thing) (before after : Option (List ℕ)) → h ≡ k
     → GivesUpTo on (text_left h d before) xs (text_left h e after) → GivesUpTo on (text_left k d before) xs (text_left k e after)
 same_header h k d e on xs before after same given =
-    subst (λ (j : Option Holds). GivesUpTo on (text_left j d before) xs (text_left j e after)) same given
+    subst (λ (j : Option MessageType). GivesUpTo on (text_left j d before) xs (text_left j e after)) same given
 
 -- ---- of an input
 
 pub all_are : (all things : List Thing) → all ≡ things ++ [] → Some all ≡ Some things
 all_are all things h = ap Some (h ∙ append-nil things)
 
-pub capture_begins : (header : Option Holds) (first : List ℕ) (file : Option (List ℕ)) (s : State) (n : ℕ) (things : List Thing)
+pub capture_begins : (header : Option MessageType) (first : List ℕ) (file : Option (List ℕ)) (s : State) (n : ℕ) (things : List Thing)
     → capture_at (take 4 first) ≡ Some s → n ≡ 0 → Gives (capture_left n s file) things (Some []) → Begins first file header things
 unfolding things_in_file
 capture_begins header first None s n things is none h = tt
@@ -155,7 +155,7 @@ capture_begins header first (Some bytes) s n things is none h = λ same.
     ∙ ap (λ k. Some (things_in_pieces k (found_in s bytes))) (sym none)
     ∙ all_are (things_in_pieces n (found_in s bytes)) things h
 
-pub text_begins : (header : Option Holds) (first : List ℕ) (file : Option (List ℕ)) (things : List Thing) → capture_at (take 4 first) ≡ None
+pub text_begins : (header : Option MessageType) (first : List ℕ) (file : Option (List ℕ)) (things : List Thing) → capture_at (take 4 first) ≡ None
     → is_hex_text (take 4 first) ≡ true → Gives (text_left header [] file) things (Some []) → Begins first file header things
 unfolding things_in_file
 text_begins header first None things is hex h = tt
@@ -165,7 +165,7 @@ text_begins header first (Some bytes) things is hex h = λ same.
     ∙ all_are (things_on_lines header [] (lines_of bytes)) things h
 
 -- the first bytes of an input are those of the file
-pub begun_are : (header : Option Holds) (first : List ℕ) (file left : Option (List ℕ)) (things : List Thing) → Keeps file left
+pub begun_are : (header : Option MessageType) (first : List ℕ) (file left : Option (List ℕ)) (things : List Thing) → Keeps file left
     → IfSome file (λ bytes. take 4 first ≡ take 4 bytes) → Begins first left header things → AreIn file header things
 begun_are header first None left things kept same h = tt
 begun_are header first (Some bytes) None things kept same h = absurd kept

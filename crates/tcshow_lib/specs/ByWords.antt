@@ -1,14 +1,14 @@
 -- The grammar's words of each of the two messages, and the line of a message by them.
 use Rattle.std.specs.Prelude.{ℕ, Bool, true, false, List, Ok, Err}
 use Rattle.nla_frames.specs.Fault.{Outcome}
-use Rattle.tc_capture.specs.declared.kind.Holds.{Holds}
-use Rattle.tc_capture.specs.declared.kind.Holds.TheVariants.{Tc, Action}
+use Rattle.tc_capture.specs.declared.kind.MessageType.{MessageType}
+use Rattle.tc_capture.specs.declared.kind.MessageType.TheVariants.{Tc, Action}
 use Rattle.tc_meaning.specs.Message.{Message as Meaning}
 use Rattle.tc_meaning.specs.Whole.{Words, tc_words, action_words}
 use Rattle.tcshow_lib.specs.Found.{Message}
 use Rattle.tcshow_lib.specs.Line.{IsLine}
 
-abbrev pub words_by : Holds → Words Meaning
+abbrev pub words_by : MessageType → Words Meaning
 words_by Tc = tc_words
 words_by Action = action_words
 

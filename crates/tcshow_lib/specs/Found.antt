@@ -2,7 +2,7 @@
 use Rattle.std.specs.Prelude.{ℕ, Bool, true, false, List, [], ◌∷◌, ◌++◌, length, drop, slice_index, Option, Some, None, Ok, Err, codes, map, option_map}
 use Rattle.std.specs.Prelude.{◌==◌, ◌&&◌, is_some, nat_lt, not, if◌then◌else◌}
 use Rattle.std.specs.List.{list_all}
-use Rattle.tc_capture.specs.declared.kind.Holds.{Holds}
+use Rattle.tc_capture.specs.declared.kind.MessageType.{MessageType}
 use Rattle.tc_capture.specs.Answer.{Answer, answer_in}
 use Rattle.tc_capture.specs.Kind.{Named, rtm_at}
 use Rattle.tc_capture.specs.Message.{Message as Netlink}
@@ -32,7 +32,7 @@ pub record Header : Type 0 where
 pub record Message : Type 0 where
   pub origin : Origin
   pub header : Option Header
-  pub holds : Holds
+  pub holds : MessageType
   pub payload : List ℕ
 
 -- what is found: a message of traffic control; an answer of the kernel to such a request, which is quoted; another netlink message; a place
@@ -123,7 +123,7 @@ is_cooked bytes = slice_index bytes 2 == 3 && slice_index bytes 3 == 56 && slice
 abbrev pub behind_cooked : List ℕ → List ℕ
 behind_cooked bytes = if nat_lt (length bytes) 16 then bytes else if is_cooked bytes then drop 16 bytes else bytes
 
-abbrev pub things_on_line : Option Holds → List ℕ → List Thing
+abbrev pub things_on_line : Option MessageType → List ℕ → List Thing
 things_on_line None bytes = things_in nowhere (behind_cooked bytes)
 things_on_line (Some holds) bytes = message (record { origin = nowhere; header = None; holds = holds; payload = bytes }) ∷ []
 

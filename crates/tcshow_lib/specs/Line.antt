@@ -6,8 +6,8 @@ use Rattle.serde_json.specs.Sent.{IsTextOf}
 use Rattle.nla_frames.specs.Fault.{name_of}
 use Rattle.nla_frames.specs.declared.error.DecodeError.{DecodeError}
 use Rattle.nla_frames.specs.declared.error.DecodeError.TheVariants as fault
-use Rattle.tc_capture.specs.declared.kind.Holds.{Holds}
-use Rattle.tc_capture.specs.declared.kind.Holds.TheVariants.{Tc, Action}
+use Rattle.tc_capture.specs.declared.kind.MessageType.{MessageType}
+use Rattle.tc_capture.specs.declared.kind.MessageType.TheVariants.{Tc, Action}
 use Rattle.tc_form_values.specs.declared.form.Form.{Form}
 use Rattle.tc_form_values.specs.Sent.{events}
 use Rattle.tc_forms.specs.Shown.{shown_of}
@@ -83,15 +83,15 @@ origin_events time origin header = place_in_capture time origin.packet origin.pa
 -- ---- the message
 
 -- the form of each of the two messages
-abbrev pub form_of : Holds → Form
+abbrev pub form_of : MessageType → Form
 form_of Tc = tc_message
 form_of Action = action_message
 
 -- what is shown of the bytes of a message, whatever they are
-abbrev pub shown_events : Holds → List ℕ → List Event
+abbrev pub shown_events : MessageType → List ℕ → List Event
 shown_events holds payload = events (shown_of tc_tables (form_of holds) payload)
 
-abbrev pub message_events : Holds → List ℕ → List Event
+abbrev pub message_events : MessageType → List ℕ → List Event
 message_events holds payload = field (codes "message") (shown_events holds payload)
 
 -- ---- what the codec says of it
@@ -132,7 +132,7 @@ verdict_events (Refused e offset path) = fault_events e.now offset path.now
 -- ---- the line of a message
 
 -- after its origin
-abbrev pub told_events : List Event → Holds → List ℕ → List Event
+abbrev pub told_events : List Event → MessageType → List ℕ → List Event
 told_events verdict holds payload = verdict ++ message_events holds payload
 
 abbrev pub line_events : Option (List ℕ) → Message → List Event → List Event
@@ -161,7 +161,7 @@ module _ (words : Words Meaning) (m : Message) where
 -- ---- the line of an answer of the kernel
 
 -- the message of the request that it quotes: what is shown of its bytes, unless it is capped
-abbrev pub quoted_events : Bool → Holds → List ℕ → List Event
+abbrev pub quoted_events : Bool → MessageType → List ℕ → List Event
 quoted_events true holds payload = []
 quoted_events false holds payload = message_events holds payload
 

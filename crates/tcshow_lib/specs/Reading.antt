@@ -1,7 +1,7 @@
 -- What is found in an input: the pieces of a capture, or the lines of a text, in their order.
 use Rattle.std.specs.Prelude.{◌≡◌, ℕ, ◌+◌, ◌-◌, ◌^◌, min, Bool, true, false, ◌||◌, ◌&&◌, ◌==◌, nat_le, List, [], ◌∷◌, ◌++◌, take}
 use Rattle.std.specs.Prelude.{Option, Some, None, Ok, Err, IfSome, option_map, if◌then◌else◌}
-use Rattle.tc_capture.specs.declared.kind.Holds.{Holds}
+use Rattle.tc_capture.specs.declared.kind.MessageType.{MessageType}
 use Rattle.tc_capture.specs.declared.packet.Link.{Link}
 use Rattle.tc_capture.specs.declared.packet.Link.TheVariants.{Plain, Cooked, Other}
 use Rattle.tc_capture.specs.Capture.{State, capture_at}
@@ -70,24 +70,24 @@ is_passed End = false
 -- ---- of lines of hex
 
 -- what is found on a line
-abbrev pub things_said : Option Holds → OnLine → List Thing
+abbrev pub things_said : Option MessageType → OnLine → List Thing
 things_said header nothing = []
 things_said header no_hex = hole true ∷ []
 things_said header too_long = hole false ∷ []
 things_said header (octets bs) = things_on_line header bs
 
 -- what is found in a dump, where there is one
-abbrev pub things_dumped : Option Holds → List ℕ → List Thing
+abbrev pub things_dumped : Option MessageType → List ℕ → List Thing
 things_dumped header [] = []
 things_dumped header (b ∷ dump) = things_on_line header (b ∷ dump)
 
 -- what is known to be found after one more line, behind the bytes of a dump: nothing yet where the dump goes on
-abbrev pub things_by_place : Option Holds → List ℕ → List ℕ → Place → List Thing
+abbrev pub things_by_place : Option MessageType → List ℕ → List ℕ → Place → List Thing
 things_by_place header dump line (begins bytes) = things_dumped header dump
 things_by_place header dump line (goes_on bytes) = []
 things_by_place header dump line apart = things_dumped header dump ++ things_said header (on_line line)
 
-abbrev pub things_at : Option Holds → List ℕ → List ℕ → List Thing
+abbrev pub things_at : Option MessageType → List ℕ → List ℕ → List Thing
 things_at header dump line = things_by_place header dump line (place_at dump line)
 
 -- the bytes of the dump then
@@ -99,7 +99,7 @@ dump_by_place dump apart = []
 abbrev pub dump_after : List ℕ → List ℕ → List ℕ
 dump_after dump line = dump_by_place dump (place_at dump line)
 
-abbrev pub things_on_lines : Option Holds → List ℕ → List (List ℕ) → List Thing
+abbrev pub things_on_lines : Option MessageType → List ℕ → List (List ℕ) → List Thing
 things_on_lines header dump [] = things_dumped header dump
 things_on_lines header dump (line ∷ lines) = things_at header dump line ++ things_on_lines header (dump_after dump line) lines
 
@@ -118,20 +118,20 @@ is_hex_text (b ∷ first) = is_hex_digit b || is_blank b
 -- ---- of an input
 
 -- by its first four bytes
-abbrev pub things_by : Option Holds → Option State → List ℕ → Option (List Thing)
+abbrev pub things_by : Option MessageType → Option State → List ℕ → Option (List Thing)
 things_by header (Some s) file = Some (things_in_pieces 0 (found_in s file))
 things_by header None file = if is_hex_text (take 4 file) then Some (things_on_lines header [] (lines_of file)) else None
 
 -- what is found in a file that is a capture, or lines of hex
-unfoldable pub things_in_file : Option Holds → List ℕ → Option (List Thing)
+unfoldable pub things_in_file : Option MessageType → List ℕ → Option (List Thing)
 things_in_file header file = things_by header (capture_at (take 4 file)) file
 
 -- these things, where the file is known
-abbrev pub AreIn : Option (List ℕ) → Option Holds → List Thing → Type 0
+abbrev pub AreIn : Option (List ℕ) → Option MessageType → List Thing → Type 0
 AreIn file header things = IfSome file (λ bytes. things_in_file header bytes ≡ Some things)
 
 -- the same of an input of which the first bytes were read
-abbrev pub Begins : List ℕ → Option (List ℕ) → Option Holds → List Thing → Type 0
+abbrev pub Begins : List ℕ → Option (List ℕ) → Option MessageType → List Thing → Type 0
 Begins first file header things = IfSome file (λ bytes. take 4 first ≡ take 4 bytes → things_in_file header bytes ≡ Some things)
 
 -- ---- of what is left of it
@@ -139,7 +139,7 @@ Begins first file header things = IfSome file (λ bytes. take 4 first ≡ take 4
 abbrev pub capture_left : ℕ → State → Option (List ℕ) → Option (List Thing)
 capture_left n s left = option_map (things_in_pieces n) (pieces_left s left)
 
-abbrev pub text_left : Option Holds → List ℕ → Option (List ℕ) → Option (List Thing)
+abbrev pub text_left : Option MessageType → List ℕ → Option (List ℕ) → Option (List Thing)
 text_left header dump left = option_map (things_on_lines header dump) (lines_left left)
 
 -- these come first, and then what is left; or they are all

@@ -1,7 +1,7 @@
 -- What a run has come to.
 use Rattle.std.specs.Prelude.{◌≡◌, ℕ, Bool, true, false, not, [], ◌||◌, ◌==◌, List, ◌++◌, Option}
 use Rattle.std.specs.Io.KnownBytes.{Appends}
-use Rattle.tc_capture.specs.declared.kind.Holds.{Holds}
+use Rattle.tc_capture.specs.declared.kind.MessageType.{MessageType}
 use Rattle.tc_chosen.specs.declared.chosen.Chosen.{Chosen}
 use Rattle.tcshow_lib.specs.declared.asked.Asked.{Asked}
 use Rattle.tcshow_lib.specs.declared.asked.Form.{Form}
@@ -16,7 +16,7 @@ use Rattle.tcshow_lib.specs.Shown.{ShowsEach, ShowsSummary}
 -- was refused or broken
 pub record State : Type 0 where
   pub json : Bool
-  pub header : Option Holds
+  pub header : Option MessageType
   pub choice : Chosen
   pub summary : Bool
   pub text : List ℕ

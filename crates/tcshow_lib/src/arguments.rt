@@ -4,7 +4,7 @@ use crate::asked::Form;
 use clap::{Arg, ArgAction, ArgGroup, ArgMatches, Command, Error, value_parser};
 use std::alloc::{AllocError, Global};
 use std::convert::AsStr;
-use tc_capture::Holds;
+use tc_capture::MessageType;
 
 /// What the program does.
 #[derive(Clone, Copy, PartialEq, Eq)]
@@ -31,7 +31,7 @@ pub struct Request<'a> {
     /// True if paddings are shown too.
     pub all: bool,
     /// What lines of hex without a netlink header are.
-    pub without_header: Option<Holds>,
+    pub without_header: Option<MessageType>,
     /// The kinds of the messages that are shown, or of their actions.
     pub kinds: Vec<&'a str>,
     /// Their types.
@@ -381,10 +381,10 @@ fn colours_of(matches: &ArgMatches<'_>) -> Colours {
     }
 }
 
-fn without_header(matches: &ArgMatches<'_>) -> Option<Holds> {
+fn without_header(matches: &ArgMatches<'_>) -> Option<MessageType> {
     match matches.get_str("no-header") {
-        Some("tc") => Some(Holds::Tc),
-        Some("action") => Some(Holds::Action),
+        Some("tc") => Some(MessageType::Tc),
+        Some("action") => Some(MessageType::Action),
         _ => None,
     }
 }

@@ -1,7 +1,7 @@
 //! What is asked for.
 
 use crate::arguments::Request;
-use tc_capture::Holds;
+use tc_capture::MessageType;
 use tc_chosen::Chosen;
 use tc_outline::Interfaces;
 
@@ -22,7 +22,7 @@ pub struct Asked<'a> {
     /// How messages are shown.
     pub form: Form,
     /// What each line of hex is, where it is the payload of a netlink message; `None` if it has the netlink header.
-    pub without_header: Option<Holds>,
+    pub without_header: Option<MessageType>,
     /// Which messages are shown.
     pub chosen: Chosen<'a>,
     /// True if paddings are shown too.

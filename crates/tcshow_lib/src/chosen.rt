@@ -8,7 +8,7 @@ use crate::found::Found;
 use crate::shower::Shower;
 use nla_frames::DecodeError;
 use std::alloc::{AllocError, Allocator};
-use tc_capture::Holds;
+use tc_capture::MessageType;
 use tc_chosen::Message;
 use tc_wire::{TcActionMessage, TcMessage, WholeMessage};
 
@@ -73,8 +73,8 @@ fn is_refused<A: Allocator + Copy>(alloc: A, found: &Found<'_>) -> Result<bool, 
     ensures { IfOk result (λ refused. refused ≡ is_refused (message_view found.now)) }
 {
     match found.holds {
-        Holds::Tc => is_refused_as::<A, TcMessage<A>>(alloc, found.payload),
-        Holds::Action => is_refused_as::<A, TcActionMessage<A>>(alloc, found.payload),
+        MessageType::Tc => is_refused_as::<A, TcMessage<A>>(alloc, found.payload),
+        MessageType::Action => is_refused_as::<A, TcActionMessage<A>>(alloc, found.payload),
     }
 }
 

@@ -5,7 +5,7 @@ ghost use Rattle.tc_capture.specs.Message.{message_of};
 ghost use Rattle.tcshow_lib.specs.Found.{header_view, header_with};
 
 use nla_frames::{NlasIterator, strip_nul};
-use tc_capture::{Holds, NetlinkMessage, Time, rtm_of};
+use tc_capture::{MessageType, NetlinkMessage, Time, rtm_of};
 use tc_outline::What;
 
 /// What is shown of the header of a netlink message.
@@ -48,7 +48,7 @@ pub(crate) struct Found<'a> {
     pub(crate) origin: Origin,
     /// The header of its netlink message, where there is one.
     pub(crate) header: Option<Header>,
-    pub(crate) holds: Holds,
+    pub(crate) holds: MessageType,
     pub(crate) what: What,
     pub(crate) payload: &'a [u8],
 }
@@ -77,7 +77,7 @@ impl<'a> Found<'a> {
     }
 
     /// A message without the header of a netlink message.
-    pub(crate) fn alone(holds: Holds, payload: &'a [u8]) -> Found<'a>
+    pub(crate) fn alone(holds: MessageType, payload: &'a [u8]) -> Found<'a>
         ensures { message_view result ≡ record { origin = nowhere; header = None; holds = holds; payload = payload.now } }
     {
         Found {
@@ -118,10 +118,10 @@ pub(crate) fn header_of(name: &'static str, message: &NetlinkMessage<'_>) -> Hea
 }
 
 // What a message without a header speaks of, as far as its kind says so.
-fn what_of(holds: Holds, payload: &[u8]) -> What {
+fn what_of(holds: MessageType, payload: &[u8]) -> What {
     match holds {
-        Holds::Action => What::Action,
-        Holds::Tc => match kind_in(holds, payload) {
+        MessageType::Action => What::Action,
+        MessageType::Tc => match kind_in(holds, payload) {
             b"basic"
             | b"bpf"
             | b"cgroup"
@@ -139,10 +139,10 @@ fn what_of(holds: Holds, payload: &[u8]) -> What {
     }
 }
 
-fn kind_in(holds: Holds, payload: &[u8]) -> &[u8] {
+fn kind_in(holds: MessageType, payload: &[u8]) -> &[u8] {
     match holds {
-        Holds::Tc => last_kind(behind(20, payload)),
-        Holds::Action => first_action_kind(behind(4, payload)),
+        MessageType::Tc => last_kind(behind(20, payload)),
+        MessageType::Action => first_action_kind(behind(4, payload)),
     }
 }
 

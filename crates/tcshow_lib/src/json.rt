@@ -13,7 +13,7 @@ use crate::found::{Found, Header, Origin};
 use nla_frames::DecodeError;
 use serde::{Described, Serialize, Serializer};
 use std::alloc::Global;
-use tc_capture::Holds;
+use tc_capture::MessageType;
 use tc_forms::{Form, send_shown};
 use tc_kinds::{ACTION_MESSAGE, TC_MESSAGE, TcTables};
 
@@ -337,7 +337,7 @@ fn show_forms<S: Serializer>(settled: bool, canonical: bool, out: &mut S) -> Res
 
 // The bytes of a message, whatever they are.
 fn show_message<S: Serializer>(
-    holds: Holds,
+    holds: MessageType,
     payload: &[u8],
     alloc: Global,
     out: &mut S,
@@ -349,17 +349,17 @@ fn show_message<S: Serializer>(
 }
 
 // The form of each of the two messages.
-fn form_of(holds: Holds) -> Form
+fn form_of(holds: MessageType) -> Form
     ensures { result ≡ form_of holds }
 {
     match holds {
-        Holds::Tc => TC_MESSAGE,
-        Holds::Action => ACTION_MESSAGE,
+        MessageType::Tc => TC_MESSAGE,
+        MessageType::Action => ACTION_MESSAGE,
     }
 }
 
 fn show_bytes<S: Serializer>(
-    holds: Holds,
+    holds: MessageType,
     payload: &[u8],
     alloc: Global,
     out: &mut S,

@@ -13,7 +13,7 @@ use crate::pages::{show_place, some_text, text_of, time_page};
 use nla_frames::DecodeError;
 use serde::Serialize;
 use std::alloc::{AllocError, Allocator, Global};
-use tc_capture::Holds;
+use tc_capture::MessageType;
 use tc_outline::{Layout, Page};
 use tc_wire::{TcActionMessage, TcMessage, WholeMessage};
 
@@ -34,8 +34,8 @@ pub(crate) fn line_of<A: Allocator + Copy>(
     ensures fault { IfOk result (λ line. is_some line.fault ≡ is_refused (message_view found.now)) }
 {
     match found.holds {
-        Holds::Tc => line_as::<A, TcMessage<A>>(alloc, json, found),
-        Holds::Action => line_as::<A, TcActionMessage<A>>(alloc, json, found),
+        MessageType::Tc => line_as::<A, TcMessage<A>>(alloc, json, found),
+        MessageType::Action => line_as::<A, TcActionMessage<A>>(alloc, json, found),
     }
 }
 

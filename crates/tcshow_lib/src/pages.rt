@@ -10,7 +10,7 @@ use crate::found::{Found, Header, Origin};
 use crate::links::Links;
 use std::alloc::{AllocError, Allocator, Global};
 use std::str;
-use tc_capture::{Holds, Time};
+use tc_capture::{MessageType, Time};
 use tc_columns::{KindColumns, Root};
 use tc_outline::{Fault, Layout, Page, What, locate, outline};
 
@@ -61,8 +61,8 @@ pub(crate) fn show_netlink<A: Allocator>(
             show_numbers(page, header)
         }
         None => page.text(match found.holds {
-            Holds::Tc => "tc",
-            Holds::Action => "action",
+            MessageType::Tc => "tc",
+            MessageType::Action => "action",
         }),
     }
 }

@@ -2,7 +2,7 @@
 
 use crate::bytes::bytes_behind;
 use crate::tc_capture::message::next_message;
-use crate::tc_capture::{CaptureError, Holds, NLMSG_HEADER_LEN, rtm_of};
+use crate::tc_capture::{CaptureError, MessageType, NLMSG_HEADER_LEN, rtm_of};
 use crate::tc_wire::{DecodeError, ParseableBytes, RewriteError, TcActionMessage, TcMessage};
 use alloc::vec::Vec;
 use core::fmt;
@@ -62,8 +62,8 @@ impl Netlink {
         let (message, rest) = next_message(bytes).map_err(NetlinkError::Header)?;
         let holds = rtm_of(message.kind).ok_or(NetlinkError::OtherType(message.kind))?.holds;
         let payload = match holds {
-            Holds::Tc => TcMessage::parse(message.payload).map(Payload::Tc),
-            Holds::Action => TcActionMessage::parse(message.payload).map(Payload::Action),
+            MessageType::Tc => TcMessage::parse(message.payload).map(Payload::Tc),
+            MessageType::Action => TcActionMessage::parse(message.payload).map(Payload::Action),
         };
         let netlink = Netlink {
             message_type: message.kind,

@@ -1,7 +1,7 @@
 //! Messages that Linux sent and `tc` wrote, chosen by what is in them.
 
 use std::alloc::Global;
-use tc_capture::{Holds, Time};
+use tc_capture::{MessageType, Time};
 use tc_chosen::{Chosen, Message, Types};
 
 // A filter of u32 of the chain 0, with an action.
@@ -57,10 +57,10 @@ fn digits_of(sent: Sent) -> &'static str {
     }
 }
 
-fn form_of(sent: Sent) -> Holds {
+fn form_of(sent: Sent) -> MessageType {
     match sent {
-        Sent::Action => Holds::Action,
-        _ => Holds::Tc,
+        Sent::Action => MessageType::Action,
+        _ => MessageType::Tc,
     }
 }
 

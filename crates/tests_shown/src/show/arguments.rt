@@ -1,7 +1,7 @@
 //! The arguments.
 
 use std::alloc::Global;
-use tc_capture::Holds;
+use tc_capture::MessageType;
 use tcshow_lib::arguments::{Colours, Request, Task, request_of};
 use tcshow_lib::asked::Form;
 
@@ -12,7 +12,7 @@ enum Part {
     Form(Form),
     File(&'static str),
     Names(&'static str),
-    WithoutHeader(Holds),
+    WithoutHeader(MessageType),
     Kinds(&'static [&'static str]),
     Types(&'static [&'static str]),
     Interfaces(&'static [&'static str]),
@@ -103,12 +103,12 @@ static WORDS: [(&[&str], &[Part]); 13] = [
             Part::Form(Form::OneLine),
             Part::Types(&["RTM_NEWQDISC"]),
             Part::Interfaces(&["7"]),
-            Part::WithoutHeader(Holds::Tc),
+            Part::WithoutHeader(MessageType::Tc),
         ],
     ),
     (
         &["tcshow", "--no-header", "action", "--summary"],
-        &[Part::WithoutHeader(Holds::Action), Part::Summary],
+        &[Part::WithoutHeader(MessageType::Action), Part::Summary],
     ),
     (
         &["tcshow", "a", "--refused", "--since", "1", "--until", "2"],

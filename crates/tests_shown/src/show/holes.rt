@@ -3,7 +3,7 @@
 use crate::show::runs::{Written, all_in, alone_in, gives};
 use std::alloc::{AllocError, Global};
 use std::test::Fail;
-use tc_capture::Holds;
+use tc_capture::MessageType;
 use tcshow_lib::asked::Form;
 use tests_captures::{Format, beginning, put_packet};
 
@@ -88,7 +88,7 @@ static TEXT_LINES: [&str; 5] = [
 #[test]
 fn long_lines_are_skipped(rt: HostRuntime) -> Result<(), Fail> {
     let text = long_text(rt.alloc())?;
-    let asked = alone_in(Form::OneLine, Holds::Action);
+    let asked = alone_in(Form::OneLine, MessageType::Action);
     let lines = Written::BeginsWithLines(&TEXT_LINES);
     assert!(rt; gives(rt.alloc(), &asked, &text, 1, lines, ""));
     let end = Written::Ends("\naction\nbroken: no hex at 3300036\n");

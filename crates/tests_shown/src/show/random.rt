@@ -4,7 +4,7 @@ use crate::show::runs::{FORMS, all_in, alone_in, is_clean, shown};
 use rand_core::Rng;
 use rand_pcg::Pcg32;
 use std::alloc::{AllocError, Global};
-use tc_capture::Holds;
+use tc_capture::MessageType;
 use tcshow_lib::asked::{Asked, Form};
 use tests_captures::{Format, beginning};
 
@@ -37,8 +37,8 @@ fn is_capture(alloc: Global, form: Form, format: Format, is_big: bool, bytes: &[
 // Whether runs over a line of hex end: with the header of a netlink message, and without.
 fn is_line(alloc: Global, form: Form, line: &[u8]) -> bool {
     ends(alloc, &all_in(form), line, 1)
-        && ends(alloc, &alone_in(form, Holds::Tc), line, 1)
-        && ends(alloc, &alone_in(form, Holds::Action), line, 1)
+        && ends(alloc, &alone_in(form, MessageType::Tc), line, 1)
+        && ends(alloc, &alone_in(form, MessageType::Action), line, 1)
 }
 
 fn is_hex(alloc: Global, form: Form, bytes: &[u8]) -> bool {

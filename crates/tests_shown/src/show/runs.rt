@@ -3,7 +3,7 @@
 use std::alloc::Global;
 use std::str;
 use std::test::Fail;
-use tc_capture::Holds;
+use tc_capture::MessageType;
 use tc_chosen::Chosen;
 use tc_outline::Interfaces;
 use tcshow_lib::asked::{Asked, Form};
@@ -38,7 +38,7 @@ pub(crate) fn counted_in(form: Form) -> Asked<'static> {
 }
 
 /// What a run does that shows all messages, where each line of hex is a message without a netlink header.
-pub(crate) fn alone_in(form: Form, holds: Holds) -> Asked<'static> {
+pub(crate) fn alone_in(form: Form, holds: MessageType) -> Asked<'static> {
     let mut asked = all_in(form);
     asked.without_header = Some(holds);
     asked

@@ -1,5 +1,5 @@
 use Rattle.std.proofs.lemmas.Result.{IfOk-weaker}
-use Rattle.tc_capture.specs.declared.kind.Holds.TheVariants.{Tc, Action}
+use Rattle.tc_capture.specs.declared.kind.MessageType.TheVariants.{Tc, Action}
 use Rattle.tcshow_lib.specs.Found.{message_view}
 use Rattle.tcshow_lib.proofs.ByWords.{refused_is}
 use Rattle.tcshow_lib.proofs.chosen.is_refused.Goals as goal

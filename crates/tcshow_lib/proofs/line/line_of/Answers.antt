@@ -1,6 +1,6 @@
 use Rattle.std.specs.Prelude.{is_some}
 use Rattle.std.proofs.lemmas.Result.{IfOk-weaker}
-use Rattle.tc_capture.specs.declared.kind.Holds.TheVariants.{Tc, Action}
+use Rattle.tc_capture.specs.declared.kind.MessageType.TheVariants.{Tc, Action}
 use Rattle.tcshow_lib.specs.Found.{message_view}
 use Rattle.tcshow_lib.proofs.ByWords.{line_is, refused_is}
 use Rattle.tcshow_lib.proofs.line.line_of.Goals as goal
