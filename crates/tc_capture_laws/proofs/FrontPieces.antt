@@ -1,4 +1,4 @@
--- The piece at the front of some bytes: how long it is, and where its packet is.
+-- The piece at the front of some bytes: its length, and the place of its packet.
 use Rattle.std.proofs.Common.{◌≡◌, ℕ, ◌+◌, ◌-◌, ◌<◌, ◌≤◌, List, length, take, drop, Option, None, Some, Ok, Err, Bool, true, false, refl, sym, ap, subst, ◌∙◌}
 use Rattle.std.proofs.Common.{arith}
 use Rattle.std.specs.Prelude.{nat_lt, nat_le, ◌==◌, ◌%◌, if◌then◌else◌}

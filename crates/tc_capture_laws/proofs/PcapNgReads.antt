@@ -1,4 +1,4 @@
--- A file of pcapng that is written is read.
+-- A written pcapng file is read.
 use Rattle.std.proofs.Common.{◌≡◌, ℕ, ◌+◌, ◌-◌, ◌*◌, ◌/◌, ◌%◌, ◌^◌, ◌<◌, ◌≤◌, List, [], ◌∷◌, ◌++◌, All, length, take, drop, map, Option, Some, None, Ok, Err}
 use Rattle.std.proofs.Common.{Bool, true, false, refl, sym, ap, ap₂, ◌∙◌, arith}
 use Rattle.std.specs.Prelude.{nat_lt, nat_le, ◌==◌, replicate, if◌then◌else◌}
@@ -102,19 +102,19 @@ time_after-netlink time seconds nanoseconds =
     ∙ ap (λ (s : ℕ). Some (record { seconds = s; nanoseconds = time.nanoseconds })) none
 
 -- the body of an enhanced packet block
-read-body : (order : Order) (p : Packet) (body behind : List ℕ) → number order 4 body ≡ 0 → drop 20 body ≡ packet_bytes p ++ behind
+read-body : (order : Order) (p : Packet) (body following : List ℕ) → number order 4 body ≡ 0 → drop 20 body ≡ packet_bytes p ++ following
     → (high low : ℕ) → number order 4 (drop 4 body) ≡ high → number order 4 (drop 8 body) ≡ low
     → high * 2 ^ 32 + low ≡ p.time.seconds * 1000000000 + p.time.nanoseconds
     → number order 4 (drop 12 body) ≡ length (packet_bytes p) → number order 4 (drop 16 body) ≡ length (packet_bytes p)
     → 20 + length (packet_bytes p) ≤ length body
     → p.time.seconds < 2 ^ 32 → p.time.nanoseconds < 10 ^ 9
     → timed_packet 4 (Some netlink ∷ []) order body ≡ Ok (captured p.time (packet_bytes p) 28)
-read-body order p body behind first after high low highs lows ticks here there within seconds nanoseconds =
+read-body order p body following first after high low highs lows ticks here there within seconds nanoseconds =
     let n = length (packet_bytes p) in
     let header : nat_lt (length body) 20 ≡ false = le-ltb (length body) 20 (omega arith) in
     let cut : nat_lt (length body) (20 + n) ≡ false = le-ltb (length body) (20 + n) within in
     let whole : nat_le n n ≡ true = le-leb n n (omega arith) in
-    let held : drop 20 (take (20 + n) body) ≡ packet_bytes p = drop-take 20 n body ∙ ap (take n) after ∙ take_at (packet_bytes p) behind n refl in
+    let held : drop 20 (take (20 + n) body) ≡ packet_bytes p = drop-take 20 n body ∙ ap (take n) after ∙ take_at (packet_bytes p) following n refl in
     ap (λ (b : Bool). if b then Err (BodyTooShort 20 (length body)) else then_read (interface_at (Some netlink ∷ []) (number order 4 body))
     (λ i. timed_of i order body)) header
     ∙ ap (λ (k : ℕ). then_read (interface_at (Some netlink ∷ []) k) (λ i. timed_of i order body)) first

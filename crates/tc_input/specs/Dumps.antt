@@ -1,11 +1,11 @@
 -- The lines of a dump: a line at offset 0 begins one, and one at the offset where the bytes so far end goes on. All others are apart.
 use Rattle.std.specs.Prelude.{ℕ, List, ◌==◌, if◌then◌else◌, length, nat_lt, Option, Some, None}
-use Rattle.tc_words.specs.Pasted.{bytes_of_hex}
+use Rattle.tc_select.specs.Pasted.{bytes_of_hex}
 use Rattle.tc_input.specs.Lines.{most_line}
 use Rattle.tc_input.specs.Text.{before_comment}
 use Rattle.tc_input.specs.declared.dumps.Place.{Place as CodePlace}
 use Rattle.tc_input.specs.declared.dumps.Place.TheVariants as code
-use Rattle.tc_words.specs.Hex.{Line, line_of}
+use Rattle.tc_select.specs.Dump.{Line, line_of}
 
 pub data Place : Type 0 where
   begins : List ℕ → Place

@@ -1,7 +1,7 @@
 -- What a line of hex says.
 use Rattle.std.specs.Prelude.{ℕ, Bool, not, List, [], ◌∷◌, ◌==◌, if◌then◌else◌, length, nat_lt, Option, Some, None}
 use Rattle.std.specs.List.{take_while}
-use Rattle.tc_words.specs.Pasted.{bytes_of_hex}
+use Rattle.tc_select.specs.Pasted.{bytes_of_hex}
 use Rattle.tc_input.specs.Lines.{most_line}
 use Rattle.tc_input.specs.declared.text.OnLine.{OnLine as CodeOnLine}
 use Rattle.tc_input.specs.declared.text.OnLine.TheVariants as code

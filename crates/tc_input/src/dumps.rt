@@ -6,7 +6,7 @@ ghost use Rattle.tc_input.specs.Dumps.{place_at, seen_place};
 use crate::lines::MOST_LINE;
 use crate::text::{before_comment, bytes_of};
 use std::alloc::{AllocError, Allocator};
-use tc_words::dump_line;
+use tc_select::dump_line;
 
 /// What a line is of a dump.
 #[derive(Drop)]

@@ -5,7 +5,7 @@ ghost use Rattle.std.specs.Io.KnownBytes.{Consumes, IsAtEnd};
 
 use std::alloc::{AllocError, Allocator};
 use std::io::{ErrorKind, Read};
-use tc_streams::Stop;
+use program_io::Stop;
 
 /// The longest piece of an input that is read as a whole, in bytes.
 pub const MOST_PIECE: usize = 1_048_576;

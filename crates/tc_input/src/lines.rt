@@ -6,7 +6,7 @@ ghost use Rattle.tc_input.specs.Lines.{HasNoFeed, EndsLine};
 use crate::input::{Input, MOST_PIECE};
 use std::alloc::Allocator;
 use std::io::Read;
-use tc_streams::Stop;
+use program_io::Stop;
 
 /// The longest line that is read, in bytes of text: two digits and a blank for each byte of the longest piece.
 pub const MOST_LINE: usize = 3 * MOST_PIECE;

@@ -13,7 +13,7 @@ use crate::input::{Input, MOST_PIECE};
 use std::alloc::Allocator;
 use std::io::Read;
 use tc_capture::{Capture, CaptureError, Piece, Res};
-use tc_streams::Stop;
+use program_io::Stop;
 
 /// What comes where no piece is at the front of what was read.
 #[derive(Clone, Copy)]

@@ -1,12 +1,12 @@
 //! A line of hex.
 
 ghost use Rattle.std.specs.Prelude.{◌≡◌, IfOk, option_map};
-ghost use Rattle.tc_words.specs.Pasted.{bytes_of_hex};
+ghost use Rattle.tc_select.specs.Pasted.{bytes_of_hex};
 ghost use Rattle.tc_input.specs.Text.{is_before_comment, before_comment, on_line, seen_on_line};
 
 use crate::lines::MOST_LINE;
 use std::alloc::{AllocError, Allocator};
-use tc_words::push_hex;
+use tc_select::push_hex;
 
 /// What a line says.
 #[derive(Drop)]

@@ -1,7 +1,7 @@
 //! The program: it answers the lines of standard input, and how it ends is its exit status.
 
 ghost use Rattle.std.specs.Prelude.{◌≡◌};
-ghost use Rattle.tc_streams.specs.Status.{status_of};
+ghost use Rattle.program_io.specs.Status.{status_of};
 ghost use Rattle.tcforms_lib.specs.declared.run.Ended.{Ended};
 
 use crate::mode::Messages;
@@ -10,7 +10,7 @@ use std::alloc::Global;
 use std::io::{self, BufRead, BufReader, Input, Print, Write};
 use std::process::ExitCode;
 use tc_forms::Tables;
-use tc_streams::{Stop, complain, status_of};
+use program_io::{Stop, fail_with, status_of};
 
 /// The whole program: answers the lines of standard input on standard output, and returns the exit status. Complaints are
 /// written to `errors`.
@@ -22,7 +22,7 @@ pub fn tcforms<T: Tables, R: AllocGlobal + Input + Print, E: Write>(
     let mut writer = io::writer(rt);
     ExitCode::from(match BufReader::new(rt.alloc(), rt.reader()) {
         Ok(reader) => serve(rt.alloc(), messages, reader, &mut writer, errors),
-        Err(_) => complain(errors, NO_MEMORY, 3),
+        Err(_) => fail_with(errors, NO_MEMORY, 3),
     })
 }
 
@@ -42,8 +42,8 @@ pub fn serve<T: Tables, R: BufRead + Drop, W: Write, E: Write>(
     let status = status_of(ended.outcome, ended.has_refused);
     match ended.outcome {
         Ok(()) | Err(Stop::Closed) => status,
-        Err(Stop::NoMemory) => complain(errors, NO_MEMORY, status),
-        Err(Stop::Read) => complain(errors, "tcforms: read failed\n", status),
-        Err(Stop::Write) => complain(errors, "tcforms: write failed\n", status),
+        Err(Stop::NoMemory) => fail_with(errors, NO_MEMORY, status),
+        Err(Stop::Read) => fail_with(errors, "tcforms: read failed\n", status),
+        Err(Stop::Write) => fail_with(errors, "tcforms: write failed\n", status),
     }
 }

@@ -6,7 +6,7 @@ use crate::mode::Messages;
 use std::alloc::Global;
 use std::io::{BufRead, Error, ErrorKind, Write};
 use tc_forms::Tables;
-use tc_streams::{Stop, write_all};
+use program_io::{Stop, write_all};
 
 /// How a run ended.
 #[derive(Clone, Copy, PartialEq, Eq, Debug)]

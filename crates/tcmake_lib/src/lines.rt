@@ -13,7 +13,7 @@ use std::io::BufRead;
 use tc_capture::MessageType;
 use tc_forms::Tables;
 use tc_forms_text::read_json;
-use tc_streams::Stop;
+use program_io::Stop;
 use tcmake_lines::{Found, Given, is_blank, next_line};
 
 /// Where a line is.
@@ -89,7 +89,7 @@ impl Lines {
     }
 
     /// Keeps what is wrong with a line.
-    pub(crate) fn complain(
+    pub(crate) fn fail_with(
         &mut self,
         alloc: Global,
         source: Source,
@@ -127,7 +127,7 @@ pub(crate) fn read_lines<T: Tables, R: BufRead>(
         match dump_in(alloc, forms, reading, &mut save, found, &line, number) {
             Ok(Some(made)) => lines.keep(number, made)?,
             Ok(None) => {}
-            Err(complaint) => lines.complain(alloc, reading.source, number, &complaint)?,
+            Err(complaint) => lines.fail_with(alloc, reading.source, number, &complaint)?,
         }
     }
     end(alloc, reading, &save, &mut lines)?;
@@ -142,10 +142,10 @@ fn end(
     lines: &mut Lines,
 ) -> Result<(), AllocError> {
     if let Some((number, fault)) = save.fault_at_end() {
-        lines.complain(alloc, reading.source, number, &Complaint::Save(fault))?;
+        lines.fail_with(alloc, reading.source, number, &Complaint::Save(fault))?;
     }
     if reading.names.is_some() && save.names().is_none() {
-        lines.complain(alloc, reading.source, 1, &Complaint::NoNames)?;
+        lines.fail_with(alloc, reading.source, 1, &Complaint::NoNames)?;
     }
     Ok(())
 }

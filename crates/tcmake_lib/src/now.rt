@@ -97,7 +97,7 @@ pub(crate) fn now_of(alloc: Global, lines: &mut Lines) -> Result<Now<Global>, Al
         }
     }
     for (number, complaint) in &wrong {
-        lines.complain(alloc, Source::Now, *number, complaint)?;
+        lines.fail_with(alloc, Source::Now, *number, complaint)?;
     }
     Ok(found)
 }

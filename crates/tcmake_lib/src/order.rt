@@ -18,7 +18,7 @@ use tc_plan::{
     fate_of_action, ingress_of, newest_first, plan,
 };
 use tc_requests::{Object, RestoreError, RootTable, notice_of, root_table};
-use tc_streams::{Stop, write_all};
+use program_io::{Stop, write_all};
 use tcmake_lines::run::put_message;
 use tcmake_lines::{Form, Given, Output};
 
@@ -360,7 +360,7 @@ fn keep_all(
     let mut ingress = Vec::new(alloc);
     for dump in dumps {
         if let Err(complaint) = keep_shown(alloc, dump, &mut roots, &mut ingress) {
-            complain(alloc, remarks, dump.number, &complaint)?;
+            fail_with(alloc, remarks, dump.number, &complaint)?;
         }
     }
     let known = Known {
@@ -371,7 +371,7 @@ fn keep_all(
     };
     for dump in dumps {
         if let Err(complaint) = requests.keep(alloc, known, dump) {
-            complain(alloc, remarks, dump.number, &complaint)?;
+            fail_with(alloc, remarks, dump.number, &complaint)?;
         }
     }
     Ok(())
@@ -397,7 +397,7 @@ fn keep_shown(
 }
 
 // Keeps what is wrong with a line.
-fn complain(
+fn fail_with(
     alloc: Global,
     remarks: &mut Vec<Remark>,
     number: u64,

@@ -6,7 +6,7 @@ ghost use Rattle.tcmake_lines.specs.Lines.{EndsLine, IsBlank, IsFound, IsNext};
 
 use memchr::memchr;
 use std::io::{BufRead, ErrorKind};
-use tc_streams::Stop;
+use program_io::Stop;
 
 /// The longest line of which a message is made, in bytes.
 pub const MOST_LINE: usize = 32 * 1024 * 1024;

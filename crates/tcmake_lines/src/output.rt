@@ -9,7 +9,7 @@ use crate::header::{file_header, joined, packet_header_of, pad, put_hex, whole_o
 use std::alloc::{AllocError, Global};
 use std::io::Write;
 use std::mem;
-use tc_streams::{Stop, write_all};
+use program_io::{Stop, write_all};
 
 /// Messages on their way to an output.
 #[derive(Drop)]

@@ -12,7 +12,7 @@ use crate::maker::{Answer, Maker};
 use crate::output::Output;
 use std::alloc::{AllocError, Global};
 use std::io::{BufRead, Write};
-use tc_streams::{Stop, write_all};
+use program_io::{Stop, write_all};
 
 /// What is said of a line that is longer than [`MOST_LINE`](crate::MOST_LINE).
 pub const LONG_LINE: &str = "longer than 33554432 bytes";
@@ -103,8 +103,8 @@ fn put_line<M: Maker, E: Write>(
 {
     match found {
         Found::Whole => put_whole_line(alloc, maker, line, number, output, errors),
-        Found::TooLong => complain(alloc, errors, number, LONG_LINE),
-        Found::NoMemory => complain(alloc, errors, number, "out of memory"),
+        Found::TooLong => fail_with(alloc, errors, number, LONG_LINE),
+        Found::NoMemory => fail_with(alloc, errors, number, "out of memory"),
         Found::End => Ok(false),
     }
 }
@@ -136,7 +136,7 @@ fn put_whole_line<M: Maker, E: Write>(
             }
             Ok(false)
         }
-        Answer::Complaint(complaint) => complain(alloc, errors, number, complaint.as_str()),
+        Answer::Complaint(complaint) => fail_with(alloc, errors, number, complaint.as_str()),
     }
 }
 
@@ -154,7 +154,7 @@ pub fn put_message<E: Write>(
 {
     if let Err(fault) = check(output.form(), given, bytes) {
         let complaint = format!(in alloc; "{fault}")?;
-        return complain(alloc, errors, number, complaint.as_str());
+        return fail_with(alloc, errors, number, complaint.as_str());
     }
     output.put(given, bytes)?;
     for notice in notices {
@@ -164,7 +164,7 @@ pub fn put_message<E: Write>(
 }
 
 // Says what is wrong with a line.
-fn complain<E: Write>(alloc: Global, errors: &mut E, number: u64, text: &str) -> Result<bool, Stop>
+fn fail_with<E: Write>(alloc: Global, errors: &mut E, number: u64, text: &str) -> Result<bool, Stop>
     ensures { IfOk result (λ is_wrong. is_wrong ≡ true) }
 {
     say(alloc, errors, number, text)?;

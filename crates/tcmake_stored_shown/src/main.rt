@@ -6,7 +6,7 @@ use std::alloc::Global;
 use std::fs;
 use std::io::{self, IsTerminal, Print, Read, Write};
 use std::process::ExitCode;
-use tc_chosen::Chosen;
+use tc_select::Filter;
 use tc_kinds::{ACTION_MESSAGE, TC_MESSAGE, TcTables};
 use tc_outline::Interfaces;
 use tcmake_lib::arguments::{Making, Request};
@@ -42,7 +42,7 @@ fn make_again<R: Print, I: Read, E: Write>(
         form: tcshow_lib::asked::Form::Json,
         all: false,
         without_header: None,
-        chosen: Chosen::ALL,
+        chosen: Filter::ALL,
         names: Interfaces { names: &[] },
         has_summary: false,
     };

@@ -8,7 +8,7 @@ use Rattle.tcshow_lib.specs.Found.{Thing}
 use Rattle.tcshow_lib.specs.Reading.{AreIn}
 use Rattle.tcshow_lib.specs.Shown.{ShowsEach, ShowsSummary}
 use Rattle.tcshow_lib.specs.State.{State, Puts, Progress, Ends, Completes, Ran, start, is_json}
-use Rattle.tc_streams.specs.Written.{GrowsByFront}
+use Rattle.program_io.specs.Written.{GrowsByFront}
 use Rattle.tcshow_lib.proofs.Puts.{each_append, or_assoc, or_false, puts_none}
 
 -- what is put is not yet written

@@ -6,7 +6,7 @@ use Rattle.tc_outline.specs.declared.what.What.{What}
 use Rattle.tc_outline.specs.Located.{items_of_message, message_fault}
 use Rattle.tc_outline.specs.Page.{IsShown, is_shown}
 use Rattle.tcshow_lib.specs.Found.{Header, Message, Thing, message, answer, other}
-use Rattle.tc_chosen.specs.declared.chosen.Chosen.{Chosen}
+use Rattle.tc_select.specs.declared.filter.Filter.{Filter}
 use Rattle.tcshow_lib.specs.Chosen.{is_asked, is_taken}
 use Rattle.tcshow_lib.specs.Shown.{ended, IsPage, IfTaken, Nothing, Shows, ShowsEach, ShowsMessage, ShowsAnswer}
 use Rattle.tcshow_lib.specs.State.{State, Grows, Puts}
@@ -86,7 +86,7 @@ pub page_counted : (what : What) (m : Message) (b : Bool) (s a n : State) → (t
     → (text : List ℕ) × (bad : Bool) × ShowsMessage false m text bad × Grows text bad s n
 page_counted what m b s a n p e h = (p.0, b, (what, p.1, e), grows_counted p.0 b s a n p.2 h)
 
-pub each_append : (json : Bool) (choice : Chosen) (xs ys : List Thing) (t u : List ℕ) (b c : Bool) → ShowsEach json choice xs t b → ShowsEach json choice ys u c
+pub each_append : (json : Bool) (choice : Filter) (xs ys : List Thing) (t u : List ℕ) (b c : Bool) → ShowsEach json choice xs t b → ShowsEach json choice ys u c
     → ShowsEach json choice (xs ++ ys) (t ++ u) (b || c)
 each_append json choice [] ys t u b c h k =
     subst (λ x. ShowsEach json choice ys (x ++ u) (b || c)) (sym h.no_text) (subst (λ x. ShowsEach json choice ys u (x || c)) (sym h.no_fault) k)

@@ -1,6 +1,6 @@
 -- What is shown of what is found: of each thing a text, one after the other, and whether one of them is refused or broken.
 use Rattle.std.specs.Prelude.{◌≡◌, ℕ, Bool, true, false, ◌||◌, List, [], ◌∷◌, ◌++◌, is_some}
-use Rattle.tc_chosen.specs.declared.chosen.Chosen.{Chosen}
+use Rattle.tc_select.specs.declared.filter.Filter.{Filter}
 use Rattle.tc_outline.specs.declared.what.What.{What}
 use Rattle.tc_outline.specs.Located.{items_of_message, message_fault}
 use Rattle.tc_outline.specs.Page.{IsShown}
@@ -48,14 +48,14 @@ abbrev pub IfTaken : Bool → Type 0 → List ℕ → Bool → Type 0
 IfTaken true Shown text bad = Shown
 IfTaken false Shown text bad = Nothing text bad
 
-abbrev pub Shows : Bool → Chosen → Thing → List ℕ → Bool → Type 0
+abbrev pub Shows : Bool → Filter → Thing → List ℕ → Bool → Type 0
 Shows json choice (message m) text bad = IfTaken (is_taken choice m) (ShowsMessage json m text bad) text bad
 Shows json choice (answer h capped m) text bad = IfTaken (is_asked choice m) (ShowsAnswer json h capped m text × (bad ≡ false)) text bad
 Shows json choice other text bad = Nothing text bad
 Shows json choice (hole fault) text bad = ShowsNotice json text × (bad ≡ fault)
 
 -- of several things one text after the other
-abbrev pub ShowsEach : Bool → Chosen → List Thing → List ℕ → Bool → Type 0
+abbrev pub ShowsEach : Bool → Filter → List Thing → List ℕ → Bool → Type 0
 ShowsEach json choice [] text bad = Nothing text bad
 ShowsEach json choice (x ∷ xs) text bad =
     (first : List ℕ) × (later : List ℕ) × (b : Bool) × (c : Bool) × Shows json choice x first b × ShowsEach json choice xs later c

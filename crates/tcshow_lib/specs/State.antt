@@ -2,7 +2,7 @@
 use Rattle.std.specs.Prelude.{◌≡◌, ℕ, Bool, true, false, not, [], ◌||◌, ◌==◌, List, ◌++◌, Option}
 use Rattle.std.specs.Io.KnownBytes.{Appends}
 use Rattle.tc_capture.specs.declared.kind.MessageType.{MessageType}
-use Rattle.tc_chosen.specs.declared.chosen.Chosen.{Chosen}
+use Rattle.tc_select.specs.declared.filter.Filter.{Filter}
 use Rattle.tcshow_lib.specs.declared.asked.Asked.{Asked}
 use Rattle.tcshow_lib.specs.declared.asked.Form.{Form}
 use Rattle.tcshow_lib.specs.declared.asked.Form.TheVariants.{Lines, OneLine, Json}
@@ -17,7 +17,7 @@ use Rattle.tcshow_lib.specs.Shown.{ShowsEach, ShowsSummary}
 pub record State : Type 0 where
   pub json : Bool
   pub header : Option MessageType
-  pub choice : Chosen
+  pub choice : Filter
   pub summary : Bool
   pub text : List ℕ
   pub bad : Bool

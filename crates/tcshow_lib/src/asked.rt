@@ -2,7 +2,7 @@
 
 use crate::arguments::Request;
 use tc_capture::MessageType;
-use tc_chosen::Chosen;
+use tc_select::Filter;
 use tc_outline::Interfaces;
 
 /// How messages are shown.
@@ -24,7 +24,7 @@ pub struct Asked<'a> {
     /// What each line of hex is, where it is the payload of a netlink message; `None` if it has the netlink header.
     pub without_header: Option<MessageType>,
     /// Which messages are shown.
-    pub chosen: Chosen<'a>,
+    pub chosen: Filter<'a>,
     /// True if paddings are shown too.
     pub all: bool,
     /// The names of interfaces.
@@ -37,7 +37,7 @@ impl<'a> Asked<'a> {
     /// What a request asks for, where it chooses these messages, and interfaces have these names.
     pub fn of_request(
         request: &Request<'_>,
-        chosen: Chosen<'a>,
+        chosen: Filter<'a>,
         names: &'a [(u32, &'a str)],
     ) -> Asked<'a> {
         Asked {

@@ -6,8 +6,8 @@ use crate::names::interface_of;
 use std::alloc::{AllocError, Global};
 use std::fmt;
 use tc_capture::Time;
-use tc_chosen::{Chosen, Types};
-use tc_words::{HANDLE_FORMS, TIME_FORMS, TYPE_FORMS, handle_of_word, time_of_word, types_of_word};
+use tc_select::{Filter, Types};
+use tc_select::{HANDLE_FORMS, TIME_FORMS, TYPE_FORMS, parse_handle, parse_time, parse_types};
 
 /// The values of the options that choose messages.
 #[derive(Drop)]
@@ -99,8 +99,8 @@ impl<'r, 'a> Choice<'r, 'a> {
     }
 
     /// The messages that are chosen.
-    pub fn chosen(&self) -> Chosen<'_> {
-        Chosen {
+    pub fn chosen(&self) -> Filter<'_> {
+        Filter {
             kinds: self.request.kinds.as_slice(),
             types: self.types.as_slice(),
             interfaces: self.interfaces.as_slice(),
@@ -131,7 +131,7 @@ fn put<T: Drop>(value: T, all: &mut Vec<T>) -> Result<(), AllocError> {
 
 fn put_types<'a>(words: &[&'a str], all: &mut Vec<Types>) -> Result<(), NoChoice<'a>> {
     for word in words {
-        match types_of_word(*word) {
+        match parse_types(*word) {
             Some(types) => put(types, all)?,
             None => return Err(NoChoice::Word("type", *word, TYPE_FORMS)),
         }
@@ -141,7 +141,7 @@ fn put_types<'a>(words: &[&'a str], all: &mut Vec<Types>) -> Result<(), NoChoice
 
 fn put_handles<'a>(words: &[&'a str], all: &mut Vec<u32>) -> Result<(), NoChoice<'a>> {
     for word in words {
-        match handle_of_word(*word) {
+        match parse_handle(*word) {
             Some(handle) => put(handle, all)?,
             None => return Err(NoChoice::Word("handle", *word, HANDLE_FORMS)),
         }
@@ -165,7 +165,7 @@ fn u32_handle_of(word: &str) -> Option<u32> {
     if table.is_empty() || bucket.contains(':') {
         return None;
     }
-    let handle = handle_of_word(word)?;
+    let handle = parse_handle(word)?;
     let (table, bucket) = (handle / 0x10000, handle % 0x10000);
     if table > 0xFFF || bucket > 0xFF {
         return None;
@@ -194,7 +194,7 @@ fn time_in(word: Option<&str>) -> Result<Option<Time>, NoChoice<'_>> {
     let Some(word) = word else {
         return Ok(None);
     };
-    match time_of_word(word) {
+    match parse_time(word) {
         Some(time) => Ok(Some(time)),
         None => Err(NoChoice::Word("time", word, TIME_FORMS)),
     }

@@ -9,18 +9,18 @@ use crate::shower::Shower;
 use nla_frames::DecodeError;
 use std::alloc::{AllocError, Allocator};
 use tc_capture::MessageType;
-use tc_chosen::Message;
+use tc_select::Message;
 use tc_wire::{TcActionMessage, TcMessage, WholeMessage};
 
 impl<'a> Found<'a> {
     ghost use Rattle.std.specs.Prelude.{◌≡◌, option_map};
-    ghost use Rattle.tc_chosen.specs.Chosen.{seen_message};
+    ghost use Rattle.tc_select.specs.Filter.{message_view};
     ghost use Rattle.tcshow_lib.specs.Found.{header_view, message_view};
     ghost use Rattle.tcshow_lib.specs.Chosen.{type_in, asked_of};
 
     // What a message is chosen by.
     fn asked(&self) -> Message<'a>
-        ensures { seen_message result ≡ asked_of (message_view self.now) }
+        ensures { message_view result ≡ asked_of (message_view self.now) }
     {
         Message {
             time: self.origin.time,
@@ -57,14 +57,14 @@ impl<'a, A: Allocator + Copy> Shower<'a, A> {
             return Ok(true);
         }
         let refused = is_refused(self.alloc, found)?;
-        Ok(self.asked.chosen.takes_verdict(refused))
+        Ok(self.asked.chosen.matches_verdict(refused))
     }
 
     /// True of a request whose answer is shown.
     pub(crate) fn takes_request(&self, found: &Found<'_>) -> bool
         ensures { result ≡ is_asked (state_of self.now).choice (message_view found.now) }
     {
-        self.asked.chosen.takes(&found.asked())
+        self.asked.chosen.matches(&found.asked())
     }
 }
 

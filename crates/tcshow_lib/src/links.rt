@@ -4,7 +4,7 @@ use crate::shower::Shower;
 use std::alloc::{AllocError, Allocator, Global};
 use std::str;
 use tc_capture::NetlinkMessage;
-use tc_words::{NamedLink, RTM_NEWLINK, link_of_message};
+use tc_select::{NamedLink, RTM_NEWLINK, link_of_message};
 
 // `NLM_F_REQUEST` of `linux/netlink.h`.
 const NLM_F_REQUEST: u16 = 1;

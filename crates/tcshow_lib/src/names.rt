@@ -1,6 +1,6 @@
 //! The names of interfaces.
 
-pub use tc_names::names_in;
+pub use tc_select::names_in;
 
 /// The number of an interface that is given by its number or its name.
 pub(crate) fn interface_of(names: &[(u32, &str)], word: &str) -> Option<u32> {

@@ -7,7 +7,7 @@ use crate::status::Stop;
 use std::alloc::{AllocError, Allocator};
 use std::io::Write;
 use tc_outline::Page;
-use tc_streams::write_all;
+use program_io::write_all;
 
 /// Text that is shown and not yet written: printable ASCII and line feeds, or JSON.
 #[derive(Drop)]
@@ -20,7 +20,7 @@ pub(crate) struct Output<A: Allocator> {
 impl<A: Allocator> Output<A> {
     ghost use Rattle.std.specs.Prelude.{◌++◌, ◌∷◌, [], List, ℕ, OnOk};
     ghost use Rattle.tcshow_lib.specs.Writing.{GrowsClean};
-    ghost use Rattle.tc_streams.specs.Written.{GrowsByFront};
+    ghost use Rattle.program_io.specs.Written.{GrowsByFront};
 
     /// An empty one, for JSON or for people.
     pub(crate) fn new(alloc: A, is_json: bool) -> Output<A>

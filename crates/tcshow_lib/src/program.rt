@@ -22,10 +22,10 @@ use std::io::{self, Input, Print, Read, Write};
 use std::process::ExitCode;
 use std::rt::{Env, Files};
 use std::{env, fs};
-use tc_chosen::Chosen;
-use tc_colours::Coloured;
-use tc_streams::{complain, write_all};
-use tc_words::LINK_FORMS;
+use tc_select::Filter;
+use program_io::Coloured;
+use program_io::{fail_with, write_all};
+use tc_select::LINK_FORMS;
 
 /// The whole program: reads its arguments, shows the messages of its input on standard output, and returns the exit
 /// status. Why it ended early is written to `errors`. `is_terminal` says whether standard output is a terminal.
@@ -37,9 +37,9 @@ pub fn tcshow<R: Env + AllocGlobal + Files + Input + Print + Eprint, E: Write>(
     match env::args(rt) {
         Ok(words) => match Vec::from_iter(rt.alloc(), words) {
             Ok(words) => ExitCode::from(obey(rt, words.as_slice(), is_terminal, errors)),
-            Err(_) => ExitCode::from(complain(errors, NO_MEMORY, 3)),
+            Err(_) => ExitCode::from(fail_with(errors, NO_MEMORY, 3)),
         },
-        Err(_) => ExitCode::from(complain(errors, "tcshow: an argument is no text\n", 2)),
+        Err(_) => ExitCode::from(fail_with(errors, "tcshow: an argument is no text\n", 2)),
     }
 }
 
@@ -63,7 +63,7 @@ fn obey<R: Env + AllocGlobal + Files + Input + Print + Eprint, E: Write>(
 // Says what is wrong with the arguments, or the help or the version that they ask for.
 fn say<R: Print + Eprint, E: Write>(rt: &R, error: &Error, errors: &mut E) -> u8 {
     if error.kind() == ErrorKind::OutOfMemory {
-        return complain(errors, NO_MEMORY, 3);
+        return fail_with(errors, NO_MEMORY, 3);
     }
     let _ = error.print(rt);
     if error.use_stderr() { 2 } else { 0 }
@@ -97,7 +97,7 @@ fn print_schema<R: AllocGlobal + Print, E: Write>(rt: &R, errors: &mut E) -> u8 
     let mut text = Vec::new(rt.alloc());
     match put_schema_of_line(rt.alloc(), &mut text) {
         Ok(()) => print(rt, text.as_slice(), errors),
-        Err(_) => complain(errors, NO_MEMORY, 3),
+        Err(_) => fail_with(errors, NO_MEMORY, 3),
     }
 }
 
@@ -105,7 +105,7 @@ fn print_kinds<R: AllocGlobal + Print, E: Write>(rt: &R, errors: &mut E) -> u8 {
     let mut text = String::new(rt.alloc());
     match write_all_kinds(&mut text) {
         Ok(()) => print(rt, text.as_bytes(), errors),
-        Err(_) => complain(errors, NO_MEMORY, 3),
+        Err(_) => fail_with(errors, NO_MEMORY, 3),
     }
 }
 
@@ -116,15 +116,15 @@ fn print_kind<R: AllocGlobal + Print, E: Write>(rt: &R, kind: &str, errors: &mut
     let mut text = Vec::new(rt.alloc());
     match explain(rt.alloc(), kind, &mut text) {
         Ok(()) => print(rt, text.as_slice(), errors),
-        Err(_) => complain(errors, NO_MEMORY, 3),
+        Err(_) => fail_with(errors, NO_MEMORY, 3),
     }
 }
 
 // Writes a text on standard output, and returns the exit status.
 fn print<R: Print, E: Write>(rt: &R, text: &[u8], errors: &mut E) -> u8 {
     match write_all(&mut io::writer(rt), text) {
-        Ok(()) | Err(tc_streams::Stop::Closed) => 0,
-        Err(_) => complain(errors, "tcshow: write failed\n", 3),
+        Ok(()) | Err(program_io::Stop::Closed) => 0,
+        Err(_) => fail_with(errors, "tcshow: write failed\n", 3),
     }
 }
 
@@ -153,7 +153,7 @@ fn show_with<R: AllocGlobal + Files + Input + Print, E: Write>(
     match names_in(rt.alloc(), text) {
         Ok(Ok(names)) => show_named(rt, request, names.as_slice(), errors),
         Ok(Err(line)) => complain_of_names(rt.alloc(), line, errors),
-        Err(_) => complain(errors, NO_MEMORY, 3),
+        Err(_) => fail_with(errors, NO_MEMORY, 3),
     }
 }
 
@@ -173,7 +173,7 @@ fn show_chosen<R: AllocGlobal + Files + Input + Print, E: Write>(
     rt: &R,
     request: &Request<'_>,
     names: &[(u32, &str)],
-    chosen: Chosen<'_>,
+    chosen: Filter<'_>,
     errors: &mut E,
 ) -> u8 {
     let asked = Asked::of_request(request, chosen, names);
@@ -225,7 +225,7 @@ pub fn serve<A: Allocator + Copy, R: Read, W: Write, E: Write>(
         return complain_of_packets(json, errors, &ended.packets, status);
     }
     match reason(&ended) {
-        Some(text) => complain(errors, text, status),
+        Some(text) => fail_with(errors, text, status),
         None => status,
     }
 }
@@ -246,31 +246,31 @@ fn complain_of_packets<E: Write>(json: Global, errors: &mut E, packets: &Packets
     ensures { result ≡ status }
 {
     match format!(in json; "tcshow: {packets}\n") {
-        Ok(text) => complain(errors, text.as_str(), status),
-        Err(_) => complain(errors, "tcshow: no route netlink\n", status),
+        Ok(text) => fail_with(errors, text.as_str(), status),
+        Err(_) => fail_with(errors, "tcshow: no route netlink\n", status),
     }
 }
 
 // Writes which file can't be read, if it can, and returns the status of a wrong usage.
 fn complain_of_file<E: Write>(alloc: Global, path: &str, errors: &mut E) -> u8 {
     match format!(in alloc; "tcshow: {path}: the file can't be read\n") {
-        Ok(text) => complain(errors, text.as_str(), 2),
-        Err(_) => complain(errors, NO_MEMORY, 3),
+        Ok(text) => fail_with(errors, text.as_str(), 2),
+        Err(_) => fail_with(errors, NO_MEMORY, 3),
     }
 }
 
 // Writes which line of a file of names isn't read, if it can, and returns the status of a wrong usage.
 fn complain_of_names<E: Write>(alloc: Global, line: u64, errors: &mut E) -> u8 {
     match format!(in alloc; "tcshow: names, line {line}: {LINK_FORMS}\n") {
-        Ok(text) => complain(errors, text.as_str(), 2),
-        Err(_) => complain(errors, NO_MEMORY, 3),
+        Ok(text) => fail_with(errors, text.as_str(), 2),
+        Err(_) => fail_with(errors, NO_MEMORY, 3),
     }
 }
 
 // Writes which word isn't known, and what there is.
 fn complain_of_choice<E: Write>(alloc: Global, none: NoChoice<'_>, errors: &mut E) -> u8 {
     match none.text(alloc) {
-        Ok(text) => complain(errors, text.as_str(), 2),
-        Err(_) => complain(errors, NO_MEMORY, 3),
+        Ok(text) => fail_with(errors, text.as_str(), 2),
+        Err(_) => fail_with(errors, NO_MEMORY, 3),
     }
 }

@@ -52,7 +52,7 @@ impl<'a, A: Allocator + Copy> Shower<'a, A> {
     ghost use Rattle.tcshow_lib.specs.Shown.{ended, IsPage, ShowsNotice, ShowsSummary};
     ghost use Rattle.tcshow_lib.specs.State.{start, state_of, Grows, Progress};
     ghost use Rattle.tcshow_lib.specs.Writing.{GrowsClean};
-    ghost use Rattle.tc_streams.specs.Written.{GrowsByFront};
+    ghost use Rattle.program_io.specs.Written.{GrowsByFront};
 
     pub(crate) fn new(alloc: A, json: Global, asked: &'a Asked<'a>) -> Shower<'a, A>
         ensures { state_of result ≡ start asked.entry.now }

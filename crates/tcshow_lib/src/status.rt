@@ -31,13 +31,13 @@ impl From<AllocError> for Stop {
     }
 }
 
-impl From<tc_streams::Stop> for Stop {
-    fn from(stop: tc_streams::Stop) -> Stop {
+impl From<program_io::Stop> for Stop {
+    fn from(stop: program_io::Stop) -> Stop {
         match stop {
-            tc_streams::Stop::Closed => Stop::Closed,
-            tc_streams::Stop::Read => Stop::Read,
-            tc_streams::Stop::Write => Stop::Write,
-            tc_streams::Stop::NoMemory => Stop::NoMemory,
+            program_io::Stop::Closed => Stop::Closed,
+            program_io::Stop::Read => Stop::Read,
+            program_io::Stop::Write => Stop::Write,
+            program_io::Stop::NoMemory => Stop::NoMemory,
         }
     }
 }

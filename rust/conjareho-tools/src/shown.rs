@@ -1,7 +1,7 @@
 //! Messages as lines of JSON, as `tcshow --json` writes them.
 
 use crate::netlink::Fault;
-use crate::tc_chosen::Chosen;
+use crate::tc_select::Filter;
 use crate::tc_outline::Interfaces;
 use crate::tcshow_lib::asked::{Asked, Form};
 use crate::tcshow_lib::program::serve;

@@ -1,7 +1,7 @@
 //! Hex as it is pasted: the same netlink message as xxd, tcpdump 4.99 and tshark 4.0 print it, and plain.
 
 use std::alloc::Global;
-use tc_words::{dump_line, push_hex};
+use tc_select::{dump_line, push_hex};
 
 const PLAIN: &str = "380000002400050681f12469000000000000000004000000\
 0000ffffffffffff000000000a000100626669666f00000008000200b80b0000";

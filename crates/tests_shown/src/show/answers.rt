@@ -1,7 +1,7 @@
 //! Answers of the kernel to requests.
 
 use crate::show::runs::{Written, all_in, chosen_in, counted_in, gives_of_hex};
-use tc_chosen::Chosen;
+use tc_select::Filter;
 use tcshow_lib::asked::Form;
 
 // pcap, a packet for each: EINVAL of a request, with a text and a place, from the port 77, of packet type 7; the same, capped; an
@@ -70,11 +70,11 @@ static JSON: &str =
 "#;
 
 // Refused messages of a kind and an interface.
-static REFUSED_FLOWER: Chosen<'static> = Chosen {
+static REFUSED_FLOWER: Filter<'static> = Filter {
     kinds: &["flower"],
     interfaces: &[3],
     refused: true,
-    ..Chosen::ALL
+    ..Filter::ALL
 };
 
 #[test]

@@ -2,7 +2,7 @@
 
 use crate::show::runs::{Written, chosen_in, gives};
 use std::alloc::{AllocError, Global};
-use tc_chosen::{Chosen, Types};
+use tc_select::{Filter, Types};
 use tcshow_lib::asked::{Asked, Form};
 
 // Parts of a pcapng, and how often they are in it: a section with interfaces of the link types 253 and 1; then packets, with a qdisc;
@@ -62,7 +62,7 @@ fn put_all(alloc: Global, all: &mut Vec<u8>) -> bool {
 
 // All qdiscs that are made, and counts.
 fn asked_in(form: Form) -> Asked<'static> {
-    let mut chosen = Chosen::ALL;
+    let mut chosen = Filter::ALL;
     chosen.types = &[Types {
         first: 36,
         last: 36,

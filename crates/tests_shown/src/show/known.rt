@@ -1,7 +1,7 @@
 //! Known messages and what is shown of them.
 
 use crate::show::runs::{Written, all_in, chosen_in, counted_in, gives, writes};
-use tc_chosen::{Chosen, Types};
+use tc_select::{Filter, Types};
 use tc_outline::Interfaces;
 use tcshow_lib::asked::Form;
 
@@ -55,41 +55,41 @@ const JSON: &str =
 "#;
 
 // What is chosen, and what is written of it in which form, with the status.
-static CHOICES: [(Chosen<'static>, Form, &str, u8); 4] = [
+static CHOICES: [(Filter<'static>, Form, &str, u8); 4] = [
     (
-        Chosen {
+        Filter {
             kinds: &["mirred"],
-            ..Chosen::ALL
+            ..Filter::ALL
         },
         Form::OneLine,
         ONE_LINE,
         0,
     ),
     (
-        Chosen {
+        Filter {
             types: &[Types {
                 first: 48,
                 last: 48,
             }],
-            ..Chosen::ALL
+            ..Filter::ALL
         },
         Form::OneLine,
         ONE_LINE,
         0,
     ),
     (
-        Chosen {
+        Filter {
             interfaces: &[2],
-            ..Chosen::ALL
+            ..Filter::ALL
         },
         Form::Json,
         JSON,
         1,
     ),
     (
-        Chosen {
+        Filter {
             interfaces: &[3],
-            ..Chosen::ALL
+            ..Filter::ALL
         },
         Form::Json,
         "",

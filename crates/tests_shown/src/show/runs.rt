@@ -4,7 +4,7 @@ use std::alloc::Global;
 use std::str;
 use std::test::Fail;
 use tc_capture::MessageType;
-use tc_chosen::Chosen;
+use tc_select::Filter;
 use tc_outline::Interfaces;
 use tcshow_lib::asked::{Asked, Form};
 use tcshow_lib::program::serve;
@@ -14,7 +14,7 @@ use tests_captures::{Format, file_of, messages};
 pub(crate) static FORMS: [Form; 3] = [Form::Lines, Form::OneLine, Form::Json];
 
 /// What a run does that shows the messages that are chosen.
-pub(crate) fn chosen_in<'a>(form: Form, chosen: Chosen<'a>) -> Asked<'a> {
+pub(crate) fn chosen_in<'a>(form: Form, chosen: Filter<'a>) -> Asked<'a> {
     Asked {
         form,
         all: false,
@@ -27,7 +27,7 @@ pub(crate) fn chosen_in<'a>(form: Form, chosen: Chosen<'a>) -> Asked<'a> {
 
 /// What a run does that shows all messages.
 pub(crate) fn all_in(form: Form) -> Asked<'static> {
-    chosen_in(form, Chosen::ALL)
+    chosen_in(form, Filter::ALL)
 }
 
 /// The same, and counts them at the end.

@@ -1,7 +1,7 @@
 //! Requests, in the order in which they are sent: those that `tcmake --request --stream` makes of the same lines.
 
 use crate::tc_kinds::{ACTION_MESSAGE, TC_MESSAGE, TcTables};
-use crate::tc_streams::Stop;
+use crate::program_io::Stop;
 use crate::tcmake_lib::lines::{RemarkKind, Source};
 use crate::tcmake_lib::message::Forms;
 use crate::tcmake_lib::order::{Asked, Restored, requests_of};
