@@ -24,7 +24,7 @@ pub fn lines_of(messages: &[Vec<u8>]) -> Result<Shown, Fault> {
     let asked = Asked {
         form: Form::Json,
         without_header: None,
-        chosen: Chosen::ALL,
+        chosen: Filter::ALL,
         all: false,
         names: Interfaces { names: &[] },
         has_summary: false,
