@@ -29,6 +29,6 @@ pub struct Pcap {
     pub order: Order,
     /// The variant of the format.
     pub variant: Variant,
-    /// What comes before the netlink messages of a packet.
+    /// The header before the netlink messages of a packet.
     pub link: Link,
 }

@@ -5,7 +5,7 @@ use crate::packet::Link;
 /// An interface from which packets were captured.
 #[derive(Clone, Copy, PartialEq, Eq, Debug)]
 pub struct Interface {
-    /// What comes before the netlink messages of a packet.
+    /// The header before the netlink messages of a packet.
     pub link: Link,
     /// The number of bytes kept of a packet (snaplen); 0 for all.
     pub most: u32,
