@@ -7,7 +7,7 @@ ghost use Rattle.tc_select.specs.Links.{is_in_name, without_colon, name_in, name
 ghost use Rattle.tc_select.specs.LinkView.{link_view};
 
 use crate::digits::number_of;
-use crate::hex::{digits, is_blank, without_blanks};
+use crate::dump::{digits, is_blank, without_blanks};
 use nla_frames::{NlasIterator, strip_nul};
 use tc_capture::order::Order;
 

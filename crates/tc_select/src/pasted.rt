@@ -4,7 +4,7 @@ ghost use Rattle.std.specs.Prelude.{◌≡◌, ◌<◌, ◌∷◌, ℕ, List, If
 ghost use Rattle.tc_select.specs.Pasted.{is_between, is_prefix, bytes_after, bytes_of_hex, appended, if_hex, appended_rest};
 
 use crate::digits::digit;
-use crate::hex::is_blank;
+use crate::dump::is_blank;
 use std::alloc::{AllocError, Allocator};
 
 /// Appends the bytes of a hex text: two digits a byte; blanks, colons and `0x` are ignored. Returns false if there is
