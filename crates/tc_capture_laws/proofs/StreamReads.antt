@@ -25,7 +25,7 @@ use Rattle.tc_capture.specs.Stream.{is_time, time_at_front, front_of_length, nex
 use Rattle.tc_capture.specs.Capture.{State, in_stream, before_header, in_section, capture_at}
 use Rattle.tc_capture_laws.specs.Pieces.{pieces_up_to, pieces_in}
 use Rattle.tc_capture_laws.specs.Reading as reading
-use Rattle.tc_capture_laws.specs.Reading.{Read, read_of, read_in}
+use Rattle.tc_capture_laws.specs.Reading.{Read, read_in}
 use Rattle.tc_capture_laws.specs.Files.{Packet, IsMessage, IsNoTime, HasAtMost, IsTimed, message_bytes, messages_bytes, single_as_read, stamp}
 use Rattle.tc_capture_laws.specs.Files.{stream_file, timed_file, timed_as_read}
 use Rattle.tc_capture_laws.proofs.MessageReads.{length-message_bytes, length_at-message_bytes, messages_in-messages_bytes}

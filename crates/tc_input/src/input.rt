@@ -1,20 +1,16 @@
 //! The input, a part at a time.
 
-ghost use Rattle.std.specs.Prelude.{◌≡◌, ◌+◌, ◌≤◌, ◌<◌, All, ◌≢◌, drop, take, length, IfOk};
-ghost use Rattle.std.specs.Io.KnownBytes.{Consumes, IsAtEnd};
+ghost use Rattle.std.specs.Prelude.{◌+◌, ◌≤◌, ◌<◌, All, ◌≢◌, drop, take, length};
 
+use program_io::{Stop, read_some};
 use std::alloc::{AllocError, Allocator};
-use std::io::{ErrorKind, Read};
-use program_io::Stop;
+use std::io::Read;
 
 /// The longest piece of an input that is read as a whole, in bytes.
 pub const MOST_PIECE: usize = 1_048_576;
 
 // The most bytes that one read asks for.
 const PART: usize = 65_536;
-
-// How often a read that was interrupted is tried again.
-const MOST_TRIES: u16 = 1024;
 
 /// What was read of an input and isn't used yet.
 #[derive(Drop)]
@@ -107,7 +103,7 @@ impl<A: Allocator + Copy> Input<A> {
         ensures { IfOk result (λ some. ReadsMore (rest_of self.old) (rest_of self.new) (R.remaining reader.old) (R.remaining reader.new) some) }
     {
         self.forget();
-        let count = read_part(self.part.as_mut_slice(), reader)?;
+        let count = read_some(reader, self.part.as_mut_slice())?;
         if count == 0 {
             return Ok(false);
         }
@@ -154,25 +150,4 @@ impl<A: Allocator + Copy> Input<A> {
         }
         Ok(input)
     }
-}
-
-// Reads bytes once, and returns how many: none at the end of the input alone.
-#[tactic(auto, using(crate::proofs::Left::kept_then, crate::proofs::Left::kept_consumes))]
-fn read_part<R: Read>(part: &mut [u8], reader: &mut R) -> Result<usize, Stop>
-    requires { 0 < length part.old }
-    ensures inside { IfOk result (λ count. count ≤ length part.new) }
-    ensures taken { IfOk result (λ count. Consumes (R.remaining reader.old) (R.remaining reader.new) (take count part.new)) }
-    ensures none { IfOk result (λ count. count ≡ 0 → IsAtEnd (R.remaining reader.new)) }
-{
-    'tries: for _ in 0..MOST_TRIES {
-        match reader.read(part) {
-            Ok(count) => return Ok(count),
-            Err(fault) => {
-                if fault.kind() != ErrorKind::Interrupted {
-                    return Err(Stop::Read);
-                }
-            }
-        }
-    }
-    Err(Stop::Read)
 }

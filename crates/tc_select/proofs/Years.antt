@@ -1,7 +1,7 @@
 -- The days of whole years, by the leap days in them.
 use Rattle.std.proofs.Common.{◌≡◌, ◌≢◌, ℕ, zero, suc, ◌+◌, ◌-◌, ◌*◌, ◌/◌, ◌%◌, ◌<◌, inl, inr, eq-eqb, ne_eqb, arith}
 use Rattle.std.proofs.lemmas.Bool.{cases_eq}
-use Rattle.tc_select.specs.Calendar.{is_leap, year_length, days_of_years}
+use Rattle.tc_select.specs.Calendar.{year_length, days_of_years}
 
 -- a count of multiples moves on at a multiple, and nowhere else
 moves_4 : (z : ℕ) → 0 < z → z % 4 ≡ 0 → z / 4 ≡ (z - 1) / 4 + 1

@@ -1,6 +1,6 @@
 -- Lines of a hex dump (xxd, tcpdump -x, Wireshark); each begins with an offset.
-use Rattle.std.specs.Prelude.{ℕ, suc, ◌+◌, ◌*◌, ◌==◌, ◌&&◌, ◌||◌, Bool, List, [], ◌∷◌}
-use Rattle.std.specs.Prelude.{◌++◌, take, drop, slice_index, is_some, Option, Some, None, option_map, option_and_then, nat_le, if◌then◌else◌}
+use Rattle.std.specs.Prelude.{ℕ, suc, ◌==◌, ◌&&◌, ◌||◌, Bool, List, [], ◌∷◌}
+use Rattle.std.specs.Prelude.{take, drop, slice_index, is_some, Option, Some, None, nat_le, if◌then◌else◌}
 use Rattle.tc_select.specs.Digits.{digit, digits_of}
 
 -- a space, a tab or a carriage return

@@ -1,6 +1,6 @@
 -- Times as they are given on a command line.
 use Rattle.std.specs.Prelude.{ℕ, ◌+◌, ◌-◌, ◌*◌, ◌/◌, ◌==◌, ◌&&◌, Bool, List, [], ◌∷◌}
-use Rattle.std.specs.Prelude.{length, take, drop, slice_index, Option, Some, None, option_map, option_and_then, nat_le, nat_lt, if◌then◌else◌}
+use Rattle.std.specs.Prelude.{length, take, drop, slice_index, Option, Some, None, option_and_then, nat_le, nat_lt, if◌then◌else◌}
 use Rattle.std.specs.List.{position_or_len, before_first, after_first}
 use Rattle.tc_capture.specs.declared.time.Time.{Time}
 use Rattle.tc_select.specs.Calendar.{days_of_date}
