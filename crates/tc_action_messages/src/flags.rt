@@ -78,7 +78,7 @@ impl TcActionMessageFlagsWithSelector {
     }
 
     // Their words have four bytes.
-    fn in_hand(&self)
+    fn in_range(&self)
         ensures { pair_codec.Typed (flags_words self.now) }
     {
         u32_in_hand(self.flags.bits());
@@ -122,7 +122,7 @@ impl Nla for TcActionMessageFlagsWithSelector {
     }
 
     fn put_value(&self, buffer: &mut [u8]) -> usize {
-        self.in_hand();
+        self.in_range();
         put_bytes(buffer, &self.to_bytes())
     }
 
@@ -132,7 +132,7 @@ impl Nla for TcActionMessageFlagsWithSelector {
 impl Settle for TcActionMessageFlagsWithSelector {
     /// True: they read back as themselves.
     fn is_settled_under(&self, _kind: &str) -> bool {
-        self.in_hand();
+        self.in_range();
         true
     }
 }

@@ -24,7 +24,7 @@ use nla_frames::{
 use std::alloc::{Allocator, Global};
 use tc_laws::{places, rewriting};
 use tc_meaning::laws;
-use tc_records::laws::in_hand::action_message_header_in_hand;
+use tc_records::laws::in_range::action_message_header_in_range;
 use tc_records::{TCA_HEADER_LEN, TcActionMessageHeader};
 
 /// A message about actions: a header and attributes.
@@ -109,7 +109,7 @@ fn after_header(bytes: &[u8]) -> &[u8]
 impl<A: Allocator> Emitable for TcActionMessage<A> {
     fn checked_len(&self) -> Option<usize> {
         // A law, which does nothing: the header is typed, so it has its length in bytes.
-        action_message_header_in_hand(&self.header);
+        action_message_header_in_range(&self.header);
         match list_checked_len(&self.attributes) {
             Some(len) => len.checked_add(TCA_HEADER_LEN),
             None => None,
@@ -127,7 +127,7 @@ impl<A: Allocator> Emitable for TcActionMessage<A> {
     {
         // Laws, which do nothing: what is written reads back if settled, and the header is typed.
         laws::action_message(&[]);
-        action_message_header_in_hand(&self.header);
+        action_message_header_in_range(&self.header);
         put_list(&self.attributes, &mut buffer[TCA_HEADER_LEN..]);
         self.header.emit(buffer);
     }
@@ -144,7 +144,7 @@ impl<A: Allocator> TcActionMessage<A> {
     {
         // Laws, which do nothing: the bytes of a settled message are canonical, and the header is typed.
         laws::action_message(&[]);
-        action_message_header_in_hand(&self.header);
+        action_message_header_in_range(&self.header);
         self.header.is_settled() && list_settled_under(&self.attributes, "")
     }
 

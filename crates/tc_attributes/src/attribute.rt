@@ -37,7 +37,7 @@ use std::alloc::{Allocator, Global};
 use tc_actions::{TcStats2, TcXstats};
 use tc_options::{TcOption, VecTcOption, is_known_kind};
 use tc_records::TcStats;
-use tc_values::{Either, Items, Record, Value, kind_told};
+use tc_values::{Either, Items, Record, Value, kind_set_by_frame};
 
 /// An attribute of a message.
 ///
@@ -310,7 +310,7 @@ fn read_attributes<A: Allocator + Copy>(alloc: A, bytes: &[u8]) -> Res<VecTcAttr
     let mut kind = "";
     for frame in NlasIterator::new(bytes) {
         let frame = frame?;
-        let told = kind_told(&frame)?;
+        let told = kind_set_by_frame(&frame)?;
         // There is a place for the attribute before it is read, so that it is made there.
         list.reserve(1)?;
         let item = read_attribute(alloc, &frame, told, kind)?;

@@ -21,7 +21,7 @@ use std::alloc::{Allocator, Global};
 use tc_attributes::{TcAttribute, VecTcAttribute};
 use tc_laws::{places, rewriting};
 use tc_meaning::laws;
-use tc_records::laws::in_hand::header_in_hand;
+use tc_records::laws::in_range::header_in_range;
 use tc_records::{TC_HEADER_LEN, TcHeader};
 
 /// A message about a queueing discipline, a class, a filter or a chain: a header and attributes.
@@ -131,7 +131,7 @@ fn after_header(bytes: &[u8]) -> &[u8]
 impl<A: Allocator> Emitable for TcMessage<A> {
     fn checked_len(&self) -> Option<usize> {
         // A law, which does nothing: the header is typed, so it has its length in bytes.
-        header_in_hand(&self.header);
+        header_in_range(&self.header);
         match list_checked_len(&self.attributes) {
             Some(len) => len.checked_add(TC_HEADER_LEN),
             None => None,
@@ -149,7 +149,7 @@ impl<A: Allocator> Emitable for TcMessage<A> {
     {
         // Laws, which do nothing: what is written reads back if settled, and the header is typed.
         laws::tc_message(&[]);
-        header_in_hand(&self.header);
+        header_in_range(&self.header);
         put_list(&self.attributes, &mut buffer[TC_HEADER_LEN..]);
         self.header.emit(buffer);
     }
@@ -175,7 +175,7 @@ impl<A: Allocator> TcMessage<A> {
         ensures typed { IsTrue result → TypedTc (tc_message self.now) }
     {
         // A law, which does nothing: the header is typed.
-        header_in_hand(&self.header);
+        header_in_range(&self.header);
         self.header.is_settled() && list_settled_carrying(&self.attributes)
     }
 }

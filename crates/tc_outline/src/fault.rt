@@ -1,7 +1,7 @@
 //! The first fault of a message, and its place.
 
 ghost use Rattle.std.specs.Prelude.{◌≡◌};
-ghost use Rattle.tc_index.specs.Seen.{placed_of};
+ghost use Rattle.tc_index.specs.Views.{placed_of};
 ghost use Rattle.tc_outline.specs.Located.{own_fault};
 
 mod action;

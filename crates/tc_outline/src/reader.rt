@@ -2,7 +2,7 @@
 
 ghost use Rattle.std.specs.Prelude.{◌≡◌, ◌≤◌, length, IfSome, option_map};
 ghost use Rattle.nla_frames.specs.Fault.{seen};
-ghost use Rattle.tc_index.specs.Seen.{items_left};
+ghost use Rattle.tc_index.specs.Views.{items_left};
 ghost use Rattle.tc_outline.specs.Located.{first_fault, items_of_message, message_fault};
 
 use crate::fault::{Fault, error_in, fault_at};

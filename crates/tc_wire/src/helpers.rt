@@ -12,7 +12,7 @@ pub use nla_frames::{
 
 // The kind that attributes set for those after them.
 pub use nla_frames::{OnlyKind, SetsKind, kind_then, only_kind_set};
-pub use tc_values::kind_told;
+pub use tc_values::kind_set_by_frame;
 
 // Plain values: their bytes, and how they are written at the front of a buffer.
 pub use nla_frames::{

@@ -153,7 +153,7 @@ pub(crate) const RULES: &[Rule] = &[
     ("let word = self . kind ( ) ; let len = put_padded ( & mut buffer [ NLA_HEADER_SIZE .. ] , self ) ; put_header ( buffer ,", PUT_FRAME),
     ("fn put_padded < T : Nla > ( buffer : & mut [ u8 ] , item : & T ) -> usize { let len = item . put_value ( buffer ) ; $;b len }", PUT_PADDED),
     // A frame that tells no kind leaves the kinds found as they are.
-    ("only = only . and ( kind_told ( $*f ) ? ) ;", "if let told @ Some(_) = kind_told($*f)? {\n            only = only.and(told);\n        }"),
+    ("only = only . and ( kind_set_by_frame ( $*f ) ? ) ;", "if let told @ Some(_) = kind_set_by_frame($*f)? {\n            only = only.and(told);\n        }"),
     // An attribute's word and value in one step, since rustc tells its variant twice otherwise.
     ("fn put_value ( & self , buffer : & mut [ u8 ] ) -> usize ;", PUT_ROW),
     ("fn put_value ( & self , buffer : & mut [ u8 ] ) -> usize { self . $v ( ) . 1 . put ( buffer ) }", PUT_VIEW),

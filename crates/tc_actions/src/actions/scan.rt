@@ -16,7 +16,7 @@ use nla_frames::{
 };
 use std::alloc::Allocator;
 use tc_meaning::laws::own_grammar;
-use tc_values::kind_told;
+use tc_values::kind_set_by_frame;
 
 /// The values of the frames that the bytes are, each read under the kind that one of them sets, or the first fault: of
 /// a broken frame or of a kind that isn't UTF-8, of no kind or of several, of a frame that is refused.
@@ -56,7 +56,7 @@ fn scan<'a, A: Allocator>(alloc: A, bytes: &'a [u8]) -> Res<(Vec<NlaBuffer<'a>, 
     let mut only = OnlyKind::Missing;
     for frame in NlasIterator::new(bytes) {
         let frame = frame?;
-        only = only.and(kind_told(&frame)?);
+        only = only.and(kind_set_by_frame(&frame)?);
         frames.push(frame)?;
     }
     Ok((frames, only))

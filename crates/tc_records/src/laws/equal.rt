@@ -1,4 +1,4 @@
-//! `==` is true if and only if what contracts see of the two values is equal.
+//! `==` is true if and only if the abstract values are equal.
 
 ghost use Rattle.nla_frames.specs.DefaultNla.{kept_frame};
 ghost use Rattle.tc_fields.specs.Numbers.{family_scalar};
@@ -23,7 +23,7 @@ use crate::{
 use nla_frames::{AddressFamily, DefaultNla};
 use std::alloc::Allocator;
 
-/// Headers and statistics are equal if and only if their fields are, padding aside.
+/// Headers and statistics are equal if and only if their fields are; padding isn't a field.
 pub fn equal_statistics()
     ensures family { TellsSeen ⟦<AddressFamily as PartialEq>⟧.eq family_scalar }
     ensures handle { TellsSeen ⟦<TcHandle as PartialEq>⟧.eq handle_number }
@@ -49,8 +49,8 @@ pub fn equal_actions()
     ensures key { TellsSeen ⟦<TcU32Key as PartialEq>⟧.eq key_scalars }
 {}
 
-/// Flags are equal if and only if their words are, kept attributes if and only if their words and bytes are, and
-/// selectors if and only if their fields and their keys are.
+/// Flags are equal if and only if their words are, raw attributes if and only if their words and bytes are, and
+/// selectors if and only if their fields and keys are.
 pub fn equal_words<A: Allocator>()
     ensures selected { TellsSeen ⟦<TcU32Selector<A> as PartialEq>⟧.eq selector_of }
     ensures kept { TellsSeen ⟦<DefaultNla<A> as PartialEq>⟧.eq kept_frame }

@@ -17,4 +17,4 @@ returns-then-is_settled-clause-settled g c =
 
 pub returns-then-is_settled-clause-typed : goal.returns-then-is_settled-clause-typed
 returns-then-is_settled-clause-typed g c =
-    λ yes. record { header = c.header_in_hand.ensures; body = rw c.deref.ensures.value at (c.list_settled_carrying.ensures.typed yes) }
+    λ yes. record { header = c.header_in_range.ensures; body = rw c.deref.ensures.value at (c.list_settled_carrying.ensures.typed yes) }

@@ -1,5 +1,5 @@
-//! The fields of a header in hand have the widths and the names of its layout, so that the laws of `records` hold of it.
-//! Each is the contract of a function that does nothing, and is called with the header where that is needed.
+//! Each field of a header is in the range of its width, so the laws of `records` apply to every header. Each is the
+//! contract of a function that does nothing, called with the header where a proof needs it.
 
 ghost use Rattle.tc_canon.specs.Layouts.{tc_header, action_message_header};
 ghost use Rattle.tc_meaning.specs.Layout.{TypedFields};
@@ -10,15 +10,15 @@ use crate::{TcActionMessageHeader, TcHeader};
 use tc_fields::FixedRecord;
 
 /// The header of a traffic control message.
-pub fn header_in_hand(header: &TcHeader)
+pub fn header_in_range(header: &TcHeader)
     ensures { TypedFields tc_header (header_scalars header.now) }
 {
-    header.held();
+    header.ref_in_range();
 }
 
 /// The header of an action message.
-pub fn action_message_header_in_hand(message: &TcActionMessageHeader)
+pub fn action_message_header_in_range(message: &TcActionMessageHeader)
     ensures { TypedFields action_message_header (action_message_header_scalars message.now) }
 {
-    message.held();
+    message.ref_in_range();
 }

@@ -1,6 +1,6 @@
 use Rattle.std.proofs.Common.{sym, ◌∙◌}
-use Rattle.tc_values.proofs.KindTold.{kind_found, kind_refused}
-use Rattle.tc_values.proofs.kind.kind_told.Goals as goal
+use Rattle.tc_values.proofs.KindSetByFrame.{kind_found, kind_refused}
+use Rattle.tc_values.proofs.kind.kind_set_by_frame.Goals as goal
 
 pub returns-in-Ok : goal.returns-in-Ok
 returns-in-Ok c =
