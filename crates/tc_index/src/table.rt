@@ -1,6 +1,6 @@
 //! The attribute tables.
 
-/// An attribute table: the types in a list of attributes. Each is named after the enum with these variants.
+/// An attribute table: the attribute types of a list, and the enum that has them.
 #[derive(Clone, Copy)]
 pub enum Table {
     /// `TcAttribute`: a traffic control message.
