@@ -1,4 +1,4 @@
-//! Outlines in colours.
+//! Colored outlines.
 
 use std::io::{Result, Write};
 use std::test::Fail;

@@ -1,8 +1,8 @@
--- A number in hex, digit by digit.
+-- One more digit of a number in hex.
 use Rattle.std.proofs.Common.{◌≡◌, ℕ, suc, ◌≤◌, ◌/◌, ◌%◌, false, nat_lt, [], ◌∷◌, ◌++◌, ap, arith, subst, sym}
 use Rattle.std.specs.Char.{digit_char}
 use Rattle.std.specs.Prelude.{if◌then◌else◌}
-use Rattle.tc_units.specs.Numerals.{hex_in}
+use Rattle.tc_texts.specs.Hex.{hex_in}
 
 is-not-less : (n : ℕ) → 16 ≤ n → nat_lt n 16 ≡ false
 is-not-less n h = grind arith

@@ -1,13 +1,13 @@
-//! The names that these members have in a line of their own. Written by `kinds/columns`.
+//! The names of companions on a line of their own. Written by `kinds/columns`.
 
 ghost use Rattle.std.specs.Prelude.{map, ◌≡◌};
-ghost use Rattle.tc_columns.specs.Arrays.{names_of_partners_1250};
+ghost use Rattle.tc_columns.specs.Arrays.{names_of_companions_1250};
 ghost use Rattle.tc_units.specs.Names.{names_view};
 
 use tc_units::Name;
 
 #[rattlefmt::skip]
-static NAMES_OF_PARTNERS_1250: [&'static [Name<'static>]; 19] = [
+static NAMES_OF_COMPANIONS_1250: [&'static [Name<'static>]; 19] = [
     &[ // 30000, its name
         Name { number: 0, name: "nat_ipv4_max", kernel: "" },
     ],
@@ -67,9 +67,9 @@ static NAMES_OF_PARTNERS_1250: [&'static [Name<'static>]; 19] = [
     ],
 ];
 
-#[tactic(auto, unfolding(crate::specs::Arrays::names_of_partners_1250))]
-pub(crate) fn names_of_partners_1250() -> &'static [&'static [Name<'static>]]
-    ensures { map (λ x. names_view x.now) result.now ≡ names_of_partners_1250 }
+#[tactic(auto, unfolding(crate::specs::Arrays::names_of_companions_1250))]
+pub(crate) fn names_of_companions_1250() -> &'static [&'static [Name<'static>]]
+    ensures { map (λ x. names_view x.now) result.now ≡ names_of_companions_1250 }
 {
-    &NAMES_OF_PARTNERS_1250
+    &NAMES_OF_COMPANIONS_1250
 }
