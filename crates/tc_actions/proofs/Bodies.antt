@@ -7,8 +7,8 @@ use Rattle.tc_values.specs.Bodies.{same_of_either}
 use Rattle.tc_values.specs.Same.{IsSame}
 use Rattle.tc_values.proofs.Bodies.{are_items, is_either}
 use Rattle.tc_values.proofs.SameRows.{same_list, same_items, same_either}
-use Rattle.tc_stats.specs.Stats2.{tc_stats2}
-use Rattle.tc_action_options.specs.ActionOption.{action_option}
+use Rattle.tc_actions.specs.Stats2.{tc_stats2}
+use Rattle.tc_actions.specs.ActionOption.{action_option}
 use Rattle.tc_actions.specs.ActionAttribute.{attribute_body}
 
 pub is_attribute_body : {A : Type 0} → IsInner (attribute_body {A = A})

@@ -9,10 +9,10 @@ use Rattle.tc_values.specs.Inner.{Inner}
 use Rattle.tc_values.specs.Bodies.{items_of, either}
 use Rattle.tc_values.specs.declared.body.Items.{Items}
 use Rattle.tc_values.specs.declared.body.Either.{Either}
-use Rattle.tc_stats.specs.Stats2.{tc_stats2}
-use Rattle.tc_action_options.specs.ActionOption.{action_option}
-use Rattle.tc_stats.specs.declared.stats2.TcStats2.{TcStats2}
-use Rattle.tc_action_options.specs.declared.option.TcActionOption.{TcActionOption}
+use Rattle.tc_actions.specs.Stats2.{tc_stats2}
+use Rattle.tc_actions.specs.ActionOption.{action_option}
+use Rattle.tc_actions.specs.declared.stats.stats2.TcStats2.{TcStats2}
+use Rattle.tc_actions.specs.declared.actions.option.TcActionOption.{TcActionOption}
 use Rattle.tc_actions.specs.declared.actions.attribute.TcActionAttribute.{TcActionAttribute}
 use Rattle.tc_actions.specs.declared.actions.attribute.TcActionAttribute.TheVariants.{Kind, Options, Index, Stats, Cookie, InHwCount, Other}
 

@@ -7,7 +7,7 @@ use Rattle.tc_values.specs.Same.{IsSame}
 use Rattle.tc_values.proofs.Bodies.{are_items, is_either}
 use Rattle.tc_values.proofs.SameRows.{same_list, same_items, same_either}
 use Rattle.tc_actions.specs.Action.{tc_action, an_action}
-use Rattle.tc_mpls.specs.Mpls.{mpls_option}
+use Rattle.tc_flower.specs.Mpls.{mpls_option}
 use Rattle.tc_flower.specs.Flower.{flower_lists}
 
 pub are_flower_lists : {A : Type 0} → IsInner (flower_lists {A = A})

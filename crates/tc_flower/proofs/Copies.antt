@@ -2,7 +2,7 @@
 use Rattle.std.proofs.Common.{◌≡◌, Bool, true, false, sym, ap, ◌∙◌}
 use Rattle.tc_meaning.specs.Tree.{Attribute, known, items}
 use Rattle.tc_actions.specs.declared.actions.action.TcAction.{TcAction}
-use Rattle.tc_mpls.specs.declared.mpls.TcFilterFlowerMplsOption.{TcFilterFlowerMplsOption}
+use Rattle.tc_flower.specs.declared.filters.flower.mpls.TcFilterFlowerMplsOption.{TcFilterFlowerMplsOption}
 use Rattle.tc_flower.specs.declared.filters.flower.options.TcFilterFlowerOption.{TcFilterFlowerOption}
 use Rattle.tc_flower.specs.declared.filters.flower.options.TcFilterFlowerOption.TheVariants.{Actions, MplsOpts}
 use Rattle.tc_flower.specs.Flower.{flower_option, IsCopy}

@@ -12,10 +12,10 @@ use Rattle.tc_values.specs.declared.body.Items.{Items}
 use Rattle.tc_values.specs.declared.body.Either.{Either}
 use Rattle.tc_actions.specs.Action.{tc_action, an_action}
 use Rattle.tc_actions.specs.declared.actions.action.TcAction.{TcAction}
-use Rattle.tc_mpls.specs.declared.mpls.TcFilterFlowerMplsOption.{TcFilterFlowerMplsOption}
+use Rattle.tc_flower.specs.declared.filters.flower.mpls.TcFilterFlowerMplsOption.{TcFilterFlowerMplsOption}
 use Rattle.tc_flower.specs.declared.filters.flower.options.TcFilterFlowerOption.{TcFilterFlowerOption}
 use Rattle.tc_flower.specs.declared.filters.flower.options.TcFilterFlowerOption.TheVariants as option
-use Rattle.tc_mpls.specs.Mpls.{mpls_option}
+use Rattle.tc_flower.specs.Mpls.{mpls_option}
 
 abbrev pub flower_option : {A : Type 0} → TcFilterFlowerOption A → Attribute
 flower_option (option.ClassId n) = known 1 (number n)

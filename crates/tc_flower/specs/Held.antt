@@ -10,7 +10,7 @@ use Rattle.tc_flower.specs.declared.filters.flower.options.TcFilterFlowerOption.
 use Rattle.tc_flower.specs.declared.filters.flower.options.TcFilterFlowerOption.TheVariants.{Actions, MplsOpts}
 use Rattle.tc_flower.specs.declared.filters.flower.options.held.Held.{Held}
 use Rattle.tc_flower.specs.declared.filters.flower.options.held.Held.TheVariants as held
-use Rattle.tc_mpls.specs.Mpls.{mpls_option}
+use Rattle.tc_flower.specs.Mpls.{mpls_option}
 use Rattle.tc_flower.specs.Spans.{holds}
 
 -- the types of labels in connection tracking, which have as many bytes as an IPv6 address

@@ -6,7 +6,7 @@ use Rattle.tc_meaning.specs.Whole.{ReadsTc}
 use Rattle.tc_laws.specs.Unknown.{TakesUnknown}
 use Rattle.tc_records.specs.Header.{header_scalars}
 use Rattle.tc_messages.specs.declared.message.TcMessage.{TcMessage}
-use Rattle.tc_attributes.specs.Attribute.{tc_attribute}
+use Rattle.tc_messages.specs.Attribute.{tc_attribute}
 
 abbrev pub tc_message : {A : Type 0} → TcMessage A → Message
 tc_message m = record { header = header_scalars m.header; body = map tc_attribute m.attributes.items }

@@ -3,12 +3,13 @@
 ghost use Rattle.std.specs.Prelude.{◌≡◌, ◌↔◌, IsTrue};
 ghost use Rattle.tc_meaning.specs.Whole.{OneOutcome, tc_words, tc_bytes, FitsTc, SettledTc};
 ghost use Rattle.tc_meaning.specs.Equal.{TellsSeen};
-ghost use Rattle.tc_attributes.specs.Attribute.{tc_attribute};
+ghost use Rattle.tc_values.specs.Forgets.{ForgetsNothing};
+ghost use Rattle.tc_messages.specs.Attribute.{tc_attribute, SameAttribute};
 ghost use Rattle.tc_messages.specs.Message.{tc_message};
 
+use crate::attribute::TcAttribute;
 use crate::message::TcMessage;
 use std::alloc::Allocator;
-use tc_attributes::TcAttribute;
 use tc_laws::rewriting;
 use tc_meaning::laws;
 
@@ -38,3 +39,9 @@ pub fn equal_bytes<A: Allocator>(one: &TcMessage<A>, other: &TcMessage<A>)
     one.is_settled();
     other.is_settled();
 }
+
+/// Two attributes with the same abstract value hold the same.
+#[tactic(auto, using(tc_values::proofs::Lists::attributes_once))]
+pub fn forgets_nothing<A: Allocator>()
+    ensures { ForgetsNothing (tc_attribute {A = A}) SameAttribute }
+{}

@@ -14,11 +14,11 @@ ghost use Rattle.tc_laws.specs.Loose.{is_loose_tc};
 ghost use Rattle.tc_records.specs.Header.{empty_header};
 ghost use Rattle.tc_messages.specs.Message.{tc_message, TakesUnknownTc};
 
+use crate::attribute::{TcAttribute, VecTcAttribute};
 use nla_frames::{
     BytesMeaning, Emitable, ParseableBytes, Res, list_checked_len, list_settled_carrying, put_list,
 };
 use std::alloc::{Allocator, Global};
-use tc_attributes::{TcAttribute, VecTcAttribute};
 use tc_laws::{places, rewriting};
 use tc_meaning::laws;
 use tc_records::laws::in_hand::header_in_hand;

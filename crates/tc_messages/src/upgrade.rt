@@ -8,15 +8,16 @@ ghost use Rattle.tc_meaning.specs.Message.{kind_of_attribute};
 ghost use Rattle.tc_meaning.specs.Whole.{ReadsTc, FitsTc};
 ghost use Rattle.tc_laws.specs.FirstVersion.{ReadsTc1, upgrade, upgrade_each};
 ghost use Rattle.tc_options.specs.Options.{tc_option};
-ghost use Rattle.tc_attributes.specs.Attribute.{tc_attribute};
+ghost use Rattle.tc_messages.specs.Attribute.{tc_attribute};
 ghost use Rattle.tc_messages.specs.Message.{tc_message};
 ghost use Rattle.tc_messages.specs.Upgrade.{UpgradesAs, KnownAfter, IsRead, is_raw, is_lone, options_of};
 
+use crate::attribute::TcAttribute;
 use crate::message::TcMessage;
+use crate::types::TCA_OPTIONS;
 use nla_frames::{DefaultNla, NLA_TYPE_MASK, Nla, SetsKind};
 use std::alloc::Allocator;
 use std::mem;
-use tc_attributes::{TCA_OPTIONS, TcAttribute};
 use tc_laws::versions::upgrading;
 use tc_options::{TcOption, is_known_kind};
 

@@ -11,11 +11,11 @@ use Rattle.tc_canon.specs.Tables.Options.{option_kinds}
 use Rattle.tc_meaning.specs.Tree.{Attribute, other, of_kind}
 use Rattle.tc_meaning.specs.Meaning.{table_codec}
 use Rattle.tc_flower.specs.Flower.{flower_option}
-use Rattle.tc_qdiscs.specs.FqCodel.{fq_codel_option}
-use Rattle.tc_qdiscs.specs.Ingress.{ingress_option}
-use Rattle.tc_filters.specs.U32.{u32_option}
-use Rattle.tc_filters.specs.MatchAll.{matchall_option}
-use Rattle.tc_filters.specs.Bpf.{bpf_option}
+use Rattle.tc_options.specs.FqCodel.{fq_codel_option}
+use Rattle.tc_options.specs.Ingress.{ingress_option}
+use Rattle.tc_options.specs.U32.{u32_option}
+use Rattle.tc_options.specs.MatchAll.{matchall_option}
+use Rattle.tc_options.specs.Bpf.{bpf_option}
 use Rattle.tc_options.specs.declared.options.VecTcOption.{VecTcOption}
 use Rattle.tc_options.specs.declared.options.TcOption.{TcOption}
 use Rattle.tc_options.specs.declared.options.TcOption.TheVariants.{FqCodel, Ingress, Flower, U32, MatchAll, Bpf, Other}

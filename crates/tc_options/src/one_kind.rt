@@ -5,12 +5,15 @@ ghost use Rattle.nla_frames.specs.Fault.{Gives, seen};
 ghost use Rattle.nla_frames.specs.Reading.{read_list, keep};
 ghost use Rattle.tc_options.specs.Options.{listed, read_option};
 
+use crate::filters::bpf::TcFilterBpfOption;
+use crate::filters::cls_u32::TcFilterU32Option;
+use crate::filters::matchall::TcFilterMatchAllOption;
 use crate::options::{TcOption, VecTcOption};
+use crate::qdiscs::fq_codel::TcQdiscFqCodelOption;
+use crate::qdiscs::ingress::TcQdiscIngressOption;
 use nla_frames::{FrameReader, NlaBuffer, Parseable, Res, parse_list_by};
 use std::alloc::Allocator;
-use tc_filters::{TcFilterBpfOption, TcFilterMatchAllOption, TcFilterU32Option};
 use tc_flower::TcFilterFlowerOption;
-use tc_qdiscs::{TcQdiscFqCodelOption, TcQdiscIngressOption};
 
 /// Reads options of `fq_codel`.
 #[derive(Drop)]

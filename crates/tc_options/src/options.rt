@@ -12,19 +12,19 @@ ghost use Rattle.tc_meaning.specs.Short.{table_short};
 ghost use Rattle.tc_meaning.specs.Equal.{same_attribute, attribute_equiv, attribute_per};
 ghost use Rattle.tc_options.specs.Options.{tc_option, listed, read_options, ReadsOptions, OptionsFault};
 
+use crate::filters::bpf::{TcFilterBpf, TcFilterBpfOption};
+use crate::filters::cls_u32::{TcFilterU32, TcFilterU32Option};
+use crate::filters::matchall::{TcFilterMatchAll, TcFilterMatchAllOption};
 use crate::one_kind::{Bpf, Flower, FqCodel, Ingress, MatchAll, U32, read_list_of};
+use crate::qdiscs::fq_codel::{TcQdiscFqCodel, TcQdiscFqCodelOption};
+use crate::qdiscs::ingress::{TcQdiscIngress, TcQdiscIngressOption};
 use nla_frames::laws::in_hand::bytes_in_hand;
 use nla_frames::{
     DefaultNla, FrameMeaning, FrameReader, Nla, NlaBuffer, Parseable, ParseableParametrized, Res,
     Settle,
 };
 use std::alloc::{Allocator, Global};
-use tc_filters::{
-    TcFilterBpf, TcFilterBpfOption, TcFilterMatchAll, TcFilterMatchAllOption, TcFilterU32,
-    TcFilterU32Option,
-};
 use tc_flower::{TcFilterFlower, TcFilterFlowerOption};
-use tc_qdiscs::{TcQdiscFqCodel, TcQdiscFqCodelOption, TcQdiscIngress, TcQdiscIngressOption};
 use tc_values::is_settled_of_kind;
 
 /// One option of a message, in the variant of the message's kind.

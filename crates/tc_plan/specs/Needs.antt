@@ -11,9 +11,9 @@ use Rattle.tc_actions.specs.declared.actions.action.TcAction.{TcAction}
 use Rattle.tc_action_messages.specs.declared.attribute.TcActionMessageAttribute.{TcActionMessageAttribute}
 use Rattle.tc_action_messages.specs.declared.attribute.TcActionMessageAttribute.TheVariants as action_attribute
 use Rattle.tc_action_messages.specs.declared.message.TcActionMessage.{TcActionMessage}
-use Rattle.tc_attributes.specs.declared.attribute.TcAttribute.{TcAttribute}
-use Rattle.tc_attributes.specs.declared.attribute.TcAttribute.TheVariants as attribute
-use Rattle.tc_filters.specs.declared.filters.cls_u32.TcFilterU32Option.TheVariants as u32
+use Rattle.tc_messages.specs.declared.attribute.TcAttribute.{TcAttribute}
+use Rattle.tc_messages.specs.declared.attribute.TcAttribute.TheVariants as attribute
+use Rattle.tc_options.specs.declared.filters.cls_u32.TcFilterU32Option.TheVariants as u32
 use Rattle.tc_messages.specs.declared.message.TcMessage.{TcMessage}
 use Rattle.tc_options.specs.declared.options.TcOption.{TcOption}
 use Rattle.tc_options.specs.declared.options.TcOption.TheVariants as option

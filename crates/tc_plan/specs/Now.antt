@@ -3,9 +3,9 @@ use Rattle.std.specs.Prelude.{ℕ, Bool, ◌==◌, ◌||◌, List, [], ◌∷◌
 use Rattle.std.specs.List.{flat_map}
 use Rattle.std.specs.Option.{option_to_list}
 use Rattle.tc_actions.specs.declared.actions.action.TcAction.{TcAction}
-use Rattle.tc_attributes.specs.declared.attribute.TcAttribute.{TcAttribute}
-use Rattle.tc_filters.specs.declared.filters.cls_u32.TcFilterU32Option.TheVariants as u32
-use Rattle.tc_filters.specs.declared.filters.matchall.TcFilterMatchAllOption.TheVariants as matchall
+use Rattle.tc_messages.specs.declared.attribute.TcAttribute.{TcAttribute}
+use Rattle.tc_options.specs.declared.filters.cls_u32.TcFilterU32Option.TheVariants as u32
+use Rattle.tc_options.specs.declared.filters.matchall.TcFilterMatchAllOption.TheVariants as matchall
 use Rattle.tc_flower.specs.declared.filters.flower.options.TcFilterFlowerOption.TheVariants as flower
 use Rattle.tc_messages.specs.declared.message.TcMessage.{TcMessage}
 use Rattle.tc_options.specs.declared.options.TcOption.{TcOption}

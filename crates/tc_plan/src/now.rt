@@ -11,8 +11,7 @@ use crate::fate::{Fate, Named, Reason};
 use crate::key::Key;
 use std::alloc::{AllocError, Allocator};
 use tc_actions::TcAction;
-use tc_attributes::TcAttribute;
-use tc_messages::TcMessage;
+use tc_messages::{TcAttribute, TcMessage};
 use tc_options::{TcFilterFlowerOption, TcFilterMatchAllOption, TcFilterU32Option, TcOption};
 use tc_requests::{Use, kind_of_action, use_of_action};
 

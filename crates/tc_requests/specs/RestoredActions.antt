@@ -9,18 +9,18 @@ use Rattle.nla_frames.specs.Place.{kinds_set}
 use Rattle.tc_meaning.specs.Own.{kind_of_attribute}
 use Rattle.tc_meaning.specs.Tree.{Attribute, known, other, items, attributes_of, of_kind, record_of}
 use Rattle.tc_records.specs.Actions.{mirror_scalars, nat_scalars, tunnel_key_scalars}
-use Rattle.tc_stats.specs.declared.stats2.TcStats2.{TcStats2}
-use Rattle.tc_stats.specs.declared.stats2.TcStats2.TheVariants as stats2
-use Rattle.tc_action_options.specs.ActionOption.{action_option}
+use Rattle.tc_actions.specs.declared.stats.stats2.TcStats2.{TcStats2}
+use Rattle.tc_actions.specs.declared.stats.stats2.TcStats2.TheVariants as stats2
+use Rattle.tc_actions.specs.ActionOption.{action_option}
 use Rattle.tc_actions.specs.ActionAttribute.{action_attribute}
 use Rattle.tc_actions.specs.declared.actions.action.TcAction.{TcAction}
 use Rattle.tc_actions.specs.declared.actions.attribute.TcActionAttribute.{TcActionAttribute}
 use Rattle.tc_actions.specs.declared.actions.attribute.TcActionAttribute.TheVariants as attribute
-use Rattle.tc_action_options.specs.declared.option.TcActionOption.{TcActionOption}
-use Rattle.tc_action_options.specs.declared.option.TcActionOption.TheVariants.{Mirror, Nat, TunnelKey, Other}
-use Rattle.tc_action_options.specs.declared.mirror.TcActionMirrorOption.TheVariants as mirror
-use Rattle.tc_action_options.specs.declared.nat.TcActionNatOption.TheVariants as nat
-use Rattle.tc_action_options.specs.declared.tunnel_key.TcActionTunnelKeyOption.TheVariants as tunnel_key
+use Rattle.tc_actions.specs.declared.actions.option.TcActionOption.{TcActionOption}
+use Rattle.tc_actions.specs.declared.actions.option.TcActionOption.TheVariants.{Mirror, Nat, TunnelKey, Other}
+use Rattle.tc_actions.specs.declared.actions.mirror.TcActionMirrorOption.TheVariants as mirror
+use Rattle.tc_actions.specs.declared.actions.nat.TcActionNatOption.TheVariants as nat
+use Rattle.tc_actions.specs.declared.actions.tunnel_key.TcActionTunnelKeyOption.TheVariants as tunnel_key
 use Rattle.tc_requests.specs.declared.restore_error.RestoreError.TheVariants.{TooManyActions, Terse, TunnelOptions, ProgramByNumber, Estimator}
 use Rattle.tc_requests.specs.Numbers.{number_at, with_number}
 use Rattle.tc_requests.specs.Uses.{parameters, mirror_restored, nat_restored, tunnel_key_restored, record_restored}

@@ -3,21 +3,21 @@ use Rattle.std.specs.Prelude.{ℕ, ◌%◌, Bool, true, false, ◌==◌, ◌&&�
 use Rattle.tc_meaning.specs.Tree.{Attribute, known, other, number, items, attributes_of, of_kind}
 use Rattle.tc_requests.specs.declared.restore_error.RestoreError.TheVariants.{ProgramByNumber, PoliceOfFilter, TunnelOptions}
 use Rattle.tc_records.specs.FilterFlags.{option_flags_word}
-use Rattle.tc_qdiscs.specs.FqCodel.{fq_codel_option}
-use Rattle.tc_qdiscs.specs.declared.qdiscs.fq_codel.TcQdiscFqCodelOption.{TcQdiscFqCodelOption}
-use Rattle.tc_qdiscs.specs.declared.qdiscs.fq_codel.TcQdiscFqCodelOption.TheVariants as fq_codel
+use Rattle.tc_options.specs.FqCodel.{fq_codel_option}
+use Rattle.tc_options.specs.declared.qdiscs.fq_codel.TcQdiscFqCodelOption.{TcQdiscFqCodelOption}
+use Rattle.tc_options.specs.declared.qdiscs.fq_codel.TcQdiscFqCodelOption.TheVariants as fq_codel
 use Rattle.tc_flower.specs.Flower.{flower_option}
 use Rattle.tc_flower.specs.declared.filters.flower.options.TcFilterFlowerOption.{TcFilterFlowerOption}
 use Rattle.tc_flower.specs.declared.filters.flower.options.TcFilterFlowerOption.TheVariants as flower
-use Rattle.tc_filters.specs.U32.{u32_option}
-use Rattle.tc_filters.specs.declared.filters.cls_u32.TcFilterU32Option.{TcFilterU32Option}
-use Rattle.tc_filters.specs.declared.filters.cls_u32.TcFilterU32Option.TheVariants as u32
-use Rattle.tc_filters.specs.MatchAll.{matchall_option}
-use Rattle.tc_filters.specs.declared.filters.matchall.TcFilterMatchAllOption.{TcFilterMatchAllOption}
-use Rattle.tc_filters.specs.declared.filters.matchall.TcFilterMatchAllOption.TheVariants as matchall
-use Rattle.tc_filters.specs.Bpf.{bpf_option}
-use Rattle.tc_filters.specs.declared.filters.bpf.TcFilterBpfOption.{TcFilterBpfOption}
-use Rattle.tc_filters.specs.declared.filters.bpf.TcFilterBpfOption.TheVariants as bpf
+use Rattle.tc_options.specs.U32.{u32_option}
+use Rattle.tc_options.specs.declared.filters.cls_u32.TcFilterU32Option.{TcFilterU32Option}
+use Rattle.tc_options.specs.declared.filters.cls_u32.TcFilterU32Option.TheVariants as u32
+use Rattle.tc_options.specs.MatchAll.{matchall_option}
+use Rattle.tc_options.specs.declared.filters.matchall.TcFilterMatchAllOption.{TcFilterMatchAllOption}
+use Rattle.tc_options.specs.declared.filters.matchall.TcFilterMatchAllOption.TheVariants as matchall
+use Rattle.tc_options.specs.Bpf.{bpf_option}
+use Rattle.tc_options.specs.declared.filters.bpf.TcFilterBpfOption.{TcFilterBpfOption}
+use Rattle.tc_options.specs.declared.filters.bpf.TcFilterBpfOption.TheVariants as bpf
 use Rattle.tc_options.specs.Options.{tc_option}
 use Rattle.tc_options.specs.declared.options.TcOption.{TcOption}
 use Rattle.tc_options.specs.declared.options.TcOption.TheVariants.{FqCodel, Flower, U32, MatchAll, Bpf}

@@ -5,7 +5,7 @@ ghost use Rattle.std.specs.List.{list_any};
 ghost use Rattle.nla_frames.specs.DefaultNla.{kept_frame};
 ghost use Rattle.tc_actions.specs.Action.{tc_action};
 ghost use Rattle.tc_actions.specs.ActionAttribute.{action_attribute};
-ghost use Rattle.tc_action_options.specs.ActionOption.{action_option};
+ghost use Rattle.tc_actions.specs.ActionOption.{action_option};
 ghost use Rattle.tc_meaning.specs.Tree.{Attribute};
 ghost use Rattle.tc_requests.specs.declared.restore_error.RestoreError.TheVariants.{OutOfMemory};
 ghost use Rattle.tc_requests.specs.Restoring.{Gives, seen, seen_part};

@@ -3,11 +3,11 @@
 ghost use Rattle.std.specs.Prelude.{◌≡◌, ◌∷◌, [], codes, map, IfOk, IfErr};
 ghost use Rattle.tc_meaning.specs.Tree.{Attribute, known, number, of_kind};
 ghost use Rattle.tc_records.specs.FilterFlags.{option_flags_word};
-ghost use Rattle.tc_qdiscs.specs.FqCodel.{fq_codel_option};
+ghost use Rattle.tc_options.specs.FqCodel.{fq_codel_option};
 ghost use Rattle.tc_flower.specs.Flower.{flower_option};
-ghost use Rattle.tc_filters.specs.U32.{u32_option};
-ghost use Rattle.tc_filters.specs.MatchAll.{matchall_option};
-ghost use Rattle.tc_filters.specs.Bpf.{bpf_option};
+ghost use Rattle.tc_options.specs.U32.{u32_option};
+ghost use Rattle.tc_options.specs.MatchAll.{matchall_option};
+ghost use Rattle.tc_options.specs.Bpf.{bpf_option};
 ghost use Rattle.tc_options.specs.Options.{tc_option};
 ghost use Rattle.tc_requests.specs.declared.restore_error.RestoreError.TheVariants.{OutOfMemory};
 ghost use Rattle.tc_requests.specs.Restoring.{Gives, seen, seen_part};
@@ -23,8 +23,8 @@ use nla_frames::Nla;
 use std::alloc::{AllocError, Allocator};
 use tc_options::{
     TcFilterBpfOption, TcFilterFlowerOption, TcFilterMatchAllOption, TcFilterU32Option, TcOption,
+    TcQdiscFqCodelOption,
 };
-use tc_qdiscs::TcQdiscFqCodelOption;
 use tc_records::TcU32OptionFlags;
 use tc_texts::info_protocol;
 

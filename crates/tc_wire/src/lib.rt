@@ -23,16 +23,15 @@ pub use nla_frames::{
 };
 
 // Attributes, and options by kind.
-pub use tc_attributes::{TcAttribute, VecTcAttribute};
-pub use tc_filters::{
-    TcFilterBpf, TcFilterBpfOption, TcFilterMatchAll, TcFilterMatchAllOption, TcFilterU32,
-    TcFilterU32Option,
-};
 pub use tc_flower::{
     TcFilterFlower, TcFilterFlowerMplsLseOption, TcFilterFlowerMplsOption, TcFilterFlowerOption,
 };
-pub use tc_options::{TcOption, VecTcOption, is_known_kind};
-pub use tc_qdiscs::{TcQdiscFqCodel, TcQdiscFqCodelOption, TcQdiscIngress, TcQdiscIngressOption};
+pub use tc_messages::{TcAttribute, VecTcAttribute};
+pub use tc_options::{
+    TcFilterBpf, TcFilterBpfOption, TcFilterMatchAll, TcFilterMatchAllOption, TcFilterU32,
+    TcFilterU32Option, TcOption, TcQdiscFqCodel, TcQdiscFqCodelOption, TcQdiscIngress,
+    TcQdiscIngressOption, VecTcOption, is_known_kind,
+};
 
 // Actions and statistics.
 pub use tc_actions::{

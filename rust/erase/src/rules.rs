@@ -266,8 +266,8 @@ pub(crate) const UNKNOWN: &[&str] =
 /// Attributes that Rust has too, and macros: of `core` and `std`, and of the sources' own.
 pub(crate) const ATTRIBUTES: &[&str] = &["allow", "cfg", "default", "doc", "derive", "inline", "must_use", "repr", "rustfmt", "test"];
 pub(crate) const MACROS: &[&str] = &[
-    "any_of", "assert", "assert_eq", "done", "flags", "format", "format_args", "macro_rules", "matches", "sent", "stringify", "unreachable", "value_parser",
-    "write",
+    "any_of", "assert", "assert_eq", "done", "flags", "format", "format_args", "macro_rules", "matches", "name_of", "sent", "stringify", "type_of", "unreachable",
+    "value_parser", "write",
 ];
 
 /// Lints that erased modules don't meet: contracts used what is now unused, and some code is easier to prove than what clippy prefers.

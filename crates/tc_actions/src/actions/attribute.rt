@@ -9,15 +9,15 @@ ghost use Rattle.tc_values.specs.AttributeWords.{on, type_of, table, Attribute, 
 ghost use Rattle.tc_values.specs.Row.{attribute_of, IsRow, ShownAs, reads_at};
 ghost use Rattle.tc_actions.specs.ActionAttribute.{action_attribute, attribute_body};
 
+use crate::actions::option::{TcActionOption, read_options};
 use crate::actions::types::*;
+use crate::stats::stats2::TcStats2;
 use nla_frames::{
     DefaultNla, FrameMeaning, NLA_F_NESTED, NLA_TYPE_MASK, Nla, NlaBuffer, Parseable,
     ParseableParametrized, Res, SetsKind, Settle, parse_list_with, parse_string, parse_u32,
     strip_nul,
 };
 use std::alloc::{Allocator, Global};
-use tc_action_options::{TcActionOption, read_options};
-use tc_stats::TcStats2;
 use tc_values::{Either, Items, Value, same_row};
 
 /// An attribute of an action.

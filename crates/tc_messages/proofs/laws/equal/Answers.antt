@@ -1,5 +1,5 @@
 use Rattle.tc_meaning.specs.Equal.{attribute_tells, message_tells}
-use Rattle.tc_attributes.specs.Attribute.{tc_attribute}
+use Rattle.tc_messages.specs.Attribute.{tc_attribute}
 use Rattle.tc_messages.specs.Message.{tc_message}
 use Rattle.tc_messages.proofs.laws.equal.Goals as goal
 

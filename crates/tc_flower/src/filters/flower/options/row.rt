@@ -5,12 +5,12 @@ ghost use Rattle.tc_canon.specs.Tables.Flower.{flower_options};
 ghost use Rattle.tc_values.specs.Row.{attribute_of, IsRow, ShownAs};
 ghost use Rattle.tc_flower.specs.Flower.{flower_option, flower_lists};
 
+use crate::filters::flower::mpls::TcFilterFlowerMplsOption;
 use crate::filters::flower::options::held::Held;
 use crate::filters::flower::options::*;
 use nla_frames::{NLA_F_NESTED, Nla};
 use std::alloc::Allocator;
 use tc_actions::TcAction;
-use tc_mpls::TcFilterFlowerMplsOption;
 use tc_values::{Either, Items, Value};
 
 // The lists in the options: actions, or options of MPLS.

@@ -4,7 +4,7 @@ use Rattle.tc_canon.specs.Descriptor.{table}
 use Rattle.tc_meaning.specs.Meaning.{table_codec}
 use Rattle.tc_meaning.specs.Message.{kind_of_attribute}
 use Rattle.tc_canon.specs.Tables.Messages.{attributes}
-use Rattle.tc_attributes.specs.Attribute.{tc_attribute}
+use Rattle.tc_messages.specs.Attribute.{tc_attribute}
 use Rattle.tc_messages.proofs.message.TcMessage.has_settled_parts.Goals as goal
 
 pub returns-then-is_settled-clause-settled : goal.returns-then-is_settled-clause-settled
