@@ -38,20 +38,20 @@ pub fn flags_order(
     )
 }
 
-/// Flags with a selector hash as their two words do, so equal ones hash alike.
+/// Flags with a selector hash as their two words do, so equal ones have equal hashes.
 pub fn flags_hash<H: Hasher>(flags: TcActionMessageFlagsWithSelector, state: &mut H)
     ensures { state.new ≡ fold H.write state.old (flags_fed flags) }
 {
     flags.hash(state);
 }
 
-/// The default: no flag, and none that counts.
+/// The default: no flags, none valid.
 pub fn defaults()
     ensures { DefaultsTo ⟦<TcActionMessageFlagsWithSelector as Default>⟧.is_default flags_words
         (plain 0 ∷ plain 0 ∷ []) }
 {}
 
-/// All bytes read as one message and have no fault, or read as none and have one fault.
+/// Any bytes have exactly one reading and no fault, or no reading and exactly one fault.
 pub fn one_outcome(bytes: &[u8])
     ensures { OneOutcome action_words bytes.now }
 {
@@ -59,7 +59,7 @@ pub fn one_outcome(bytes: &[u8])
     laws::action_message(bytes);
 }
 
-/// `==` holds exactly where contracts see two action messages, or two parts of them, as equal.
+/// `a == b` if and only if their abstract values are equal.
 pub fn equal<A: Allocator>()
     ensures flags { TellsSeen ⟦<TcActionMessageFlagsWithSelector as PartialEq>⟧.eq flags_words }
     ensures attribute { TellsSeen ⟦<TcActionMessageAttribute<A> as PartialEq>⟧.eq
@@ -67,7 +67,7 @@ pub fn equal<A: Allocator>()
     ensures message { TellsSeen ⟦<TcActionMessage<A> as PartialEq>⟧.eq action_message }
 {}
 
-/// What contracts see of an attribute forgets nothing that it holds.
+/// Two attributes with the same abstract value hold the same.
 #[tactic(auto, using(tc_values::proofs::Lists::attributes_once))]
 pub fn forgets_nothing<A: Allocator>()
     ensures { ForgetsNothing (action_message_attribute {A = A}) SameActionMessageAttribute }

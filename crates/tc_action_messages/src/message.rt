@@ -1,4 +1,4 @@
-//! Whole action messages.
+//! Action messages.
 
 ghost use Rattle.std.specs.Prelude.{◌<◌, ◌^◌, ◌≡◌, ◌≤◌, ◌↔◌, [], length, drop, false, IfOk, IsTrue};
 ghost use Rattle.std.specs.Ordering.{on};
@@ -27,7 +27,7 @@ use tc_meaning::laws;
 use tc_records::laws::in_hand::action_message_header_in_hand;
 use tc_records::{TCA_HEADER_LEN, TcActionMessageHeader};
 
-/// A message about actions: a header and attributes.
+/// A message about actions: header and attributes.
 #[derive(Drop)]
 #[derive_where(Debug)]
 #[derive_where(Clone; A)]
@@ -61,21 +61,21 @@ impl<A: Allocator> BytesMeaning for TcActionMessage<A> {
 
 impl<A: Allocator + Copy> ParseableBytes<A> for TcActionMessage<A> {
     fn parse(alloc: A, bytes: &[u8]) -> Res<TcActionMessage<A>>
-        // What is read is what the grammar reads.
+        // The value is the grammar's reading.
         ensures found { IfOk result (λ m. ReadsAct bytes.now (action_message m)) }
-        // What is refused has this fault, and it is the first.
+        // A refusal is the first fault.
         ensures refused { IfRefused result (FaultAct bytes.now) }
-        // The function that computes both gives what is returned, unless memory ran out.
+        // The result is what the reading function computes, unless memory ran out.
         ensures exact { Gives (seen action_message result) (read_act bytes.now) }
-        // What fits is written as the same bytes if and only if these are canonical.
+        // A value that fits is written as the same bytes if and only if these are canonical.
         ensures same { IfOk result (λ m.
             FitsAct (action_message m)
             → (act_bytes (action_message m) ≡ bytes.now) ↔ CanonAct bytes.now) }
-        // Canonical bytes fail only with OutOfMemory, and read as what fits and is settled.
+        // Canonical bytes fail only with OutOfMemory, and read as a value that fits and is settled.
         ensures canonical { CanonAct bytes.now
             → UnlessMemory result (λ m.
             FitsAct (action_message m) × SettledAct (action_message m)) }
-        // What is read is unsettled if and only if it is loose: if encoding would change a part of it.
+        // The value is unsettled if and only if it is loose: if encoding would change it.
         ensures loose { IfOk result (λ m.
             SettledAct (action_message m) ↔ is_loose_act (action_message m) ≡ false) }
         // An attribute of an unknown type may be at any place, and is kept raw there.
@@ -98,7 +98,7 @@ fn read<A: Allocator + Copy>(alloc: A, bytes: &[u8]) -> Res<TcActionMessage<A>>
     Ok(TcActionMessage { header, attributes })
 }
 
-// What follows a header.
+// Reads the attributes after a header.
 fn after_header(bytes: &[u8]) -> &[u8]
     requires { 4 ≤ length bytes.now }
     ensures { result.now ≡ drop 4 bytes.now }
@@ -121,7 +121,7 @@ impl<A: Allocator> Emitable for TcActionMessage<A> {
         requires room { HasRoom (act_bytes (action_message self.now)) buffer.old }
         ensures written { Writes (act_bytes (action_message self.now)) buffer.old buffer.new }
         ensures typed { TypedAct (action_message self.now) }
-        // What is written reads back as the message if and only if it is settled.
+        // The bytes read back as the message if and only if it is settled.
         ensures back { ReadsAct (act_bytes (action_message self.now)) (action_message self.now)
             ↔ SettledAct (action_message self.now) }
     {
@@ -134,7 +134,7 @@ impl<A: Allocator> Emitable for TcActionMessage<A> {
 }
 
 impl<A: Allocator> TcActionMessage<A> {
-    /// True if its bytes, where it can be written, read back as itself: its header and each attribute are settled.
+    /// True if encoding the message and parsing the bytes gives it back: header and attributes are settled.
     pub fn is_settled(&self) -> bool
         ensures settled { IsTrue result ↔ SettledAct (action_message self.now) }
         ensures typed { IsTrue result → TypedAct (action_message self.now) }
@@ -148,7 +148,7 @@ impl<A: Allocator> TcActionMessage<A> {
         self.header.is_settled() && list_settled_under(&self.attributes, "")
     }
 
-    /// Takes all NULs off the end of each warning, and returns the most that were taken off one.
+    /// Removes all NULs at the end of each warning, and returns the largest number removed from one.
     pub fn trim_warnings(&mut self) -> usize
         // Nothing else of it changes.
         ensures trimmed { action_message self.new ≡ norm_act (action_message self.old) }

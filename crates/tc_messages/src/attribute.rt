@@ -70,11 +70,11 @@ pub enum TcAttribute<A: Allocator = Global> {
     Xstats(TcXstats<A>),
     /// How a rate is estimated, `struct tc_estimator` as bytes: `TCA_RATE`.
     Rate(Vec<u8, A>),
-    /// A count, as bytes; kernels send one where actions are flushed: `TCA_FCNT`.
+    /// A count, as bytes; Linux sends one when actions are flushed: `TCA_FCNT`.
     Fcnt(Vec<u8, A>),
     /// Statistics, each an attribute: `TCA_STATS2`.
     Stats2(Vec<TcStats2<A>, A>),
-    /// A table of sizes, as bytes: `TCA_STAB`.
+    /// The qdisc's size table, as bytes: `TCA_STAB`.
     Stab(Vec<u8, A>),
     /// Presence flag: include invisible qdiscs, `TCA_DUMP_INVISIBLE`. Written whether true or false.
     DumpInvisible(bool),
@@ -113,7 +113,7 @@ impl<A: Allocator + Copy> ParseableParametrized<A> for TcAttribute<A> {
     }
 }
 
-// Reading of options, and of what the table has no row for.
+// Reading options, and attributes of types without a row.
 impl<A: Allocator + Copy> TcAttribute<A> {
     // Options: a list under a known kind, kept raw under any other.
     #[inline(always)]
@@ -140,7 +140,7 @@ impl<A: Allocator + Copy> TcAttribute<A> {
     }
 }
 
-// What an attribute nests.
+// Nested values of the attributes.
 type Nested<'a, A> = Either<
     Either<Items<'a, TcOption<A>>, Items<'a, TcStats2<A>>>,
     Either<Record<'a, TcStats>, Record<'a, TcXstats<A>>>,
@@ -214,7 +214,7 @@ fn is_read(word: u16) -> bool
     matches!(word & NLA_TYPE_MASK, TCA_KIND..=TCA_STAB | TCA_DUMP_INVISIBLE..=TCA_HW_OFFLOAD)
 }
 
-// True if options that are kept raw are settled: under an unknown kind, at the type of options.
+// True if raw options are settled: under an unknown kind, with the type of options.
 fn is_settled_raw<A: Allocator>(nla: &DefaultNla<A>, kind: &str) -> bool
     ensures settled { IsTrue result ↔ (is_known option_kinds kind.now ≡ false)
         × (type_of (kept_frame nla.now).word ≡ 2) }
@@ -272,7 +272,7 @@ impl<A: Allocator> SetsKind for TcAttribute<A> {
     }
 }
 
-/// The attributes that bytes are, each read under the kind that is set last before it.
+/// The attributes of a message, each read under the last kind before it.
 #[derive(Drop)]
 pub struct VecTcAttribute<A: Allocator = Global>(pub Vec<TcAttribute<A>, A>);
 
@@ -286,12 +286,12 @@ impl<A: Allocator> BytesMeaning for VecTcAttribute<A> {
 
 impl<A: Allocator + Copy> ParseableBytes<A> for VecTcAttribute<A> {
     fn parse(alloc: A, bytes: &[u8]) -> Res<VecTcAttribute<A>>
-        // What is read is what the grammar reads, each frame under the kind that is set last before it.
+        // The value is the grammar's reading, each frame under the last kind before it.
         ensures found { IfOk result (λ list.
             ReadsAttributes bytes.now (map tc_attribute list.0.items)) }
-        // What is refused has this fault, and it is the first.
+        // A refusal is the first fault.
         ensures refused { IfRefused result (AttributesFault bytes.now) }
-        // The function that computes both gives what is returned, unless memory ran out.
+        // The result is what the reading function computes, unless memory ran out.
         ensures exact { Gives (seen (λ list. map tc_attribute list.0.items) result)
             (read_list attribute_codec.read kind_of_frame [] bytes.now) }
     {
@@ -311,7 +311,7 @@ fn read_attributes<A: Allocator + Copy>(alloc: A, bytes: &[u8]) -> Res<VecTcAttr
     for frame in NlasIterator::new(bytes) {
         let frame = frame?;
         let told = kind_told(&frame)?;
-        // There is a place for the attribute before it is read, so that it is made there.
+        // A slot is reserved before the attribute is read, so that it is built in place.
         list.reserve(1)?;
         let item = read_attribute(alloc, &frame, told, kind)?;
         kind = kind_then(kind, told);
@@ -320,7 +320,7 @@ fn read_attributes<A: Allocator + Copy>(alloc: A, bytes: &[u8]) -> Res<VecTcAttr
     Ok(VecTcAttribute(list))
 }
 
-// The attribute of a frame that sets this kind, or none: a text isn't decoded again.
+// Reads a frame that sets this kind, or none; the kind's text isn't decoded again.
 fn read_attribute<A: Allocator + Copy>(
     alloc: A,
     frame: &NlaBuffer<'_>,

@@ -13,7 +13,7 @@ use std::alloc::Allocator;
 use tc_laws::rewriting;
 use tc_meaning::laws;
 
-/// All bytes read as one message and have no fault, or read as none and have one fault.
+/// Any bytes have exactly one reading and no fault, or no reading and exactly one fault.
 pub fn one_outcome(bytes: &[u8])
     ensures { OneOutcome tc_words bytes.now }
 {
@@ -21,7 +21,7 @@ pub fn one_outcome(bytes: &[u8])
     laws::tc_message(bytes);
 }
 
-/// `==` holds exactly where contracts see two messages, or two of their attributes, as equal.
+/// `a == b` if and only if their abstract values are equal.
 pub fn equal<A: Allocator>()
     ensures attribute { TellsSeen ⟦<TcAttribute<A> as PartialEq>⟧.eq tc_attribute }
     ensures message { TellsSeen ⟦<TcMessage<A> as PartialEq>⟧.eq tc_message }

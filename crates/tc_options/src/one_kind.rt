@@ -93,7 +93,7 @@ impl<A: Allocator> FrameReader<A, TcOption<A>> for Bpf {
     }
 }
 
-/// The options of the frames that the bytes are, all of one kind, or the first fault.
+/// Reads a list of options of one kind, or returns the first fault.
 pub(crate) fn read_list_of<A: Allocator + Copy, K: FrameReader<A, TcOption<A>>>(
     alloc: A,
     bytes: &[u8],

@@ -1,4 +1,4 @@
-//! A message's options, by its kind.
+//! Options of qdiscs and filters, in the format of the kind.
 
 ghost use Rattle.std.specs.Prelude.{◌≡◌, ◌↔◌, List, IsTrue, IfOk};
 ghost use Rattle.std.specs.Ordering.{on};
@@ -48,7 +48,7 @@ pub enum TcOption<A: Allocator = Global> {
     Other(DefaultNla<A>),
 }
 
-/// True of the kinds whose options are known: `fq_codel`, `ingress`, `flower`, `u32`, `matchall` and `bpf`.
+/// True if options of the kind are typed: `fq_codel`, `ingress`, `flower`, `u32`, `matchall` and `bpf`.
 pub fn is_known_kind(kind: &str) -> bool
     ensures { result ≡ is_known option_kinds kind.now }
 {
@@ -169,19 +169,18 @@ impl<A: Allocator> Eq for TcOption<A> {
     ghost laws = { attribute_equiv tc_option };
 }
 
-/// The options of a message, read of one frame: a list under a known kind; under any other the frame itself as one
-/// `Other`.
+/// The options in one frame: a list under a known kind; under any other kind one `Other` with the whole frame.
 #[derive(Drop)]
 pub struct VecTcOption<A: Allocator = Global>(pub Vec<TcOption<A>, A>);
 
 impl<A: Allocator + Copy> VecTcOption<A> {
-    /// The options of a frame under a kind, or their first fault.
+    /// Reads the options in a frame of this kind, or returns their first fault.
     pub fn parse_with_param(alloc: A, buf: &NlaBuffer<'_>, kind: &str) -> Res<VecTcOption<A>>
         ensures found { IfOk result (λ options.
             ReadsOptions kind.now (frame_of buf.now) (listed options)) }
-        // What is refused has this fault, and it is the first.
+        // A refusal is the first fault.
         ensures refused { IfRefused result (OptionsFault kind.now (frame_of buf.now)) }
-        // What is found and what is refused, by the function that computes both.
+        // The result is what the reading function computes, unless memory ran out.
         ensures exact { Gives (seen listed result) (read_options kind.now (frame_of buf.now)) }
     {
         // Does nothing at run time: it says that the value is bytes, for the clauses `found` and `refused`.
@@ -190,7 +189,7 @@ impl<A: Allocator + Copy> VecTcOption<A> {
     }
 }
 
-// The options of a frame under a kind, which is asked for once and not at each option.
+// Reads the options; the kind is compared once, not per option.
 fn read_by_kind<A: Allocator + Copy>(
     alloc: A,
     buf: &NlaBuffer<'_>,

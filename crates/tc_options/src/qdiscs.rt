@@ -1,4 +1,4 @@
-//! Queueing disciplines.
+//! Queueing disciplines (qdiscs).
 
 pub mod fq_codel;
 pub mod ingress;

@@ -19,16 +19,15 @@ use nla_frames::{
 use std::alloc::{Allocator, Global};
 use tc_laws::places::order_in_an_action;
 
-/// An action. Its kind is the text of its one [`Kind`](TcActionAttribute::Kind), at whatever place in the list, and its
-/// options and statistics are read under it.
+/// An action. Exactly one attribute is its [`Kind`](TcActionAttribute::Kind), anywhere in the list, and selects the format
+/// of its options and statistics.
 #[derive(Drop)]
 #[derive_where(Debug)]
 #[derive_where(Clone; A)]
 pub struct TcAction<A: Allocator = Global> {
-    /// The type of its attribute, which in a list of actions is its place, counted from 1. It is written as the whole
-    /// `nla_type`.
+    /// The attribute type, which in a list of actions is the order number, from 1. Written as the whole `nla_type`.
     pub tab: u16,
-    /// Its attributes.
+    /// The attributes, in order.
     pub attributes: Vec<TcActionAttribute<A>, A>,
 }
 
@@ -54,19 +53,19 @@ impl<A: Allocator> FrameMeaning for TcAction<A> {
 }
 
 impl<A: Allocator + Copy> Parseable<A> for TcAction<A> {
-    /// The action that is the payload of a frame of any type, or its first fault: a broken frame or a kind that isn't
-    /// UTF-8, then `MissingKind` or `DuplicateKind`, then a fault of an attribute.
+    /// Reads the payload of a frame of any type. The first fault is a broken frame or a kind that isn't UTF-8, else
+    /// `MissingKind` or `DuplicateKind`, else a fault of an attribute.
     fn parse(alloc: A, buf: &NlaBuffer<'_>) -> Res<TcAction<A>>
         ensures tab { IfOk result (λ action. action.tab ≡ type_of (frame_of buf.now).word) }
-        // Its attributes are what the grammar reads of the value.
+        // The attributes are the grammar's reading of the value.
         ensures found { IfOk result (λ action.
             OwnReads read_action_attribute (frame_of buf.now).value (listed action)) }
-        // What is refused has this fault, which is the first.
+        // A refusal is the first fault.
         ensures refused { IfRefused result
             (OwnFault read_action_attribute (frame_of buf.now).value) }
         // Two neighbours exchanged, where all are padded in full, exchange what they read as, and change nothing else.
         ensures order { IfOk result (λ action. KeepsOrder (frame_of buf.now) (listed action)) }
-        // What is found and what is refused, by the function that computes both.
+        // The result is what the reading function computes, unless memory ran out.
         ensures exact { Gives (seen tc_action result)
             ((table_codec an_action).read [] (frame_of buf.now)) }
     {

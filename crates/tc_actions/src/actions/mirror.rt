@@ -1,4 +1,4 @@
-//! Packets that are redirected or copied to another interface.
+//! The action `mirred`.
 
 ghost use Rattle.std.specs.Prelude.{◌≡◌};
 ghost use Rattle.tc_canon.specs.Tables.Actions.{mirror_options};
@@ -17,7 +17,7 @@ use tc_values::{Either, Record, Value, same_row};
 pub struct TcActionMirror {}
 
 impl TcActionMirror {
-    /// Its name in a `Kind`.
+    /// The name in `TCA_ACT_KIND`.
     pub const KIND: &'static str = "mirred";
 }
 
@@ -31,15 +31,15 @@ impl TcActionMirror {
 #[derive_where(Debug)]
 #[derive_where(Clone; A)]
 pub enum TcActionMirrorOption<A: Allocator = Global> {
-    /// When it was made and used: `TCA_MIRRED_TM` of `linux/tc_act/tc_mirred.h`.
+    /// Times of creation and use: `TCA_MIRRED_TM` of `linux/tc_act/tc_mirred.h`.
     Tm(Tcf),
-    /// Where packets go: `TCA_MIRRED_PARMS`.
+    /// The target interface, and whether packets are redirected or copied: `TCA_MIRRED_PARMS`.
     Parms(TcMirror),
     /// Any other type.
     Other(DefaultNla<A>),
 }
 
-// What its options nest.
+// Nested values of the options.
 type Body<'a> = Either<Record<'a, Tcf>, Record<'a, TcMirror>>;
 
 impl<A: Allocator> FrameMeaning for TcActionMirrorOption<A> {
@@ -63,15 +63,14 @@ impl<A: Allocator> Parseable<A> for TcActionMirrorOption<A> {
 }
 
 impl<A: Allocator> TcActionMirrorOption<A> {
-    // The row, with what it says of the attribute: how it is written, that it fits and is settled.
+    // The row; its contract says how the attribute is written, when it fits and when it is settled.
     fn view(&self) -> (u16, Value<'_, Body<'_>>)
         ensures { ShownAs mirror_body mirror_options (mirror_option self.now) result.0 result.1 }
     {
         self.row()
     }
 
-    /// The option's `nla_type` (type and flags) and its value, in the form that the row of its type in the table says; of
-    /// `Other` the word and the payload that it keeps.
+    /// The `nla_type` (type and flags) and the value in the format of the type's row; both of `Other` are as read.
     pub fn row(&self) -> (u16, Value<'_, Body<'_>>)
         ensures seen { mirror_option self.now ≡ attribute_of mirror_body result.0 result.1 }
         ensures row { IsRow mirror_body mirror_options result.0 result.1 }

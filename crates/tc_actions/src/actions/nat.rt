@@ -1,4 +1,4 @@
-//! Addresses that are translated.
+//! The action `nat`.
 
 ghost use Rattle.std.specs.Prelude.{◌≡◌};
 ghost use Rattle.tc_canon.specs.Tables.Actions.{nat_options};
@@ -17,7 +17,7 @@ use tc_values::{Either, Record, Value, same_row};
 pub struct TcActionNat {}
 
 impl TcActionNat {
-    /// Its name in a `Kind`.
+    /// The name in `TCA_ACT_KIND`.
     pub const KIND: &'static str = "nat";
 }
 
@@ -31,15 +31,15 @@ impl TcActionNat {
 #[derive_where(Debug)]
 #[derive_where(Clone; A)]
 pub enum TcActionNatOption<A: Allocator = Global> {
-    /// When it was made and used: `TCA_NAT_TM` of `linux/tc_act/tc_nat.h`.
+    /// Times of creation and use: `TCA_NAT_TM` of `linux/tc_act/tc_nat.h`.
     Tm(Tcf),
-    /// Which addresses become which: `TCA_NAT_PARMS`.
+    /// The prefix to match and the one to put in: `TCA_NAT_PARMS`.
     Parms(TcNat),
     /// Any other type.
     Other(DefaultNla<A>),
 }
 
-// What its options nest.
+// Nested values of the options.
 type Body<'a> = Either<Record<'a, Tcf>, Record<'a, TcNat>>;
 
 impl<A: Allocator> FrameMeaning for TcActionNatOption<A> {
@@ -63,15 +63,14 @@ impl<A: Allocator> Parseable<A> for TcActionNatOption<A> {
 }
 
 impl<A: Allocator> TcActionNatOption<A> {
-    // The row, with what it says of the attribute: how it is written, that it fits and is settled.
+    // The row; its contract says how the attribute is written, when it fits and when it is settled.
     fn view(&self) -> (u16, Value<'_, Body<'_>>)
         ensures { ShownAs nat_body nat_options (nat_option self.now) result.0 result.1 }
     {
         self.row()
     }
 
-    /// The option's `nla_type` (type and flags) and its value, in the form that the row of its type in the table says; of
-    /// `Other` the word and the payload that it keeps.
+    /// The `nla_type` (type and flags) and the value in the format of the type's row; both of `Other` are as read.
     pub fn row(&self) -> (u16, Value<'_, Body<'_>>)
         ensures seen { nat_option self.now ≡ attribute_of nat_body result.0 result.1 }
         ensures row { IsRow nat_body nat_options result.0 result.1 }

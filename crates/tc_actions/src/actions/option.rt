@@ -1,4 +1,4 @@
-//! An action's options, by its kind.
+//! The options of actions, in the format of the kind.
 
 ghost use Rattle.std.specs.Prelude.{◌≡◌, map};
 ghost use Rattle.nla_frames.specs.Fault.{Gives, seen};
@@ -30,7 +30,7 @@ pub enum TcActionOption<A: Allocator = Global> {
     Nat(TcActionNatOption<A>),
     /// Under the kind `tunnel_key`.
     TunnelKey(TcActionTunnelKeyOption<A>),
-    /// Under any other kind, of any type.
+    /// Under any other kind.
     Other(DefaultNla<A>),
 }
 
@@ -57,7 +57,7 @@ impl<A: Allocator> ParseableParametrized<A> for TcActionOption<A> {
     }
 }
 
-/// The options of an action of this kind, or the first fault. The kind is asked for once, and not at each option.
+/// Reads the options of an action of this kind, or returns the first fault. The kind is compared once, not per option.
 pub fn read_options<A: Allocator + Copy>(
     alloc: A,
     bytes: &[u8],
@@ -78,7 +78,7 @@ pub fn read_options<A: Allocator + Copy>(
     parse_list_with(alloc, bytes, kind)
 }
 
-// True if the options of this kind are known.
+// True if options of this kind are typed.
 fn is_known_kind(kind: &str) -> bool
     ensures { result ≡ is_known action_option_kinds kind.now }
 {

@@ -1,5 +1,5 @@
-//! A list of frames that holds its own kind, read with one scan: it cuts the frames, and meets the broken ones and the
-//! kinds that aren't UTF-8 in their order.
+//! Reads a list of frames that holds its own kind. One scan cuts the frames and finds broken frames and kinds that aren't
+//! UTF-8 in order.
 
 ghost use Rattle.std.specs.Prelude.{◌≡◌, List, ℕ, [], Option, map, IfOk};
 ghost use Rattle.std.specs.Result.{MatchResult};
@@ -18,8 +18,8 @@ use std::alloc::Allocator;
 use tc_meaning::laws::own_grammar;
 use tc_values::kind_told;
 
-/// The values of the frames that the bytes are, each read under the kind that one of them sets, or the first fault: of
-/// a broken frame or of a kind that isn't UTF-8, of no kind or of several, of a frame that is refused.
+/// Reads each frame under the kind that one of them sets. The first fault is a broken frame or a kind that isn't UTF-8,
+/// else no kind or several, else that of a frame.
 pub(crate) fn parse_list_own<A: Allocator + Copy, T: ParseableParametrized<A> + Drop>(
     alloc: A,
     bytes: &[u8],
@@ -47,7 +47,7 @@ fn parse_own<A: Allocator + Copy, T: ParseableParametrized<A> + Drop>(
     }
 }
 
-// The frames that the bytes are, and the kinds that they set; or the first broken frame or kind that isn't UTF-8.
+// The frames and the kinds that they set, or the first broken frame or kind that isn't UTF-8.
 fn scan<'a, A: Allocator>(alloc: A, bytes: &'a [u8]) -> Res<(Vec<NlaBuffer<'a>, A>, OnlyKind<'a>)>
     ensures { MatchResult result (λ found. Scanned bytes.now found.0.items found.1) (λ e.
         Gives (refused e) (read_list first_look keep [] bytes.now)) }

@@ -1,4 +1,4 @@
-//! Packets that are sent through a tunnel.
+//! The action `tunnel_key`.
 
 ghost use Rattle.std.specs.Prelude.{◌≡◌};
 ghost use Rattle.tc_canon.specs.Tables.Actions.{tunnel_key_options};
@@ -16,12 +16,12 @@ use std::net::{Ipv4Addr, Ipv6Addr};
 use tc_records::{TcTunnelKey, Tcf};
 use tc_values::{Either, Record, Value, same_row};
 
-/// The action `tunnel_key`, which sets or unsets the header of a tunnel.
+/// The action `tunnel_key`, which sets or removes a packet's tunnel header.
 #[derive(PartialEq, Eq, Clone, Drop, Debug)]
 pub struct TcActionTunnelKey {}
 
 impl TcActionTunnelKey {
-    /// Its name in a `Kind`.
+    /// The name in `TCA_ACT_KIND`.
     pub const KIND: &'static str = "tunnel_key";
 }
 
@@ -41,9 +41,9 @@ impl TcActionTunnelKey {
 #[derive_where(Debug)]
 #[derive_where(Clone; A)]
 pub enum TcActionTunnelKeyOption<A: Allocator = Global> {
-    /// When it was made and used: `TCA_TUNNEL_KEY_TM` of `linux/tc_act/tc_tunnel_key.h`.
+    /// Times of creation and use: `TCA_TUNNEL_KEY_TM` of `linux/tc_act/tc_tunnel_key.h`.
     Tm(Tcf),
-    /// Whether the header is set or unset: `TCA_TUNNEL_KEY_PARMS`.
+    /// Whether the header is set or removed: `TCA_TUNNEL_KEY_PARMS`.
     Parms(TcTunnelKey),
     /// The IPv4 address of the tunnel's source: `TCA_TUNNEL_KEY_ENC_IPV4_SRC`.
     EncIpv4Src(Ipv4Addr),
@@ -67,7 +67,7 @@ pub enum TcActionTunnelKeyOption<A: Allocator = Global> {
     Other(DefaultNla<A>),
 }
 
-// What its options nest.
+// Nested values of the options.
 type Body<'a> = Either<Record<'a, Tcf>, Record<'a, TcTunnelKey>>;
 
 impl<A: Allocator> FrameMeaning for TcActionTunnelKeyOption<A> {
@@ -100,7 +100,7 @@ impl<A: Allocator> Parseable<A> for TcActionTunnelKeyOption<A> {
 }
 
 impl<A: Allocator> TcActionTunnelKeyOption<A> {
-    // The row, with what it says of the attribute: how it is written, that it fits and is settled.
+    // The row; its contract says how the attribute is written, when it fits and when it is settled.
     #[inline(always)]
     fn view(&self) -> (u16, Value<'_, Body<'_>>)
         ensures { ShownAs tunnel_key_body tunnel_key_options (tunnel_key_option self.now)
@@ -109,8 +109,7 @@ impl<A: Allocator> TcActionTunnelKeyOption<A> {
         self.row()
     }
 
-    /// The option's `nla_type` (type and flags) and its value, in the form that the row of its type in the table says; of
-    /// `Other` the word and the payload that it keeps.
+    /// The `nla_type` (type and flags) and the value in the format of the type's row; both of `Other` are as read.
     #[inline(always)]
     pub fn row(&self) -> (u16, Value<'_, Body<'_>>)
         ensures seen { tunnel_key_option self.now ≡ attribute_of tunnel_key_body result.0 result.1 }

@@ -1,4 +1,4 @@
-//! The types of actions and of their attributes.
+//! Types of actions, of their attributes and of their options.
 
 // Of a single action, `linux/rtnetlink.h`.
 pub(crate) const TCA_ACT_TAB: u16 = 1;

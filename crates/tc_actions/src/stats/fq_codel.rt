@@ -1,4 +1,4 @@
-//! Fair queueing with controlled delay, and its statistics.
+//! The qdisc `fq_codel`, and its statistics.
 
 ghost use Rattle.std.specs.Prelude.{◌≡◌, ◌≤◌, ◌↔◌, [], IsTrue, length, take, drop};
 ghost use Rattle.std.specs.Ordering.{on};
@@ -23,11 +23,11 @@ use tc_records::{
 pub struct TcQdiscFqCodel {}
 
 impl TcQdiscFqCodel {
-    /// Its name in a `Kind`.
+    /// The name in `TCA_KIND`.
     pub const KIND: &'static str = "fq_codel";
 }
 
-// The bytes of such a number.
+// Length in bytes of the number before a record.
 const XSTATS_NUMBER_LEN: usize = 4;
 
 /// The statistics of `fq_codel`, `struct tc_fq_codel_xstats` of `linux/pkt_sched.h`: a little-endian u32 that names
@@ -43,9 +43,9 @@ const XSTATS_NUMBER_LEN: usize = 4;
 pub enum TcFqCodelXstats<A: Allocator = Global> {
     /// Of the qdisc: `TCA_FQ_CODEL_XSTATS_QDISC`.
     Qdisc(TcFqCodelQdStats),
-    /// Of one class, which is a flow: `TCA_FQ_CODEL_XSTATS_CLASS`.
+    /// Of one flow, which is a class: `TCA_FQ_CODEL_XSTATS_CLASS`.
     Class(TcFqCodelClStats),
-    /// All bytes, the number too, where it is any other.
+    /// All bytes, number included, if the number is any other.
     Other(Vec<u8, A>),
 }
 
@@ -58,8 +58,8 @@ impl<A: Allocator> BytesMeaning for TcFqCodelXstats<A> {
 }
 
 impl<A: Allocator> ParseableBytes<A> for TcFqCodelXstats<A> {
-    /// The statistics that bytes begin with; what follows a record is dropped. Fewer than four bytes are `XstatsShort`;
-    /// a record that isn't whole is `BufferTooSmall`, of the bytes after its number.
+    /// Reads statistics; bytes after the record are ignored. Fails with `XstatsShort` if there are fewer than four bytes,
+    /// and with `BufferTooSmall` if the record is cut off (its lengths don't count the number).
     fn parse(alloc: A, bytes: &[u8]) -> Res<TcFqCodelXstats<A>> {
         if bytes.len() < XSTATS_NUMBER_LEN {
             return Err(DecodeError::XstatsShort { len: bytes.len() });
@@ -110,8 +110,8 @@ impl<A: Allocator> SettleBytes for TcFqCodelXstats<A> {
 }
 
 impl<A: Allocator> TcFqCodelXstats<A> {
-    /// True if its bytes read as the statistics again: an `Other` has at least four bytes, and begins with neither of
-    /// the two numbers.
+    /// True if encoding and parsing gives the statistics back: an `Other` has at least four bytes and begins with
+    /// neither of the two numbers.
     pub fn is_settled(&self) -> bool
         ensures settled { IsTrue result
             ↔ fq_codel_xstats_codec.Settled [] (fq_codel_xstats self.now) }
@@ -121,7 +121,7 @@ impl<A: Allocator> TcFqCodelXstats<A> {
     }
 }
 
-// The number that at least four bytes begin with, and what follows it.
+// The first four bytes as a number, and the bytes after them.
 fn split_number(bytes: &[u8]) -> (u32, &[u8])
     requires { 4 ≤ length bytes.now }
     ensures number { result.0 ≡ le_value (take 4 bytes.now) }
@@ -134,7 +134,7 @@ fn split_number(bytes: &[u8]) -> (u32, &[u8])
     )
 }
 
-// True if bytes begin with a number that names no record.
+// True if the bytes begin with a number that names no record.
 fn is_no_number(bytes: &[u8]) -> bool
     ensures settled { IsTrue result ↔ IsNoNumber bytes.now }
     ensures typed { IsBytes bytes.now }

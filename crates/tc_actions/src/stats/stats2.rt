@@ -1,4 +1,4 @@
-//! Statistics as attributes, of a queue and of an action.
+//! The attributes in `TCA_STATS2` and `TCA_ACT_STATS`.
 
 ghost use Rattle.std.specs.Prelude.{◌≡◌};
 ghost use Rattle.tc_canon.specs.Tables.Statistics.{stats2};
@@ -16,7 +16,7 @@ use std::alloc::{Allocator, Global};
 use tc_records::{TcStatsBasic, TcStatsQueue};
 use tc_values::{Either, Record, Value, same_row};
 
-/// One of the statistics of a queue or of an action.
+/// An attribute with statistics, nested in `TCA_STATS2` of a message or in `TCA_ACT_STATS` of an action.
 ///
 /// | Type | Statistics | Value |
 /// |---|---|---|
@@ -28,11 +28,11 @@ use tc_values::{Either, Record, Value, same_row};
 #[derive_where(Debug)]
 #[derive_where(Clone; A)]
 pub enum TcStats2<A: Allocator = Global> {
-    /// The qdisc's own: `TCA_STATS_APP` of `linux/gen_stats.h`.
+    /// The qdisc's own statistics: `TCA_STATS_APP` of `linux/gen_stats.h`.
     App(TcXstats<A>),
     /// Bytes and packets: `TCA_STATS_BASIC`.
     Basic(TcStatsBasic),
-    /// What waits, and what was dropped: `TCA_STATS_QUEUE`.
+    /// Length of the queue, drops, requeues and overlimits: `TCA_STATS_QUEUE`.
     Queue(TcStatsQueue),
     /// Bytes and packets that the hardware handled: `TCA_STATS_BASIC_HW`.
     BasicHw(TcStatsBasic),
@@ -40,7 +40,7 @@ pub enum TcStats2<A: Allocator = Global> {
     Other(DefaultNla<A>),
 }
 
-// What its attributes nest.
+// Nested values of the attributes.
 type Body<'a, A> = Either<
     Record<'a, TcXstats<A>>,
     Either<Record<'a, TcStatsBasic>, Record<'a, TcStatsQueue>>,
@@ -68,15 +68,14 @@ impl<A: Allocator> ParseableParametrized<A> for TcStats2<A> {
 }
 
 impl<A: Allocator> TcStats2<A> {
-    // The row, with what it says of the attribute: how it is written, that it fits and is settled.
+    // The row; its contract says how the attribute is written, when it fits and when it is settled.
     fn view(&self) -> (u16, Value<'_, Body<'_, A>>)
         ensures { ShownAs stats2_body stats2 (tc_stats2 self.now) result.0 result.1 }
     {
         self.row()
     }
 
-    /// The attribute's `nla_type` (type and flags) and its value, in the form that the row of its type in the table says; of
-    /// `Other` the word and the payload that it keeps.
+    /// The `nla_type` (type and flags) and the value in the format of the type's row; both of `Other` are as read.
     pub fn row(&self) -> (u16, Value<'_, Body<'_, A>>)
         ensures seen { tc_stats2 self.now ≡ attribute_of stats2_body result.0 result.1 }
         ensures row { IsRow stats2_body stats2 result.0 result.1 }

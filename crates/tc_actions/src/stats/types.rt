@@ -1,4 +1,4 @@
-//! The types of statistics, and the numbers that say which statistics of a qdisc follow.
+//! Types of attributes with statistics, and the numbers before the records of `fq_codel`.
 
 // `linux/gen_stats.h`.
 pub(crate) const TCA_STATS_BASIC: u16 = 1;

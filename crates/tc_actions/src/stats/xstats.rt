@@ -34,8 +34,8 @@ impl<A: Allocator> BytesMeaning for TcXstats<A> {
 }
 
 impl<A: Allocator> TcXstats<A> {
-    /// The statistics that are a frame's value, under a kind. A fault of the bytes is found under `fq_codel` alone, as
-    /// [`TcFqCodelXstats`] finds it; `OutOfMemory` under any kind.
+    /// Reads a frame's value as statistics of `kind`. Only those of `fq_codel` can be malformed, with the faults of
+    /// [`TcFqCodelXstats`].
     pub fn parse_with_param(alloc: A, buf: &NlaBuffer<'_>, kind: &str) -> Res<TcXstats<A>>
         ensures { Gives (seen tc_xstats result)
             (xstats_codec.read kind.now (frame_of buf.now).value) }

@@ -1,4 +1,4 @@
-//! Packets that a program looks at.
+//! The filter `bpf`.
 
 ghost use Rattle.std.specs.Prelude.{◌≡◌, List};
 ghost use Rattle.nla_frames.specs.Value.{exactly};
@@ -23,7 +23,7 @@ use tc_values::{Value, same_row};
 pub struct TcFilterBpf {}
 
 impl TcFilterBpf {
-    /// Its name in a `Kind`.
+    /// The name in `TCA_KIND`.
     pub const KIND: &'static str = "bpf";
 
     /// The bytes of a program's tag: `BPF_TAG_SIZE` of `linux/bpf.h`.
@@ -45,19 +45,19 @@ impl TcFilterBpf {
 #[derive_where(Debug)]
 #[derive_where(Clone; A)]
 pub enum TcFilterBpfOption<A: Allocator = Global> {
-    /// The class that packets are put into: `TCA_BPF_CLASSID` of `linux/pkt_cls.h`.
+    /// The class of matching packets: `TCA_BPF_CLASSID` of `linux/pkt_cls.h`.
     ClassId(TcHandle),
     /// The file descriptor of the program: `TCA_BPF_FD`.
     ProgFd(u32),
     /// The program's name: `TCA_BPF_NAME`.
     ProgName(String<A>),
-    /// What becomes of the program's verdict: `TCA_BPF_FLAGS`.
+    /// How the program's return value is used (`TCA_BPF_FLAG_ACT_DIRECT`): `TCA_BPF_FLAGS`.
     Flags(TcBpfFlags),
-    /// Where the filter is to be, and where it is: `TCA_BPF_FLAGS_GEN`.
+    /// Hardware offload, requested and reported: `TCA_BPF_FLAGS_GEN`.
     FlagsGeneric(TcU32OptionFlags),
     /// A digest of the program's instructions: `TCA_BPF_TAG`.
     ProgTag([u8; TcFilterBpf::BPF_TAG_SIZE]),
-    /// The number under which the kernel keeps the program: `TCA_BPF_ID`.
+    /// The kernel's number of the program: `TCA_BPF_ID`.
     ProgId(u32),
     /// Any other type.
     Other(DefaultNla<A>),
@@ -89,7 +89,7 @@ impl<A: Allocator> Parseable<A> for TcFilterBpfOption<A> {
     }
 }
 
-// The bytes of a program's tag.
+// Reads the bytes of a program's tag.
 fn parse_tag(value: &[u8]) -> Res<[u8; TcFilterBpf::BPF_TAG_SIZE]>
     ensures { result ≡ exactly 8 value.now }
 {
@@ -105,15 +105,14 @@ fn parse_tag(value: &[u8]) -> Res<[u8; TcFilterBpf::BPF_TAG_SIZE]>
 }
 
 impl<A: Allocator> TcFilterBpfOption<A> {
-    // The row, with what it says of the attribute: how it is written, that it fits and is settled.
+    // The row; its contract says how the attribute is written, when it fits and when it is settled.
     fn view(&self) -> (u16, Value<'_>)
         ensures { ShownAs nothing bpf_options (bpf_option self.now) result.0 result.1 }
     {
         self.row()
     }
 
-    /// The option's `nla_type` (type and flags) and its value, in the form that the row of its type in the table says; of
-    /// `Other` the word and the payload that it keeps.
+    /// The `nla_type` (type and flags) and the value in the format of the type's row; both of `Other` are as read.
     pub fn row(&self) -> (u16, Value<'_>)
         ensures seen { bpf_option self.now ≡ attribute_of nothing result.0 result.1 }
         ensures row { IsRow nothing bpf_options result.0 result.1 }

@@ -1,4 +1,4 @@
-//! Packets whose words are compared.
+//! The filter `u32`.
 
 ghost use Rattle.std.specs.Prelude.{◌≡◌};
 ghost use Rattle.tc_canon.specs.Tables.Options.{u32_options};
@@ -22,7 +22,7 @@ use tc_values::{Either, Items, Record, Value, same_row};
 pub struct TcFilterU32 {}
 
 impl TcFilterU32 {
-    /// Its name in a `Kind`.
+    /// The name in `TCA_KIND`.
     pub const KIND: &'static str = "u32";
 }
 
@@ -41,33 +41,33 @@ impl TcFilterU32 {
 #[derive_where(Debug)]
 #[derive_where(Clone; A)]
 pub enum TcFilterU32Option<A: Allocator = Global> {
-    /// The class that packets are put into: `TCA_U32_CLASSID` of `linux/pkt_cls.h`.
+    /// The class of matching packets: `TCA_U32_CLASSID` of `linux/pkt_cls.h`.
     ClassId(TcHandle),
-    /// The hash table that the filter is in, and its place there: `TCA_U32_HASH`.
+    /// Handle of the hash table that holds the filter, with the bucket: `TCA_U32_HASH`.
     Hash(u32),
-    /// The hash table where the search goes on: `TCA_U32_LINK`.
+    /// Handle of the hash table where matching continues: `TCA_U32_LINK`.
     Link(u32),
-    /// How many buckets a hash table has: `TCA_U32_DIVISOR`.
+    /// Number of buckets of a hash table: `TCA_U32_DIVISOR`.
     Divisor(u32),
-    /// What is compared with a packet: `TCA_U32_SEL`.
+    /// Keys that are compared with a packet: `TCA_U32_SEL`.
     Selector(TcU32Selector<A>),
-    /// A limit of the rate, nested attributes of the kernel's own: `TCA_U32_POLICE`.
+    /// A rate limit, as bytes (nested attributes in Linux): `TCA_U32_POLICE`.
     Police(Vec<u8, A>),
-    /// What is done with packets: `TCA_U32_ACT`.
+    /// Actions on matching packets: `TCA_U32_ACT`.
     Action(Vec<TcAction<A>, A>),
-    /// The interface that packets come in by, a name: `TCA_U32_INDEV`.
+    /// Name of the interface that packets arrive on, as bytes: `TCA_U32_INDEV`.
     Indev(Vec<u8, A>),
-    /// How often the filter and its keys matched, `struct tc_u32_pcnt`: `TCA_U32_PCNT`.
+    /// Counts of lookups and matches, `struct tc_u32_pcnt` as bytes: `TCA_U32_PCNT`.
     Pnct(Vec<u8, A>),
-    /// The mark that packets bear, `struct tc_u32_mark`: `TCA_U32_MARK`.
+    /// Value and mask of a packet's mark, `struct tc_u32_mark` as bytes: `TCA_U32_MARK`.
     Mark(Vec<u8, A>),
-    /// Where the filter is to be, and where it is: `TCA_U32_FLAGS`.
+    /// Hardware offload, requested and reported: `TCA_U32_FLAGS`.
     Flags(TcU32OptionFlags),
     /// Any other type.
     Other(DefaultNla<A>),
 }
 
-// What its options nest.
+// Nested values of the options.
 type Body<'a, A> = Either<Record<'a, TcU32Selector<A>>, Items<'a, TcAction<A>>>;
 
 impl<A: Allocator> FrameMeaning for TcFilterU32Option<A> {
@@ -99,15 +99,14 @@ impl<A: Allocator + Copy> Parseable<A> for TcFilterU32Option<A> {
 }
 
 impl<A: Allocator> TcFilterU32Option<A> {
-    // The row, with what it says of the attribute: how it is written, that it fits and is settled.
+    // The row; its contract says how the attribute is written, when it fits and when it is settled.
     fn view(&self) -> (u16, Value<'_, Body<'_, A>>)
         ensures { ShownAs u32_body u32_options (u32_option self.now) result.0 result.1 }
     {
         self.row()
     }
 
-    /// The option's `nla_type` (type and flags) and its value, in the form that the row of its type in the table says; of
-    /// `Other` the word and the payload that it keeps.
+    /// The `nla_type` (type and flags) and the value in the format of the type's row; both of `Other` are as read.
     pub fn row(&self) -> (u16, Value<'_, Body<'_, A>>)
         ensures seen { u32_option self.now ≡ attribute_of u32_body result.0 result.1 }
         ensures row { IsRow u32_body u32_options result.0 result.1 }

@@ -1,4 +1,4 @@
-//! All packets.
+//! The filter `matchall`.
 
 ghost use Rattle.std.specs.Prelude.{◌≡◌};
 ghost use Rattle.tc_canon.specs.Tables.Options.{matchall_options};
@@ -21,7 +21,7 @@ use tc_values::{Items, Value, same_row};
 pub struct TcFilterMatchAll {}
 
 impl TcFilterMatchAll {
-    /// Its name in a `Kind`.
+    /// The name in `TCA_KIND`.
     pub const KIND: &'static str = "matchall";
 }
 
@@ -37,13 +37,13 @@ impl TcFilterMatchAll {
 #[derive_where(Debug)]
 #[derive_where(Clone; A)]
 pub enum TcFilterMatchAllOption<A: Allocator = Global> {
-    /// The class that packets are put into: `TCA_MATCHALL_CLASSID` of `linux/pkt_cls.h`.
+    /// The class of matching packets: `TCA_MATCHALL_CLASSID` of `linux/pkt_cls.h`.
     ClassId(TcHandle),
-    /// What is done with packets: `TCA_MATCHALL_ACT`.
+    /// Actions on matching packets: `TCA_MATCHALL_ACT`.
     Action(Vec<TcAction<A>, A>),
-    /// How many packets were counted: `TCA_MATCHALL_PCNT`.
+    /// Count of matching packets, `struct tc_matchall_pcnt` as bytes: `TCA_MATCHALL_PCNT`.
     Pnct(Vec<u8, A>),
-    /// Where the filter is to be, and where it is: `TCA_MATCHALL_FLAGS`.
+    /// Hardware offload, requested and reported: `TCA_MATCHALL_FLAGS`.
     Flags(u32),
     /// Any other type.
     Other(DefaultNla<A>),
@@ -71,7 +71,7 @@ impl<A: Allocator + Copy> Parseable<A> for TcFilterMatchAllOption<A> {
 }
 
 impl<A: Allocator> TcFilterMatchAllOption<A> {
-    // The row, with what it says of the attribute: how it is written, that it fits and is settled.
+    // The row; its contract says how the attribute is written, when it fits and when it is settled.
     fn view(&self) -> (u16, Value<'_, Items<'_, TcAction<A>>>)
         ensures { ShownAs action_list matchall_options (matchall_option self.now)
             result.0 result.1 }
@@ -79,8 +79,7 @@ impl<A: Allocator> TcFilterMatchAllOption<A> {
         self.row()
     }
 
-    /// The option's `nla_type` (type and flags) and its value, in the form that the row of its type in the table says; of
-    /// `Other` the word and the payload that it keeps.
+    /// The `nla_type` (type and flags) and the value in the format of the type's row; both of `Other` are as read.
     pub fn row(&self) -> (u16, Value<'_, Items<'_, TcAction<A>>>)
         ensures seen { matchall_option self.now ≡ attribute_of action_list result.0 result.1 }
         ensures row { IsRow action_list matchall_options result.0 result.1 }

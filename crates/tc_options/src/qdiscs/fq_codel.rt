@@ -1,4 +1,4 @@
-//! Fair queueing with controlled delay.
+//! The qdisc `fq_codel`: fair queueing with controlled delay.
 
 ghost use Rattle.std.specs.Prelude.{◌≡◌, IsTrue, List};
 ghost use Rattle.tc_canon.specs.Tables.Options.{fq_codel_options};
@@ -81,15 +81,14 @@ impl<A: Allocator> Parseable<A> for TcQdiscFqCodelOption<A> {
 }
 
 impl<A: Allocator> TcQdiscFqCodelOption<A> {
-    // The row, with what it says of the attribute: how it is written, that it fits and is settled.
+    // The row; its contract says how the attribute is written, when it fits and when it is settled.
     fn view(&self) -> (u16, Value<'_>)
         ensures { ShownAs nothing fq_codel_options (fq_codel_option self.now) result.0 result.1 }
     {
         self.row()
     }
 
-    /// The option's `nla_type` (type and flags) and its value, in the form that the row of its type in the table says; of
-    /// `Other` the word and the payload that it keeps.
+    /// The `nla_type` (type and flags) and the value in the format of the type's row; both of `Other` are as read.
     pub fn row(&self) -> (u16, Value<'_>)
         ensures seen { fq_codel_option self.now ≡ attribute_of nothing result.0 result.1 }
         ensures row { IsRow nothing fq_codel_options result.0 result.1 }

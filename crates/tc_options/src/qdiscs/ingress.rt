@@ -1,4 +1,4 @@
-//! The hook for packets that come in.
+//! The qdisc `ingress`.
 
 ghost use Rattle.tc_canon.specs.Tables.Options.{ingress_options};
 ghost use Rattle.tc_values.specs.AttributeWords.{on, table, Attribute, table_codec, table_short, same_attribute, attribute_equiv, attribute_per};
@@ -12,7 +12,7 @@ use std::alloc::{Allocator, Global};
 pub struct TcQdiscIngress {}
 
 impl TcQdiscIngress {
-    /// Its name in a `Kind`.
+    /// The name in `TCA_KIND`.
     pub const KIND: &'static str = "ingress";
 }
 

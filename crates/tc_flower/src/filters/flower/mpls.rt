@@ -1,4 +1,4 @@
-//! Options of flower that match the MPLS label stack, entry by entry.
+//! Flower's matches on an MPLS label stack, entry by entry.
 
 ghost use Rattle.std.specs.Prelude.{◌≡◌, List};
 ghost use Rattle.tc_canon.specs.Tables.Flower.{lse_options, mpls_options};
@@ -25,12 +25,12 @@ pub(crate) const TCA_FLOWER_KEY_MPLS_OPT_LSE_TC: u16 = 4;
 
 pub(crate) const TCA_FLOWER_KEY_MPLS_OPT_LSE_LABEL: u16 = 5;
 
-/// An option that matches one label stack entry.
+/// A match on one label stack entry (LSE); numbers are little-endian.
 ///
 /// | Type | Option | Value |
 /// |---|---|---|
 /// | 1 to 4 | `LseDepth`, `LseTtl`, `LseBos`, `LseTc` | u8 |
-/// | 5 | `LseLabel` | u32, little-endian, of which the lowest 20 bits are written |
+/// | 5 | `LseLabel` | u32, of which the lowest 20 bits are written |
 #[derive(Drop)]
 #[derive_where(Debug)]
 #[derive_where(Clone; A)]
@@ -72,15 +72,14 @@ impl<A: Allocator> Parseable<A> for TcFilterFlowerMplsLseOption<A> {
 }
 
 impl<A: Allocator> TcFilterFlowerMplsLseOption<A> {
-    // The `nla_type` and the value, by the table.
+    // The row; its contract says how the option is written, when it fits and when it is settled.
     fn view(&self) -> (u16, Value<'_>)
         ensures { ShownAs nothing lse_options (lse_option self.now) result.0 result.1 }
     {
         self.row()
     }
 
-    /// The option's `nla_type` (type and flags) and its value, in the form that the row of its type in the table says; of
-    /// `Other` the word and the payload that it keeps.
+    /// The `nla_type` (type and flags) and the value in the format of the type's row; both of `Other` are as read.
     pub fn row(&self) -> (u16, Value<'_>)
         ensures seen { lse_option self.now ≡ attribute_of nothing result.0 result.1 }
         ensures row { IsRow nothing lse_options result.0 result.1 }
@@ -146,7 +145,7 @@ impl<A: Allocator> Eq for TcFilterFlowerMplsLseOption<A> {
 // The type of a label stack entry, `linux/pkt_cls.h`.
 pub(crate) const TCA_FLOWER_KEY_MPLS_OPTS_LSE: u16 = 1;
 
-/// An option that matches the MPLS label stack.
+/// A match on the MPLS label stack.
 ///
 /// | Type | Option | Value |
 /// |---|---|---|
@@ -179,15 +178,14 @@ impl<A: Allocator + Copy> Parseable<A> for TcFilterFlowerMplsOption<A> {
 }
 
 impl<A: Allocator> TcFilterFlowerMplsOption<A> {
-    // The `nla_type` and the value, by the table.
+    // The row; its contract says how the option is written, when it fits and when it is settled.
     fn view(&self) -> (u16, Value<'_, Items<'_, TcFilterFlowerMplsLseOption<A>>>)
         ensures { ShownAs lse_lists mpls_options (mpls_option self.now) result.0 result.1 }
     {
         self.row()
     }
 
-    /// The option's `nla_type` (type and flags) and its value, in the form that the row of its type in the table says; of
-    /// `Other` the word and the payload that it keeps.
+    /// The `nla_type` (type and flags) and the value in the format of the type's row; both of `Other` are as read.
     pub fn row(&self) -> (u16, Value<'_, Items<'_, TcFilterFlowerMplsLseOption<A>>>)
         ensures seen { mpls_option self.now ≡ attribute_of lse_lists result.0 result.1 }
         ensures row { IsRow lse_lists mpls_options result.0 result.1 }

@@ -1,4 +1,4 @@
-//! Copies of options.
+//! `Clone` of options.
 
 ghost use Rattle.tc_flower.specs.Flower.{IsCopy};
 

@@ -1,4 +1,4 @@
-//! Options as text, as a derived `Debug` shows them.
+//! `Debug` of options, with the text that a derived one has.
 
 use crate::filters::flower::options::TcFilterFlowerOption;
 use crate::filters::flower::options::held::Held;

@@ -1,4 +1,4 @@
-//! Takes an option apart into its type and the value that it holds, and makes it of both.
+//! Splits an option into type and value, and builds it from both.
 
 ghost use Rattle.std.specs.Prelude.{◌≡◌, ◌&&◌, not, IsTrue};
 ghost use Rattle.std.specs.Net.Addr.{ipv4_octets, ipv6_octets};
@@ -16,12 +16,12 @@ use std::alloc::Allocator;
 use std::net::{Ipv4Addr, Ipv6Addr};
 use tc_actions::TcAction;
 
-// The value that an option holds.
+// The value of an option.
 #[derive(Drop)]
 pub(crate) enum Held<'a, A: Allocator> {
-    // The handle of a class.
+    // Handle of a class.
     ClassId(u32),
-    // The name of a device.
+    // Name of an interface.
     Name(&'a String<A>),
     Actions(&'a Vec<TcAction<A>, A>),
     // A MAC address.
@@ -53,7 +53,7 @@ pub(crate) enum Held<'a, A: Allocator> {
     Other(&'a DefaultNla<A>),
 }
 
-// Any of these options, and what it holds.
+// Any of these options, and its value.
 macro_rules! any_of {
     ($held:ident in $($option:ident),*) => { $(Self::$option($held))|* };
 }
@@ -69,7 +69,7 @@ macro_rules! type_of {
 }
 
 impl<A: Allocator> TcFilterFlowerOption<A> {
-    // The type, and the value that the option holds.
+    // Type and value of the option.
     #[inline(always)]
     pub(crate) fn parts(&self) -> (u16, Held<'_, A>)
         ensures seen { flower_option self.now ≡ held_at result.0 result.1 }
@@ -188,7 +188,7 @@ impl<A: Allocator> TcFilterFlowerOption<A> {
     }
 }
 
-// Options of a type and the value that they hold.
+// Options from type and value.
 impl<A: Allocator> TcFilterFlowerOption<A> {
     // The option of a type that holds a MAC address.
     #[inline(always)]

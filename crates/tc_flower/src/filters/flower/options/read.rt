@@ -29,7 +29,7 @@ impl<A: Allocator + Copy> Parseable<A> for TcFilterFlowerOption<A> {
 }
 
 impl<A: Allocator + Copy> TcFilterFlowerOption<A> {
-    // By its type: alone, or with the other types that hold the same.
+    // One arm for the types that have the same value.
     #[tactic(auto, using(crate::proofs::FlowerReads::in_dev_read, crate::proofs::FlowerReads::bos_read, crate::proofs::FlowerReads::tc_read, crate::proofs::FlowerReads::label_read))]
     #[inline(always)]
     fn read(alloc: A, buf: &NlaBuffer<'_>) -> Res<Self>
@@ -104,7 +104,7 @@ fn is_in_spans(word: u16) -> bool
     matches!(word & NLA_TYPE_MASK, TCA_FLOWER_INDEV..=TCA_FLOWER_KEY_ENC_IP_TTL_MASK | TCA_FLOWER_IN_HW_COUNT..=TCA_FLOWER_KEY_HASH_MASK)
 }
 
-// Reading by what the option holds.
+// Reading by the type of the value.
 impl<A: Allocator> TcFilterFlowerOption<A> {
     // An option that holds a MAC address.
     #[tactic(auto, using(crate::proofs::FlowerReads::mac_read))]
