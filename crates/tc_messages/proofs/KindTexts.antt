@@ -43,15 +43,15 @@ pub not_read : (kind : List ℕ) (f : Frame) (e : DecodeError) → refused e ≡
 not_read kind f e is = Gives-exact e _ (text_read kind f (Err e) (sym is))
 
 -- the kind after it is the one that it sets
-pub kind_told_then : (kind : List ℕ) (f : Frame) (told : Option (List ℕ)) → read_as told ≡ first_look [] f
-    → kind_after kind told ≡ kind_then kind_of_frame kind f
-kind_told_then kind f told is = go (tells_kind f) is
+pub kind_set_then : (kind : List ℕ) (f : Frame) (set : Option (List ℕ)) → read_as set ≡ first_look [] f
+    → kind_after kind set ≡ kind_then kind_of_frame kind f
+kind_set_then kind f set is = go (tells_kind f) is
   where
-    go : (b : Bool) → read_as told ≡ cond b (seen Some (text f.value)) (Ok None) → kind_after kind told ≡ kind_after kind (cond b (Some (strip f.value)) None)
+    go : (b : Bool) → read_as set ≡ cond b (seen Some (text f.value)) (Ok None) → kind_after kind set ≡ kind_after kind (cond b (Some (strip f.value)) None)
     go true same = of_test (is_utf8 (strip f.value)) same
       where
-        of_test : (b : Bool) → read_as told ≡ seen Some (cond b (Ok (strip f.value)) (Err NotUtf8))
-            → kind_after kind told ≡ kind_after kind (Some (strip f.value))
+        of_test : (b : Bool) → read_as set ≡ seen Some (cond b (Ok (strip f.value)) (Err NotUtf8))
+            → kind_after kind set ≡ kind_after kind (Some (strip f.value))
         of_test true same = cc
         of_test false bad = absurd (cc bad)
     go false same = cc

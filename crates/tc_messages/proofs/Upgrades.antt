@@ -13,9 +13,9 @@ use Rattle.tc_laws.proofs.UpgradeLaws.{StaysOrChanges, stays_or_changes, changed
 use Rattle.tc_messages.specs.Upgrade.{UpgradesAs, KnownAfter, is_raw, is_lone, options_of, IsRead}
 
 -- the attributes before a place are upgraded, and the others are left, after a kind that is known or not
-pub record UpgradedSoFar (old new : List Attribute) (i : ℕ) (told : Bool) : Type 0 where
+pub record UpgradedSoFar (old new : List Attribute) (i : ℕ) (known_kind : Bool) : Type 0 where
   pub kind : List ℕ
-  pub is_told : told ≡ is_known option_kinds kind
+  pub is_known_kind : known_kind ≡ is_known option_kinds kind
   pub left : upgrade_each [] old ≡ take i new ++ upgrade_each kind (drop i new)
 
 -- what is done of a list and what is left of it, where the attributes before a place leave this kind
@@ -30,16 +30,16 @@ module _ {Y : Type 0} (see : Y → Attribute) (d y : Y) where
   one_more kind (z ∷ list) zero less is = ap (λ (x : Attribute). x ∷ upgrade_each (kind_then kind_of_attribute kind (see z)) (map see list)) (sym is)
   one_more kind (z ∷ list) (suc i) less is = ap (λ (xs : List Attribute). see z ∷ xs) (one_more kind list i (omega (arith, less)) is)
 
-  -- one step: it is upgraded under the kind so far, and it is told whether the kind after it is known
-  pub goes_on : (old : List Attribute) (list : List Y) (i : ℕ) (told then : Bool) → UpgradedSoFar old (map see list) i told → i < length list
-      → UpgradesAs told (see (get_or list i d)) (see y) → KnownAfter told (kind_of_attribute (see (get_or list i d))) then
+  -- one step: it is upgraded under the kind so far, and the kind after it is known or not
+  pub goes_on : (old : List Attribute) (list : List Y) (i : ℕ) (known_kind then : Bool) → UpgradedSoFar old (map see list) i known_kind → i < length list
+      → UpgradesAs known_kind (see (get_or list i d)) (see y) → KnownAfter known_kind (kind_of_attribute (see (get_or list i d))) then
       → UpgradedSoFar old (map see (slice_set list i y)) (i + 1) then
-  goes_on old list i told then far less upgraded after =
+  goes_on old list i known_kind then far less upgraded after =
       let next = kind_then kind_of_attribute far.kind (see (get_or list i d)) in
-      let left = far.left ∙ one_more far.kind list i less (upgraded far.kind far.is_told) in
+      let left = far.left ∙ one_more far.kind list i less (upgraded far.kind far.is_known_kind) in
       record {
         kind = next;
-        is_told = after far.kind far.is_told;
+        is_known_kind = after far.kind far.is_known_kind;
         left = subst (λ (n : ℕ). upgrade_each [] old ≡ whole next n (map see (slice_set list i y))) (sym (add-one i)) left;
       }
 
@@ -55,8 +55,8 @@ both_hold true true one two = absurd (cc two)
 both_hold false b one two = absurd (cc one)
 
 -- under a known kind all stay
-pub stays_if_known : (told : Bool) (x : Attribute) → told ≡ true → UpgradesAs told x x
-stays_if_known told x holds kind is = go (stays_or_changes kind x)
+pub stays_if_known : (known_kind : Bool) (x : Attribute) → known_kind ≡ true → UpgradesAs known_kind x x
+stays_if_known known_kind x holds kind is = go (stays_or_changes kind x)
   where
     go : StaysOrChanges kind x → x ≡ upgrade_attribute kind x
     go (inl same) = sym same

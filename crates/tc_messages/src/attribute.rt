@@ -310,11 +310,11 @@ fn read_attributes<A: Allocator + Copy>(alloc: A, bytes: &[u8]) -> Res<VecTcAttr
     let mut kind = "";
     for frame in NlasIterator::new(bytes) {
         let frame = frame?;
-        let told = kind_told(&frame)?;
+        let set = kind_told(&frame)?;
         // A slot is reserved before the attribute is read, so that it is built in place.
         list.reserve(1)?;
-        let item = read_attribute(alloc, &frame, told, kind)?;
-        kind = kind_then(kind, told);
+        let item = read_attribute(alloc, &frame, set, kind)?;
+        kind = kind_then(kind, set);
         list.push_reserved(item);
     }
     Ok(VecTcAttribute(list))
@@ -324,14 +324,14 @@ fn read_attributes<A: Allocator + Copy>(alloc: A, bytes: &[u8]) -> Res<VecTcAttr
 fn read_attribute<A: Allocator + Copy>(
     alloc: A,
     frame: &NlaBuffer<'_>,
-    told: Option<&str>,
+    set: Option<&str>,
     kind: &str,
 ) -> Res<TcAttribute<A>>
-    requires { first_look [] (frame_of frame.now) ≡ read_as (text_set told) }
+    requires { first_look [] (frame_of frame.now) ≡ read_as (text_set set) }
     ensures { Gives (seen tc_attribute result)
         (attribute_codec.read kind.now (frame_of frame.now)) }
 {
-    match told {
+    match set {
         Some(text) => Ok(TcAttribute::Kind(String::from_str(alloc, text)?)),
         None => TcAttribute::parse_with_param(alloc, frame, kind),
     }

@@ -8,7 +8,7 @@ use Rattle.tc_canon.specs.Tables.Messages.{attributes}
 use Rattle.tc_meaning.specs.Meaning.{table_codec}
 use Rattle.tc_meaning.specs.Message.{kind_of_frame}
 use Rattle.tc_messages.specs.Attribute.{tc_attribute}
-use Rattle.tc_messages.proofs.KindTexts.{not_read, kind_told_then}
+use Rattle.tc_messages.proofs.KindTexts.{not_read, kind_set_then}
 use Rattle.tc_messages.proofs.attribute.read_attributes.Goals as goal
 
 pub loop-frame-init : goal.loop-frame-init
@@ -30,16 +30,16 @@ returns-in_err-item g c =
     rw (p.1, p.2) (refuses (table_codec (table attributes)).read kind_of_frame _ _ _ _ c.loop-frame.invariant.1 _ _ _
     (rw c.in_ok-frame.was at c.in-Some.ensures.steps) c.in_err-item.ensures)
 
-pub returns-in_err-told : goal.returns-in_err-told
-returns-in_err-told g c =
-    let p = err_from_is_err_and c.from_residual-in_err-told.result c.from_residual-in_err-told.ensures.1 in
+pub returns-in_err-set : goal.returns-in_err-set
+returns-in_err-set g c =
+    let p = err_from_is_err_and c.from_residual-in_err-set.result c.from_residual-in_err-set.ensures.1 in
     rw (p.1, p.2) (refuses (table_codec (table attributes)).read kind_of_frame _ _ _ _ c.loop-frame.invariant.1 _ _ _
     (rw c.in_ok-frame.was at c.in-Some.ensures.steps)
-    (not_read _ _ _ c.in_err-told.ensures))
+    (not_read _ _ _ c.in_err-set.ensures))
 
 pub loop-frame-preserved : goal.loop-frame-preserved
 loop-frame-preserved g c =
-    let kind = c.kind_then-kind.ensures ∙ kind_told_then _ _ _ c.in_ok-told.ensures in (
+    let kind = c.kind_then-kind.ensures ∙ kind_set_then _ _ _ c.in_ok-set.ensures in (
       c.kind_then-kind.utf8,
       rw (c.push_reserved.ensures.items, c.in_ok-reserve.ensures.items, map_push, kind)
           (goes_on (table_codec (table attributes)).read kind_of_frame _ _ _ _ c.loop-frame.invariant.1 _ _ _
