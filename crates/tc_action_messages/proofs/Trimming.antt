@@ -1,4 +1,4 @@
--- What holds no warning and no masked number stays as it is when warnings are trimmed, and no NUL ends a part of it.
+-- A value without warnings and masked numbers is unchanged when warnings are trimmed, and no part of it ends in a NUL.
 use Rattle.std.proofs.Common.{◌≡◌, ℕ, Bool, true, false, ◌&&◌, List, [], ◌∷◌, map, cond, eqb, refl, ap, ap₂, ◌∙◌, codes}
 use Rattle.std.specs.List.{flat_map}
 use Rattle.std.proofs.lemmas.Bool.{and_parts}

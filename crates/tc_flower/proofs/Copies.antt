@@ -1,4 +1,4 @@
--- A copy of an option that is no list is an option that contracts see as the same.
+-- A copy of an option without a list has the same abstract value.
 use Rattle.std.proofs.Common.{◌≡◌, Bool, true, false, sym, ap, ◌∙◌}
 use Rattle.tc_meaning.specs.Tree.{Attribute, known, items}
 use Rattle.tc_actions.specs.declared.actions.action.TcAction.{TcAction}

@@ -1,4 +1,4 @@
--- A list that is read at its row is what the table reads.
+-- A list read at its row is the table's reading.
 use Rattle.std.proofs.Common.{◌≡◌, ℕ, List, Ok, refl}
 use Rattle.nla_frames.specs.declared.error.DecodeError.{DecodeError}
 use Rattle.nla_frames.specs.Fault.{Outcome, Gives, refused}

@@ -1,4 +1,4 @@
--- An option of flower as contracts see it.
+-- The abstract value of an option of flower.
 use Rattle.std.specs.Prelude.{◌≡◌, map, string_bytes}
 use Rattle.std.specs.List.{AllZip}
 use Rattle.std.specs.Net.Addr.{ipv4_octets, ipv6_octets}
@@ -128,7 +128,7 @@ SameFlower (option.MplsOpts v) (option.MplsOpts w) = map mpls_option v.items ≡
 SameFlower (option.Other x) (option.Other y) = kept_frame x ≡ kept_frame y
 SameFlower a b = a ≡ b
 
--- what is nested in the options: actions, or what MPLS is matched by
+-- nested values of the options: actions, or matches on MPLS
 abbrev pub flower_lists : {A : Type 0} → Inner (Either (Items (TcAction A)) (Items (TcFilterFlowerMplsOption A)))
 flower_lists = either (items_of tc_action an_action) (items_of mpls_option (table mpls_options))
 

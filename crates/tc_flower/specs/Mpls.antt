@@ -1,4 +1,4 @@
--- What flower matches of a label stack, as contracts see it.
+-- The abstract values of matches on a label stack.
 use Rattle.std.specs.Prelude.{◌≡◌, map}
 use Rattle.nla_frames.specs.DefaultNla.{kept_frame}
 use Rattle.tc_canon.specs.Descriptor.{table}
@@ -29,13 +29,13 @@ abbrev pub mpls_option : {A : Type 0} → TcFilterFlowerMplsOption A → Attribu
 mpls_option (mpls.Lse entries) = known 1 (items (attributes_of (map lse_option entries.items)))
 mpls_option (mpls.Other nla) = other (kept_frame nla).word (kept_frame nla).value
 
--- two options hold the same: what is matched of an entry is seen alike one by one; one that is kept raw the same word
--- and payload
+-- two options hold the same: matches on an entry that are equal one by one; one that is kept raw the same word and
+-- payload
 abbrev pub SameMpls : {A : Type 0} → TcFilterFlowerMplsOption A → TcFilterFlowerMplsOption A → Type 0
 SameMpls (mpls.Lse v) (mpls.Lse w) = map lse_option v.items ≡ map lse_option w.items
 SameMpls (mpls.Other x) (mpls.Other y) = kept_frame x ≡ kept_frame y
 SameMpls a b = ⊥
 
--- what is nested in the options of MPLS
+-- nested values of the options of MPLS
 abbrev pub lse_lists : {A : Type 0} → Inner (Items (TcFilterFlowerMplsLseOption A))
 lse_lists = items_of lse_option (table lse_options)

@@ -1,4 +1,4 @@
--- What is kept raw is shown whole, whatever the rows of the table are.
+-- A raw attribute is written whole, for any rows of the table.
 use Rattle.std.proofs.Common.{ℕ, List, refl}
 use Rattle.tc_canon.specs.Descriptor.{Rows}
 use Rattle.tc_meaning.specs.Tree.{other}

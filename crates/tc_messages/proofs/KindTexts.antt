@@ -37,7 +37,7 @@ text_read kind f o is = go (type_of f.word == 1) ((Decides-eqb (type_of f.word) 
     go true one same = rw (one refl) (of_text (text f.value) o same)
     go false one bad = absurd (of_none o bad)
 
--- where its text is refused, so is the attribute
+-- if its text is refused, so is the attribute
 pub not_read : (kind : List ℕ) (f : Frame) (e : DecodeError) → refused e ≡ first_look [] f
     → Gives (refused e) ((table_codec (table attributes)).read kind f)
 not_read kind f e is = Gives-exact e _ (text_read kind f (Err e) (sym is))

@@ -18,7 +18,7 @@ pub record UpgradedSoFar (old new : List Attribute) (i : ℕ) (known_kind : Bool
   pub is_known_kind : known_kind ≡ is_known option_kinds kind
   pub left : upgrade_each [] old ≡ take i new ++ upgrade_each kind (drop i new)
 
--- what is done of a list and what is left of it, where the attributes before a place leave this kind
+-- the part of a list that is upgraded and the rest, if this is the kind after the former
 abbrev whole : List ℕ → ℕ → List Attribute → List Attribute
 whole kind i xs = take i xs ++ upgrade_each kind (drop i xs)
 
@@ -62,7 +62,7 @@ stays_if_known known_kind x holds kind is = go (stays_or_changes kind x)
     go (inl same) = sym same
     go (inr c) = let bad : true ≡ false = sym holds ∙ is ∙ (changed-unknown kind c.word c.unknown).1 in absurd (cc bad)
 
--- options that change are one alone
+-- options that change are a single one
 lone_from : (xs : List Attribute) (word : ℕ) (value : List ℕ) → options_of xs ≡ lone_option word value → is_lone xs ≡ (type_of word == 2)
 lone_from [] word value same = absurd (cc same)
 lone_from (x ∷ []) word value same = let is : x ≡ other word value = cc same in ap is_raw is
@@ -79,7 +79,7 @@ stays_unless_lone xs fails kind is = go (stays_or_changes kind (options_of xs))
         let bad : true ≡ false = sym two ∙ sym (lone_from xs c.word c.value c.was) ∙ fails in
         absurd (cc bad)
 
--- of one alone, the last is that one
+-- of a single one, the last is that one
 pub lone_popped : {Y : Type 0} (see : Y → Attribute) (rest : List Y) (y : Y) → is_lone (map see (rest ++ y ∷ [])) ≡ true
     → (map see (rest ++ y ∷ []) ≡ see y ∷ []) × (is_raw (see y) ≡ true)
 lone_popped see [] y is = (refl, is)
@@ -101,13 +101,13 @@ lone_first see [] y one first = absurd (cc one)
 lone_first see (x ∷ []) y one first = ap (λ (z : _). is_raw (see z)) first
 lone_first see (x ∷ z ∷ ys) y one first = absurd (cc one)
 
--- of none or of several, none is alone
+-- none or several aren't a single one
 pub none_alone : {Y : Type 0} (see : Y → Attribute) (ys : List Y) → (length ys ≡ 1 → ⊥) → false ≡ is_lone (map see ys)
 none_alone see [] many = refl
 none_alone see (y ∷ []) many = absurd (many refl)
 none_alone see (y ∷ z ∷ ys) many = refl
 
--- what is raw stands as it is
+-- raw options are unchanged
 pub raw_unread : (x : Attribute) → is_raw x ≡ true → IsRead x → ⊥
 raw_unread (other word value) raw is_read = is_read word value refl
 raw_unread (known n content) raw is_read = cc raw

@@ -1,4 +1,4 @@
--- An attribute that is shown by a row of the table, or is kept raw, is written so.
+-- An attribute with a row of the table, or a raw one, is written so.
 use Rattle.std.proofs.Common.{◌≡◌, ℕ, ◌<◌, ◌^◌}
 use Rattle.tc_canon.specs.Layouts.{stats}
 use Rattle.tc_canon.specs.Tables.Messages.{attributes}

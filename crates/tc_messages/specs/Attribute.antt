@@ -1,4 +1,4 @@
--- A message's attribute as contracts see it.
+-- The abstract value of a message's attribute.
 use Rattle.std.specs.Prelude.{◌≡◌, ◌↔◌, ℕ, List, [], map, string_bytes}
 use Rattle.nla_frames.specs.declared.error.DecodeError.{DecodeError}
 use Rattle.nla_frames.specs.Codec.{Codec}
@@ -48,7 +48,7 @@ tc_attribute (Chain chain) = known 11 (number chain)
 tc_attribute (HwOffload offload) = known 12 (number offload)
 tc_attribute (Other nla) = other (kept_frame nla).word (kept_frame nla).value
 
--- two attributes hold the same: the same text or bytes, options or statistics that are seen alike; one that is kept raw
+-- two attributes hold the same: the same text or bytes, options or statistics that are equal; one that is kept raw
 -- the same word and payload; all others are equal
 abbrev pub SameAttribute : {A : Type 0} → TcAttribute A → TcAttribute A → Type 0
 SameAttribute (Kind s) (Kind t) = string_bytes s ≡ string_bytes t
@@ -62,7 +62,7 @@ SameAttribute (Stab v) (Stab w) = v.items ≡ w.items
 SameAttribute (Other x) (Other y) = kept_frame x ≡ kept_frame y
 SameAttribute a b = a ≡ b
 
--- options that are kept raw as any other attribute that is kept raw
+-- raw options, as any other raw attribute
 abbrev pub as_other : Attribute → Attribute
 as_other (kept n word value) = other word value
 as_other x = x
@@ -71,7 +71,7 @@ as_other x = x
 abbrev pub attribute_codec : Codec Frame Attribute
 attribute_codec = table_codec (table attributes)
 
--- the bytes are frames, and each reads as its attribute under the kind that is set last before its place
+-- the bytes are frames, and each reads as its attribute under the last kind before it
 abbrev pub ReadsAttributes : List ℕ → List Attribute → Type 0
 ReadsAttributes = ListReads attribute_codec.read kind_of_frame []
 
@@ -82,7 +82,7 @@ AttributesFault = IsListFault attribute_codec.read kind_of_frame []
 abbrev pub Nested : Type 0 → Type 0
 Nested A = Either (Either (Items (TcOption A)) (Items (TcStats2 A))) (Either (Record TcStats) (Record (TcXstats A)))
 
--- what attributes nest: options and statistics, as lists and as records
+-- nested values of attributes: options and statistics, as lists and as records
 abbrev pub nested : {A : Type 0} → Inner (Nested A)
 nested = either (either (items_of tc_option (by_kind option_kinds)) (items_of tc_stats2 (table stats2))) (either (record_part stats_scalars stats) xstats_part)
 

@@ -1,4 +1,4 @@
--- What the steps of an upgrade say.
+-- The steps of an upgrade.
 use Rattle.std.specs.Prelude.{◌≡◌, ℕ, Bool, false, List, [], ◌∷◌, Option, unwrap_or, ◌==◌}
 use Rattle.nla_frames.specs.Frame.{type_of}
 use Rattle.tc_canon.specs.Descriptor.{is_known}
@@ -19,7 +19,7 @@ abbrev pub is_raw : Attribute → Bool
 is_raw (other word value) = type_of word == 2
 is_raw _ = false
 
--- such an option alone
+-- a single raw option
 abbrev pub is_lone : List Attribute → Bool
 is_lone (x ∷ []) = is_raw x
 is_lone _ = false

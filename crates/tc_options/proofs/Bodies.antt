@@ -1,4 +1,4 @@
--- What options nest is what their classes have it to be.
+-- The nested values of options are those of their classes.
 use Rattle.std.proofs.Common.{Bool, refl}
 use Rattle.std.specs.Ordering.{on}
 use Rattle.tc_canon.specs.Descriptor.{selector}
@@ -25,7 +25,7 @@ is_selector = is_part selector_of a_selector selector_codec selector refl (λ x.
 pub is_u32_body : {A : Type 0} → IsInner (u32_body {A = A})
 is_u32_body = is_either selector_part action_list is_selector is_action_list
 
--- ---- and it is compared as contracts see it
+-- ---- they are compared by their abstract values
 
 pub same_action_list : {A : Type 0} → IsSame (action_list {A = A}) (same_list tc_action)
 same_action_list = same_items tc_action an_action

@@ -1,4 +1,4 @@
--- The options of a frame, read under the one kind that its kind is.
+-- The options in a frame, read under a kind that is one of the six.
 use Rattle.std.proofs.Common.{◌≡◌, ℕ, Bool, true, false, List, [], ◌∷◌, Ok, cond, ap, sym, subst}
 use Rattle.std.specs.Str.{bytes_eq}
 use Rattle.std.specs.Prelude.{MatchBool}
@@ -33,7 +33,7 @@ pub by_frame : (k : List ℕ) (f kept : Frame) → is_known option_kinds k ≡ f
     → read_options k f ≡ Ok (other kept.word kept.value ∷ [])
 by_frame k f kept unknown same = rw unknown (ap (seen (λ (g : Frame). other g.word g.value ∷ [])) same)
 
--- what is computed is what the grammar says
+-- the function computes the grammar's reading
 module _ (k : List ℕ) (f : Frame) (are_bytes : IsBytes f.value) where
   pub options_found : (xs : List Attribute) → read_options k f ≡ read_as xs → ReadsOptions k f xs
   options_found xs = go (is_known option_kinds k)

@@ -1,4 +1,4 @@
--- The value of an option, as its row reads it.
+-- The value of an option, read by its row.
 use Rattle.std.proofs.Common.{◌≡◌, ℕ, List, [], ap, refl, ◌∙◌}
 use Rattle.nla_frames.specs.declared.error.DecodeError.{DecodeError}
 use Rattle.nla_frames.specs.Fault.{Gives, seen, read_as, refused}

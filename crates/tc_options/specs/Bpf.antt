@@ -1,4 +1,4 @@
--- An option of bpf as contracts see it.
+-- The abstract value of an option of bpf.
 use Rattle.std.specs.Prelude.{◌≡◌, string_bytes}
 use Rattle.nla_frames.specs.DefaultNla.{kept_frame}
 use Rattle.tc_meaning.specs.Tree.{Attribute, known, other, number, is_bytes}

@@ -1,4 +1,4 @@
--- An option of fq_codel as contracts see it.
+-- The abstract value of an option of fq_codel.
 use Rattle.std.specs.Prelude.{◌≡◌}
 use Rattle.nla_frames.specs.DefaultNla.{kept_frame}
 use Rattle.tc_meaning.specs.Tree.{Attribute, known, other, number}

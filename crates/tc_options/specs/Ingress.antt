@@ -1,4 +1,4 @@
--- An option of ingress as contracts see it.
+-- The abstract value of an option of ingress.
 use Rattle.std.specs.Prelude.{◌≡◌}
 use Rattle.nla_frames.specs.DefaultNla.{kept_frame}
 use Rattle.tc_meaning.specs.Tree.{Attribute, other}

@@ -1,4 +1,4 @@
--- An option of matchall as contracts see it.
+-- The abstract value of an option of matchall.
 use Rattle.std.specs.Prelude.{◌≡◌, map}
 use Rattle.nla_frames.specs.DefaultNla.{kept_frame}
 use Rattle.tc_meaning.specs.Tree.{Attribute, known, other, number, is_bytes, items, attributes_of}
@@ -18,7 +18,7 @@ matchall_option (Pnct bytes) = known 4 (is_bytes bytes.items)
 matchall_option (Flags n) = known 3 (number n)
 matchall_option (Other nla) = other (kept_frame nla).word (kept_frame nla).value
 
--- two options hold the same: the same handle's number, actions that are seen alike one by one, the same bytes; one that
+-- two options hold the same: the same handle's number, actions that are equal one by one, the same bytes; one that
 -- is kept raw the same word and payload; all others are equal
 abbrev pub SameMatchAll : {A : Type 0} → TcFilterMatchAllOption A → TcFilterMatchAllOption A → Type 0
 SameMatchAll (ClassId h) (ClassId k) = handle_number h ≡ handle_number k

@@ -1,4 +1,4 @@
--- A message's options as contracts see them.
+-- The abstract values of a message's options.
 use Rattle.std.specs.Prelude.{◌≡◌, ℕ, List, [], ◌∷◌, map, codes, Ok, if◌then◌else◌, MatchBool}
 use Rattle.nla_frames.specs.declared.error.DecodeError.{DecodeError}
 use Rattle.nla_frames.specs.Fault.{Outcome}
@@ -29,7 +29,7 @@ tc_option (MatchAll option) = of_kind (codes "matchall") (matchall_option option
 tc_option (Bpf option) = of_kind (codes "bpf") (bpf_option option)
 tc_option (Other nla) = other (kept_frame nla).word (kept_frame nla).value
 
--- two options hold the same: options of one kind that are seen alike, or the same word and payload
+-- two options hold the same: equal options of one kind, or the same word and payload
 abbrev pub SameOption : {A : Type 0} → TcOption A → TcOption A → Type 0
 SameOption (FqCodel x) (FqCodel y) = fq_codel_option x ≡ fq_codel_option y
 SameOption (Ingress x) (Ingress y) = ingress_option x ≡ ingress_option y

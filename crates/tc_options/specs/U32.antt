@@ -1,4 +1,4 @@
--- An option of u32 as contracts see it.
+-- The abstract value of an option of u32.
 use Rattle.std.specs.Prelude.{◌≡◌, map}
 use Rattle.nla_frames.specs.DefaultNla.{kept_frame}
 use Rattle.tc_canon.specs.Descriptor.{selector}
@@ -34,8 +34,8 @@ u32_option (Mark bytes) = known 10 (is_bytes bytes.items)
 u32_option (Flags flags) = known 11 (number (option_flags_word flags))
 u32_option (Other nla) = other (kept_frame nla).word (kept_frame nla).value
 
--- two options hold the same: the same handle's number, a selector with the same fields and keys, actions that are seen
--- alike one by one, the same bytes; one that is kept raw the same word and payload; all others are equal
+-- two options hold the same: the same handle's number, a selector with the same fields and keys, actions that are
+-- equal one by one, the same bytes; one that is kept raw the same word and payload; all others are equal
 abbrev pub SameU32 : {A : Type 0} → TcFilterU32Option A → TcFilterU32Option A → Type 0
 SameU32 (ClassId h) (ClassId k) = handle_number h ≡ handle_number k
 SameU32 (Selector s) (Selector t) = selector_of s ≡ selector_of t
@@ -51,6 +51,6 @@ SameU32 a b = a ≡ b
 abbrev pub selector_part : {A : Type 0} → Inner (Record (TcU32Selector A))
 selector_part = part_of selector_of a_selector selector_codec selector
 
--- what its options nest
+-- nested values of the options
 abbrev pub u32_body : {A : Type 0} → Inner (Either (Record (TcU32Selector A)) (Items (TcAction A)))
 u32_body = either selector_part action_list
