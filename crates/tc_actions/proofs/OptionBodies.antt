@@ -1,4 +1,4 @@
--- What options nest is what their classes have it to be.
+-- The nested values of options are those of their classes.
 use Rattle.std.proofs.Common.{◌&&◌, Bool, nat_eq, refl, ap}
 use Rattle.tc_canon.specs.Descriptor.{fields}
 use Rattle.tc_canon.specs.Layouts.{tcf, mirror, nat, tunnel_key}
@@ -26,7 +26,7 @@ is_nat_body = is_either _ _ (is_record tcf_scalars tcf) (is_record nat_scalars n
 pub is_tunnel_key_body : IsInner tunnel_key_body
 is_tunnel_key_body = is_either _ _ (is_record tcf_scalars tcf) (is_record tunnel_key_scalars tunnel_key)
 
--- ---- and they are compared as contracts see them
+-- ---- they are compared by their abstract values
 
 abbrev same_times : Tcf → Tcf → Bool
 same_times t u =

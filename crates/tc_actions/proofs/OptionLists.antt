@@ -1,4 +1,4 @@
--- Options under a kind that is this name.
+-- Options under a kind that equals a name.
 use Rattle.std.proofs.Common.{◌≡◌, ℕ, List, true, sym, subst}
 use Rattle.std.specs.Str.{bytes_eq}
 use Rattle.std.proofs.lemmas.Slice.Eq.{bytes_eq-Decides}

@@ -1,4 +1,4 @@
--- What statistics nest is what their classes have it to be.
+-- The nested values of statistics are those of their classes.
 use Rattle.std.proofs.Common.{◌&&◌, Bool, nat_eq, refl, ap}
 use Rattle.std.specs.Ordering.{on}
 use Rattle.tc_canon.specs.Descriptor.{fields, xstats}
@@ -32,7 +32,7 @@ is_xstats = record {
 pub is_stats2_body : {A : Type 0} → IsInner (stats2_body {A = A})
 is_stats2_body = is_either _ _ is_xstats (is_either _ _ (is_record basic_scalars stats_basic) (is_record queue_scalars stats_queue))
 
--- ---- and they are compared as contracts see them
+-- ---- they are compared by their abstract values
 
 abbrev same_xstats : {A : Type 0} → Record (TcXstats A) → Record (TcXstats A) → Bool
 same_xstats r s = on tc_xstats same_content r.0.now s.0.now

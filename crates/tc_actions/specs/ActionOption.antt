@@ -1,4 +1,4 @@
--- An option of an action as contracts see it.
+-- The abstract value of an option of an action.
 use Rattle.std.specs.Prelude.{◌≡◌, codes}
 use Rattle.nla_frames.specs.DefaultNla.{kept_frame}
 use Rattle.tc_meaning.specs.Tree.{Attribute, other, of_kind}
@@ -14,7 +14,7 @@ action_option (Nat option) = of_kind (codes "nat") (nat_option option)
 action_option (TunnelKey option) = of_kind (codes "tunnel_key") (tunnel_key_option option)
 action_option (Other nla) = other (kept_frame nla).word (kept_frame nla).value
 
--- two options hold the same: options of one kind that are seen alike, or the same word and payload
+-- two options hold the same: equal options of one kind, or the same word and payload
 abbrev pub SameActionOption : {A : Type 0} → TcActionOption A → TcActionOption A → Type 0
 SameActionOption (Mirror x) (Mirror y) = mirror_option x ≡ mirror_option y
 SameActionOption (Nat x) (Nat y) = nat_option x ≡ nat_option y

@@ -1,4 +1,4 @@
--- Statistics of fq_codel as contracts see them.
+-- The abstract value of statistics of fq_codel.
 use Rattle.std.specs.Prelude.{◌≡◌, ℕ, ◌≤◌, List, length, take, codes}
 use Rattle.nla_frames.specs.Codec.{Codec}
 use Rattle.nla_frames.specs.Value.{le_value}
@@ -30,6 +30,6 @@ fq_codel_xstats_codec = record {
   Settled = λ kind x. xstats_codec.Settled (codes "fq_codel") x;
 }
 
--- bytes begin with a number, and it is that of no record
+-- the bytes begin with a number, which names no record
 abbrev pub IsNoNumber : List ℕ → Type 0
 IsNoNumber bytes = (4 ≤ length bytes) × (2 ≤ le_value (take 4 bytes))

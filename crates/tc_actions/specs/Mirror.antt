@@ -1,4 +1,4 @@
--- An option of the action mirred as contracts see it.
+-- The abstract value of an option of the action mirred.
 use Rattle.std.specs.Prelude.{◌≡◌}
 use Rattle.nla_frames.specs.DefaultNla.{kept_frame}
 use Rattle.tc_canon.specs.Layouts.{tcf, mirror}
@@ -20,7 +20,7 @@ mirror_option (Tm times) = known 1 (record_of (tcf_scalars times))
 mirror_option (Parms parms) = known 2 (record_of (mirror_scalars parms))
 mirror_option (Other nla) = other (kept_frame nla).word (kept_frame nla).value
 
--- what its options nest
+-- nested values of the options
 abbrev pub mirror_body : Inner (Either (Record Tcf) (Record TcMirror))
 mirror_body = either (record_part tcf_scalars tcf) (record_part mirror_scalars mirror)
 

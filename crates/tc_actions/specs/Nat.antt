@@ -1,4 +1,4 @@
--- An option of the action nat as contracts see it.
+-- The abstract value of an option of the action nat.
 use Rattle.std.specs.Prelude.{◌≡◌}
 use Rattle.nla_frames.specs.DefaultNla.{kept_frame}
 use Rattle.tc_canon.specs.Layouts.{tcf, nat}
@@ -20,7 +20,7 @@ nat_option (Tm times) = known 2 (record_of (tcf_scalars times))
 nat_option (Parms parms) = known 1 (record_of (nat_scalars parms))
 nat_option (Other nla) = other (kept_frame nla).word (kept_frame nla).value
 
--- what its options nest
+-- nested values of the options
 abbrev pub nat_body : Inner (Either (Record Tcf) (Record TcNat))
 nat_body = either (record_part tcf_scalars tcf) (record_part nat_scalars nat)
 

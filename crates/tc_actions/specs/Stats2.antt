@@ -1,4 +1,4 @@
--- One of several statistics as contracts see it.
+-- The abstract value of an attribute with statistics.
 use Rattle.std.specs.Prelude.{◌≡◌}
 use Rattle.nla_frames.specs.DefaultNla.{kept_frame}
 use Rattle.tc_canon.specs.Layouts.{stats_basic, stats_queue}
@@ -23,11 +23,11 @@ tc_stats2 (Queue stats) = known 3 (record_of (queue_scalars stats))
 tc_stats2 (BasicHw stats) = known 7 (record_of (basic_scalars stats))
 tc_stats2 (Other nla) = other (kept_frame nla).word (kept_frame nla).value
 
--- what its attributes nest
+-- nested values of the attributes
 abbrev pub stats2_body : {A : Type 0} → Inner (Either (Record (TcXstats A)) (Either (Record TcStatsBasic) (Record TcStatsQueue)))
 stats2_body = either xstats_part (either (record_part basic_scalars stats_basic) (record_part queue_scalars stats_queue))
 
--- two of them hold the same: a qdisc's own statistics that are seen alike; one that is kept raw the same word and
+-- two of them hold the same: equal statistics of a qdisc; one that is kept raw the same word and
 -- payload; all others are equal
 abbrev pub SameStats2 : {A : Type 0} → TcStats2 A → TcStats2 A → Type 0
 SameStats2 (App x) (App y) = tc_xstats x ≡ tc_xstats y

@@ -1,4 +1,4 @@
--- An option of the action tunnel_key as contracts see it.
+-- The abstract value of an option of the action tunnel_key.
 use Rattle.std.specs.Prelude.{◌≡◌}
 use Rattle.std.specs.Net.Addr.{ipv4_octets, ipv6_octets}
 use Rattle.nla_frames.specs.DefaultNla.{kept_frame}
@@ -31,7 +31,7 @@ tunnel_key_option (EncTos n) = known 12 (number n)
 tunnel_key_option (EncTtl n) = known 13 (number n)
 tunnel_key_option (Other nla) = other (kept_frame nla).word (kept_frame nla).value
 
--- what its options nest
+-- nested values of the options
 abbrev pub tunnel_key_body : Inner (Either (Record Tcf) (Record TcTunnelKey))
 tunnel_key_body = either (record_part tcf_scalars tcf) (record_part tunnel_key_scalars tunnel_key)
 

@@ -1,4 +1,4 @@
--- A qdisc's own statistics as contracts see them.
+-- The abstract value of a qdisc's own statistics.
 use Rattle.std.specs.Prelude.{◌≡◌}
 use Rattle.tc_canon.specs.Descriptor.{xstats}
 use Rattle.tc_meaning.specs.Tree.{Content, is_bytes}
@@ -14,7 +14,7 @@ abbrev pub tc_xstats : {A : Type 0} → TcXstats A → Content
 tc_xstats (FqCodel stats) = fq_codel_xstats stats
 tc_xstats (Other bytes) = is_bytes bytes.items
 
--- two of them hold the same: those of fq_codel are seen alike, all others have the same bytes
+-- two of them hold the same: those of fq_codel are equal, all others have the same bytes
 abbrev pub SameXstats : {A : Type 0} → TcXstats A → TcXstats A → Type 0
 SameXstats (FqCodel x) (FqCodel y) = fq_codel_xstats x ≡ fq_codel_xstats y
 SameXstats (Other v) (Other w) = v.items ≡ w.items

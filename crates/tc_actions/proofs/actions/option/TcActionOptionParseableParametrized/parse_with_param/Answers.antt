@@ -21,7 +21,7 @@ returns-then-eq-3 g c = option_by_name (codes "tunnel_key") c.args.kind.now (sym
 -- the kind is none of the three
 pub returns : goal.returns
 returns g c =
-    let told : is_known action_option_kinds c.args.kind.now ≡ false =
+    let unknown : is_known action_option_kinds c.args.kind.now ≡ false =
     rw (sym c.eq.ensures ∙ c.if-eq.false, sym c.eq-2.ensures ∙ c.if-eq-2.false, sym c.eq-3.ensures ∙ c.if-eq-3.false) refl
     in
-    option_kept action_option_kinds c.args.kind.now (frame_of c.args.buf.now) _ told c.in_ok-parse.ensures
+    option_kept action_option_kinds c.args.kind.now (frame_of c.args.buf.now) _ unknown c.in_ok-parse.ensures
