@@ -5,9 +5,7 @@ use std::test::Fail;
 use tc_forms::{Form, Shown};
 use tc_forms_text::bytes_of_text;
 use tc_kinds::{ACTION_MESSAGE, TC_MESSAGE, TcTables};
-use tests_messages::{
-    self as messages, Input, Row, captured, cut_and_changed, large_messages, made,
-};
+use tests_data::{self as messages, Input, Row, captured, cut_and_changed, large_messages, made};
 
 /// The form of a message.
 pub(crate) fn form_of(form: messages::Form) -> Form {

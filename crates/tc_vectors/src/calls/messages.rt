@@ -4,7 +4,7 @@
 use std::alloc::{AllocError, Global};
 use std::fmt::Debug;
 use tc_wire::{DecodeError, Emitable, ParseableBytes, TcActionMessage, TcMessage};
-use tests_messages::Form;
+use tests_data::Form;
 
 // The bytes of a message, if it fits. It is emitted to a longer buffer, whose other bytes stay.
 fn emitted_of<M: Emitable>(alloc: Global, message: &M) -> Result<Option<Vec<u8>>, AllocError> {

@@ -15,7 +15,7 @@ use tc_wire::{
     TcFilterMatchAllOption, TcFilterU32Option, TcOption, TcQdiscFqCodelOption,
     TcQdiscIngressOption, TcU32Selector, VecTcAttribute, VecTcOption,
 };
-use tests_messages::{ACTION_KINDS, Form, Input, KINDS, LAST_TYPE, LENGTHS, swept};
+use tests_data::{ACTION_KINDS, Form, Input, KINDS, LAST_TYPE, LENGTHS, swept};
 
 // Whether memory sufficed.
 fn had<T: Drop>(answer: Res<T>) -> bool {

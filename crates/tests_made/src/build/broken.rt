@@ -7,7 +7,7 @@ use std::test::Fail;
 use tc_forms::{Form, MakeError};
 use tc_forms_strict::{StrictError, made_strictly, shown_json};
 use tc_kinds::{ACTION_MESSAGE, TC_MESSAGE, TcTables};
-use tests_messages::{self as messages, Expected, Input, Row, captured, made};
+use tests_data::{self as messages, Expected, Input, Row, captured, made};
 
 // What is wrong with a value, or with a member of an object.
 #[derive(Clone, Copy)]

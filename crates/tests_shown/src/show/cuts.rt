@@ -4,7 +4,7 @@ use crate::show::runs::{FORMS, all_in, file_of_first, is_clean, is_front, shown}
 use std::alloc::Global;
 use std::test::Fail;
 use tcshow_lib::asked::Form;
-use tests_captures::{FORMATS, Format};
+use tests_data::{FORMATS, Format};
 
 // What a run says of a place where a capture is cut, up to the numbers.
 fn note_of(form: Form) -> &'static [u8] {

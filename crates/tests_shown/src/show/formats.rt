@@ -5,7 +5,7 @@ use std::alloc::{AllocError, Global};
 use std::str;
 use std::test::Fail;
 use tcshow_lib::asked::Form;
-use tests_captures::{FORMATS, Format, messages};
+use tests_data::{FORMATS, Format, messages};
 
 // True if a line is the one that is wanted, but for the number of its packet.
 fn is_same(line: &str, want: &str) -> bool {

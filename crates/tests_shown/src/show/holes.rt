@@ -5,7 +5,7 @@ use std::alloc::{AllocError, Global};
 use std::test::Fail;
 use tc_capture::Holds;
 use tcshow_lib::asked::Form;
-use tests_captures::{Format, beginning, put_packet};
+use tests_data::{Format, beginning, put_packet};
 
 // The first 20 bytes of an RTM_NEWQDISC of 56 bytes.
 #[rattlefmt::skip]

@@ -6,7 +6,7 @@ use std::alloc::Global;
 use std::test::Fail;
 use tcshow_lib::asked::Asked;
 use tcshow_lib::program::serve;
-use tests_captures::Format;
+use tests_data::Format;
 
 // The status of a run over a file where the request for memory of this number is refused, what it wrote, and whether one was refused.
 fn run_at(alloc: Global, at: u64, asked: &Asked<'_>, mut file: &[u8]) -> (Outcome, bool) {

@@ -6,7 +6,7 @@ use rand_pcg::Pcg32;
 use std::alloc::{AllocError, Global};
 use tc_capture::Holds;
 use tcshow_lib::asked::{Asked, Form};
-use tests_captures::{Format, beginning};
+use tests_data::{Format, beginning};
 
 // Whether a run ends with this status at most, and writes no control bytes.
 fn ends(alloc: Global, asked: &Asked<'_>, input: &[u8], most: u8) -> bool {

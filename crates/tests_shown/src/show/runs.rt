@@ -8,7 +8,7 @@ use tc_chosen::Chosen;
 use tc_outline::Interfaces;
 use tcshow_lib::asked::{Asked, Form};
 use tcshow_lib::program::serve;
-use tests_captures::{Format, file_of, messages};
+use tests_data::{Format, file_of, messages};
 
 /// The forms that messages are shown in.
 pub(crate) static FORMS: [Form; 3] = [Form::Lines, Form::OneLine, Form::Json];

@@ -2,7 +2,7 @@
 
 ghost use Rattle.std.specs.Prelude.{◌≡◌, IfOk, replicate};
 ghost use Rattle.std.specs.List.{flat_map};
-ghost use Rattle.tests_messages.specs.Inputs.{header_len, behind_zeros};
+ghost use Rattle.tests_data.specs.Inputs.{header_len, behind_zeros};
 
 use std::alloc::{AllocError, Global};
 

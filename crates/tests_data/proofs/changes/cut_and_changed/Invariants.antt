@@ -1,6 +1,6 @@
 use Rattle.std.proofs.Common.{◌≡◌, ◌+◌, ◌*◌, All, vec_len}
-use Rattle.tests_messages.specs.declared.input.Input.{Input}
-use Rattle.tests_messages.proofs.changes.cut_and_changed.Given as goal
+use Rattle.tests_data.specs.declared.input.Input.{Input}
+use Rattle.tests_data.proofs.changes.cut_and_changed.Given as goal
 
 -- four for each place before this one, and here the changes so far; all of the message's form
 abbrev pub invariant-loop-change : goal.invariant-loop-change

@@ -1,8 +1,8 @@
 use Rattle.std.proofs.Common.{◌≡◌, ℕ, length, replicate, ◌+◌, take, arith, refl}
 use Rattle.std.proofs.lemmas.List.{take-replicate}
 use Rattle.std.proofs.lemmas.Grind.{common_steps}
-use Rattle.tests_messages.specs.Inputs.{padding}
-use Rattle.tests_messages.proofs.sweep.frame.Goals as goal
+use Rattle.tests_data.specs.Inputs.{padding}
+use Rattle.tests_data.proofs.sweep.frame.Goals as goal
 
 pub returns : goal.returns
 returns c short =

@@ -1,7 +1,7 @@
 //! Attributes of all types and many lengths, and the messages in which they may stand.
 
 ghost use Rattle.std.specs.Prelude.{◌≡◌, ◌≤◌, ◌<◌, IfOk, length, replicate, vec_len};
-ghost use Rattle.tests_messages.specs.Inputs.{attribute};
+ghost use Rattle.tests_data.specs.Inputs.{attribute};
 
 use crate::input::{Form, Input};
 use std::alloc::{AllocError, Global};

@@ -1,5 +1,5 @@
 use Rattle.std.proofs.Common.{◌≡◌, vec_len}
-use Rattle.tests_messages.proofs.rows.rows_of.Given as goal
+use Rattle.tests_data.proofs.rows.rows_of.Given as goal
 
 -- a row for each text so far
 abbrev pub invariant-loop-row : goal.invariant-loop-row

@@ -1,8 +1,8 @@
 -- What messages for tests are made of.
 use Rattle.std.specs.Prelude.{ℕ, ◌+◌, ◌-◌, ◌%◌, List, ◌++◌, length, replicate}
 use Rattle.std.specs.Int.{w16, to_le_bytes}
-use Rattle.tests_messages.specs.declared.input.Form.{Form}
-use Rattle.tests_messages.specs.declared.input.Form.TheVariants.{Tc, Action}
+use Rattle.tests_data.specs.declared.input.Form.{Form}
+use Rattle.tests_data.specs.declared.input.Form.TheVariants.{Tc, Action}
 
 -- how long the header of a message is
 abbrev pub header_len : Form → ℕ

@@ -1,8 +1,10 @@
 //! Captures, made of messages.
 
+use crate::input::Form;
+use crate::row::Row;
+use crate::rows::captured;
 use std::alloc::{AllocError, Global};
 use std::test::Fail;
-use tests_messages::{Form, Row, captured};
 
 /// The time of each packet: seconds and microseconds.
 pub const SECONDS: u32 = 1_700_000_000;

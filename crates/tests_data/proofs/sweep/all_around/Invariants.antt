@@ -1,5 +1,5 @@
 use Rattle.std.proofs.Common.{◌≡◌, vec_len}
-use Rattle.tests_messages.proofs.sweep.all_around.Given as goal
+use Rattle.tests_data.proofs.sweep.all_around.Given as goal
 
 -- one for each place so far
 abbrev pub invariant-loop-place : goal.invariant-loop-place

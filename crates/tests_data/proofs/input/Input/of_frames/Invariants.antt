@@ -1,7 +1,7 @@
 use Rattle.std.proofs.Common.{◌≡◌, take}
 use Rattle.std.specs.List.{flat_map}
-use Rattle.tests_messages.specs.Inputs.{behind_zeros}
-use Rattle.tests_messages.proofs.input.Input.of_frames.Given as goal
+use Rattle.tests_data.specs.Inputs.{behind_zeros}
+use Rattle.tests_data.proofs.input.Input.of_frames.Given as goal
 
 -- the header and the attributes so far
 abbrev pub invariant-loop-frame : goal.invariant-loop-frame
