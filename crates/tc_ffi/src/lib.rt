@@ -1,4 +1,5 @@
-//! The calls from C that read or make a whole message, and take memory: `malloc`, `realloc` and `free` of the program.
+//! The calls from C that read or build a whole message. They allocate with `malloc`, `realloc` and `free` of the program, and
+//! return the status 11 if that fails.
 //! `bindings/vtc.h` declares them.
 #![tactic(auto)]
 

@@ -8,7 +8,7 @@ use Rattle.tc_capture.specs.Kind.{rtm_at}
 use Rattle.tc_capture.specs.declared.kind.Holds.{Holds}
 use Rattle.tc_capture.specs.declared.kind.Holds.TheVariants.{Tc, Action}
 use Rattle.tc_capture.specs.declared.time.Time.{Time}
-use Rattle.tcmake_lines.specs.declared.given.Given.{Given}
+use Rattle.tcmake_lines.specs.declared.netlink.NetlinkHeader.{NetlinkHeader}
 
 -- a member: a number from 0 on, true or false, a text
 abbrev pub number_in : List ℕ → Data → Option ℕ
@@ -64,7 +64,7 @@ IsTime line t =
     ⊎ ((text : List ℕ) × (text_in (codes "time") line ≡ Some text) × IsTimeText text t)
 
 -- what the members beside a message say; a number that isn't there is 0, and the packet type that of what this machine sends
-pub record IsBeside (line message : Data) (g : Given) : Type 0 where
+pub record IsBeside (line message : Data) (g : NetlinkHeader) : Type 0 where
   pub typed : IsTyped line message g.kind g.holds
   pub flags : g.flags ≡ unwrap_or (number_in (codes "flags") line) 0
   pub sequence : g.sequence ≡ unwrap_or (number_in (codes "seq") line) 0
@@ -82,5 +82,5 @@ abbrev pub IsOfSave : Data → Type 0
 IsOfSave json =
     (IsTrue (is_some (get (codes "save") json)) ⊎ IsTrue (is_some (get (codes "end") json))) × (get (codes "message") json ≡ None)
 
-abbrev pub IsGiven : Data → Given → Type 0
+abbrev pub IsGiven : Data → NetlinkHeader → Type 0
 IsGiven json g = IsBeside (beside json) (message_in json) g

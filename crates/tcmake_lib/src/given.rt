@@ -11,7 +11,7 @@ use crate::members::{Numbered, missing, number_of, number_or, wrong};
 use serde_json::Value;
 use std::alloc::Global;
 use tc_capture::{Holds, Time, rtm_of};
-use tcmake_lines::{Given, OUTGOING, PacketOf, packet_at};
+use tcmake_lines::{NetlinkHeader, OUTGOING, PacketOf, packet_at};
 
 const NO_TIME: Time = Time {
     seconds: 0,
@@ -19,7 +19,7 @@ const NO_TIME: Time = Time {
 };
 
 /// What a line says of its message.
-pub(crate) fn given_of(alloc: Global, json: &Value) -> Result<Given, Complaint>
+pub(crate) fn given_of(alloc: Global, json: &Value) -> Result<NetlinkHeader, Complaint>
     ensures { IfOk result (IsGiven (view json.now)) }
 {
     match json.get("message") {
@@ -32,13 +32,13 @@ pub(crate) fn given_of(alloc: Global, json: &Value) -> Result<Given, Complaint>
 }
 
 // What is known of a message that is a line of its own.
-fn in_message(json: &Value) -> Result<Given, Complaint>
+fn in_message(json: &Value) -> Result<NetlinkHeader, Complaint>
     ensures { IfOk result (IsBeside (object no_members) (view json.now)) }
 {
     if json.get("raw").is_some() {
         return Err(missing("type", RAW_TYPES));
     }
-    Ok(Given {
+    Ok(NetlinkHeader {
         holds: holds_by_header(json),
         kind: None,
         flags: 0,
@@ -112,7 +112,7 @@ fn unknown_in(json: &Value) -> Option<&str> {
 }
 
 // What is beside a message.
-fn in_line(alloc: Global, json: &Value, message: &Value) -> Result<Given, Complaint>
+fn in_line(alloc: Global, json: &Value, message: &Value) -> Result<NetlinkHeader, Complaint>
     ensures { IfOk result (IsBeside (view json.now) (view message.now)) }
 {
     if let Some(name) = unknown_in(json) {
@@ -123,7 +123,7 @@ fn in_line(alloc: Global, json: &Value, message: &Value) -> Result<Given, Compla
     let sequence = number_or(alloc, json, &SEQUENCE, 0)?;
     let port = number_or(alloc, json, &PORT, 0)?;
     let packet = packet_of(alloc, json)?;
-    Ok(Given {
+    Ok(NetlinkHeader {
         holds,
         kind,
         flags: flags as u16,

@@ -14,7 +14,7 @@ use tc_capture::Holds;
 use tc_forms::Tables;
 use tc_forms_text::read_json;
 use tc_streams::Stop;
-use tcmake_lines::{Found, Given, is_blank, next_line};
+use tcmake_lines::{LineStatus, NetlinkHeader, is_blank, next_line};
 
 /// Where a line is.
 #[derive(Clone, Copy, PartialEq, Eq, Debug)]
@@ -121,7 +121,7 @@ pub(crate) fn read_lines<T: Tables, R: BufRead>(
     let mut line = Vec::new(alloc);
     for number in 1..u64::MAX {
         let found = next_line(reader, &mut line)?;
-        if found == Found::End {
+        if found == LineStatus::End {
             break;
         }
         match dump_in(alloc, forms, reading, &mut save, found, &line, number) {
@@ -156,14 +156,14 @@ fn dump_in<T: Tables>(
     forms: Forms<T>,
     reading: Reading<'_>,
     save: &mut Save,
-    found: Found,
+    found: LineStatus,
     line: &[u8],
     number: u64,
 ) -> Result<Option<Made>, Complaint> {
     match found {
-        Found::TooLong => Err(without_json(save, number, Complaint::LongLine)),
-        Found::NoMemory => Err(Complaint::NoMemory),
-        Found::Whole | Found::End => if is_blank(line) {
+        LineStatus::TooLong => Err(without_json(save, number, Complaint::LongLine)),
+        LineStatus::NoMemory => Err(Complaint::NoMemory),
+        LineStatus::Whole | LineStatus::End => if is_blank(line) {
             Ok(None)
         } else {
             dump_in_text(alloc, forms, reading, save, line, number)
@@ -266,7 +266,7 @@ fn is_get(kind: Option<u16>) -> bool {
 }
 
 // True of a dump, false of the request of one.
-fn is_dump(given: &Given) -> Result<bool, Complaint> {
+fn is_dump(given: &NetlinkHeader) -> Result<bool, Complaint> {
     let flags = given.flags;
     if flags & NLM_F_REQUEST == 0 {
         return Ok(true);

@@ -17,12 +17,12 @@ use tc_capture::Holds;
 use tc_forms::Tables;
 use tc_forms_strict::Difference;
 use tc_forms_text::{ReadError, read_json};
-use tcmake_lines::Given;
+use tcmake_lines::NetlinkHeader;
 
 /// A message, and what a line says of it.
 #[derive(Drop)]
 pub(crate) struct Made {
-    pub(crate) given: Given,
+    pub(crate) given: NetlinkHeader,
     pub(crate) bytes: Vec<u8>,
     /// The places that settling changed.
     pub(crate) settled: Vec<Difference>,

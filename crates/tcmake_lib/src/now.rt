@@ -12,7 +12,7 @@ use tc_messages::TcMessage;
 use tc_plan::{Action, Entry, Fate, Key, Named, Now, entry_of, held_by, name_of_action};
 use tc_records::TcActionMessageHeader;
 use tc_requests::{Object, use_of_action};
-use tcmake_lines::Given;
+use tcmake_lines::NetlinkHeader;
 
 /// An action of a dump by itself.
 #[derive(Drop)]
@@ -39,7 +39,7 @@ pub(crate) fn singles_of(alloc: Global, dump: &Made) -> Result<Vec<Single>, Comp
 
 fn put_singles(
     alloc: Global,
-    given: &Given,
+    given: &NetlinkHeader,
     header: &TcActionMessageHeader,
     actions: Vec<TcAction>,
     singles: &mut Vec<Single>,
@@ -53,7 +53,7 @@ fn put_singles(
 
 fn single_of(
     alloc: Global,
-    given: &Given,
+    given: &NetlinkHeader,
     header: &TcActionMessageHeader,
     action: TcAction,
 ) -> Result<Single, Complaint> {

@@ -20,7 +20,7 @@ use tc_plan::{
 use tc_requests::{Object, RestoreError, RootTable, notice_of, root_table};
 use tc_streams::{Stop, write_all};
 use tcmake_lines::run::put_message;
-use tcmake_lines::{Form, Given, Output};
+use tcmake_lines::{NetlinkHeader, Output, OutputFormat};
 
 /// What requests are made by, beside the lines of what is wanted.
 #[derive(Clone, Copy)]
@@ -41,7 +41,7 @@ pub struct LineRequest {
     /// The number of the line, from 1.
     pub number: u64,
     /// What goes into its netlink header.
-    pub given: Given,
+    pub given: NetlinkHeader,
     /// The message behind that.
     pub bytes: Vec<u8>,
 }
@@ -49,7 +49,7 @@ pub struct LineRequest {
 impl LineRequest {
     /// The netlink message, with zeros up to a multiple of four. Fails where memory runs out, or with `Stop::Write` of one that is too long.
     pub fn netlink(&self, alloc: Global) -> Result<Vec<u8>, Stop> {
-        let mut output = Output::new(alloc, Form::Stream);
+        let mut output = Output::new(alloc, OutputFormat::Stream);
         let mut errors = Vec::new(alloc);
         if put_message(
             alloc,
@@ -587,7 +587,7 @@ fn write_remark<E: Write>(
 
 fn write_requests<W: Write, E: Write>(
     alloc: Global,
-    form: Form,
+    form: OutputFormat,
     requests: &[LineRequest],
     writer: &mut W,
     errors: &mut E,

@@ -16,7 +16,7 @@ use tc_action_messages::TcActionMessage;
 use tc_capture::Holds;
 use tc_messages::TcMessage;
 use tc_requests::{Object, RTM_NEWACTION, Request, RootTable, request_of, request_of_actions};
-use tcmake_lines::{Given, packet_at};
+use tcmake_lines::{NetlinkHeader, packet_at};
 
 /// What is dumped.
 #[derive(Clone, Copy, PartialEq, Eq)]
@@ -46,7 +46,7 @@ pub(crate) fn restored(alloc: Global, roots: &[RootTable], made: &Made) -> Resul
     let dump = dump_of(made.given.kind)?;
     let request = request_for(alloc, roots, dump, &made.bytes)?;
     Ok(Made {
-        given: Given {
+        given: NetlinkHeader {
             holds: held_by(dump),
             kind: Some(request.message_type),
             flags: request.flags,

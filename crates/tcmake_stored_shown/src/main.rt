@@ -11,7 +11,7 @@ use tc_kinds::{ACTION_MESSAGE, TC_MESSAGE, TcTables};
 use tc_outline::Interfaces;
 use tcmake_lib::arguments::{Making, Request};
 use tcmake_lib::message::Forms;
-use tcmake_lines::Form;
+use tcmake_lines::OutputFormat;
 use tcshow_lib::asked::Asked;
 use tcshow_lib::program::tcshow;
 
@@ -54,7 +54,7 @@ fn make_again<R: Print, I: Read, E: Write>(
         action: ACTION_MESSAGE,
     };
     let request = Request {
-        form: Form::Hex,
+        form: OutputFormat::Hex,
         making: Making::Checked,
         in_order: false,
         index: None,

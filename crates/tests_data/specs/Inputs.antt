@@ -10,8 +10,8 @@ header_len Tc = 20
 header_len Action = 4
 
 -- a header of zeros, and what follows it
-abbrev pub behind_zeros : Form → List ℕ → List ℕ
-behind_zeros form body = replicate (header_len form) 0 ++ body
+abbrev pub after_zeros : Form → List ℕ → List ℕ
+after_zeros form body = replicate (header_len form) 0 ++ body
 
 -- how many zeros follow a value of that many bytes
 abbrev pub padding : ℕ → ℕ

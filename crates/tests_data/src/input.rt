@@ -2,7 +2,7 @@
 
 ghost use Rattle.std.specs.Prelude.{◌≡◌, IfOk, replicate};
 ghost use Rattle.std.specs.List.{flat_map};
-ghost use Rattle.tests_data.specs.Inputs.{header_len, behind_zeros};
+ghost use Rattle.tests_data.specs.Inputs.{header_len, after_zeros};
 
 use std::alloc::{AllocError, Global};
 
@@ -40,7 +40,7 @@ impl Input {
     pub fn of_frames(alloc: Global, form: Form, frames: &[&[u8]]) -> Result<Input, AllocError>
         ensures form { IfOk result (λ input. input.form ≡ form) }
         ensures bytes { IfOk result (λ input.
-            input.bytes.items ≡ behind_zeros form (flat_map (λ frame. frame.now) frames.now)) }
+            input.bytes.items ≡ after_zeros form (flat_map (λ frame. frame.now) frames.now)) }
     {
         let mut bytes = form.header().to_vec(alloc)?;
         for frame in frames {

@@ -1,4 +1,4 @@
-//! The calls, for both types of messages.
+//! Timed calls in an arena.
 
 ghost use Rattle.tc_wire.specs.Facade.{tc_words, action_words};
 ghost use Rattle.tc_wire.specs.Rewriting.{SettlesTc, SettlesAct};
@@ -8,7 +8,7 @@ use crate::arena::mode::Mode;
 use crate::arena::timed;
 use std::alloc::Global;
 
-/// Reads a traffic control message and drops it, and again so many times.
+/// Parses a traffic control message and drops it, `again + 1` times.
 #[unsafe(no_mangle)]
 pub extern "C" fn bench_arena_tc_parse(alloc: Global, bytes: &[u8], again: usize) -> u32
     ensures { Parses tc_words bytes.now result }
@@ -16,7 +16,7 @@ pub extern "C" fn bench_arena_tc_parse(alloc: Global, bytes: &[u8], again: usize
     timed::parse(Mode::Tc, alloc, bytes, again)
 }
 
-/// Reads a traffic control message and writes it at the front of the buffer, and again so many times.
+/// Rewrites a traffic control message into the buffer, `again + 1` times.
 #[unsafe(no_mangle)]
 pub extern "C" fn bench_arena_tc_rewrite(
     alloc: Global,
@@ -29,7 +29,7 @@ pub extern "C" fn bench_arena_tc_rewrite(
     timed::rewrite(Mode::Tc, alloc, bytes, buffer, again)
 }
 
-/// Writes the canonical bytes to which rewriting a traffic control message leads at the front of the buffer, and again so many times.
+/// Settles a traffic control message into the buffer, `again + 1` times.
 #[unsafe(no_mangle)]
 pub extern "C" fn bench_arena_tc_settle(
     alloc: Global,
@@ -42,7 +42,7 @@ pub extern "C" fn bench_arena_tc_settle(
     timed::settle(Mode::Tc, alloc, bytes, buffer, again)
 }
 
-/// The same of an action message.
+/// Parses an action message and drops it, `again + 1` times.
 #[unsafe(no_mangle)]
 pub extern "C" fn bench_arena_action_parse(alloc: Global, bytes: &[u8], again: usize) -> u32
     ensures { Parses action_words bytes.now result }
@@ -50,7 +50,7 @@ pub extern "C" fn bench_arena_action_parse(alloc: Global, bytes: &[u8], again: u
     timed::parse(Mode::Action, alloc, bytes, again)
 }
 
-/// The same of an action message.
+/// Rewrites an action message into the buffer, `again + 1` times.
 #[unsafe(no_mangle)]
 pub extern "C" fn bench_arena_action_rewrite(
     alloc: Global,
@@ -63,7 +63,7 @@ pub extern "C" fn bench_arena_action_rewrite(
     timed::rewrite(Mode::Action, alloc, bytes, buffer, again)
 }
 
-/// The same of an action message.
+/// Settles an action message into the buffer, `again + 1` times.
 #[unsafe(no_mangle)]
 pub extern "C" fn bench_arena_action_settle(
     alloc: Global,

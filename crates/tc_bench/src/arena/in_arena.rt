@@ -1,4 +1,4 @@
-//! What is timed of a message's bytes, once, in an arena.
+//! One operation in an arena.
 
 ghost use Rattle.tc_wire.specs.Rewriting.{Settles as LeadsTo};
 ghost use Rattle.tc_bench.specs.Mode.{words_of, settles_of};
@@ -9,7 +9,7 @@ use bumpalo::Bump;
 use tc_status::{DOES_NOT_FIT, NO_ROOM, OK, OUT_OF_MEMORY, status_of};
 use tc_wire::{RewriteError, TcActionMessage, TcMessage, WholeMessage};
 
-/// Reads a message, and drops it.
+/// Parses a message and drops it.
 pub fn parse(mode: Mode, arena: &Bump, bytes: &[u8]) -> u32
     ensures { Parses (words_of mode) bytes.now result }
 {
@@ -28,7 +28,7 @@ fn parse_as<'a, M: WholeMessage<&'a Bump> + Drop>(arena: &'a Bump, bytes: &[u8])
     }
 }
 
-/// Reads a message, and writes it at the front of the buffer, where it has room.
+/// Rewrites a message into the buffer if it fits.
 pub fn rewrite(mode: Mode, arena: &Bump, bytes: &[u8], buffer: &mut [u8]) -> u32
     ensures { Rewrites (words_of mode) bytes.now buffer.new result }
 {
@@ -51,7 +51,7 @@ fn rewrite_as<'a, M: WholeMessage<&'a Bump> + Drop>(
     }
 }
 
-/// Writes the canonical bytes to which rewriting leads, in the same way.
+/// Settles a message into the buffer if it fits.
 pub fn settle(mode: Mode, arena: &Bump, bytes: &[u8], buffer: &mut [u8]) -> u32
     ensures { Settles (words_of mode) bytes.now (settles_of mode) buffer.new result }
 {
@@ -72,7 +72,7 @@ fn settle_as<'a, M: WholeMessage<&'a Bump>>(arena: &'a Bump, bytes: &[u8], buffe
     }
 }
 
-// Writes a message at the front of the buffer, where it has room.
+// Encodes a message at the front of the buffer if it fits.
 fn write<'a, M: WholeMessage<&'a Bump>>(message: &M, buffer: &mut [u8]) -> u32
     ensures { IsWritten (M.words.Fits (M.message message.now)) (M.words.bytes (M.message message.now)) buffer.new result }
 {
@@ -88,7 +88,7 @@ fn write<'a, M: WholeMessage<&'a Bump>>(message: &M, buffer: &mut [u8]) -> u32
     }
 }
 
-// Writes bytes at the front of the buffer, where they have room.
+// Copies bytes to the front of the buffer if they fit.
 fn place(bytes: &[u8], buffer: &mut [u8]) -> u32
     ensures { IsPlaced bytes.now buffer.new result }
 {

@@ -1,6 +1,6 @@
 //! The type of a message.
 
-/// Which of the two messages bytes are.
+/// The type of a message.
 #[derive(Clone, Copy)]
 pub enum Mode {
     /// A traffic control message.

@@ -1,4 +1,4 @@
-//! An operation on the bytes of one message, many times in one arena, which is emptied before each time but the first.
+//! Repeated operations in one arena, which is emptied before each but the first.
 
 ghost use Rattle.tc_bench.specs.Mode.{words_of, settles_of};
 ghost use Rattle.tc_bench.specs.Timed.{Parses, Rewrites, Settles};
@@ -9,10 +9,10 @@ use bumpalo::Bump;
 use std::alloc::Global;
 use tc_status::OUT_OF_MEMORY;
 
-// How many bytes the arena has room for at first.
+// The initial size of the arena, in bytes.
 const CAPACITY: usize = 65536;
 
-/// Reads a message and drops it, and again so many times.
+/// Parses a message and drops it, `again + 1` times.
 pub fn parse(mode: Mode, alloc: Global, bytes: &[u8], again: usize) -> u32
     ensures { Parses (words_of mode) bytes.now result }
 {
@@ -29,7 +29,7 @@ pub fn parse(mode: Mode, alloc: Global, bytes: &[u8], again: usize) -> u32
     status
 }
 
-/// Reads a message and writes it at the front of the buffer, and again so many times.
+/// Rewrites a message into the buffer, `again + 1` times.
 pub fn rewrite(mode: Mode, alloc: Global, bytes: &[u8], buffer: &mut [u8], again: usize) -> u32
     ensures { Rewrites (words_of mode) bytes.now buffer.new result }
 {
@@ -46,7 +46,7 @@ pub fn rewrite(mode: Mode, alloc: Global, bytes: &[u8], buffer: &mut [u8], again
     status
 }
 
-/// Writes the canonical bytes to which rewriting leads at the front of the buffer, and again so many times.
+/// Settles a message into the buffer, `again + 1` times.
 pub fn settle(mode: Mode, alloc: Global, bytes: &[u8], buffer: &mut [u8], again: usize) -> u32
     ensures { Settles (words_of mode) bytes.now (settles_of mode) buffer.new result }
 {

@@ -1,4 +1,4 @@
-//! The timed calls on messages about actions.
+//! Timed calls on action messages.
 
 ghost use Rattle.std.specs.Prelude.{◌≡◌, ◌≢◌};
 ghost use Rattle.tc_wire.specs.Facade.{action_words};
@@ -10,7 +10,7 @@ use crate::number::number;
 use std::alloc::Global;
 use tc_wire::{TcActionMessage, is_canonical_action};
 
-/// Reads a message, and drops it.
+/// Parses a message and drops it.
 #[unsafe(no_mangle)]
 pub extern "C" fn bench_action_parse(alloc: Global, bytes: &[u8]) -> u32
     ensures { Parses action_words bytes.now result }
@@ -18,7 +18,7 @@ pub extern "C" fn bench_action_parse(alloc: Global, bytes: &[u8]) -> u32
     timed::parse::<TcActionMessage>(alloc, bytes)
 }
 
-/// Reads a message, and writes the length of its bytes into each slot.
+/// Parses a message, and writes its encoded length into each slot.
 #[unsafe(no_mangle)]
 pub extern "C" fn bench_action_length(alloc: Global, bytes: &[u8], lengths: &mut [usize]) -> u32
     ensures { MeasuresEach action_words bytes.now lengths.new result }
@@ -26,7 +26,7 @@ pub extern "C" fn bench_action_length(alloc: Global, bytes: &[u8], lengths: &mut
     timed::length::<TcActionMessage>(alloc, bytes, lengths)
 }
 
-/// Reads a message, and writes into each slot whether it can be written.
+/// Parses a message, and writes into each slot whether it fits.
 #[unsafe(no_mangle)]
 pub extern "C" fn bench_action_fits(alloc: Global, bytes: &[u8], verdicts: &mut [u8]) -> u32
     ensures { JudgesEach action_words bytes.now verdicts.new result }
@@ -34,7 +34,7 @@ pub extern "C" fn bench_action_fits(alloc: Global, bytes: &[u8], verdicts: &mut 
     timed::fits::<TcActionMessage>(alloc, bytes, verdicts)
 }
 
-/// Reads a message, writes it at the front of the buffer, and again so many times.
+/// Parses a message, and encodes it `again + 1` times into the buffer.
 #[unsafe(no_mangle)]
 pub extern "C" fn bench_action_emit(
     alloc: Global,
@@ -48,7 +48,7 @@ pub extern "C" fn bench_action_emit(
     timed::emit::<TcActionMessage>(alloc, bytes, buffer, again)
 }
 
-/// 1 if the bytes are a canonical message, 0 if not.
+/// 1 if the bytes are canonical, else 0.
 #[unsafe(no_mangle)]
 pub extern "C" fn bench_action_canonical(bytes: &[u8]) -> u8
     ensures { Says result (action_words.Canonical bytes.now) }

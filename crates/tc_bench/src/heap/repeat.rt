@@ -1,4 +1,4 @@
-//! An operation on one message, many times.
+//! Repeated operations on one message.
 
 ghost use Rattle.std.specs.Prelude.{◌≡◌, All, length};
 ghost use Rattle.tc_wire.specs.Facade.{Writes, HasRoom};
@@ -8,7 +8,7 @@ use crate::number::number;
 use std::alloc::Global;
 use tc_wire::WholeMessage;
 
-/// Writes the length of the message's bytes into each slot.
+/// Writes the encoded length into each slot.
 pub fn measure<M: WholeMessage<Global>>(message: &M, lengths: &mut [usize])
     requires { M.words.Fits (M.message message.now) }
     ensures lengths { All (λ n. n ≡ length (M.words.bytes (M.message message.now))) lengths.new }
@@ -19,7 +19,7 @@ pub fn measure<M: WholeMessage<Global>>(message: &M, lengths: &mut [usize])
     }
 }
 
-/// Writes into each slot whether the message can be written.
+/// Writes into each slot whether the message fits.
 pub fn judge<M: WholeMessage<Global>>(message: &M, verdicts: &mut [u8])
     ensures { All (λ v. Says v (M.words.Fits (M.message message.now))) verdicts.new }
 {
@@ -28,7 +28,7 @@ pub fn judge<M: WholeMessage<Global>>(message: &M, verdicts: &mut [u8])
     }
 }
 
-/// Writes the message at the front of the buffer, and again so many times.
+/// Encodes the message `again + 1` times into the buffer.
 pub fn write<M: WholeMessage<Global>>(message: &M, buffer: &mut [u8], again: usize)
     requires fits { M.words.Fits (M.message message.now) }
     requires room { HasRoom (M.words.bytes (M.message message.now)) buffer.old }

@@ -1,4 +1,4 @@
-//! The timed calls on a message of either type.
+//! Timed calls, for both types of messages.
 
 ghost use Rattle.std.specs.Prelude.{◌≡◌, ◌≢◌};
 ghost use Rattle.tc_bench.specs.Timed.{Parses, MeasuresEach, JudgesEach, Emits};
@@ -8,7 +8,7 @@ use std::alloc::Global;
 use tc_status::{DOES_NOT_FIT, NO_ROOM, OK, status_of};
 use tc_wire::WholeMessage;
 
-/// Reads a message, and drops it.
+/// Parses a message and drops it.
 pub fn parse<M: WholeMessage<Global> + Drop>(alloc: Global, bytes: &[u8]) -> u32
     ensures { Parses M.words bytes.now result }
 {
@@ -18,7 +18,7 @@ pub fn parse<M: WholeMessage<Global> + Drop>(alloc: Global, bytes: &[u8]) -> u32
     }
 }
 
-/// Reads a message, and writes the length of its bytes into each slot.
+/// Parses a message, and writes its encoded length into each slot.
 pub fn length<M: WholeMessage<Global> + Drop>(
     alloc: Global,
     bytes: &[u8],
@@ -38,7 +38,7 @@ pub fn length<M: WholeMessage<Global> + Drop>(
     }
 }
 
-/// Reads a message, and writes into each slot whether it can be written.
+/// Parses a message, and writes into each slot whether it fits.
 pub fn fits<M: WholeMessage<Global> + Drop>(alloc: Global, bytes: &[u8], verdicts: &mut [u8]) -> u32
     ensures { JudgesEach M.words bytes.now verdicts.new result }
 {
@@ -51,7 +51,7 @@ pub fn fits<M: WholeMessage<Global> + Drop>(alloc: Global, bytes: &[u8], verdict
     }
 }
 
-/// Reads a message, writes it at the front of the buffer, and again so many times.
+/// Parses a message, and encodes it `again + 1` times into the buffer.
 pub fn emit<M: WholeMessage<Global> + Drop>(
     alloc: Global,
     bytes: &[u8],

@@ -5,7 +5,7 @@ use tc_kinds::{ACTION_MESSAGE, TC_MESSAGE, TcTables};
 use tcmake_lib::arguments::{Making, Request};
 use tcmake_lib::message::Forms;
 use tcmake_lib::program::serve;
-use tcmake_lines::Form;
+use tcmake_lines::OutputFormat;
 
 /// The forms of both messages.
 pub(crate) const FORMS: Forms<TcTables> = Forms {
@@ -16,7 +16,7 @@ pub(crate) const FORMS: Forms<TcTables> = Forms {
 
 /// What is asked for without arguments.
 pub(crate) const HEX: Request = Request {
-    form: Form::Hex,
+    form: OutputFormat::Hex,
     making: Making::Checked,
     in_order: false,
     index: None,
@@ -25,7 +25,7 @@ pub(crate) const HEX: Request = Request {
 
 /// A capture in place of lines of hex.
 pub(crate) const PCAP: Request = Request {
-    form: Form::Capture,
+    form: OutputFormat::Capture,
     making: Making::Checked,
     in_order: false,
     index: None,
@@ -34,7 +34,7 @@ pub(crate) const PCAP: Request = Request {
 
 /// Messages one after the other in place of lines of hex.
 pub(crate) const STREAM: Request = Request {
-    form: Form::Stream,
+    form: OutputFormat::Stream,
     making: Making::AsGiven,
     in_order: false,
     index: None,
@@ -44,7 +44,7 @@ pub(crate) const STREAM: Request = Request {
 /// Messages without a netlink header, made so.
 pub(crate) fn bare(making: Making) -> Request {
     Request {
-        form: Form::Bare,
+        form: OutputFormat::Bare,
         making,
         in_order: false,
         index: None,

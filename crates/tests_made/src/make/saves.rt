@@ -5,7 +5,7 @@ use std::alloc::Global;
 use tcmake_lib::arguments::{Making, Request, arguments_of};
 use tcmake_lib::order::Asked;
 use tcmake_lib::program::serve_asked;
-use tcmake_lines::Form;
+use tcmake_lines::OutputFormat;
 
 // The first line of a save of the interface wan.
 #[rattlefmt::skip]
@@ -70,7 +70,7 @@ const MAKES: &str = "4c000000300005061d00000000000000";
 const CHANGES: &str = "4c000000300005051d00000000000000";
 
 const BARE: Request = Request {
-    form: Form::Bare,
+    form: OutputFormat::Bare,
     making: Making::Restored,
     in_order: false,
     index: None,
@@ -78,7 +78,7 @@ const BARE: Request = Request {
 };
 
 const HEX: Request = Request {
-    form: Form::Hex,
+    form: OutputFormat::Hex,
     making: Making::Restored,
     in_order: false,
     index: None,

@@ -1,27 +1,29 @@
-//! What a line says of its message.
+//! Netlink header and packet of a message.
 
 ghost use Rattle.std.specs.Prelude.{◌≡◌, None};
 ghost use Rattle.tcmake_lines.specs.Written.{is_same, same_number};
 
 use tc_capture::{Holds, Time};
 
-/// What a line says of its message, beside the message.
+/// The netlink header and the packet of a message, from its line.
 #[derive(Clone, Copy)]
-pub struct Given {
+pub struct NetlinkHeader {
     pub holds: Holds,
-    /// `nlmsg_type`; none where the line holds the message alone.
+    /// `nlmsg_type`; `None` if the line has only the message.
     pub kind: Option<u16>,
+    /// `nlmsg_flags`.
     pub flags: u16,
+    /// `nlmsg_seq`.
     pub sequence: u32,
     /// `nlmsg_pid`.
     pub port: u32,
     pub packet: PacketOf,
 }
 
-/// The packet that a message is in.
+/// The packet of a message.
 #[derive(Clone, Copy)]
 pub struct PacketOf {
-    /// Its number; none of one that holds this message alone.
+    /// Its number; `None` for a packet with only this message.
     pub number: Option<u64>,
     pub time: Time,
     /// The packet type of the cooked header.
@@ -31,7 +33,7 @@ pub struct PacketOf {
 /// The packet type `PACKET_OUTGOING`.
 pub const OUTGOING: u16 = 4;
 
-/// A packet of one message, sent by this machine at a time.
+/// An outgoing packet with one message.
 pub fn packet_at(time: Time) -> PacketOf
     ensures number { result.number ≡ None }
     ensures time { result.time ≡ time }
@@ -44,7 +46,7 @@ pub fn packet_at(time: Time) -> PacketOf
     }
 }
 
-/// True if two lines are of one packet: its number, its time and its type are the same.
+/// True if two lines are of one packet: same number, time and type.
 pub(crate) fn is_same(p: &PacketOf, q: &PacketOf) -> bool
     ensures { result ≡ is_same p.now q.now }
 {

@@ -1,50 +1,50 @@
-//! The forms that messages are written in.
+//! Output formats.
 
 ghost use Rattle.std.specs.Prelude.{OnOk};
 ghost use Rattle.tcmake_lines.specs.Written.{IsWritable};
 
-use crate::given::Given;
+use crate::netlink::NetlinkHeader;
 use std::fmt;
 
-/// How messages are written.
+/// The format of the output.
 #[derive(Clone, Copy, PartialEq, Eq, Debug)]
-pub enum Form {
-    /// A line of hex for each, behind its netlink header.
+pub enum OutputFormat {
+    /// A line of hex for each message, with its netlink header.
     Hex,
-    /// A line of hex for each, without a netlink header.
+    /// A line of hex for each message, without a netlink header.
     Bare,
-    /// Netlink messages one after the other.
+    /// A stream of netlink messages.
     Stream,
-    /// A capture.
+    /// A capture (pcap).
     Capture,
 }
 
 /// Why a message can't be written.
 #[derive(Clone, Copy, PartialEq, Eq, Debug)]
 pub enum Unwritable {
-    /// Its line says no type for its netlink header.
+    /// The line has no type for the netlink header.
     NoType,
-    /// A capture has no room for its time.
+    /// The time, in seconds, doesn't fit into a capture.
     Late(u64),
-    /// A header has no room for its length, or `tcshow` wouldn't read a packet that is so long.
+    /// The length doesn't fit into a header, or exceeds the packets that `tcshow` reads.
     TooLong,
 }
 
-// The most bytes of messages that a packet has: with its headers 1 MiB, which is as much as `tcshow` reads at once.
+// The most bytes of messages in a packet: with its headers 1 MiB, the largest packet that `tcshow` reads.
 pub(crate) const MOST_MESSAGES: usize = 0x10_0000 - 32;
 
-/// Fails unless a message can be written in a form.
-pub fn check(form: Form, given: &Given, bytes: &[u8]) -> Result<(), Unwritable>
+/// Fails unless the message can be written in this format.
+pub fn check(form: OutputFormat, given: &NetlinkHeader, bytes: &[u8]) -> Result<(), Unwritable>
     ensures { OnOk result (IsWritable form given.now bytes.now) }
 {
-    if form == Form::Bare {
+    if form == OutputFormat::Bare {
         return Ok(());
     }
     if given.kind.is_none() {
         return Err(Unwritable::NoType);
     }
     let len = bytes.len().saturating_add(16);
-    if form == Form::Capture {
+    if form == OutputFormat::Capture {
         if given.packet.time.seconds > 0xFFFF_FFFF {
             return Err(Unwritable::Late(given.packet.time.seconds));
         }
