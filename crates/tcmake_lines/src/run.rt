@@ -103,8 +103,8 @@ fn put_line<M: Maker, E: Write>(
 {
     match found {
         LineStatus::Whole => put_whole_line(alloc, maker, line, number, output, errors),
-        LineStatus::TooLong => complain(alloc, errors, number, LONG_LINE),
-        LineStatus::NoMemory => complain(alloc, errors, number, "out of memory"),
+        LineStatus::TooLong => report(alloc, errors, number, LONG_LINE),
+        LineStatus::NoMemory => report(alloc, errors, number, "out of memory"),
         LineStatus::End => Ok(false),
     }
 }
@@ -136,7 +136,7 @@ fn put_whole_line<M: Maker, E: Write>(
             }
             Ok(false)
         }
-        Answer::Complaint(complaint) => complain(alloc, errors, number, complaint.as_str()),
+        Answer::Complaint(complaint) => report(alloc, errors, number, complaint.as_str()),
     }
 }
 
@@ -154,7 +154,7 @@ pub fn put_message<E: Write>(
 {
     if let Err(fault) = check(output.form(), given, bytes) {
         let complaint = format!(in alloc; "{fault}")?;
-        return complain(alloc, errors, number, complaint.as_str());
+        return report(alloc, errors, number, complaint.as_str());
     }
     output.put(given, bytes)?;
     for notice in notices {
@@ -164,7 +164,7 @@ pub fn put_message<E: Write>(
 }
 
 // Prints an error.
-fn complain<E: Write>(alloc: Global, errors: &mut E, number: u64, text: &str) -> Result<bool, Stop>
+fn report<E: Write>(alloc: Global, errors: &mut E, number: u64, text: &str) -> Result<bool, Stop>
     ensures { IfOk result (λ is_wrong. is_wrong ≡ true) }
 {
     say(alloc, errors, number, text)?;
