@@ -6,7 +6,7 @@ const CODEC: &[&str] = &["tc_wire", "tc_index", "tc_requests", "tc_capture"];
 
 /// The crates of forms.
 #[allow(dead_code)] // programs have more
-const FORMS: &[&str] = &["tc_forms", "tc_forms_text", "tc_kinds"];
+const FORMS: &[&str] = &["forms_json", "forms_text", "forms_kinds"];
 
 /// These crates of a folder and those below them, by the `crates.txt` beside it, but for these others.
 fn below(folder: &Path, roots: &[&str], others: &[String]) -> Vec<String> {

@@ -3,10 +3,10 @@ use Rattle.std.specs.Prelude.{List, None, Option, [], refl, ℕ, ◌≡◌}
 use Rattle.tc_columns.specs.Tables.{all_columns, all_names, columns_of}
 use Rattle.tc_columns.specs.declared.root.Root.{Root}
 use Rattle.tc_columns.specs.declared.root.Root.TheVariants as root
-use Rattle.tc_form_values.specs.Places.{kind_place}
-use Rattle.tc_form_values.specs.Numbers.{number_of}
-use Rattle.tc_form_values.specs.Tables.{Kinds, Names, Part}
-use Rattle.tc_kinds.specs.Table.{tc_tables}
+use Rattle.forms_values.specs.Places.{kind_place}
+use Rattle.forms_values.specs.Numbers.{number_of}
+use Rattle.forms_values.specs.Tables.{Kinds, Names, Part}
+use Rattle.forms_kinds.specs.Table.{tc_tables}
 use Rattle.tc_lines.specs.Columns.{Given, Table, interface_in}
 use Rattle.tc_lines.specs.Lines.{NONE}
 

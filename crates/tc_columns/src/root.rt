@@ -2,14 +2,14 @@
 
 ghost use Rattle.std.specs.Prelude.{map, option_map, ◌≡◌};
 ghost use Rattle.tc_columns.specs.Kinds.{kind_table, none_there, root_place};
-ghost use Rattle.tc_form_values.specs.Places.{kind_place};
-ghost use Rattle.tc_form_values.specs.Numbers.{number_of};
-ghost use Rattle.tc_form_values.specs.Tables.{kinds_view, names_view};
+ghost use Rattle.forms_values.specs.Places.{kind_place};
+ghost use Rattle.forms_values.specs.Numbers.{number_of};
+ghost use Rattle.forms_values.specs.Tables.{kinds_view, names_view};
 ghost use Rattle.tc_lines.specs.Columns.{interface_in};
 
 use crate::tables;
-use tc_form_values::{Form, KindRows, Part, Tables};
-use tc_kinds::{ACTION_MESSAGE, TC_MESSAGE, TcTables};
+use forms_values::{Form, KindRows, Part, Tables};
+use forms_kinds::{ACTION_MESSAGE, TC_MESSAGE, TcTables};
 use tc_lines::{Column, Columns};
 use tc_units::Name;
 
@@ -105,7 +105,7 @@ fn kind_place(kind: &str, others: usize, kinds: &[KindRows<'_>]) -> usize
 }
 
 // The first number of a name in JSON.
-fn number_of(names: &[tc_form_values::Name<'_>], name: &str) -> Option<u64>
+fn number_of(names: &[forms_values::Name<'_>], name: &str) -> Option<u64>
     ensures { result ≡ number_of (names_view names.now) name.now }
 {
     match names.split_first() {

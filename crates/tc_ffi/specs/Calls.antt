@@ -1,10 +1,10 @@
 -- What the status of a call, and what it wrote, say of the bytes that it was given.
 use Rattle.std.specs.Prelude.{◌≡◌, ◌≢◌, ◌⊎◌, ℕ, List, ◌<◌, length, Some}
 use Rattle.serde_json.specs.Sent.{IsTextOf}
-use Rattle.tc_form_values.specs.declared.form.Form.{Form}
-use Rattle.tc_form_values.specs.Sent.{events}
-use Rattle.tc_forms.specs.Shown.{shown_of}
-use Rattle.tc_kinds.specs.Table.{tc_tables}
+use Rattle.forms_values.specs.declared.form.Form.{Form}
+use Rattle.forms_values.specs.Sent.{events}
+use Rattle.forms_json.specs.Shown.{shown_of}
+use Rattle.forms_kinds.specs.Table.{tc_tables}
 use Rattle.tc_wire.specs.Facade.{DecodeError, OutOfMemory, Message, Words, Writes}
 use Rattle.tc_status.specs.Status.{status_of}
 

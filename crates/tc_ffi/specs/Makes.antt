@@ -2,7 +2,7 @@
 use Rattle.std.specs.Prelude.{◌≡◌, ◌≢◌, ◌⊎◌, ℕ, List, ◌≤◌, IsUtf8, length, take, drop, Some, None}
 use Rattle.serde_json.specs.Data.{Data}
 use Rattle.serde_json.specs.Read.{read}
-use Rattle.tc_forms_text.specs.Read.{HasNamesOnce}
+use Rattle.forms_text.specs.Read.{HasNamesOnce}
 use Rattle.tc_ffi.specs.Calls.{Keeps, IsPlaced}
 
 -- the text is this JSON, and no object of it has a name twice

@@ -2,7 +2,7 @@
 
 ghost use Rattle.tc_wire.specs.Facade.{action_words};
 ghost use Rattle.tc_wire.specs.Rewriting.{SettlesAct};
-ghost use Rattle.tc_kinds.specs.Table.{action_message};
+ghost use Rattle.forms_kinds.specs.Table.{action_message};
 ghost use Rattle.tc_message_json.specs.Made.{IsGiven, IsMadeOf};
 ghost use Rattle.tc_ffi.specs.Calls.{IsRewritten, IsSettled, IsShown};
 ghost use Rattle.tc_ffi.specs.Checks.{IsChecked};
@@ -11,7 +11,7 @@ ghost use Rattle.tc_ffi.specs.Makes.{IsMade};
 use crate::verdict::{VtcFault, VtcVerdict};
 use crate::{calls, make};
 use std::alloc::Global;
-use tc_kinds::ACTION_MESSAGE;
+use forms_kinds::ACTION_MESSAGE;
 use tc_wire::TcActionMessage;
 
 /// Judges the message that the bytes read as, or says their first fault.

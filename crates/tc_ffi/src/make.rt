@@ -11,7 +11,7 @@ use crate::place::place;
 use serde_json::Value;
 use std::alloc::Global;
 use std::fmt::Display;
-use tc_forms_text::{ReadError, read_json};
+use forms_text::{ReadError, read_json};
 use tc_message_json::{HasForm, NoMessage};
 use tc_status::{NO_MESSAGE, NOT_JSON, OUT_OF_MEMORY};
 use tc_wire::WholeMessage;

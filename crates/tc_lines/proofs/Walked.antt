@@ -7,7 +7,7 @@ use Rattle.std.specs.Prelude.{if◌then◌else◌, option_and_then}
 use Rattle.serde.specs.Event.{Event, Log, boolean as truth, map_ends, nothing, seq_ends, text, unsigned as number_sent}
 use Rattle.serde_json.specs.Data.{Data, Items, Members, array, boolean, float, item, member, negative, no_items, no_members, null, number, object}
 use Rattle.serde_json.specs.Data.{string, unsigned}
-use Rattle.tc_form_values.specs.Sent.{Sent, events, items_events, members_events}
+use Rattle.forms_values.specs.Sent.{Sent, events, items_events, members_events}
 use Rattle.tc_lines.specs.Columns.{Given, Table, depth_in, has_elements, in_line, is_nested, opened, place_in}
 use Rattle.tc_lines.specs.declared.column.How.{How}
 use Rattle.tc_lines.specs.declared.column.How.TheVariants.{Below, Count, Elements, Family, First, Flags, From, Handle, Hidden, InLine, Index, Info}

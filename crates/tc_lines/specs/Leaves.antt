@@ -9,7 +9,7 @@ use Rattle.std.specs.Prelude.{zero, ℕ, ℤ, ◌%◌, negsuc, ◌&&◌, ◌*◌
 use Rattle.hex.specs.Hex.{decode_sized}
 use Rattle.serde.specs.Event as event
 use Rattle.serde.specs.Event.{Event}
-use Rattle.tc_form_values.specs.Raw.{decoded}
+use Rattle.forms_values.specs.Raw.{decoded}
 use Rattle.tc_lines.specs.Columns.{Table, is_hidden}
 use Rattle.tc_lines.specs.declared.column.How.{How}
 use Rattle.tc_lines.specs.declared.column.How.TheVariants as how

@@ -6,7 +6,7 @@ ghost use Rattle.std.specs.List.{list_all};
 ghost use Rattle.hex.specs.Hex.{decode_sized};
 ghost use Rattle.std.specs.Fmt.{signed_decimal};
 ghost use Rattle.std.specs.Prelude.{OnOk, Option, codes, decimal, flat_map, option_map, ◌%◌, ◌*◌, ◌+◌, ◌++◌, ◌/◌, ◌<◌, ◌≡◌};
-ghost use Rattle.tc_form_values.specs.Raw.{decoded};
+ghost use Rattle.forms_values.specs.Raw.{decoded};
 ghost use Rattle.tc_texts.specs.Handle.{handle_text};
 ghost use Rattle.tc_lines.specs.Columns.{is_hidden};
 ghost use Rattle.tc_units.specs.Names.{named_text, names_view};

@@ -1,6 +1,6 @@
 //! Messages as lines for people: each leaf of their JSON is in one line, with the name and the unit of its column.
 //!
-//! [`lines_of`] sends what `tc_forms` shows of bytes to a format of serde that writes lines, so that the lines and the JSON of a message say
+//! [`lines_of`] sends what `forms_json` shows of bytes to a format of serde that writes lines, so that the lines and the JSON of a message say
 //! the same. A line is a line feed, two blanks for each level, a name and a value:
 //!
 //! ```text

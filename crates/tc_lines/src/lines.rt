@@ -5,7 +5,7 @@ ghost use Rattle.serde.specs.declared.name.Case.TheVariants.{AsIs};
 ghost use Rattle.serde_json.specs.Data.{Data};
 ghost use Rattle.std.specs.Prelude.{IfOk, IfSome, None, OnOk, Some, [], ◌≡◌, ℕ};
 ghost use Rattle.tc_lines.specs.Columns.{Table, columns_view};
-ghost use Rattle.tc_form_values.specs.Sent.{events};
+ghost use Rattle.forms_values.specs.Sent.{events};
 ghost use Rattle.tc_lines.specs.Lines.{lines};
 ghost use Rattle.tc_lines.specs.Log.{event_of, marked};
 ghost use Rattle.tc_lines.specs.Walk.{Follows, State, state_of, step};

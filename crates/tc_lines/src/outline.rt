@@ -1,14 +1,14 @@
 //! Lines of bytes.
 
 ghost use Rattle.std.specs.Prelude.{IfOk, ◌≡◌};
-ghost use Rattle.tc_forms.specs.Shown.{shown_of};
+ghost use Rattle.forms_json.specs.Shown.{shown_of};
 ghost use Rattle.tc_lines.specs.Lines.{lines};
 
 use crate::column::Columns;
 use crate::error::LinesError;
 use crate::lines::Lines;
 use std::alloc::Global;
-use tc_forms::{Form, Tables, send_shown};
+use forms_json::{Form, Tables, send_shown};
 
 /// The lines of what is shown of bytes in a form, by these columns. A line begins with a line feed and two blanks for each level.
 pub fn lines_of<T: Tables, C: Columns + Drop>(

@@ -4,7 +4,7 @@ use Rattle.serde.specs.Event as event
 use Rattle.serde.specs.Event.{Event}
 use Rattle.serde_json.specs.Data.{Num, unsigned, negative, float, Data, null, boolean, number, string, array, object, Items, no_items, item, Members, no_members, member}
 use Rattle.serde_json.specs.Events.{number_event}
-use Rattle.tc_form_values.specs.Sent.{events, items_events, members_events}
+use Rattle.forms_values.specs.Sent.{events, items_events, members_events}
 
 one_number : (m n : Num) → number_event m ≡ number_event n → m ≡ n
 one_number (unsigned a) (unsigned b) e = cc

@@ -2,10 +2,10 @@
 use Rattle.std.specs.Prelude.{◌≡◌, ℕ, List, Some}
 use Rattle.serde_json.specs.Data.{Data}
 use Rattle.tc_wire.specs.Facade.{Message, Words}
-use Rattle.tc_form_values.specs.declared.form.Form.{Form}
-use Rattle.tc_forms.specs.Made.{made_of}
-use Rattle.tc_forms_strict.specs.Strict.{json_of}
-use Rattle.tc_kinds.specs.Table.{tc_tables}
+use Rattle.forms_values.specs.declared.form.Form.{Form}
+use Rattle.forms_json.specs.Made.{made_of}
+use Rattle.forms_text.specs.Strict.{json_of}
+use Rattle.forms_kinds.specs.Table.{tc_tables}
 use Rattle.tc_message_json.specs.declared.error.NoMessage.{NoMessage}
 use Rattle.tc_message_json.specs.declared.error.NoMessage.TheVariants.{OutOfMemory}
 

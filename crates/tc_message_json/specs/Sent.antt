@@ -4,10 +4,10 @@ use Rattle.serde.specs.Event.{Event, Log}
 use Rattle.nla_frames.specs.Codec.{Codec}
 use Rattle.tc_meaning.specs.Message.{Message}
 use Rattle.tc_meaning.specs.Whole.{tc_bytes, act_bytes}
-use Rattle.tc_form_values.specs.declared.form.Form.{Form}
-use Rattle.tc_form_values.specs.Sent.{events, Sent}
-use Rattle.tc_forms.specs.Shown.{shown_of}
-use Rattle.tc_kinds.specs.Table.{tc_tables, tc_message, action_message}
+use Rattle.forms_values.specs.declared.form.Form.{Form}
+use Rattle.forms_values.specs.Sent.{events, Sent}
+use Rattle.forms_json.specs.Shown.{shown_of}
+use Rattle.forms_kinds.specs.Table.{tc_tables, tc_message, action_message}
 
 -- the message fits, and what is shown of its bytes is sent
 abbrev pub SentIfFits : {X : Type 0} → Codec (List ℕ) X → Form → X → Log → Log → Type 0

@@ -1,15 +1,15 @@
 //! Why no message is made.
 
 ghost use Rattle.std.specs.Prelude.{◌≡◌};
-ghost use Rattle.tc_forms_strict.specs.Strict.{IsMemory as IsNoMemory};
+ghost use Rattle.forms_text.specs.Strict.{IsMemory as IsNoMemory};
 ghost use Rattle.tc_message_json.specs.Made.{IsMemory};
 ghost use Rattle.tc_message_json.specs.declared.error.NoMessage.TheVariants.{OutOfMemory};
 
 use std::alloc::AllocError;
 use std::error::Error;
 use std::fmt;
-use tc_forms::MakeError;
-use tc_forms_strict::{Difference, StrictError};
+use forms_json::MakeError;
+use forms_text::{Difference, StrictError};
 use tc_wire::DecodeError;
 
 /// Why no message is made of JSON.

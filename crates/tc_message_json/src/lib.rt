@@ -5,7 +5,7 @@
 //! let bytes = make::<TcMessage>(alloc, &read_json(alloc, text.as_bytes())?)?;
 //! ```
 //!
-//! Of a message that fits, [`Shown`] sends what `tc_forms` shows of the bytes that are emitted. Serializing a message that doesn't
+//! Of a message that fits, [`Shown`] sends what `forms_json` shows of the bytes that are emitted. Serializing a message that doesn't
 //! fit is an error of the format, as is running out of memory. Two settled messages that fit are `==` if and only if the same is sent
 //! of both ([`equal_tc_messages`], [`equal_action_messages`]).
 //!

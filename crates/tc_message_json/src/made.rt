@@ -3,17 +3,17 @@
 ghost use Rattle.std.specs.Prelude.{◌≡◌, ℕ, List, IfOk, MatchResult};
 ghost use Rattle.nla_frames.specs.Value.{IsBytes};
 ghost use Rattle.serde_json.specs.View.{view};
-ghost use Rattle.tc_forms_strict.specs.Strict.{json_of};
-ghost use Rattle.tc_kinds.specs.Table.{tc_tables};
+ghost use Rattle.forms_text.specs.Strict.{json_of};
+ghost use Rattle.forms_kinds.specs.Table.{tc_tables};
 ghost use Rattle.tc_message_json.specs.Made.{IsMadeOf, IsGiven, IsMemory, IsWrittenOf};
 
 use crate::error::NoMessage;
 use crate::message::HasForm;
 use serde_json::Value;
 use std::alloc::{AllocError, Global};
-use tc_forms::Form;
-use tc_forms_strict::{Difference, differences, made_strictly, shown_json};
-use tc_kinds::TcTables;
+use forms_json::Form;
+use forms_text::{Difference, differences, made_strictly, shown_json};
+use forms_kinds::TcTables;
 use tc_outline::{Layout, Page, locate};
 use tc_wire::{DecodeError, WholeMessage};
 

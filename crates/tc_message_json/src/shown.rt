@@ -6,8 +6,8 @@ ghost use Rattle.tc_message_json.specs.Sent.{SentIfFits};
 use crate::message::HasForm;
 use serde::{Described, Serialize, Serializer};
 use std::alloc::{AllocError, Global};
-use tc_forms::send_shown;
-use tc_kinds::TcTables;
+use forms_json::send_shown;
+use forms_kinds::TcTables;
 use tc_wire::Emitable;
 
 /// A message for a format of serde, and what takes its bytes. Where it doesn't fit, or memory runs out, serializing fails with

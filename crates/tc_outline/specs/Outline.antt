@@ -4,9 +4,9 @@ use Rattle.tc_columns.specs.Kinds.{kind_table, root_place}
 use Rattle.tc_columns.specs.declared.root.KindColumns.{KindColumns}
 use Rattle.tc_columns.specs.declared.root.Root.{Root}
 use Rattle.tc_columns.specs.declared.root.Root.TheVariants as root
-use Rattle.tc_forms.specs.Shown.{shown_of}
-use Rattle.tc_form_values.specs.declared.form.Form.{Form}
-use Rattle.tc_kinds.specs.Table.{action_message, tc_message, tc_tables}
+use Rattle.forms_json.specs.Shown.{shown_of}
+use Rattle.forms_values.specs.declared.form.Form.{Form}
+use Rattle.forms_kinds.specs.Table.{action_message, tc_message, tc_tables}
 use Rattle.tc_lines.specs.Columns.{Given}
 use Rattle.tc_lines.specs.Lines.{lines}
 use Rattle.tc_outline.specs.Page.{shown}

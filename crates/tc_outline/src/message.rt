@@ -11,8 +11,8 @@ use crate::reader::locate;
 use crate::what::What;
 use std::alloc::{AllocError, Allocator, Global};
 use tc_columns::{KindColumns, Root};
-use tc_forms::Form;
-use tc_kinds::{ACTION_MESSAGE, TC_MESSAGE, TcTables};
+use forms_json::Form;
+use forms_kinds::{ACTION_MESSAGE, TC_MESSAGE, TcTables};
 use tc_lines::lines_of;
 
 // What a message of this root is about.

@@ -3,7 +3,7 @@
 use crate::page::Page;
 use crate::tree::{held_in, list_of_message, row_in};
 use std::alloc::{AllocError, Allocator};
-use tc_forms::Form;
+use forms_json::Form;
 use tc_index::{Attribute, Table};
 
 // An attribute on the way to a place.

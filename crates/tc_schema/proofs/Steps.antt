@@ -1,7 +1,7 @@
 -- One step of what goes down a number.
 use Rattle.std.proofs.Common.{List, None, Some, ap, ◌≡◌, ℕ, suc, ◌++◌, ◌-◌, ◌∙◌, refl, subst, sym}
-use Rattle.tc_form_values.specs.Tables.{Table}
-use Rattle.tc_form_values.specs.declared.form.Form.{Form}
+use Rattle.forms_values.specs.Tables.{Table}
+use Rattle.forms_values.specs.declared.form.Form.{Form}
 use Rattle.tc_schema.specs.Explained.{alone, explained, members_text, part_text, place_in, signed_of, text_at}
 use Rattle.tc_schema.specs.Texts.{deepest, members_of, times}
 use Rattle.tc_schema.specs.declared.notes.Note.{Note}

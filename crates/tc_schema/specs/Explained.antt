@@ -2,10 +2,10 @@
 use Rattle.std.specs.Option.{option_map_or}
 use Rattle.std.specs.Prelude.{List, None, Option, Some, [], bytes_eq, codes, decimal, if◌then◌else◌, nat_le, nat_lt, suc, zero, ℕ}
 use Rattle.std.specs.Prelude.{◌&&◌, ◌++◌, ◌+◌, ◌-◌, ◌/◌, ◌∷◌}
-use Rattle.tc_form_values.specs.Tables.{KindRows, Kinds, One, Part, Table}
-use Rattle.tc_form_values.specs.declared.form.Form.{Form}
-use Rattle.tc_form_values.specs.declared.form.Form.TheVariants as form
-use Rattle.tc_form_values.specs.declared.form.Number.TheVariants as number
+use Rattle.forms_values.specs.Tables.{KindRows, Kinds, One, Part, Table}
+use Rattle.forms_values.specs.declared.form.Form.{Form}
+use Rattle.forms_values.specs.declared.form.Form.TheVariants as form
+use Rattle.forms_values.specs.declared.form.Number.TheVariants as number
 use Rattle.tc_schema.specs.Json.{kind_example}
 use Rattle.tc_schema.specs.Notes.{Note, note_of}
 use Rattle.tc_schema.specs.Texts.{Member, deepest, form_text, members_of, times, around}

@@ -1,11 +1,11 @@
 -- What is shown in forms, as JSON: an example, and the JSON Schema of a line. The constants are texts of JSON.
 use Rattle.std.specs.Prelude.{Bool, List, [], codes, decimal, false, if◌then◌else◌, suc, true, zero, ℕ, ◌++◌, ◌∷◌}
-use Rattle.tc_form_values.specs.Places.{form_of, layer_of}
-use Rattle.tc_form_values.specs.Records.{is_pad}
-use Rattle.tc_form_values.specs.Tables.{Choices, Fields, KindRows, Kinds, Names, One, Part, Rows, Table}
-use Rattle.tc_form_values.specs.declared.form.Form.{Form}
-use Rattle.tc_form_values.specs.declared.form.Form.TheVariants as form
-use Rattle.tc_form_values.specs.declared.form.Number.{Number}
+use Rattle.forms_values.specs.Places.{form_of, layer_of}
+use Rattle.forms_values.specs.Records.{is_pad}
+use Rattle.forms_values.specs.Tables.{Choices, Fields, KindRows, Kinds, Names, One, Part, Rows, Table}
+use Rattle.forms_values.specs.declared.form.Form.{Form}
+use Rattle.forms_values.specs.declared.form.Form.TheVariants as form
+use Rattle.forms_values.specs.declared.form.Number.{Number}
 use Rattle.tc_schema.specs.Texts.{Member, about, about_number, around, between, comma, deepest, members_of, quoted, times}
 use Rattle.tc_schema.specs.declared.json.Each.{Each}
 use Rattle.tc_schema.specs.declared.json.Each.TheVariants as each

@@ -1,11 +1,11 @@
 -- Texts as in JSON, how each form is described, and the members of parts.
 use Rattle.std.specs.Prelude.{Bool, List, None, Option, Some, [], codes, decimal, false, if◌then◌else◌, map, nat_lt, suc, true, zero, ℕ}
 use Rattle.std.specs.Prelude.{◌++◌, ◌==◌, ◌∷◌}
-use Rattle.tc_form_values.specs.Tables.{Choices, Fields, Names, Part, Rows}
-use Rattle.tc_form_values.specs.declared.form.Form.{Form}
-use Rattle.tc_form_values.specs.declared.form.Form.TheVariants as form
-use Rattle.tc_form_values.specs.declared.form.Number.{Number}
-use Rattle.tc_form_values.specs.declared.form.Number.TheVariants as number
+use Rattle.forms_values.specs.Tables.{Choices, Fields, Names, Part, Rows}
+use Rattle.forms_values.specs.declared.form.Form.{Form}
+use Rattle.forms_values.specs.declared.form.Form.TheVariants as form
+use Rattle.forms_values.specs.declared.form.Number.{Number}
+use Rattle.forms_values.specs.declared.form.Number.TheVariants as number
 use Rattle.tc_schema.specs.declared.texts.Member.{Member as CodeMember}
 use Rattle.tc_schema.specs.declared.texts.Said.{Said as CodeSaid}
 

@@ -1,7 +1,7 @@
 //! What the attributes of a kind are, for people.
 
 ghost use Rattle.std.specs.Prelude.{OnOk, is_some, ◌++◌, ◌-◌, ◌≡◌, ◌≤◌};
-ghost use Rattle.tc_form_values.specs.Tables.{kinds_view, part_view};
+ghost use Rattle.forms_values.specs.Tables.{kinds_view, part_view};
 ghost use Rattle.tc_schema.specs.Explained.{alone, explained, kind_text, kinds_of, member_line, members_text, named_lines, place_in};
 ghost use Rattle.tc_schema.specs.Explained.{rows_of_kind, signed_of, signed_text, value_text};
 ghost use Rattle.tc_schema.specs.Notes.{note_view};
@@ -11,7 +11,7 @@ use crate::json::put_example;
 use crate::notes::{Note, note_of};
 use crate::texts::{DEEPEST, Done, Member, first_member, put, put_around, put_form, put_times};
 use std::alloc::{AllocError, Allocator};
-use tc_form_values::{Form, KindRows, Number, Part, Tables};
+use forms_values::{Form, KindRows, Number, Part, Tables};
 use tc_units::{Name, Unit, put_number};
 
 // Where a form is explained: by this table and what is known beside it, with so many levels left.

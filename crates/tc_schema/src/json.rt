@@ -2,8 +2,8 @@
 //! place.
 
 ghost use Rattle.std.specs.Prelude.{OnOk, [], codes, true, ◌++◌, ◌≡◌};
-ghost use Rattle.tc_form_values.specs.Places.{form_of, layer_of};
-ghost use Rattle.tc_form_values.specs.Tables.{kinds_view, part_view};
+ghost use Rattle.forms_values.specs.Places.{form_of, layer_of};
+ghost use Rattle.forms_values.specs.Tables.{kinds_view, part_view};
 ghost use Rattle.tc_schema.specs.Json.{array, definitions, each_text, element, example, example_by, first_example, form_schema, indexed, is_left_out, item};
 ghost use Rattle.tc_schema.specs.Json.{kind_example, kinds_schema, list_example, named, object_schema, member_text, only};
 ghost use Rattle.tc_schema.specs.Json.{or_raw, part_schema, reference, row, schema_of_line};
@@ -14,8 +14,8 @@ use crate::texts::{
     put_between, put_comma, put_counted, put_quoted, put_times,
 };
 use std::alloc::{AllocError, Allocator};
-use tc_form_values::places::form_at;
-use tc_form_values::{Form, KindRows, Number, Part, Tables};
+use forms_values::places::form_at;
+use forms_values::{Form, KindRows, Number, Part, Tables};
 
 // ---- an example
 

@@ -1,15 +1,15 @@
 //! Texts appended to a vector, how each form is described, and the members of a part.
 
 ghost use Rattle.std.specs.Prelude.{MatchOption, OnOk, [], decimal, ◌++◌, ◌∷◌, ◌≡◌};
-ghost use Rattle.tc_form_values.specs.Places.{layer_of};
-ghost use Rattle.tc_form_values.specs.Records.{is_pad};
-ghost use Rattle.tc_form_values.specs.Tables.{part_view};
+ghost use Rattle.forms_values.specs.Places.{layer_of};
+ghost use Rattle.forms_values.specs.Records.{is_pad};
+ghost use Rattle.forms_values.specs.Tables.{part_view};
 ghost use Rattle.tc_schema.specs.Texts.{about, about_number, between, comma, escaped, escapes, form_text, member_view, members_of, quoted, said_view};
 ghost use Rattle.tc_schema.specs.Texts.{times, around};
 ghost use Rattle.tc_units.specs.declared.unit.Unit.TheVariants.{Plain};
 
 use std::alloc::{AllocError, Allocator};
-use tc_form_values::{Form, Number, Part};
+use forms_values::{Form, Number, Part};
 use tc_units::{Unit, put_number};
 
 /// How deep attributes are explained, and an example goes.

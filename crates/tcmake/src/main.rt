@@ -2,7 +2,7 @@
 #![tactic(auto)]
 
 use std::process::ExitCode;
-use tc_kinds::{ACTION_MESSAGE, TC_MESSAGE, TcTables};
+use forms_kinds::{ACTION_MESSAGE, TC_MESSAGE, TcTables};
 use tcmake_lib::message::Forms;
 use tcmake_lib::program::tcmake;
 

@@ -2,8 +2,8 @@
 use Rattle.std.specs.Prelude.{◌≡◌, ◌⊎◌, ℕ, List, Some}
 use Rattle.serde_json.specs.Data.{Data}
 use Rattle.serde_json.specs.Read.{read}
-use Rattle.tc_form_values.specs.declared.form.Form.{Form}
-use Rattle.tc_form_values.specs.Tables.{Table}
+use Rattle.forms_values.specs.declared.form.Form.{Form}
+use Rattle.forms_values.specs.Tables.{Table}
 use Rattle.tcmake_lib.specs.declared.arguments.Making.{Making}
 use Rattle.tcmake_lib.specs.Line.{IsGiven, IsOfKernel, IsOfSave, message_in}
 use Rattle.tcmake_lib.specs.Made.{IsMade, form_of}

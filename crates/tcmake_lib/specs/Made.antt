@@ -4,10 +4,10 @@ use Rattle.serde_json.specs.Data.{Data}
 use Rattle.serde_json.specs.Find.{get}
 use Rattle.tc_capture.specs.declared.kind.Holds.{Holds}
 use Rattle.tc_capture.specs.declared.kind.Holds.TheVariants.{Tc, Action}
-use Rattle.tc_form_values.specs.declared.form.Form.{Form}
-use Rattle.tc_forms.specs.Made.{made_of}
-use Rattle.tc_forms_strict.specs.Strict.{json_of}
-use Rattle.tc_form_values.specs.Tables.{Table}
+use Rattle.forms_values.specs.declared.form.Form.{Form}
+use Rattle.forms_json.specs.Made.{made_of}
+use Rattle.forms_text.specs.Strict.{json_of}
+use Rattle.forms_values.specs.Tables.{Table}
 use Rattle.tc_wire.specs.Rewriting.{SettlesTc, SettlesAct}
 use Rattle.tcmake_lib.specs.declared.arguments.Making.{Making}
 use Rattle.tcmake_lib.specs.declared.arguments.Making.TheVariants.{Checked, Settled, AsGiven, Restored}

@@ -5,10 +5,9 @@ use nla_frames::DecodeError;
 use std::alloc::{AllocError, AllocFailed};
 use std::fmt;
 use tc_capture::rtm_of;
-use tc_form_values::Wanted;
-use tc_forms::MakeError;
-use tc_forms_strict::{Difference, StrictError};
-use tc_forms_text::ReadError;
+use forms_values::Wanted;
+use forms_json::MakeError;
+use forms_text::{Difference, ReadError, StrictError};
 use tc_requests::RestoreError;
 use tcmake_lines::run::LONG_LINE;
 

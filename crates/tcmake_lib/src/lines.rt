@@ -11,8 +11,8 @@ use serde_json::Value;
 use std::alloc::{AllocError, Global};
 use std::io::BufRead;
 use tc_capture::Holds;
-use tc_forms::Tables;
-use tc_forms_text::read_json;
+use forms_json::Tables;
+use forms_text::read_json;
 use tc_streams::Stop;
 use tcmake_lines::{Found, Given, is_blank, next_line};
 

@@ -14,9 +14,8 @@ use crate::save::is_of_save;
 use serde_json::Value;
 use std::alloc::Global;
 use tc_capture::Holds;
-use tc_forms::Tables;
-use tc_forms_strict::Difference;
-use tc_forms_text::{ReadError, read_json};
+use forms_json::Tables;
+use forms_text::{Difference, ReadError, read_json};
 use tcmake_lines::Given;
 
 /// A message, and what a line says of it.

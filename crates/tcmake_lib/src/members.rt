@@ -7,7 +7,7 @@ ghost use Rattle.tcmake_lib.specs.Line.{number_in, bool_in};
 use crate::complaint::{Complaint, Found};
 use serde_json::Value;
 use std::alloc::Global;
-use tc_forms_strict::brief;
+use forms_text::brief;
 
 /// A member that is a number.
 pub(crate) struct Numbered {

@@ -13,8 +13,8 @@ use serde_json::Value;
 use std::alloc::{AllocError, Global};
 use std::str;
 use tc_capture::Holds;
-use tc_forms::{Form, Tables};
-use tc_forms_strict::{Difference, differences, made_strictly, shown_json};
+use forms_json::{Form, Tables};
+use forms_text::{Difference, differences, made_strictly, shown_json};
 use tc_outline::{Layout, Page, What, locate};
 use tc_wire::{RewriteError, settle_action, settle_tc};
 

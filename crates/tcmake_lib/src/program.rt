@@ -18,7 +18,7 @@ use std::io::{self, BufRead, BufReader, Input, Print, Write};
 use std::process::ExitCode;
 use std::rt::{Env, Files};
 use std::{env, fs};
-use tc_forms::Tables;
+use forms_json::Tables;
 use tc_names::names_in;
 use tc_streams::{Stop, complain, status_of};
 

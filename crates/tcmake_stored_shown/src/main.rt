@@ -7,7 +7,7 @@ use std::fs;
 use std::io::{self, IsTerminal, Print, Read, Write};
 use std::process::ExitCode;
 use tc_chosen::Chosen;
-use tc_kinds::{ACTION_MESSAGE, TC_MESSAGE, TcTables};
+use forms_kinds::{ACTION_MESSAGE, TC_MESSAGE, TcTables};
 use tc_outline::Interfaces;
 use tcmake_lib::arguments::{Making, Request};
 use tcmake_lib::message::Forms;
@@ -60,6 +60,12 @@ fn make_again<R: Print, I: Read, E: Write>(
         index: None,
         verbose: false,
     };
+    if io::writer(rt).write_all(&lines).is_err() {
+        return 3;
+    }
+    if io::writer(rt).write_all(&lines).is_err() {
+        return 3;
+    }
     let mut shown = lines.as_slice();
     tcmake_lib::program::serve(
         alloc,

@@ -8,12 +8,12 @@ use Rattle.nla_frames.specs.declared.error.DecodeError.{DecodeError}
 use Rattle.nla_frames.specs.declared.error.DecodeError.TheVariants as fault
 use Rattle.tc_capture.specs.declared.kind.Holds.{Holds}
 use Rattle.tc_capture.specs.declared.kind.Holds.TheVariants.{Tc, Action}
-use Rattle.tc_form_values.specs.declared.form.Form.{Form}
-use Rattle.tc_form_values.specs.Sent.{events}
-use Rattle.tc_forms.specs.Shown.{shown_of}
+use Rattle.forms_values.specs.declared.form.Form.{Form}
+use Rattle.forms_values.specs.Sent.{events}
+use Rattle.forms_json.specs.Shown.{shown_of}
 use Rattle.tc_meaning.specs.Message.{Message as Meaning}
 use Rattle.tc_meaning.specs.Whole.{Words}
-use Rattle.tc_kinds.specs.Table.{tc_tables, tc_message, action_message}
+use Rattle.forms_kinds.specs.Table.{tc_tables, tc_message, action_message}
 use Rattle.tcshow_lib.specs.declared.found.Origin.{Origin}
 use Rattle.tcshow_lib.specs.declared.json.Verdict.{Verdict}
 use Rattle.tcshow_lib.specs.declared.json.Verdict.TheVariants.{Read, Refused}

@@ -1,7 +1,7 @@
 //! What is sent to serde of a message.
 
 ghost use Rattle.std.specs.Prelude.{◌≡◌, OnOk, Some, option_map, codes, ◌++◌};
-ghost use Rattle.tc_form_values.specs.Sent.{Sent};
+ghost use Rattle.forms_values.specs.Sent.{Sent};
 ghost use Rattle.tcshow_lib.specs.Found.{header_view, message_view};
 ghost use Rattle.tcshow_lib.specs.Line.{bool_field, number_field, text_field, number_if, text_if, packet_events, place_in_capture, port_events, number_events};
 ghost use Rattle.tcshow_lib.specs.Line.{flags_events, header_events, header_if, origin_events, forms_events, read_events, object};
@@ -14,8 +14,8 @@ use nla_frames::DecodeError;
 use serde::{Described, Serialize, Serializer};
 use std::alloc::Global;
 use tc_capture::Holds;
-use tc_forms::{Form, send_shown};
-use tc_kinds::{ACTION_MESSAGE, TC_MESSAGE, TcTables};
+use forms_json::{Form, send_shown};
+use forms_kinds::{ACTION_MESSAGE, TC_MESSAGE, TcTables};
 
 /// What the codec says of a message.
 #[derive(Clone, Copy)]

@@ -3,7 +3,7 @@
 use crate::notes::{notes_of_kinds, places_of_kinds};
 use std::alloc::{AllocError, Allocator};
 use std::fmt;
-use tc_kinds::{ACTION_LIST, ACTION_MESSAGE, TC_LIST, TC_MESSAGE, TcTables};
+use forms_kinds::{ACTION_LIST, ACTION_MESSAGE, TC_LIST, TC_MESSAGE, TcTables};
 use tc_schema::{Note, kinds_of, knows_kind, put_kind, put_schema};
 
 /// The places of the lists with kinds: of qdiscs and filters, and of actions.

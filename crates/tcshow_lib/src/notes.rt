@@ -2,8 +2,8 @@
 
 use std::alloc::{AllocError, Allocator};
 use tc_columns::{KindColumns, Root, kernel_name};
-use tc_form_values::{Form, Part, Tables};
-use tc_kinds::{PLACES, TcTables};
+use forms_values::{Form, Part, Tables};
+use forms_kinds::{PLACES, TcTables};
 use tc_lines::{Column, Columns, How};
 use tc_schema::{Note, unit_in_words};
 use tc_units::{Name, Unit};

@@ -2,9 +2,9 @@
 
 use std::alloc::Global;
 use std::test::Fail;
-use tc_forms::{Form, Shown};
-use tc_forms_text::bytes_of_text;
-use tc_kinds::{ACTION_MESSAGE, TC_MESSAGE, TcTables};
+use forms_json::{Form, Shown};
+use forms_text::bytes_of_text;
+use forms_kinds::{ACTION_MESSAGE, TC_MESSAGE, TcTables};
 use tests_messages::{
     self as messages, Input, Row, captured, cut_and_changed, large_messages, made,
 };

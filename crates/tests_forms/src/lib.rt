@@ -4,7 +4,7 @@
 #[cfg(test)]
 mod back;
 #[cfg(test)]
-mod lines;
+mod known;
 #[cfg(test)]
 mod order;
 #[cfg(test)]

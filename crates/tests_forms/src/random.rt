@@ -5,7 +5,7 @@ use rand_core::Rng;
 use rand_pcg::Pcg32;
 use std::alloc::{AllocError, Global};
 use std::test::Fail;
-use tc_kinds::{ACTION_MESSAGE, TC_MESSAGE};
+use forms_kinds::{ACTION_MESSAGE, TC_MESSAGE};
 
 // Up to 199 bytes.
 fn random_bytes(alloc: Global, random: &mut Pcg32) -> Result<Vec<u8>, AllocError> {

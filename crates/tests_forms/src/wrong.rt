@@ -2,8 +2,8 @@
 
 use std::alloc::Global;
 use std::test::Fail;
-use tc_forms_text::{TextError, bytes_of_text};
-use tc_kinds::{TC_MESSAGE, TcTables};
+use forms_text::{TextError, bytes_of_text};
+use forms_kinds::{TC_MESSAGE, TcTables};
 
 // Attributes of a traffic control message, and the error of the message.
 #[rattlefmt::skip]

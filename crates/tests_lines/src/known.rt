@@ -3,7 +3,7 @@
 
 use std::alloc::{AllocError, Global};
 use tc_columns::{KindColumns, Root};
-use tc_kinds::TcTables;
+use forms_kinds::TcTables;
 use tc_lines::lines_of;
 
 /// A message: its root, its bytes in hex, and its lines, of which the first goes on with the line of the header.

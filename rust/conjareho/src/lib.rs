@@ -72,7 +72,7 @@ pub mod capture {
 /// Any bytes as JSON and back, without loss, by the tables of all kinds that Linux has.
 #[cfg(feature = "serde")]
 pub mod forms {
-    pub use crate::tc_forms::*;
-    pub use crate::tc_forms_text::*;
-    pub use crate::tc_kinds::*;
+    pub use crate::forms_json::*;
+    pub use crate::forms_text::*;
+    pub use crate::forms_kinds::*;
 }

@@ -224,7 +224,7 @@ fn a_handle_is_the_text_of_tc() {
 
 /// The stored messages that iproute2 sent: a mode, `tc` or `action`, and the bytes.
 fn sent() -> Vec<(String, Vec<u8>)> {
-    let path = std::path::Path::new(env!("CARGO_MANIFEST_DIR")).join("../../crates/tcforms/stdin");
+    let path = std::path::Path::new(env!("CARGO_MANIFEST_DIR")).join("../../model/labelled");
     let text = std::fs::read_to_string(path).expect("the stored messages");
     let octet = |hex: &str, at: usize| u8::from_str_radix(&hex[at..at + 2], 16).expect("hex");
     let octets = |hex: &str| (0..hex.len()).step_by(2).map(|at| octet(hex, at)).collect::<Vec<u8>>();

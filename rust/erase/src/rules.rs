@@ -6,7 +6,7 @@ use crate::pattern::Rule;
 pub(crate) const LAW_CRATES: &[&str] = &["tc_meaning"];
 
 /// Modules for which a shim stands.
-pub(crate) const STOOD_FOR: &[(&str, &str)] = &[("tc_forms_text::read", "pub use crate::strict::*;"), ("tc_forms_text::repeated", ""), ("tc_lines::log", "")];
+pub(crate) const STOOD_FOR: &[(&str, &str)] = &[("forms_text::read", "pub use crate::strict::*;"), ("forms_text::repeated", ""), ("tc_lines::log", "")];
 
 /// Classes of words: types of allocators, the names of their values, traits that only contracts name (one that isn't listed stays
 /// as a trait with nothing in it), and modules of `std` for which `host` stands.

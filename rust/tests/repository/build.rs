@@ -16,7 +16,6 @@ const TESTS: &[&str] = &[
 /// Tests of how large Rattle's values are, of refused memory, of random bytes, and of lines of a program. Where a text isn't JSON, `serde_json` says another column than Rattle's.
 const OMITTED: &[&str] = &[
     "failing_alloc",
-    "tcforms_lib",
     "tcrewrite_lib",
     "tc_vectors::hostile",
     "tc_vectors::program",

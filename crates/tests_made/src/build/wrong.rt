@@ -3,9 +3,9 @@
 use serde_json::Value;
 use std::alloc::{AllocError, Global};
 use std::test::Fail;
-use tc_forms::Form;
-use tc_forms_strict::{StrictError, made_strictly};
-use tc_kinds::{ACTION_MESSAGE, TC_MESSAGE, TcTables};
+use forms_json::Form;
+use forms_text::{StrictError, made_strictly};
+use forms_kinds::{ACTION_MESSAGE, TC_MESSAGE, TcTables};
 
 // Attributes of a traffic control message, and the error of the message.
 #[rattlefmt::skip]

@@ -3,8 +3,8 @@
 use crate::make::runs::{bare, is_line, made};
 use std::alloc::{AllocError, Global};
 use std::test::Fail;
-use tc_forms::Shown;
-use tc_kinds::{ACTION_MESSAGE, TC_MESSAGE, TcTables};
+use forms_json::Shown;
+use forms_kinds::{ACTION_MESSAGE, TC_MESSAGE, TcTables};
 use tcmake_lib::arguments::Making;
 use tests_messages::{self as messages, Expected, Form, Input, Row, captured, large_messages};
 

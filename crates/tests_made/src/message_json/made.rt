@@ -3,7 +3,7 @@
 use serde_json::Value;
 use std::alloc::{AllocError, Global};
 use std::test::Fail;
-use tc_forms_text::read_json;
+use forms_text::read_json;
 use tc_message_json::{NoMessage, make, make_as_given};
 use tc_wire::{TcActionMessage, TcMessage};
 

@@ -7,8 +7,8 @@ use super::messages::{actions_of, chain_of, kind_of, payload_of, type_of};
 use crate::netlink::message::{
     RTM_NEWACTION, RTM_NEWCHAIN, RTM_NEWQDISC, RTM_NEWTCLASS, RTM_NEWTFILTER, Tcmsg, tcmsg_of,
 };
-use crate::tc_forms::Shown;
-use crate::tc_kinds::{ACTION_MESSAGE, TC_MESSAGE, TcTables};
+use crate::forms_json::Shown;
+use crate::forms_kinds::{ACTION_MESSAGE, TC_MESSAGE, TcTables};
 use crate::tc_texts::handle_text;
 use ::serde_json::{Value, json};
 use std::borrow::Cow;

@@ -1,6 +1,6 @@
 //! Requests, in the order in which they are sent: those that `tcmake --request --stream` makes of the same lines.
 
-use crate::tc_kinds::{ACTION_MESSAGE, TC_MESSAGE, TcTables};
+use crate::forms_kinds::{ACTION_MESSAGE, TC_MESSAGE, TcTables};
 use crate::tc_streams::Stop;
 use crate::tcmake_lib::lines::{RemarkKind, Source};
 use crate::tcmake_lib::message::Forms;

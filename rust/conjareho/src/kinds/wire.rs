@@ -3,7 +3,7 @@
 use alloc::boxed::Box;
 use alloc::vec::Vec;
 
-/// The levels of forms that are read. Deeper attributes are kept as bytes, as `tc_forms` does.
+/// The levels of forms that are read. Deeper attributes are kept as bytes, as `forms_json` does.
 pub const DEEPEST: u8 = 16;
 /// The part of `nla_type` that is the type, without flags.
 pub const NLA_TYPE_MASK: u16 = crate::NLA_TYPE_MASK;

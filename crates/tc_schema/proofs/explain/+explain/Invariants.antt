@@ -1,5 +1,5 @@
 use Rattle.std.proofs.Common.{length, ◌*◌, ◌+◌, ◌++◌, ◌-◌, ◌≡◌}
-use Rattle.tc_form_values.specs.Tables.{part_view}
+use Rattle.forms_values.specs.Tables.{part_view}
 use Rattle.tc_schema.specs.Explained.{explained, members_text}
 use Rattle.tc_schema.specs.Texts.{deepest, members_of}
 use Rattle.tc_schema.proofs.explain.+explain.Given as goal

@@ -1,5 +1,5 @@
 use Rattle.std.proofs.Common.{length, ◌*◌, ◌+◌, ◌++◌, ◌≡◌, ℕ}
-use Rattle.tc_form_values.specs.Tables.{part_view}
+use Rattle.forms_values.specs.Tables.{part_view}
 use Rattle.tc_schema.specs.Json.{each_text, is_left_out, member_text}
 use Rattle.tc_schema.specs.Texts.{members_of}
 use Rattle.tc_schema.specs.declared.json.Each.{Each}

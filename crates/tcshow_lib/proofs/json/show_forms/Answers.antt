@@ -1,6 +1,6 @@
 use Rattle.std.specs.Prelude.{codes}
 use Rattle.std.proofs.lemmas.Result.{on_ok_weaker}
-use Rattle.tc_form_values.proofs.Sending.{sent_then}
+use Rattle.forms_values.proofs.Sending.{sent_then}
 use Rattle.tcshow_lib.specs.Line.{bool_field}
 use Rattle.tcshow_lib.proofs.json.show_forms.Goals as goal
 

@@ -1,8 +1,8 @@
 use Rattle.std.proofs.Common.{List, [], ◌∷◌, ◌++◌, None}
 use Rattle.std.proofs.lemmas.Result.{on_ok_weaker}
 use Rattle.serde.specs.Event.{Event, Log, Logs, map_begins, map_ends}
-use Rattle.tc_form_values.specs.Sent.{Sent}
-use Rattle.tc_form_values.proofs.Sending.{sent_one, sent_then}
+use Rattle.forms_values.specs.Sent.{Sent}
+use Rattle.forms_values.proofs.Sending.{sent_one, sent_then}
 use Rattle.tcshow_lib.specs.Line.{object}
 use Rattle.tcshow_lib.proofs.json.AnswerLineSerialize.serialize.Goals as goal
 
