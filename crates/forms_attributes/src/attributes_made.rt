@@ -9,10 +9,10 @@ ghost use Rattle.forms_attributes.specs.AttributesMade.{by_kind_made, framed_wit
 ghost use Rattle.forms_attributes.specs.Kinds.{kind_named, kind_value, own_kind_named};
 ghost use Rattle.forms_values.specs.declared.maker.Stop.TheVariants.{OutOfMemory};
 
-use serde_json::Value;
 use forms_values::Wanted;
 use forms_values::maker::{Maker, Step, Stop};
 use forms_values::values_made::{make_hex_at, put_text};
+use serde_json::Value;
 
 /// What an object of one member holds, if it has a name.
 pub fn unlayered<'v>(layer: &str, value: &'v Value) -> Option<&'v Value>

@@ -9,11 +9,11 @@ ghost use Rattle.forms_attributes.specs.Kinds.{kind_in, kind_text, own_kind};
 ghost use Rattle.forms_values.specs.Sent.{Sent, events, items_events, members_events};
 
 use crate::rows::type_of;
-use nla_frames::strip_nul;
-use serde::Serializer;
 use forms_values::events::{Aside, Stopped, begin_map, end_map, key, string, truth, unsigned};
 use forms_values::records::{is_blank, split};
 use forms_values::values_shown::{send_hex, send_raw};
+use nla_frames::strip_nul;
+use serde::Serializer;
 
 /// A frame of a list.
 #[derive(Clone, Copy)]

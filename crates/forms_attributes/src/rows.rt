@@ -10,9 +10,9 @@ ghost use Rattle.forms_values.specs.Names.{is_reserved};
 ghost use Rattle.forms_values.specs.Search.{first, held};
 ghost use Rattle.forms_values.specs.Tables.{kinds_view, row_view, rows_view};
 
-use serde_json::Value;
 use forms_values::names::{is_reserved, is_same};
 use forms_values::{KindRows, Part, Row, Tables};
+use serde_json::Value;
 
 // The rows at a place.
 fn rows_at<T: Tables>(table: T, place: usize) -> &'static [Row<'static>]

@@ -21,9 +21,9 @@ mod laws;
 mod make;
 mod show;
 
-pub use laws::{shown_is_injective, shown_is_made};
-pub use make::made;
-pub use show::{Shown, send_shown};
 pub use forms_values::{
     Choice, Field, Form, KindRows, MakeError, Name, Number, Part, Row, Tables, Wanted,
 };
+pub use laws::{shown_is_injective, shown_is_made};
+pub use make::made;
+pub use show::{Shown, send_shown};

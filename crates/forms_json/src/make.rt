@@ -16,8 +16,6 @@ ghost use Rattle.forms_attributes.specs.RowLists.{rows_in};
 ghost use Rattle.forms_values.specs.Search.{held};
 ghost use Rattle.forms_values.specs.Tables.{choices_view, field_view, fields_view};
 
-use serde_json::Value;
-use std::alloc::Global;
 use forms_attributes::attributes_made::{
     begin, end, kind_named, make_kind, make_other, no_row, own_kind_named, unlayered, word_at,
     word_or,
@@ -30,6 +28,8 @@ use forms_values::records::{make_blank, make_rest};
 use forms_values::values_made::{make_hex_at, make_plain, put_raw};
 use forms_values::widths::DEEPEST;
 use forms_values::{Choice, Field, Form, MakeError, Row, Tables, Wanted};
+use serde_json::Value;
+use std::alloc::Global;
 
 /// The bytes that JSON stands for in a form, by a table.
 #[tactic(auto, unfolding(crate::specs::Made::made_of))]

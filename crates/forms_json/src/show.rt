@@ -15,8 +15,6 @@ ghost use Rattle.forms_json.specs.Shown.{show, shown, shown_of};
 ghost use Rattle.forms_values.specs.Tables.{choices_view, field_view, fields_view};
 ghost use Rattle.forms_values.specs.Widths.{fixed, width};
 
-use serde::{Described, Serialize, Serializer};
-use std::alloc::Global;
 use forms_attributes::attributes_shown::{
     Frame, front, kind_in, own_kind, send_beside, send_kind, send_other, send_pad, send_tail,
     send_word,
@@ -30,6 +28,8 @@ use forms_values::records::{are_enough, is_blank, is_pad, send_rest, split};
 use forms_values::values_shown::{send_plain, send_raw};
 use forms_values::widths::{DEEPEST, fixed_width};
 use forms_values::{Choice, Field, Form, Tables};
+use serde::{Described, Serialize, Serializer};
+use std::alloc::Global;
 
 /// Bytes in a form, by a table, for a format of serde.
 #[derive(Drop)]

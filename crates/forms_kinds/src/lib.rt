@@ -6,8 +6,8 @@ mod parts;
 
 ghost use Rattle.forms_kinds.specs.Table.{tc_tables};
 
-pub use parts::{ACTION_LIST, ACTION_MESSAGE, PLACES, TC_LIST, TC_MESSAGE};
 use forms_values::{Part, Tables};
+pub use parts::{ACTION_LIST, ACTION_MESSAGE, PLACES, TC_LIST, TC_MESSAGE};
 
 /// The tables of Linux's traffic control. It takes no memory.
 #[derive(Clone, Copy)]

@@ -11,5 +11,6 @@ pub use codec::{
     statistics_are_the_codecs,
 };
 pub use distinct::{
-    attributes_are_distinct, fields_are_distinct, named_numbers_are_distinct, places_have_their_parts,
+    attributes_are_distinct, fields_are_distinct, named_numbers_are_distinct,
+    places_have_their_parts,
 };

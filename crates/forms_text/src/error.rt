@@ -6,10 +6,10 @@ ghost use Rattle.forms_text.specs.Make.{IsMemory};
 ghost use Rattle.forms_text.specs.declared.error.StrictError.TheVariants.{Make};
 
 use crate::differences::Difference;
+use forms_json::MakeError;
 use std::alloc::AllocError;
 use std::error::Error;
 use std::fmt;
-use forms_json::MakeError;
 
 /// Why a text isn't read as JSON.
 #[derive(Drop)]

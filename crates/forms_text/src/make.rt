@@ -11,8 +11,8 @@ ghost use Rattle.forms_text.specs.Text.{IsJsonText};
 
 use crate::error::TextError;
 use crate::read::read_json;
-use std::alloc::Global;
 use forms_json::{Form, Tables, made};
+use std::alloc::Global;
 
 /// The bytes that a text of JSON stands for in a form, by a table. Of the text that `serde_json` writes of what is
 /// shown of bytes these bytes are made, unless memory runs out.

@@ -10,9 +10,9 @@ use crate::differences::first_difference;
 use crate::error::StrictError;
 use crate::laws::shown_text_is_made;
 use crate::same::is_same;
+use forms_json::{Form, Shown, Tables, made};
 use serde_json::{Value, to_value};
 use std::alloc::{AllocError, Global};
-use forms_json::{Form, Shown, Tables, made};
 
 /// The bytes of which this JSON is shown in a form, by a table.
 pub fn made_strictly<T: Tables>(

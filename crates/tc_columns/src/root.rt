@@ -8,8 +8,8 @@ ghost use Rattle.forms_values.specs.Tables.{kinds_view, names_view};
 ghost use Rattle.tc_lines.specs.Columns.{interface_in};
 
 use crate::tables;
-use forms_values::{Form, KindRows, Part, Tables};
 use forms_kinds::{ACTION_MESSAGE, TC_MESSAGE, TcTables};
+use forms_values::{Form, KindRows, Part, Tables};
 use tc_lines::{Column, Columns};
 use tc_units::Name;
 

@@ -7,9 +7,9 @@ ghost use Rattle.tc_ffi.specs.Checks.{Checks};
 
 use crate::place::place;
 use crate::verdict::{VtcFault, VtcVerdict, fault_of, judged};
-use std::alloc::Global;
 use forms_json::{Form, Shown};
 use forms_kinds::TcTables;
+use std::alloc::Global;
 use tc_message_json::HasForm;
 use tc_status::{DOES_NOT_FIT, NO_ROOM, OK, OUT_OF_MEMORY, status_of};
 use tc_wire::{RewriteError, WholeMessage};

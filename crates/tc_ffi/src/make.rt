@@ -8,10 +8,10 @@ ghost use Rattle.tc_ffi.specs.Calls.{Keeps};
 ghost use Rattle.tc_ffi.specs.Makes.{IsReadAs, IsText, Makes};
 
 use crate::place::place;
+use forms_text::{ReadError, read_json};
 use serde_json::Value;
 use std::alloc::Global;
 use std::fmt::Display;
-use forms_text::{ReadError, read_json};
 use tc_message_json::{HasForm, NoMessage};
 use tc_status::{NO_MESSAGE, NOT_JSON, OUT_OF_MEMORY};
 use tc_wire::WholeMessage;

@@ -10,8 +10,8 @@ ghost use Rattle.tc_ffi.specs.Makes.{IsMade};
 
 use crate::verdict::{VtcFault, VtcVerdict};
 use crate::{calls, make};
-use std::alloc::Global;
 use forms_kinds::TC_MESSAGE;
+use std::alloc::Global;
 use tc_wire::TcMessage;
 
 /// Judges the message that the bytes read as, or says their first fault.

@@ -7,8 +7,8 @@ ghost use Rattle.tc_lines.specs.Lines.{lines};
 use crate::column::Columns;
 use crate::error::LinesError;
 use crate::lines::Lines;
-use std::alloc::Global;
 use forms_json::{Form, Tables, send_shown};
+use std::alloc::Global;
 
 /// The lines of what is shown of bytes in a form, by these columns. A line begins with a line feed and two blanks for each level.
 pub fn lines_of<T: Tables, C: Columns + Drop>(

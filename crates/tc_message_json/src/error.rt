@@ -5,11 +5,11 @@ ghost use Rattle.forms_text.specs.Strict.{IsMemory as IsNoMemory};
 ghost use Rattle.tc_message_json.specs.Made.{IsMemory};
 ghost use Rattle.tc_message_json.specs.declared.error.NoMessage.TheVariants.{OutOfMemory};
 
+use forms_json::MakeError;
+use forms_text::{Difference, StrictError};
 use std::alloc::AllocError;
 use std::error::Error;
 use std::fmt;
-use forms_json::MakeError;
-use forms_text::{Difference, StrictError};
 use tc_wire::DecodeError;
 
 /// Why no message is made of JSON.

@@ -9,11 +9,11 @@ ghost use Rattle.tc_message_json.specs.Made.{IsMadeOf, IsGiven, IsMemory, IsWrit
 
 use crate::error::NoMessage;
 use crate::message::HasForm;
+use forms_json::Form;
+use forms_kinds::TcTables;
+use forms_text::{Difference, differences, made_strictly, shown_json};
 use serde_json::Value;
 use std::alloc::{AllocError, Global};
-use forms_json::Form;
-use forms_text::{Difference, differences, made_strictly, shown_json};
-use forms_kinds::TcTables;
 use tc_outline::{Layout, Page, locate};
 use tc_wire::{DecodeError, WholeMessage};
 

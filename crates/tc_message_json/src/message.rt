@@ -4,9 +4,9 @@ ghost use Rattle.std.specs.Prelude.{◌≡◌};
 ghost use Rattle.forms_values.specs.declared.form.Form.{Form};
 ghost use Rattle.forms_kinds.specs.Table.{tc_message, action_message};
 
-use std::alloc::Allocator;
 use forms_json::Form;
 use forms_kinds::{ACTION_MESSAGE, TC_MESSAGE};
+use std::alloc::Allocator;
 use tc_outline::What;
 use tc_wire::{Emitable, TcActionMessage, TcMessage};
 

@@ -4,10 +4,10 @@ ghost use Rattle.std.specs.Prelude.{◌≡◌, IfOk, IfSome, IsSome};
 ghost use Rattle.tc_message_json.specs.Sent.{SentIfFits};
 
 use crate::message::HasForm;
-use serde::{Described, Serialize, Serializer};
-use std::alloc::{AllocError, Global};
 use forms_json::send_shown;
 use forms_kinds::TcTables;
+use serde::{Described, Serialize, Serializer};
+use std::alloc::{AllocError, Global};
 use tc_wire::Emitable;
 
 /// A message for a format of serde, and what takes its bytes. Where it doesn't fit, or memory runs out, serializing fails with

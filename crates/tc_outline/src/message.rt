@@ -9,10 +9,10 @@ use crate::fault::Fault;
 use crate::page::{Layout, Page};
 use crate::reader::locate;
 use crate::what::What;
-use std::alloc::{AllocError, Allocator, Global};
-use tc_columns::{KindColumns, Root};
 use forms_json::Form;
 use forms_kinds::{ACTION_MESSAGE, TC_MESSAGE, TcTables};
+use std::alloc::{AllocError, Allocator, Global};
+use tc_columns::{KindColumns, Root};
 use tc_lines::lines_of;
 
 // What a message of this root is about.

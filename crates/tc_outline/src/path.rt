@@ -2,8 +2,8 @@
 
 use crate::page::Page;
 use crate::tree::{held_in, list_of_message, row_in};
-use std::alloc::{AllocError, Allocator};
 use forms_json::Form;
+use std::alloc::{AllocError, Allocator};
 use tc_index::{Attribute, Table};
 
 // An attribute on the way to a place.

@@ -1,9 +1,9 @@
 //! The names of attributes, of the tables of every kind.
 
-use nla_frames::NLA_TYPE_MASK;
 use forms_json::{Form, KindRows, Part, Row, Tables};
-use tc_index::Table;
 use forms_kinds::{ACTION_MESSAGE, TC_MESSAGE, TcTables};
+use nla_frames::NLA_TYPE_MASK;
+use tc_index::Table;
 
 // The list of the attributes of a message.
 pub(crate) fn list_of_message(table: Table) -> Form {

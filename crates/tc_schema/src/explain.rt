@@ -10,8 +10,8 @@ ghost use Rattle.tc_schema.specs.Texts.{deepest, member_view, members_of};
 use crate::json::put_example;
 use crate::notes::{Note, note_of};
 use crate::texts::{DEEPEST, Done, Member, first_member, put, put_around, put_form, put_times};
-use std::alloc::{AllocError, Allocator};
 use forms_values::{Form, KindRows, Number, Part, Tables};
+use std::alloc::{AllocError, Allocator};
 use tc_units::{Name, Unit, put_number};
 
 // Where a form is explained: by this table and what is known beside it, with so many levels left.

@@ -13,9 +13,9 @@ use crate::texts::{
     DEEPEST, Done, Member, about, about_number, first_member, is_pad, layer_of, put, put_around,
     put_between, put_comma, put_counted, put_quoted, put_times,
 };
-use std::alloc::{AllocError, Allocator};
 use forms_values::places::form_at;
 use forms_values::{Form, KindRows, Number, Part, Tables};
+use std::alloc::{AllocError, Allocator};
 
 // ---- an example
 

@@ -8,8 +8,8 @@ ghost use Rattle.tc_schema.specs.Texts.{about, about_number, between, comma, esc
 ghost use Rattle.tc_schema.specs.Texts.{times, around};
 ghost use Rattle.tc_units.specs.declared.unit.Unit.TheVariants.{Plain};
 
-use std::alloc::{AllocError, Allocator};
 use forms_values::{Form, Number, Part};
+use std::alloc::{AllocError, Allocator};
 use tc_units::{Unit, put_number};
 
 /// How deep attributes are explained, and an example goes.

@@ -1,8 +1,8 @@
 //! Makes traffic control messages of lines of JSON.
 #![tactic(auto)]
 
-use std::process::ExitCode;
 use forms_kinds::{ACTION_MESSAGE, TC_MESSAGE, TcTables};
+use std::process::ExitCode;
 use tcmake_lib::message::Forms;
 use tcmake_lib::program::tcmake;
 

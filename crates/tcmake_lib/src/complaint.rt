@@ -1,13 +1,13 @@
 //! Why no message is made of a line.
 
 use crate::save::SaveFault;
+use forms_json::MakeError;
+use forms_text::{Difference, ReadError, StrictError};
+use forms_values::Wanted;
 use nla_frames::DecodeError;
 use std::alloc::{AllocError, AllocFailed};
 use std::fmt;
 use tc_capture::rtm_of;
-use forms_values::Wanted;
-use forms_json::MakeError;
-use forms_text::{Difference, ReadError, StrictError};
 use tc_requests::RestoreError;
 use tcmake_lines::run::LONG_LINE;
 

@@ -7,12 +7,12 @@ use crate::made::{Made, made_of_json, unread};
 use crate::message::Forms;
 use crate::names::{Interfaces, mapped};
 use crate::save::{Names, Save, is_of_save};
+use forms_json::Tables;
+use forms_text::read_json;
 use serde_json::Value;
 use std::alloc::{AllocError, Global};
 use std::io::BufRead;
 use tc_capture::Holds;
-use forms_json::Tables;
-use forms_text::read_json;
 use tc_streams::Stop;
 use tcmake_lines::{Found, Given, is_blank, next_line};
 

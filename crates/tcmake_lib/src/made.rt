@@ -11,11 +11,11 @@ use crate::complaint::Complaint;
 use crate::given::{given_of, is_answer};
 use crate::message::{Forms, Message, message_of};
 use crate::save::is_of_save;
+use forms_json::Tables;
+use forms_text::{Difference, ReadError, read_json};
 use serde_json::Value;
 use std::alloc::Global;
 use tc_capture::Holds;
-use forms_json::Tables;
-use forms_text::{Difference, ReadError, read_json};
 use tcmake_lines::Given;
 
 /// A message, and what a line says of it.

@@ -5,9 +5,9 @@ ghost use Rattle.serde_json.specs.View.{view};
 ghost use Rattle.tcmake_lib.specs.Line.{number_in, bool_in};
 
 use crate::complaint::{Complaint, Found};
+use forms_text::brief;
 use serde_json::Value;
 use std::alloc::Global;
-use forms_text::brief;
 
 /// A member that is a number.
 pub(crate) struct Numbered {

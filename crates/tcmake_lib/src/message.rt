@@ -8,13 +8,13 @@ ghost use Rattle.tcmake_lib.specs.Made.{IsAsSaid, IsMade, Settles, StandsFor, fo
 use crate::arguments::Making;
 use crate::complaint::{Complaint, Found};
 use crate::verdict::{Disagreement, Said, Verdict, agree, said_in, verdict_on};
+use forms_json::{Form, Tables};
+use forms_text::{Difference, differences, made_strictly, shown_json};
 use nla_frames::DecodeError;
 use serde_json::Value;
 use std::alloc::{AllocError, Global};
 use std::str;
 use tc_capture::Holds;
-use forms_json::{Form, Tables};
-use forms_text::{Difference, differences, made_strictly, shown_json};
 use tc_outline::{Layout, Page, What, locate};
 use tc_wire::{RewriteError, settle_action, settle_tc};
 

@@ -7,11 +7,11 @@ use crate::made::Made;
 use crate::message::Forms;
 use crate::now::{Single, now_of, singles_of};
 use crate::restore::{Dump, dump_of, restored};
+use forms_json::Tables;
 use nla_frames::ParseableBytes;
 use std::alloc::{AllocError, Global};
 use std::io::{BufRead, Write};
 use tc_action_messages::TcActionMessage;
-use forms_json::Tables;
 use tc_messages::TcMessage;
 use tc_plan::{
     Entry, Fate, Item, Key, Named, Now, Order, Reason, Step, circle, entry_of, entry_of_actions,

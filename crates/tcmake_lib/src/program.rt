@@ -13,12 +13,12 @@ use crate::order::Asked;
 use crate::run::run;
 use clap::Error;
 use clap::error::ErrorKind;
+use forms_json::Tables;
 use std::alloc::Global;
 use std::io::{self, BufRead, BufReader, Input, Print, Write};
 use std::process::ExitCode;
 use std::rt::{Env, Files};
 use std::{env, fs};
-use forms_json::Tables;
 use tc_names::names_in;
 use tc_streams::{Stop, complain, status_of};
 

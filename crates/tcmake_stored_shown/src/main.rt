@@ -2,12 +2,12 @@
 //! messages of a file, made by `tcmake` again: messages in hex come back as they are.
 #![tactic(auto)]
 
+use forms_kinds::{ACTION_MESSAGE, TC_MESSAGE, TcTables};
 use std::alloc::Global;
 use std::fs;
 use std::io::{self, IsTerminal, Print, Read, Write};
 use std::process::ExitCode;
 use tc_chosen::Chosen;
-use forms_kinds::{ACTION_MESSAGE, TC_MESSAGE, TcTables};
 use tc_outline::Interfaces;
 use tcmake_lib::arguments::{Making, Request};
 use tcmake_lib::message::Forms;

@@ -10,12 +10,12 @@ ghost use Rattle.tcshow_lib.specs.Line.{told_events, line_events};
 ghost use Rattle.tcshow_lib.specs.Line.{quoted_events, request_events, located_events, said_events, error_events, answer_events, answered_events};
 
 use crate::found::{Found, Header, Origin};
+use forms_json::{Form, send_shown};
+use forms_kinds::{ACTION_MESSAGE, TC_MESSAGE, TcTables};
 use nla_frames::DecodeError;
 use serde::{Described, Serialize, Serializer};
 use std::alloc::Global;
 use tc_capture::Holds;
-use forms_json::{Form, send_shown};
-use forms_kinds::{ACTION_MESSAGE, TC_MESSAGE, TcTables};
 
 /// What the codec says of a message.
 #[derive(Clone, Copy)]

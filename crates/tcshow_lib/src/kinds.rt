@@ -1,9 +1,9 @@
 //! The kinds that the tables have.
 
 use crate::notes::{notes_of_kinds, places_of_kinds};
+use forms_kinds::{ACTION_LIST, ACTION_MESSAGE, TC_LIST, TC_MESSAGE, TcTables};
 use std::alloc::{AllocError, Allocator};
 use std::fmt;
-use forms_kinds::{ACTION_LIST, ACTION_MESSAGE, TC_LIST, TC_MESSAGE, TcTables};
 use tc_schema::{Note, kinds_of, knows_kind, put_kind, put_schema};
 
 /// The places of the lists with kinds: of qdiscs and filters, and of actions.

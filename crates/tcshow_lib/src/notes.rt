@@ -1,9 +1,9 @@
 //! What the columns tell of each member of the table, for explanations.
 
+use forms_kinds::{PLACES, TcTables};
+use forms_values::{Form, Part, Tables};
 use std::alloc::{AllocError, Allocator};
 use tc_columns::{KindColumns, Root, kernel_name};
-use forms_values::{Form, Part, Tables};
-use forms_kinds::{PLACES, TcTables};
 use tc_lines::{Column, Columns, How};
 use tc_schema::{Note, unit_in_words};
 use tc_units::{Name, Unit};

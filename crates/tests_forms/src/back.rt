@@ -1,10 +1,10 @@
 //! Messages come back, whole, cut short and changed.
 
+use forms_json::{Form, Shown};
+use forms_kinds::{ACTION_MESSAGE, TC_MESSAGE, TcTables};
+use forms_text::bytes_of_text;
 use std::alloc::Global;
 use std::test::Fail;
-use forms_json::{Form, Shown};
-use forms_text::bytes_of_text;
-use forms_kinds::{ACTION_MESSAGE, TC_MESSAGE, TcTables};
 use tests_messages::{
     self as messages, Input, Row, captured, cut_and_changed, large_messages, made,
 };

@@ -1,9 +1,9 @@
 //! The order of members makes no difference.
 
+use forms_kinds::{TC_MESSAGE, TcTables};
+use forms_text::bytes_of_text;
 use std::alloc::Global;
 use std::test::Fail;
-use forms_text::bytes_of_text;
-use forms_kinds::{TC_MESSAGE, TcTables};
 
 // The same message twice: its members as they are shown, and in another order. Its bytes in hex: a header with padding, a kind without
 // its NUL and with a flag, options with another word, a record with a byte behind it, and an attribute that is padded with other bytes.

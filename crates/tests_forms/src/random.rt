@@ -1,11 +1,11 @@
 //! Pseudo-random bytes come back in both modes.
 
 use crate::back::come_back;
+use forms_kinds::{ACTION_MESSAGE, TC_MESSAGE};
 use rand_core::Rng;
 use rand_pcg::Pcg32;
 use std::alloc::{AllocError, Global};
 use std::test::Fail;
-use forms_kinds::{ACTION_MESSAGE, TC_MESSAGE};
 
 // Up to 199 bytes.
 fn random_bytes(alloc: Global, random: &mut Pcg32) -> Result<Vec<u8>, AllocError> {

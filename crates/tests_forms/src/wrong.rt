@@ -1,9 +1,9 @@
 //! Texts of which no bytes are made: the error names the place, what was found and what is wanted.
 
+use forms_kinds::{TC_MESSAGE, TcTables};
+use forms_text::{TextError, bytes_of_text};
 use std::alloc::Global;
 use std::test::Fail;
-use forms_text::{TextError, bytes_of_text};
-use forms_kinds::{TC_MESSAGE, TcTables};
 
 // Attributes of a traffic control message, and the error of the message.
 #[rattlefmt::skip]

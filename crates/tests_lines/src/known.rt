@@ -1,9 +1,9 @@
 //! Lines of messages, written by hand from what their bytes say. The messages are Linux's and iproute2's,
 //! but for KEYS, TWICE, GOTO, CLASS and SHORT.
 
+use forms_kinds::TcTables;
 use std::alloc::{AllocError, Global};
 use tc_columns::{KindColumns, Root};
-use forms_kinds::TcTables;
 use tc_lines::lines_of;
 
 /// A message: its root, its bytes in hex, and its lines, of which the first goes on with the line of the header.

@@ -1,8 +1,8 @@
 //! Each attribute, field and choice of the tables of all kinds has a column.
 
-use tc_columns::{KindColumns, Root};
-use forms_values::{Choice, Field, Part, Row, Tables};
 use forms_kinds::TcTables;
+use forms_values::{Choice, Field, Part, Row, Tables};
+use tc_columns::{KindColumns, Root};
 use tc_lines::{Column, Columns};
 
 const PLACES: usize = 6000;

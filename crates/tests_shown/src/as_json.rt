@@ -1,8 +1,8 @@
 //! Messages and their JSON, written by hand.
 
-use std::alloc::Global;
 use forms_json::{Form, Shown};
 use forms_kinds::{ACTION_MESSAGE, TC_MESSAGE, TcTables};
+use std::alloc::Global;
 
 // What there is in a message, its bytes in hex, and its JSON.
 static TC: &str = r#"an address family with a name, a negative interface, handles

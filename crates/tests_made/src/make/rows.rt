@@ -1,10 +1,10 @@
 //! Messages made by hand, captured and large ones, with what the codec is known to find of them.
 
 use crate::make::runs::{bare, is_line, made};
-use std::alloc::{AllocError, Global};
-use std::test::Fail;
 use forms_json::Shown;
 use forms_kinds::{ACTION_MESSAGE, TC_MESSAGE, TcTables};
+use std::alloc::{AllocError, Global};
+use std::test::Fail;
 use tcmake_lib::arguments::Making;
 use tests_messages::{self as messages, Expected, Form, Input, Row, captured, large_messages};
 

@@ -1,7 +1,7 @@
 //! Runs in memory.
 
-use std::alloc::Global;
 use forms_kinds::{ACTION_MESSAGE, TC_MESSAGE, TcTables};
+use std::alloc::Global;
 use tcmake_lib::arguments::{Making, Request};
 use tcmake_lib::message::Forms;
 use tcmake_lib::program::serve;
