@@ -63,9 +63,6 @@ fn make_again<R: Print, I: Read, E: Write>(
     if io::writer(rt).write_all(&lines).is_err() {
         return 3;
     }
-    if io::writer(rt).write_all(&lines).is_err() {
-        return 3;
-    }
     let mut shown = lines.as_slice();
     tcmake_lib::program::serve(
         alloc,
