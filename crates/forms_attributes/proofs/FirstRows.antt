@@ -1,4 +1,4 @@
--- The first row of a type, at the place where its number puts it.
+-- The first row of a type, at the place of its number.
 use Rattle.std.proofs.Common.{◌≡◌, ℕ, inl, inr, zero, suc, Bool, true, List, [], ◌∷◌, ◌++◌, drop, take, Some, None, ap, refl, sym, ◌∙◌}
 use Rattle.std.specs.Prelude.{map, option_and_then, bytes_eq, ◌==◌}
 use Rattle.std.proofs.lemmas.Bool.{cases_Bool, cond-true, cond-false, and_parts, and_from}
@@ -8,7 +8,7 @@ use Rattle.forms_values.specs.Tables.{Row}
 use Rattle.forms_values.proofs.Search.{first_of_two, first_passes, none_not_some}
 use Rattle.forms_values.proofs.Leaves.{same_bytes}
 
--- what none of those in front passes is passed first behind them
+-- if no element in front passes, the first that passes is after them
 pub first_behind : {X Y : Type 0} (see : Y → X) (test : X → Bool) (n : ℕ) (ys : List Y) → first test (map see (take n ys)) ≡ None
     → first test (map see ys) ≡ first test (map see (drop n ys))
 first_behind see test zero ys e = refl
@@ -21,7 +21,7 @@ first_behind see test (suc n) (y ∷ ys) e =
           ∙ first_behind see test n ys (sym (cond-false (test (see y)) (Some (see y)) (first test (map see (take n ys))) other) ∙ e)
     ]
 
--- the first behind them
+-- the first after them
 pub first_there : {X Y : Type 0} (see : Y → X) (test : X → Bool) (n : ℕ) (ys behind : List Y) (y : Y) → first test (map see (take n ys)) ≡ None
     → drop n ys ≡ y ∷ behind → test (see y) ≡ true → first test (map see ys) ≡ Some (see y)
 first_there see test n ys behind y none is passes =

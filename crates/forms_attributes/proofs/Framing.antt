@@ -14,7 +14,7 @@ use Rattle.serde_json.specs.Data.{Data}
 use Rattle.forms_values.specs.declared.maker.Stop.{Stop}
 use Rattle.forms_values.proofs.Appending.{then_appended, appended_as}
 
--- bytes, and then what may fail
+-- bytes, and then bytes that may not exist
 pub then_maybe : {T : Type 0} (a : List ℕ) (x : Option (List ℕ)) (old mid new : List ℕ) (r : Result T Stop) → Some (old ++ a) ≡ Some mid → Appended x mid new r
     → Appended (option_map (λ b. a ++ b) x) old new r
 then_maybe a (Some b) old mid new r first second = then_appended a b old mid new r first second
@@ -86,7 +86,7 @@ framed_end old mid new start n l0 l1 w0 w1 word x given r room is_n few small e0
 four_more : (m : ℕ) → (m + 4) % 4 ≡ m % 4
 four_more m = omega arith
 
--- zeros after as many bytes, where its header counts too
+-- the padding after a payload, whose header has four bytes
 pub pad_is : (old : List ℕ) (start n : ℕ) → start + 4 ≤ length old → n ≡ length old - start
     → Some (replicate {A = ℕ} ((4 - n % 4) % 4) 0) ≡ pad_or (drop (start + 4) old) None
 pad_is old start n room is_n =

@@ -1,4 +1,4 @@
--- The kind that a frame sets, and the first in a list.
+-- The kind that a frame sets, and the first kind in a list.
 use Rattle.std.proofs.Common.{◌≡◌, ℕ, zero, suc, ◌-◌, ◌<◌, true, List, [], Option, Some, None, refl, ap, sym, ◌∙◌, arith, ◌+◌}
 use Rattle.std.specs.Prelude.{option_map, unwrap_or}
 use Rattle.std.proofs.lemmas.Bool.{cond-true, cond-false, false_from_ne_true}
@@ -42,7 +42,7 @@ module _ (len i : ℕ) (b left : List ℕ) (before : own_kind len b ≡ own_kind
       own_step c lt found ∙ ap (λ o. unwrap_or o (own_kind (len - (i + 1)) (after_first left))) (sym sets)
       ∙ ap (own_kind (len - (i + 1))) (sym is_after)
 
--- an option that is none, seen
+-- the view of None
 pub none_wanted : {X : Type 0} (o : Option X) (wanted : Option (List ℕ)) (see : X → List ℕ) → ((x : X) → o ≡ Some x → ⊥) → option_map see o ≡ wanted
     → None ≡ wanted
 none_wanted None wanted see h e = e

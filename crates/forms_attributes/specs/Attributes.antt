@@ -1,4 +1,4 @@
--- Lists of attributes: what is shown of each.
+-- Lists of attributes: the JSON of each.
 use Rattle.std.specs.Prelude.{Bool, List, None, Option, Some, [], codes, if◌then◌else◌, length, suc, true, unwrap_or, zero, ℕ, ◌==◌}
 use Rattle.nla_frames.specs.Frame.{padding}
 use Rattle.nla_frames.specs.Value.{ends_in_nul}
@@ -12,12 +12,12 @@ use Rattle.forms_values.specs.Search.{held}
 use Rattle.forms_values.specs.Tables.{Row}
 use Rattle.forms_values.specs.declared.form.Form.{Form}
 
--- what is no frame is raw to the end
+-- bytes after the last frame are raw
 abbrev pub tail_shown : List ℕ → Items
 tail_shown [] = no_items
 tail_shown b = item (raw b) no_items
 
--- a word that isn't the row's, and padding that isn't zeros, are members of their own
+-- an nla_type that isn't the row's, and padding that isn't zeros, are members
 abbrev pub pad_member : PaddedFrame → Members
 pad_member c = if is_blank (Some (padding (length c.value))) c.pad then no_members else member (codes "pad") (hex c.pad) no_members
 
@@ -30,7 +30,7 @@ word_and_hex c = object (member (codes "word") (number (unsigned c.word)) (membe
 abbrev pub other : PaddedFrame → Data
 other c = object (member (codes "Other") (word_and_hex c) (pad_member c))
 
--- a kind whose text no NUL ends is bare
+-- a kind without a NUL at its end is bare
 abbrev pub bare_member : List ℕ → Members → Members
 bare_member value after = if ends_in_nul value then after else member (codes "bare") (boolean true) after
 
@@ -40,7 +40,7 @@ kind_shown c t = object (member (codes "Kind") (string t) (bare_member c.value (
 abbrev pub indexed : PaddedFrame → Data → Data
 indexed c held = object (member (codes "tab") (number (unsigned c.word)) (member (codes "attributes") held (pad_member c)))
 
--- within an object of one member, if it has a name
+-- in an object with one member, if the layer has a name
 abbrev pub layered : List ℕ → Data → Data
 layered [] d = d
 layered name d = one name d

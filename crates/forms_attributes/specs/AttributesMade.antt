@@ -1,4 +1,4 @@
--- Lists of attributes: the bytes that are made of each.
+-- Lists of attributes: the bytes of each.
 use Rattle.std.specs.Prelude.{Bool, List, None, Option, Some, [], codes, false, if◌then◌else◌, length, nat_le, option_and_then, option_map, true, unwrap_or, ℕ}
 use Rattle.serde_json.specs.Data.{Data, Items, item, no_items}
 use Rattle.serde_json.specs.Find.{as_number, as_u64, get}
@@ -19,12 +19,12 @@ as_word n = if nat_le n 0xffff then Some n else None
 abbrev pub word_made : Data → Option ℕ
 word_made d = option_and_then as_word (option_and_then as_u64 (as_number d))
 
--- the word that stands beside an attribute, or else the row's
+-- the nla_type in the member "word", or the row's
 abbrev pub word_or : ℕ → Option Data → Option ℕ
 word_or word None = Some word
 word_or word (Some d) = word_made d
 
--- the padding that stands beside an attribute, or else zeros
+-- the padding in the member "pad", or zeros
 abbrev pub pad_or : List ℕ → Option Data → Option (List ℕ)
 pad_or value None = Some (zero_pad value)
 pad_or value (Some d) = hex_made d
@@ -42,13 +42,13 @@ framed word value d = None
 abbrev pub other_made : Data → Data → Option (List ℕ)
 other_made d x = framed (option_and_then word_made (get (codes "word") x)) (option_and_then hex_made (get (codes "value") x)) d
 
--- the same, each under the kind so far
+-- the bytes of all items, each under the kind so far
 abbrev pub each_under : (List ℕ → Data → Option (List ℕ)) → Bool → List ℕ → Items → Option (List ℕ)
 each_under One has kind no_items = Some []
 each_under One has kind (item d ds) =
     joined (or_raw (raw_of d) (One (unwrap_or (kind_named has d) kind) d)) (each_under One has (unwrap_or (kind_named has d) kind) ds)
 
--- what an object of one member holds, if it has a name
+-- the value in a layer, or the value itself if the layer has no name
 abbrev pub unlayered : List ℕ → Data → Option Data
 unlayered [] d = Some d
 unlayered name d = get name d

@@ -1,4 +1,4 @@
--- Bytes cut into frames that keep all: the word, the value, and the padding as it is, which may lack at the end.
+-- Bytes cut into frames: the nla_type, the value, and the padding unchanged, of which the last frame may lack some.
 use Rattle.std.specs.Prelude.{List, None, Option, Some, drop, if◌then◌else◌, length, nat_le, replicate, take, ℕ, ◌&&◌, ◌++◌}
 use Rattle.nla_frames.specs.Frame.{header, padding}
 use Rattle.nla_frames.specs.Grammar.{length_at}
@@ -10,7 +10,7 @@ pub record PaddedFrame : Type 0 where
   pub value : List ℕ
   pub pad : List ℕ
 
--- what the code's value says
+-- the frame of the code
 abbrev pub frame_view : Frame → PaddedFrame
 frame_view f = record { word = f.word; value = f.value.now; pad = f.pad.now }
 
@@ -25,10 +25,10 @@ frame_at n b = record { word = le_value (take 2 (drop 2 b)); value = drop 4 (tak
 abbrev pub front : List ℕ → Option PaddedFrame
 front b = if nat_le 4 (length_at b) && nat_le (length_at b) (length b) then Some (frame_at (length_at b) b) else None
 
--- the bytes behind it
+-- the bytes after it
 abbrev pub after_first : List ℕ → List ℕ
 after_first b = drop (padding (length_at b)) (drop (length_at b) b)
 
--- the padding that is usual
+-- the usual padding
 abbrev pub zero_pad : List ℕ → List ℕ
 zero_pad value = replicate (padding (length value)) 0

@@ -1,4 +1,4 @@
--- The kind in force in a list: the text of an attribute of type 1. It may lack its NUL, and sets the kind even so.
+-- The kind in force in a list: the text of an attribute of type 1, with or without a NUL at its end.
 use Rattle.std.specs.Prelude.{Bool, List, None, Option, Some, [], codes, if◌then◌else◌, option_and_then, option_map, suc, true, unwrap_or, zero, ℕ}
 use Rattle.std.specs.Prelude.{◌&&◌, ◌++◌, ◌==◌, ◌∷◌}
 use Rattle.std.specs.Str.{is_utf8}
@@ -8,7 +8,7 @@ use Rattle.serde_json.specs.Find.{as_bool, as_str, get}
 use Rattle.forms_attributes.specs.Frames.{PaddedFrame, after_first, front}
 use Rattle.forms_attributes.specs.Rows.{type_of}
 
--- the text of a value: UTF-8 before the one NUL that may end it
+-- the text of a value: UTF-8 without one NUL at its end
 abbrev pub kind_text : List ℕ → Option (List ℕ)
 kind_text value = if is_utf8 (strip value) then Some (strip value) else None
 
@@ -20,7 +20,7 @@ abbrev pub own_or : Option PaddedFrame → List ℕ → List ℕ
 own_or None later = []
 own_or (Some c) later = unwrap_or (kind_in true c) later
 
--- the first kind that a list sets; none is the empty text
+-- the first kind that a list sets; the empty text if it sets none
 abbrev pub own_kind : ℕ → List ℕ → List ℕ
 own_kind zero b = []
 own_kind (suc n) b = own_or (front b) (own_kind n (after_first b))

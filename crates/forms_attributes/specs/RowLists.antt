@@ -1,4 +1,4 @@
--- The rows that code has in hand for a list: two slices, one after the other.
+-- The rows of a list in the code: two slices, one after the other.
 use Rattle.std.specs.Prelude.{List, ◌++◌}
 use Rattle.forms_attributes.specs.declared.rows.RowList.{RowList}
 use Rattle.forms_values.specs.Tables.{Row, rows_view}

@@ -4,7 +4,7 @@ use Rattle.forms_values.specs.Names.{is_reserved}
 use Rattle.forms_values.specs.Search.{first}
 use Rattle.forms_values.specs.Tables.{Row}
 
--- the type in a word: all but its two flags
+-- the attribute type in an nla_type, without the two flags
 abbrev pub type_of : ℕ → ℕ
 type_of word = word % 2 ^ 14
 

@@ -1,4 +1,4 @@
-//! Attributes that hold no others, and frames, made.
+//! The bytes of attributes, without the values in them, and of frames.
 
 ghost use Rattle.serde_json.specs.Find.{as_array, get};
 ghost use Rattle.serde_json.specs.View.{items_view, view};
@@ -10,11 +10,12 @@ ghost use Rattle.forms_attributes.specs.Kinds.{kind_named, kind_value, own_kind_
 ghost use Rattle.forms_values.specs.declared.maker.Stop.TheVariants.{OutOfMemory};
 
 use forms_values::Wanted;
-use forms_values::maker::{Maker, Step, Stop};
+use forms_values::maker::{Maker, Stop};
+use forms_values::pointer::Step;
 use forms_values::values_made::{make_hex_at, put_text};
 use serde_json::Value;
 
-/// What an object of one member holds, if it has a name.
+/// The value in a layer, or the value itself if the layer has no name.
 pub fn unlayered<'v>(layer: &str, value: &'v Value) -> Option<&'v Value>
     ensures { option_map (λ v. view v.now) result ≡ unlayered layer.now (view value.now) }
 {
@@ -24,7 +25,7 @@ pub fn unlayered<'v>(layer: &str, value: &'v Value) -> Option<&'v Value>
     value.get(layer)
 }
 
-/// The error of an attribute that no row has.
+/// Notes that no row has the attribute's name.
 pub fn no_row<'v>(maker: &mut Maker<'v>, has: bool, value: &'v Value) -> Stop {
     match value.get("Kind") {
         Some(kind) if has => maker.wrong_member("Kind", kind, Wanted::Text),
@@ -32,7 +33,7 @@ pub fn no_row<'v>(maker: &mut Maker<'v>, has: bool, value: &'v Value) -> Stop {
     }
 }
 
-/// The kind that an item has, in a list with kinds.
+/// The kind that an item sets, in a list with kinds.
 pub fn kind_named<'v>(has: bool, value: &'v Value) -> Option<&'v str>
     ensures { option_map (λ t. t.now) result ≡ kind_named has (view value.now) }
 {
@@ -67,7 +68,7 @@ fn first_kind_named<'v>(items: &'v [Value]) -> &'v str
     }
 }
 
-/// An attribute that sets a kind.
+/// Appends an attribute that sets a kind.
 pub fn make_kind<'v>(maker: &mut Maker<'v>, kind: &'v str, value: &'v Value) -> Result<(), Stop>
     ensures { Appended (by_kind_made (λ k f d. None) [] true [] (view value.now) (Some kind.now)) maker.old.bytes.items maker.new.bytes.items result }
 {
@@ -85,7 +86,7 @@ pub fn make_kind<'v>(maker: &mut Maker<'v>, kind: &'v str, value: &'v Value) -> 
     }
 }
 
-// A kind's text, with a NUL unless it is bare.
+// Appends a kind's text, with a NUL unless it is bare.
 fn make_kind_value<'v>(maker: &mut Maker<'v>, kind: &str, value: &'v Value) -> Result<(), Stop>
     ensures { Appended (kind_value kind.now (get (codes "bare") (view value.now))) maker.old.bytes.items maker.new.bytes.items result }
 {
@@ -133,7 +134,7 @@ pub fn make_other<'v>(maker: &mut Maker<'v>, other: &'v Value, value: &'v Value)
     }
 }
 
-/// The word of an attribute, under this name.
+/// The `nla_type` in the member of this name.
 pub fn word_at(value: &Value, name: &str) -> Option<u16>
     ensures { result ≡ option_and_then word_made (get name.now (view value.now)) }
 {
@@ -152,7 +153,7 @@ fn word_of(value: &Value) -> Option<u16>
     }
 }
 
-/// The word that a member says, or else this one.
+/// The `nla_type` in the member "word", or this one if there is no such member.
 pub fn word_or(word: u16, value: &Value) -> Option<u16>
     ensures { result ≡ word_or word (get (codes "word") (view value.now)) }
 {
@@ -162,11 +163,11 @@ pub fn word_or(word: u16, value: &Value) -> Option<u16>
     }
 }
 
-/// Begins an attribute: room for its length and its word, at the place that is returned.
+/// Begins an attribute with zeros for its length and its `nla_type`, and returns its place.
 #[inline(always)]
 pub fn begin(maker: &mut Maker<'_>) -> Result<usize, Stop>
     ensures place { IfOk result (λ n. n ≡ length maker.old.bytes.items) }
-    ensures room { OnOk result (maker.new.bytes.items ≡ maker.old.bytes.items ++ (0 ∷ 0 ∷ 0 ∷ 0 ∷ [])) }
+    ensures zeros { OnOk result (maker.new.bytes.items ≡ maker.old.bytes.items ++ (0 ∷ 0 ∷ 0 ∷ 0 ∷ [])) }
     ensures memory { IfErr result (λ e. e ≡ OutOfMemory) }
 {
     let start = maker.bytes.len();
@@ -176,7 +177,7 @@ pub fn begin(maker: &mut Maker<'_>) -> Result<usize, Stop>
     }
 }
 
-/// Ends an attribute that began at a place: its length and its word, and padding.
+/// Ends an attribute that began at a place: writes its length and its `nla_type`, and appends the padding.
 pub fn end<'v>(
     maker: &mut Maker<'v>,
     start: usize,

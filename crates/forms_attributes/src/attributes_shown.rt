@@ -1,4 +1,4 @@
-//! Frames, and what is shown of attributes that hold no others.
+//! Frames, and the JSON of attributes, without the values in them.
 
 ghost use Rattle.nla_frames.specs.Value.{ends_in_nul, le_value};
 ghost use Rattle.serde_json.specs.Data.{member, no_members, number, unsigned};
@@ -15,18 +15,18 @@ use forms_values::values_shown::{send_hex, send_raw};
 use nla_frames::strip_nul;
 use serde::Serializer;
 
-/// A frame of a list.
+/// A frame: an attribute on the wire.
 #[derive(Clone, Copy)]
 pub struct Frame<'a> {
     /// `nla_type`, with its flags.
     pub word: u16,
     /// The payload.
     pub value: &'a [u8],
-    /// The padding behind it, as it is; it may lack at the end.
+    /// The padding after the payload, unchanged; the last frame may lack some.
     pub pad: &'a [u8],
 }
 
-/// The frame at the front, and the bytes behind it. None if none is there.
+/// The frame at the front, and the bytes after it; `None` if the bytes don't begin with a frame.
 #[inline(always)]
 pub fn front(bytes: &[u8]) -> Option<(Frame<'_>, &[u8])>
     ensures frame { option_map (λ r. frame_view r.0) result ≡ front bytes.now }
@@ -60,7 +60,7 @@ fn two_bytes(bytes: &[u8]) -> u16
     }
 }
 
-// The text of a value, before the one NUL that may end it.
+// The text of a value, without one NUL at its end.
 fn kind_text(value: &[u8]) -> Option<&str>
     ensures { option_map (λ t. t.now) result ≡ kind_text value.now }
 {
@@ -82,7 +82,7 @@ pub fn kind_in<'a>(has: bool, frame: &Frame<'a>) -> Option<&'a str>
     }
 }
 
-/// The first kind in a list.
+/// The first kind in a list; empty if no attribute sets one.
 pub fn own_kind(bytes: &[u8]) -> &str
     ensures { result.now ≡ own_kind (length bytes.now) bytes.now }
 {
@@ -100,7 +100,7 @@ pub fn own_kind(bytes: &[u8]) -> &str
     ""
 }
 
-/// What is no frame, if anything is left.
+/// Sends the bytes after the last frame, if there are any.
 pub fn send_tail<S: Serializer>(
     bytes: &[u8],
     out: &mut S,
@@ -114,7 +114,7 @@ pub fn send_tail<S: Serializer>(
     send_raw(bytes, out, aside)
 }
 
-/// A kind.
+/// Sends an attribute that sets a kind.
 #[inline(never)]
 pub fn send_kind<S: Serializer>(
     kind: &str,
@@ -131,7 +131,7 @@ pub fn send_kind<S: Serializer>(
     end_map(out, aside)
 }
 
-// That no NUL ends a kind, its word, and its padding.
+// Sends the members of a kind: "bare" if it has no NUL, "word" and "pad".
 fn send_kind_beside<S: Serializer>(
     frame: &Frame<'_>,
     out: &mut S,
@@ -147,14 +147,14 @@ fn send_kind_beside<S: Serializer>(
     send_beside(1, frame, out, aside)
 }
 
-// True where the last byte is a NUL.
+// True if the last byte is a NUL.
 fn ends_in_nul(value: &[u8]) -> bool
     ensures { result ≡ ends_in_nul value.now }
 {
     matches!(value, [.., 0])
 }
 
-/// The word, if it isn't this one, and the padding, if it isn't zeros.
+/// Sends the `nla_type` if it isn't the row's, and the padding if it isn't zeros.
 #[inline(always)]
 pub fn send_beside<S: Serializer>(
     wanted: u16,
@@ -172,7 +172,7 @@ pub fn send_beside<S: Serializer>(
     send_pad(frame, out, aside)
 }
 
-/// The padding, if it isn't zeros.
+/// Sends the padding if it isn't zeros.
 #[inline(always)]
 pub fn send_pad<S: Serializer>(
     frame: &Frame<'_>,
@@ -218,7 +218,7 @@ fn send_word_and_hex<S: Serializer>(
     end_map(out, aside)
 }
 
-/// The member of a name whose value is a word.
+/// Sends a member with an `nla_type`.
 pub fn send_word<S: Serializer>(
     name: &str,
     word: u16,

@@ -1,5 +1,5 @@
-//! Attributes in a list, both ways, but for the values in them: frames, the kinds that they set, the row of an attribute by its type and by
-//! its name, its word and its padding.
+//! Lists of attributes as JSON, both ways, without the values in them: frames, kinds, the row of an attribute by its type and by its name,
+//! its `nla_type` and its padding.
 #![tactic(auto)]
 
 pub mod attributes_made;

@@ -24,10 +24,10 @@ fn rows_at<T: Tables>(table: T, place: usize) -> &'static [Row<'static>]
     &[]
 }
 
-/// The rows of a list under a kind: its own, and then those of every kind.
+/// The rows of a list under a kind: first the rows of the kind, then the rows of every kind.
 #[derive(Clone, Copy)]
 pub struct RowList<'a> {
-    /// The rows of the kind, or those of a list without kinds.
+    /// The rows of the kind, or of a list without kinds.
     pub own: &'a [Row<'a>],
     /// The rows of every kind.
     pub common: &'a [Row<'a>],
@@ -50,7 +50,7 @@ pub fn rows_under<T: Tables>(table: T, place: usize, kind: &str) -> RowList<'sta
     }
 }
 
-/// The rows from where a kind is set on, if one is.
+/// The rows under the kind that an attribute sets, or the rows so far if it sets no kind.
 #[inline(always)]
 pub fn rows_from<T: Tables>(
     table: T,
@@ -68,7 +68,7 @@ pub fn rows_from<T: Tables>(
     }
 }
 
-/// The kind from there on.
+/// The kind that an attribute sets, or the kind so far.
 #[inline(always)]
 pub fn kind_from<'a>(set: Option<&'a str>, kind: &'a str) -> &'a str
     ensures { result.now ≡ unwrap_or (option_map (λ t. t.now) set.entry) kind.now }
@@ -79,7 +79,7 @@ pub fn kind_from<'a>(set: Option<&'a str>, kind: &'a str) -> &'a str
     }
 }
 
-// The place of the rows of a kind, or else this one.
+// The place of the rows of a kind, or `others` for a kind without rows.
 fn kind_place(kind: &str, others: usize, kinds: &[KindRows<'_>]) -> usize
     ensures { result ≡ kind_place kind.now others (kinds_view kinds.now) }
 {
@@ -91,7 +91,7 @@ fn kind_place(kind: &str, others: usize, kinds: &[KindRows<'_>]) -> usize
     others
 }
 
-/// The type in a word.
+/// The attribute type in an `nla_type`, without the two flags.
 #[inline(always)]
 pub(crate) fn type_of(word: u16) -> u16
     ensures { result ≡ type_of word }
@@ -99,14 +99,14 @@ pub(crate) fn type_of(word: u16) -> u16
     word % 16384
 }
 
-/// True for a row that counts.
+/// True unless the row has a reserved name.
 pub(crate) fn counts(row: &Row<'_>) -> bool
     ensures { result ≡ counts (row_view row.now) }
 {
     !is_reserved(row.name)
 }
 
-// True for a row of a type. The types are compared first, since that takes least.
+// True for a row of a type. Types are compared first, since that is cheapest.
 #[inline(always)]
 #[tactic(auto, using(forms_values::proofs::Search::and_false, forms_values::proofs::Search::and_true))]
 fn is_of_type(word: u16, row: &Row<'_>) -> bool
@@ -172,7 +172,7 @@ fn row_of_name_in<'a>(rows: &RowList<'a>, name: &str) -> Option<Row<'a>>
     }
 }
 
-/// The row of a type, if it is the row of its name too.
+/// The first row of a type, if it is the first of its name too.
 #[inline(always)]
 pub fn shown_row<'a>(rows: &RowList<'a>, word: u16) -> Option<Row<'a>>
     ensures { option_map row_view result ≡ shown_row (rows_in rows.now) word }
@@ -183,7 +183,7 @@ pub fn shown_row<'a>(rows: &RowList<'a>, word: u16) -> Option<Row<'a>>
     }
 }
 
-// The row of a type at the place that it has where rows are numbered from 1 on, if no row before it has its type or its name.
+// The row of a type in a list whose types are 1, 2 and so on, if no row before it has its type or its name.
 #[inline(always)]
 fn numbered_row<'a>(rows: &[Row<'a>], word: u16) -> Option<Row<'a>>
     ensures of_type { IfSome result (λ r. first (of_type word) (rows_view rows.now) ≡ Some (row_view r)) }
@@ -221,7 +221,7 @@ fn are_others(rows: &[Row<'_>], word: u16, name: &str) -> bool
     true
 }
 
-// The row of a type, if it is the row of its name too, wherever it is.
+// The first row of a type, if it is the first of its name too, at any place.
 #[inline(always)]
 fn searched_row<'a>(rows: &RowList<'a>, word: u16) -> Option<Row<'a>>
     ensures { option_map row_view result ≡ shown_row (rows_in rows.now) word }
@@ -240,7 +240,7 @@ fn searched_row<'a>(rows: &RowList<'a>, word: u16) -> Option<Row<'a>>
     Some(named)
 }
 
-// The member of an object that has no other.
+// The only member of an object.
 #[inline(always)]
 fn only_member<'v>(value: &'v Value) -> Option<(&'v str, &'v Value)>
     ensures { IfSome result (λ m. view value.now ≡ one m.0.now (view m.1.now)) }
@@ -258,7 +258,7 @@ fn only_member<'v>(value: &'v Value) -> Option<(&'v str, &'v Value)>
     }
 }
 
-/// The first row of a list whose name has a member.
+/// The first row of a list whose name is that of a member, and the member's value.
 pub fn row_held_in<'a, 'v>(rows: &RowList<'a>, value: &'v Value) -> Option<(Row<'a>, &'v Value)>
     ensures { option_map (λ m. (row_view m.0, view m.1.now)) result ≡ held (λ r. r.name) counts (rows_in rows.now) (view value.now) }
 {
@@ -271,7 +271,7 @@ pub fn row_held_in<'a, 'v>(rows: &RowList<'a>, value: &'v Value) -> Option<(Row<
     }
 }
 
-// The same, of an object of any members.
+// The first such row for an object with any number of members.
 fn row_held_of_two<'a, 'v>(rows: &RowList<'a>, value: &'v Value) -> Option<(Row<'a>, &'v Value)>
     ensures { option_map (λ m. (row_view m.0, view m.1.now)) result ≡ held (λ r. r.name) counts (rows_in rows.now) (view value.now) }
 {
@@ -281,7 +281,7 @@ fn row_held_of_two<'a, 'v>(rows: &RowList<'a>, value: &'v Value) -> Option<(Row<
     }
 }
 
-// The first row whose name has a member.
+// The first row whose name is that of a member, and the member's value.
 fn row_held<'a, 'v>(rows: &[Row<'a>], value: &'v Value) -> Option<(Row<'a>, &'v Value)>
     ensures { option_map (λ m. (row_view m.0, view m.1.now)) result ≡ held (λ r. r.name) counts (rows_view rows.now) (view value.now) }
 {

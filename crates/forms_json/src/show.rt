@@ -20,7 +20,7 @@ use forms_attributes::attributes_shown::{
     send_word,
 };
 use forms_attributes::rows::{RowList, kind_from, rows_from, rows_under, shown_row};
-use forms_values::choices::{behind, chosen, send_unknown};
+use forms_values::choices::{bytes_from, chosen, send_unknown};
 use forms_values::events::{Aside, Stopped, begin_map, begin_seq, end_map, end_seq, key};
 use forms_values::numbers::send_bytes_number;
 use forms_values::places::{At, choices_at, fields_at, form_at, layer_at};
@@ -453,7 +453,7 @@ fn send_choice<S: Serializer, T: Tables>(
 {
     match chosen(choices, bytes) {
         Some(choice) => {
-            let held = behind(bytes, choice.prefix.len());
+            let held = bytes_from(bytes, choice.prefix.len());
             begin_map(out, aside)?;
             key(choice.name, out, aside)?;
             send_form(at, choice.form, held, out, aside)?;

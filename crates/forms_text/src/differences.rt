@@ -1,6 +1,7 @@
 //! The places where two values of JSON differ.
 
 use crate::same::is_same;
+use forms_values::pointer::{Step, brief, pointer};
 use serde_json::{Map, Value};
 use std::alloc::{AllocError, Global};
 use std::fmt;
@@ -60,13 +61,6 @@ pub(crate) fn first_difference<'v>(
         Some(difference) => Ok(difference),
         None => between(alloc, &[], Some(found), Some(wanted)),
     }
-}
-
-// A step of a JSON pointer.
-#[derive(Clone, Copy)]
-enum Step<'v> {
-    Member(&'v str),
-    Item(usize),
 }
 
 // What was found so far, and where the search is.
@@ -170,46 +164,6 @@ fn between(
         found: brief_of(alloc, found)?,
         wanted: brief_of(alloc, wanted)?,
     })
-}
-
-// A place as a JSON pointer.
-fn pointer(alloc: Global, place: &[Step<'_>]) -> Result<String, AllocError> {
-    let mut path = String::new(alloc);
-    for step in place {
-        path.push('/')?;
-        match step {
-            Step::Member(name) => push_escaped(&mut path, name)?,
-            Step::Item(index) => path.push_str(format!(in alloc; "{index}")?.as_str())?,
-        }
-    }
-    Ok(path)
-}
-
-// Appends a name as a pointer has it: `~0` for `~`, `~1` for `/`.
-fn push_escaped(path: &mut String, name: &str) -> Result<(), AllocError> {
-    for c in name.chars() {
-        match c {
-            '~' => path.push_str("~0")?,
-            '/' => path.push_str("~1")?,
-            c => path.push(c)?,
-        }
-    }
-    Ok(())
-}
-
-// The longest text that is shown whole, in bytes.
-const MOST_SHOWN: usize = 80;
-
-/// A value as an error shows it: by its text; a list, an object and a long text by a word for it.
-pub fn brief(alloc: Global, value: &Value) -> Result<String, AllocError> {
-    match value {
-        Value::Array(items) => format!(in alloc; "a list of {}", items.len()),
-        Value::Object(members) => format!(in alloc; "an object of {}", members.len()),
-        Value::String(text) if text.len() > MOST_SHOWN => {
-            format!(in alloc; "a text of {} bytes", text.len())
-        }
-        _ => value.to_string(alloc),
-    }
 }
 
 fn brief_of(alloc: Global, value: Option<&Value>) -> Result<Option<String>, AllocError> {

@@ -27,8 +27,9 @@ mod repeated;
 mod same;
 mod strict;
 
-pub use differences::{Difference, brief, differences};
+pub use differences::{Difference, differences};
 pub use error::{ReadError, StrictError, TextError};
+pub use forms_values::pointer::brief;
 pub use laws::shown_text_is_made;
 pub use make::bytes_of_text;
 pub use read::read_json;

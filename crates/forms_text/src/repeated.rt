@@ -1,15 +1,9 @@
 //! The place of the first name that an object has twice.
 
+use forms_values::pointer::{Step, pointer};
 use json::{Scratch, Value};
 use std::alloc::{AllocError, Global};
 use std::collections::BTreeSet;
-
-// A step of a JSON pointer.
-#[derive(Clone, Copy)]
-enum Step<'v> {
-    Member(&'v str),
-    Item(usize),
-}
 
 /// The place of the first member whose name an earlier one of its object has, as a JSON pointer.
 pub fn repeated(alloc: Global, text: &str) -> Result<String, AllocError> {
@@ -74,29 +68,4 @@ fn in_members<'v, 'a>(
         place.pop();
     }
     Ok(false)
-}
-
-// A place as a JSON pointer (RFC 6901).
-fn pointer(alloc: Global, place: &[Step<'_>]) -> Result<String, AllocError> {
-    let mut path = String::new(alloc);
-    for step in place {
-        path.push('/')?;
-        match step {
-            Step::Member(name) => push_escaped(&mut path, name)?,
-            Step::Item(index) => path.push_str(format!(in alloc; "{index}")?.as_str())?,
-        }
-    }
-    Ok(path)
-}
-
-// Appends a name as a pointer has it: `~0` for `~`, `~1` for `/`.
-fn push_escaped(path: &mut String, name: &str) -> Result<(), AllocError> {
-    for c in name.chars() {
-        match c {
-            '~' => path.push_str("~0")?,
-            '/' => path.push_str("~1")?,
-            c => path.push(c)?,
-        }
-    }
-    Ok(())
 }

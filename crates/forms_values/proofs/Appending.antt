@@ -7,7 +7,7 @@ use Rattle.forms_values.proofs.Search.{none_not_some, some_is}
 use Rattle.forms_values.specs.Appended.{Appended}
 use Rattle.forms_values.specs.declared.maker.Stop.{Stop}
 
--- bytes after bytes
+-- both, concatenated, if both exist
 pub then_appended : {T : Type 0} (a b old mid new : List ℕ) (r : Result T Stop) → Some (old ++ a) ≡ Some mid → Appended (Some b) mid new r
     → Appended (Some (a ++ b)) old new r
 then_appended a b old mid new (Ok u) first second =

@@ -1,4 +1,4 @@
--- Plain values are made again of what is shown of them.
+-- Plain values: the JSON of bytes is turned into these bytes.
 use Rattle.std.proofs.Common.{◌≡◌, ℕ, zero, suc, ◌-◌, ◌*◌, ◌^◌, ◌<◌, ◌≤◌, Bool, true, false, List, [], ◌∷◌, ◌++◌, length, get_or, reverse, negsuc}
 use Rattle.std.proofs.Common.{Option, Some, None, refl, ap, sym, ◌∙◌, subst, arith, cond, inl, inr, append-nil, lit≤}
 use Rattle.std.specs.Prelude.{option_map, option_and_then, bytes_eq, nat_lt, IfSome, MatchOption, is_none, unwrap_or, take, replicate, ◌==◌, ◌&&◌}
@@ -159,7 +159,7 @@ handle_again b len h =
 
 -- ---- what code counts
 
--- at most seven bytes have room for one more
+-- the number of at most seven bytes, and one more
 pub little_small : (b : List ℕ) → IsBytes b → length b ≤ 7 → le_value b < 2 ^ 56
 little_small b h short =
     let low = le_value_below b h in
@@ -225,7 +225,7 @@ bytes_known (x ∷ b) e (suc i) = bytes_known b (and_parts (nat_lt x 256) (all_b
 pub own_bytes : (b : List ℕ) → kit.IsBytes b → IsBytes b
 own_bytes b h = record { each = h }
 
--- what no bytes have as their text isn't read
+-- a text that no bytes have isn't read
 none_read : (text_of : List ℕ → List ℕ) (text : List ℕ) (o : Option (List ℕ)) → ((b : List ℕ) → o ≡ Some b → kit.IsBytes b → text ≡ text_of b → ⊥)
     → None ≡ with_text text_of text o
 none_read text_of text None never = refl
@@ -272,7 +272,7 @@ pub hex_so : (text : List ℕ) (r : Option (List ℕ)) → IfSome r IsBytes → 
 hex_so text None typed never = none_read hex_text text (decoded (decode_of text)) (λ b e h same. never b h same)
 hex_so text (Some b) typed same = sym (ap hex_of same ∙ hex_of-hex_text b typed)
 
--- what is said of an option, said of what it holds
+-- a fact about an option, about the value in it
 pub seen_as : {V : Type 0} (text : List ℕ) (items : V → List ℕ) (o p : Option V) → o ≡ p → MatchOption o (IsNoHex text) (λ v. text ≡ hex_text (items v))
     → MatchOption (option_map items p) (IsNoHex text) (λ b. text ≡ hex_text b)
 seen_as {V} text items o p e h = go p (subst (λ (x : Option V). MatchOption x (IsNoHex text) (λ v. text ≡ hex_text (items v))) e h)

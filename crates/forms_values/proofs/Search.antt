@@ -32,7 +32,7 @@ first_passes test (y ∷ xs) x e =
       | inr other ↦ first_passes test xs x (sym (cond-false (test y) (Some y) (first test xs) other) ∙ e)
     ]
 
--- the one of a test that is the one of its name too, and passes a second test
+-- the first that passes a test, if it is the first of its name too and passes a second test
 pub record Guarded {X : Type 0} (xs : List X) (name : X → List ℕ) (passes : X → Bool) (second : X → Bool) (x : X) : Type 0 where
   pub itself : first (λ y. passes y && bytes_eq (name y) (name x)) xs ≡ Some x
   pub passed : passes x ≡ true

@@ -32,35 +32,35 @@ mac_sent b t old new long same h =
     let shown : plain_shown no_table form.Mac b ≡ string (mac_text b) = cond-true (length b == 6) (string (mac_text b)) (raw b) (eq-eqb (length b) 6 long) in
     subst (λ d. Sent (events d) old new) (sym shown) (sent_one (text (mac_text b)) old new (subst (λ x. Logs old new (text x)) same h))
 
--- a list between its marks
+-- a list between its begin and its end
 pub list_sent : (ds : Items) (old first last new : Log) → Logs old first (seq_begins None) → Sent (items_events ds) first last → Logs last new seq_ends
     → Sent (events (array ds)) old new
 list_sent ds old first last new h k e =
     sent_then (seq_begins None ∷ []) (items_events ds ++ seq_ends ∷ []) old first new (sent_one (seq_begins None) old first h)
     (sent_then (items_events ds) (seq_ends ∷ []) first last new k (sent_one seq_ends last new e))
 
--- an object between its marks
+-- an object between its begin and its end
 pub map_sent : (ms : Members) (old first last new : Log) → Logs old first (map_begins None) → Sent (members_events ms) first last → Logs last new map_ends
     → Sent (events (object ms)) old new
 map_sent ms old first last new h k e =
     sent_then (map_begins None ∷ []) (members_events ms ++ map_ends ∷ []) old first new (sent_one (map_begins None) old first h)
     (sent_then (members_events ms) (map_ends ∷ []) first last new k (sent_one map_ends last new e))
 
--- a member, and those behind it
+-- a member, and the members after it
 pub member_sent : (name : List ℕ) (d : Data) (ms : Members) (old named held new : Log) → Logs old named (field_key name AsIs) → Sent (events d) named held
     → Sent (members_events ms) held new → Sent (members_events (member name d ms)) old new
 member_sent name d ms old named held new h k after =
     sent_then (field_key name AsIs ∷ []) (events d ++ members_events ms) old named new (sent_one (field_key name AsIs) old named h)
     (sent_then (events d) (members_events ms) named held new k after)
 
--- an object of a member, and of those behind it
+-- an object with a member, and with the members after it
 pub object_sent : (name : List ℕ) (d : Data) (ms : Members) (old first named held last new : Log) → Logs old first (map_begins None)
     → Logs first named (field_key name AsIs) → Sent (events d) named held → Sent (members_events ms) held last → Logs last new map_ends
     → Sent (events (object (member name d ms))) old new
 object_sent name d ms old first named held last new h k it after e =
     map_sent (member name d ms) old first last new h (member_sent name d ms first named held last k it after) e
 
--- a member that is sent whole, and those behind it
+-- a member that is sent whole, and the members after it
 pub then_sent : (name : List ℕ) (d : Data) (ms : Members) (old mid new : Log) → Sent (members_events (member name d no_members)) old mid
     → Sent (members_events ms) mid new → Sent (members_events (member name d ms)) old new
 then_sent name d ms old mid new one after =

@@ -1,11 +1,11 @@
--- What making appends, and what a search in JSON finds; or why not.
+-- What making bytes appends, and what a search in JSON finds; or why it fails.
 use Rattle.std.specs.Prelude.{◌≡◌, ℕ, List, ◌++◌, Option, Some, None, option_map, Result, Ok, Err}
 use Rattle.forms_values.specs.declared.error.MakeError.{MakeError}
 use Rattle.forms_values.specs.declared.error.MakeError.TheVariants.{OutOfMemory}
 use Rattle.forms_values.specs.declared.maker.Stop.{Stop}
 use Rattle.forms_values.specs.declared.maker.Stop.TheVariants as stop
 
--- memory ran out, or there is none
+-- memory ran out, or the result is None
 abbrev pub Fails : {T : Type 0} → Option T → MakeError → Type 0
 Fails wanted e = (e ≡ OutOfMemory → ⊥) → wanted ≡ None
 

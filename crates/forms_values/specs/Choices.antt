@@ -17,7 +17,7 @@ is_choice c = not (is_reserved c.name)
 abbrev pub is_named : List ℕ → Choice → Bool
 is_named name c = is_choice c && bytes_eq c.name name
 
--- bytes of the choice's length that begin as it does
+-- bytes of the choice's length that begin with its prefix
 abbrev pub follows : List ℕ → Choice → Bool
 follows b c = is_choice c && (unwrap_or c.len (length b) == length b && bytes_eq (take (length c.prefix) b) c.prefix)
 
@@ -25,12 +25,12 @@ follows b c = is_choice c && (unwrap_or c.len (length b) == length b && bytes_eq
 abbrev pub choice_if : List ℕ → Choice → Option Choice
 choice_if b c = if follows b c then Some c else None
 
--- the first that bytes follow, if it is the one of its name too
+-- the first that bytes follow, if it is the first of its name too
 abbrev pub chosen : List Choice → List ℕ → Option Choice
 chosen cs b = option_and_then (choice_if b) (option_and_then (λ c. first (is_named c.name) cs) (first (follows b) cs))
 
 module _ (Inner : Form → List ℕ → Data) where
-  -- what is behind the prefix, under the name of the choice
+  -- the bytes after the prefix, under the name of the choice
   abbrev pub by_choice : List ℕ → Option Choice → Data
   by_choice b None = one (codes "Other") (hex b)
   by_choice b (Some c) = one c.name (Inner c.form (drop (length c.prefix) b))

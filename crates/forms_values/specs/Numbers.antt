@@ -24,7 +24,7 @@ is_signed I32 = true
 is_signed I64 = true
 is_signed k = false
 
--- bytes with the least significant first, of a number that has the most significant first or not; and back
+-- little-endian bytes, from big-endian ones or not; and back
 abbrev pub in_order : Bool → List ℕ → List ℕ
 in_order true b = reverse b
 in_order false b = b
@@ -37,7 +37,7 @@ bits_of k b = le_value (in_order (is_big k) b)
 abbrev pub bytes_of : Number → ℕ → List ℕ
 bytes_of k n = in_order (is_big k) (le_bytes (number_width k) n)
 
--- how many values the number has, half of them
+-- half the number of values
 abbrev pub half : Number → ℕ
 half U8 = 2 ^ 7
 half I8 = 2 ^ 7
@@ -51,7 +51,7 @@ half U64 = 2 ^ 63
 half I64 = 2 ^ 63
 half U64Be = 2 ^ 63
 
--- a number of 2 * h values; of a signed one, the upper half are negative
+-- a number of 2 * h values; if it is signed, the upper half are negative
 abbrev pub num_of : Bool → ℕ → ℕ → Num
 num_of true h n = if nat_lt n h then unsigned n else negative (negsuc (2 * h - 1 - n))
 num_of false h n = unsigned n
@@ -60,7 +60,7 @@ num_of false h n = unsigned n
 abbrev pub below : ℕ → ℕ → Option ℕ
 below top n = if nat_lt n top then Some n else None
 
--- its bits, if it is one of these
+-- its bits, if it is in range
 abbrev pub bits_in : Bool → ℕ → Num → Option ℕ
 bits_in true h (unsigned n) = below h n
 bits_in true h (negative (negsuc n)) = option_map (λ m. 2 * h - 1 - m) (below h n)
@@ -96,12 +96,12 @@ abbrev pub is_number : Option ℕ → ℕ → Bool
 is_number None n = false
 is_number (Some m) n = m == n
 
--- the name of this number, if the name is that of this number alone
+-- the name of this number, if only this number has it
 abbrev pub named_or : List Name → ℕ → Data → Option (List ℕ) → Data
 named_or names n d None = d
 named_or names n d (Some name) = if is_number (number_of names name) n then string name else d
 
--- a number by its name, or as it is
+-- a number by its name, or as a number
 abbrev pub named_made : Number → Option ℕ → Data → Option (List ℕ)
 named_made k (Some n) d = Some (bytes_of k n)
 named_made k None d = number_made k (unwrap_or (get (codes "Other") d) d)

@@ -1,4 +1,4 @@
--- What a table has at a place. A place that has no such part has no names, no fields, no rows, no choices and the form of bytes.
+-- The part of a table at a place. A place with a part of another sort has no names, no fields, no rows, no choices and the form of bytes.
 use Rattle.std.specs.Prelude.{List, [], bytes_eq, if◌then◌else◌, ℕ, ◌++◌, ◌∷◌}
 use Rattle.forms_values.specs.Tables.{Choice, Choices, Field, Fields, KindRows, Kinds, Name, Names, One, Part, Row, Rows, Table}
 use Rattle.forms_values.specs.declared.form.Form.{Form}
@@ -43,7 +43,7 @@ abbrev pub kind_place : List ℕ → ℕ → List KindRows → ℕ
 kind_place kind others [] = others
 kind_place kind others (x ∷ xs) = if bytes_eq x.kind kind then x.rows else kind_place kind others xs
 
--- the rows of a list under a kind; where they depend on it, those of the kind come first, and then those of every kind
+-- the rows of a list under a kind; if they depend on it, first the rows of the kind, then the rows of every kind
 abbrev pub rows_under_part : Table → List ℕ → Part → List Row
 rows_under_part table kind (Rows layer rs) = rs
 rows_under_part table kind (Kinds common others ks) = rows_of (part_at table (kind_place kind others ks)) ++ rows_of (part_at table common)

@@ -31,12 +31,12 @@ abbrev pub all_bytes : List ℕ → Bool
 all_bytes [] = true
 all_bytes (x ∷ b) = nat_lt x 256 && all_bytes b
 
--- what was read of a text, if it has this very text
+-- the bytes read from a text, if their own text is the same
 abbrev pub with_text : (List ℕ → List ℕ) → List ℕ → Option (List ℕ) → Option (List ℕ)
 with_text text_of text (Some b) = if all_bytes b && bytes_eq (text_of b) text then Some b else None
 with_text text_of text None = None
 
--- bytes, if they are so many
+-- bytes, if their number is n
 abbrev pub of_length : ℕ → List ℕ → Option (List ℕ)
 of_length n b = if length b == n then Some b else None
 

@@ -1,4 +1,4 @@
--- Records: one field after the other, and what is behind them; and elements of one form.
+-- Records: fields, and the bytes after the last one; and elements of one form.
 use Rattle.std.specs.Prelude.{Bool, List, None, Option, Some, [], bytes_eq, codes, drop, false, if◌then◌else◌, length, nat_le, not, replicate, suc}
 use Rattle.std.specs.Prelude.{take, true, unwrap_or, zero, ℕ, ◌&&◌, ◌++◌, ◌-◌, ◌==◌, ◌∷◌}
 use Rattle.serde_json.specs.Data.{Data, Items, Members, item, member, no_items, no_members}
@@ -14,7 +14,7 @@ abbrev pub is_pad : Form → Bool
 is_pad (form.Pad n) = true
 is_pad f = false
 
--- no name of these
+-- no field has this name
 abbrev pub is_free : List ℕ → List Field → Bool
 is_free name [] = true
 is_free name (f ∷ fs) = not (bytes_eq name f.name) && is_free name fs
@@ -24,11 +24,11 @@ abbrev pub are_distinct : List Field → Bool
 are_distinct [] = true
 are_distinct (f ∷ fs) = is_free f.name fs && are_distinct fs
 
--- and none has the name of what is raw or left over
+-- and no field is called raw or rest
 abbrev pub names_distinct : List Field → Bool
 names_distinct fs = is_free (codes "raw") fs && is_free (codes "rest") fs && are_distinct fs
 
--- a field takes its width, or all that is left
+-- the bytes of a field: its width, or all that is left
 abbrev pub field_of : Option ℕ → List ℕ → List ℕ
 field_of None b = b
 field_of (Some w) b = take w b
@@ -48,13 +48,13 @@ all_zero (x ∷ b) = x == 0 && all_zero b
 abbrev pub is_blank : Option ℕ → List ℕ → Bool
 is_blank w b = length b == unwrap_or w 0 && all_zero b
 
--- this many bytes are enough for the fields
+-- n bytes are enough for the fields
 abbrev pub are_enough : Table → ℕ → List Field → Bool
 are_enough table n [] = true
 are_enough table n (f ∷ fs) =
     let w = unwrap_or (field_width table f) 0 in nat_le w n && are_enough table (n - w) fs
 
--- the bytes behind the fields
+-- the bytes after the last field
 abbrev pub rest_member : List ℕ → Members
 rest_member [] = no_members
 rest_member b = member (codes "rest") (hex b) no_members
@@ -65,7 +65,7 @@ module _ (table : Table) (Inner : Form → List ℕ → Data) where
   field_member f chunk after =
       if is_pad f.form && is_blank (field_width table f) chunk then after else member f.name (Inner f.form chunk) after
 
-  -- a field after the other
+  -- the members of all fields
   abbrev pub members : List Field → List ℕ → Members
   members [] b = rest_member b
   members (f ∷ fs) b = field_member f (field_of (field_width table f) b) (members fs (after_field (field_width table f) b))
@@ -79,14 +79,14 @@ module _ (Inner : Form → List ℕ → Data) where
   elements zero f w (x ∷ b) = item (Inner f (x ∷ b)) no_items
   elements (suc n) f w (x ∷ b) = item (Inner f (take w (x ∷ b))) (elements n f w (drop w (x ∷ b)))
 
-  -- elements of any width are one, to the end
+  -- one element of any width, to the end
   abbrev pub elements_of : Form → Option ℕ → List ℕ → Items
   elements_of f None b = item (Inner f b) no_items
   elements_of f (Some w) b = elements (length b) f w b
 
 -- ---- and back
 
--- bytes after bytes
+-- both, concatenated, if both exist
 abbrev pub joined : Option (List ℕ) → Option (List ℕ) → Option (List ℕ)
 joined (Some a) (Some b) = Some (a ++ b)
 joined a b = None

@@ -1,4 +1,4 @@
--- What is sent to a format of serde: the events of JSON, one after the other. The lengths of lists and objects aren't sent.
+-- The serde events of JSON, in order. The lengths of lists and objects aren't sent.
 use Rattle.std.specs.Prelude.{◌≡◌, List, [], ◌∷◌, ◌++◌, Some, None, ⊤}
 use Rattle.serde.specs.Event as event
 use Rattle.serde.specs.Event.{Event, Log}
@@ -6,7 +6,7 @@ use Rattle.serde.specs.declared.name.Case.TheVariants.{AsIs}
 use Rattle.serde_json.specs.Data.{Data, null, boolean, number, string, array, object, Items, no_items, item, Members, no_members, member}
 use Rattle.serde_json.specs.Events.{number_event}
 
--- where the events so far are known, they grow by these
+-- if the log of events is known, these are appended
 abbrev pub Sent : List Event → Log → Log → Type 0
 Sent es None new = ⊤
 Sent es (Some before) new = new ≡ Some (before ++ es)

@@ -1,4 +1,4 @@
--- Tables: a part at each place, and what a part says. The code's parts have references to texts and lists; these are the same without them.
+-- Tables: a part at each place. The code's parts have references to texts and lists; these have the texts and lists.
 use Rattle.std.specs.Borrow.{Bor}
 use Rattle.std.specs.Prelude.{List, Option, map, ℕ}
 use Rattle.forms_values.specs.declared.form.ChoiceOf.{ChoiceOf}

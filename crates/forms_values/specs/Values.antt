@@ -1,4 +1,4 @@
--- Values that hold no others: what is shown of their bytes, and the bytes that are made of it.
+-- Values whose form contains no other form: the JSON of their bytes, and back.
 use Rattle.std.specs.Net.Addr.{octets_of}
 use Rattle.std.specs.Net.Reader.{read_ipv4, read_ipv6}
 use Rattle.std.specs.Prelude.{Bool, List, None, Option, Some, [], bytes_eq, codes, false, if◌then◌else◌, length, option_and_then, option_map, slice_index}
@@ -18,17 +18,17 @@ use Rattle.forms_values.specs.Widths.{number_width}
 use Rattle.forms_values.specs.declared.form.Form.{Form}
 use Rattle.forms_values.specs.declared.form.Form.TheVariants as form
 
--- what stands before a NUL, if it is UTF-8
+-- the text before the NUL at the end, if it is UTF-8
 abbrev pub text_in : List ℕ → Option (List ℕ)
 text_in b =
     if bytes_eq (take (length b - 1) b ++ 0 ∷ []) b && is_utf8 (take (length b - 1) b) then Some (take (length b - 1) b) else None
 
--- a text, or raw bytes where there is none
+-- a text, or raw bytes if there is none
 abbrev pub text_or_raw : List ℕ → Option (List ℕ) → Data
 text_or_raw b None = raw b
 text_or_raw b (Some t) = string t
 
--- what is shown; bytes of another length are raw
+-- the JSON; bytes of another length are raw
 abbrev pub plain_shown : Table → Form → List ℕ → Data
 plain_shown table (form.Number k) b = if length b == number_width k then number (num k (bits_of k b)) else raw b
 plain_shown table (form.Named k i) b =
@@ -57,7 +57,7 @@ mac_digits t =
     slice_index t 0 ∷ slice_index t 1 ∷ slice_index t 3 ∷ slice_index t 4 ∷ slice_index t 6 ∷ slice_index t 7 ∷ slice_index t 9
     ∷ slice_index t 10 ∷ slice_index t 12 ∷ slice_index t 13 ∷ slice_index t 15 ∷ slice_index t 16 ∷ []
 
--- the octets of an address, if it is written as it is shown
+-- the octets of an address, if it is written in the form that is shown
 abbrev pub mac_of : List ℕ → Option (List ℕ)
 mac_of text = with_text mac_text text (option_and_then (of_length 6) (decoded (decode_sized (mac_digits text) 6)))
 
@@ -67,7 +67,7 @@ ipv4_of text = with_text ipv4_text text (option_and_then (of_length 4) (option_m
 abbrev pub ipv6_of : List ℕ → Option (List ℕ)
 ipv6_of text = with_text ipv6_text text (option_and_then (of_length 16) (option_map (λ r. octets_of r.0) (read_ipv6 text)))
 
--- `true` is of no bytes, and nothing is of `false`
+-- `true` has no bytes, `false` can't be turned into bytes
 abbrev pub flag_made : Bool → Option (List ℕ)
 flag_made true = Some []
 flag_made false = None

@@ -1,4 +1,4 @@
--- How many bytes a form takes, where that is fixed.
+-- The number of bytes of a form, if it is fixed.
 use Rattle.std.specs.Prelude.{List, None, Option, Some, [], if◌then◌else◌, nat_lt, option_and_then, suc, zero, ℕ, ◌*◌, ◌+◌, ◌^◌, ◌∷◌}
 use Rattle.forms_values.specs.Places.{fields_of, form_of, part_at}
 use Rattle.forms_values.specs.Tables.{Field, Table}
@@ -7,7 +7,7 @@ use Rattle.forms_values.specs.declared.form.Number.{Number}
 use Rattle.forms_values.specs.declared.form.Number.TheVariants.{I16, I32, I64, I8, U16, U16Be, U32, U32Be, U64, U64Be, U8}
 use Rattle.forms_values.specs.declared.form.Form.TheVariants as form
 
--- of a number
+-- the width of a number
 abbrev pub number_width : Number → ℕ
 number_width U8 = 1
 number_width U16 = 2
@@ -30,12 +30,12 @@ abbrev pub plus : Option ℕ → Option ℕ → Option ℕ
 plus (Some a) (Some b) = counted (a + b)
 plus a b = None
 
--- of fields, behind so many bytes
+-- the width of fields, after n bytes
 abbrev pub fields_width : (Form → Option ℕ) → ℕ → List Field → Option ℕ
 fields_width inner before [] = Some before
 fields_width inner before (f ∷ fs) = option_and_then (λ t. fields_width inner t fs) (plus (Some before) (inner f.form))
 
--- of a form, where `inner` says it of those within
+-- the width of a form, if `inner` is the width of those within
 abbrev pub width_by : (Form → Option ℕ) → Table → Form → Option ℕ
 width_by inner table (form.Number k) = Some (number_width k)
 width_by inner table (form.Named k i) = Some (number_width k)
@@ -51,7 +51,7 @@ width_by inner table (form.Record i) = fields_width inner 0 (fields_of (part_at 
 width_by inner table (form.Times n i) = option_and_then (λ w. counted (n * w)) (inner (form_of i (part_at table i)))
 width_by inner table f = None
 
--- records and elements nest at most so deep
+-- records and elements nest at most this deep
 abbrev pub width : ℕ → Table → Form → Option ℕ
 width zero table f = None
 width (suc n) table f = width_by (width n table) table f
@@ -60,10 +60,10 @@ width (suc n) table f = width_by (width n table) table f
 abbrev pub deepest : ℕ
 deepest = 16
 
--- the same at this depth; shut, so that it isn't computed level by level
+-- the width at this depth; unfoldable, so that it isn't computed level by level
 unfoldable pub fixed : Table → Form → Option ℕ
 fixed table f = width deepest table f
 
--- of a field
+-- the width of a field
 abbrev pub field_width : Table → Field → Option ℕ
 field_width table f = fixed table f.form

@@ -1,4 +1,4 @@
-//! Choices, by the bytes and by the JSON.
+//! The choice that bytes follow, and the choice that JSON names.
 
 ghost use Rattle.serde_json.specs.View.{view};
 ghost use Rattle.std.specs.Prelude.{OnOk, bytes_eq, codes, drop, length, option_map, take, ◌≡◌};
@@ -15,14 +15,14 @@ use crate::values_shown::send_hex;
 use serde::Serializer;
 use serde_json::Value;
 
-/// True for a choice that can be shown.
+/// True unless the choice has a reserved name.
 pub(crate) fn is_choice(choice: &Choice<'_>) -> bool
     ensures { result ≡ is_choice (choice_view choice.now) }
 {
     !is_reserved(choice.name)
 }
 
-// True for bytes that follow a choice.
+// True if bytes have the length and the prefix of a choice.
 fn follows(bytes: &[u8], choice: &Choice<'_>) -> bool
     ensures { result ≡ follows bytes.now (choice_view choice.now) }
 {
@@ -31,7 +31,6 @@ fn follows(bytes: &[u8], choice: &Choice<'_>) -> bool
         && begins(bytes, choice.prefix)
 }
 
-// True for bytes that begin so.
 fn begins(bytes: &[u8], prefix: &[u8]) -> bool
     ensures { result ≡ bytes_eq (take (length prefix.now) bytes.now) prefix.now }
 {
@@ -64,7 +63,7 @@ fn choice_named<'a>(choices: &[Choice<'a>], name: &str) -> Option<Choice<'a>>
     }
 }
 
-/// The choice that bytes follow, if it is the one of its name too.
+/// The first choice that bytes follow, if no earlier one has its name.
 pub fn chosen<'a>(choices: &[Choice<'a>], bytes: &[u8]) -> Option<Choice<'a>>
     ensures { option_map choice_view result ≡ chosen (choices_view choices.now) bytes.now }
 {
@@ -82,18 +81,17 @@ pub fn chosen<'a>(choices: &[Choice<'a>], bytes: &[u8]) -> Option<Choice<'a>>
     Some(named)
 }
 
-/// The bytes from a place on.
-pub fn behind(bytes: &[u8], place: usize) -> &[u8]
+pub fn bytes_from(bytes: &[u8], place: usize) -> &[u8]
     ensures { result.now ≡ drop place bytes.now }
 {
     if place > bytes.len() {
         return &[];
     }
-    let (_, behind) = bytes.split_at(place);
-    behind
+    let (_, after) = bytes.split_at(place);
+    after
 }
 
-/// Bytes that no choice fits.
+/// Sends bytes that follow no choice, as `{"Other":"dead"}`.
 #[inline(never)]
 pub fn send_unknown<S: Serializer>(
     bytes: &[u8],
@@ -108,7 +106,7 @@ pub fn send_unknown<S: Serializer>(
     end_map(out, aside)
 }
 
-/// The first choice whose name has a member.
+/// The first choice whose name is that of a member, and the member's value.
 pub fn choice_held<'a, 'v>(
     choices: &[Choice<'a>],
     value: &'v Value,

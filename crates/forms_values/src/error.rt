@@ -1,13 +1,13 @@
-//! Why no bytes are made.
+//! Why JSON can't be turned into bytes.
 
 use crate::form::{Choice, Name};
 use std::error::Error;
 use std::fmt;
 
-/// What is wanted in place of what was found.
+/// A description of the JSON that is wanted at a place.
 #[derive(Clone, Copy)]
 pub enum Wanted {
-    /// Bytes in `{"raw":".."}`: forms don't nest so deep.
+    /// Bytes in `{"raw":".."}`, since forms don't nest deeper.
     Raw,
     /// An object.
     Object,
@@ -17,17 +17,12 @@ pub enum Wanted {
     Name(&'static str),
     /// The name of an attribute of the table.
     Attribute,
-    /// A member of an object that isn't there.
+    /// A member that the object lacks.
     Member,
     /// A list.
     List,
     /// A number in this range.
-    Number {
-        /// The least.
-        least: i64,
-        /// The most.
-        most: u64,
-    },
+    Number { least: i64, most: u64 },
     /// The name of a number among these, or `{"Other":n}`.
     NamedNumber(&'static [Name<'static>]),
     /// `true` or `false`.
@@ -46,11 +41,11 @@ pub enum Wanted {
     Ipv6,
     /// Bytes in hex, in lower case.
     Hex,
-    /// So many bytes in hex, in lower case.
+    /// This number of bytes in hex, in lower case.
     HexOf(usize),
     /// An `nla_type` with its flags.
     Word,
-    /// What is written as at most 65531 bytes.
+    /// A value of at most 65531 bytes.
     Fitting,
 }
 
@@ -68,7 +63,7 @@ impl fmt::Display for Wanted {
 }
 
 impl Wanted {
-    // The text of one that holds nothing.
+    // The text without a number or a name.
     fn text(&self) -> &'static str {
         match self {
             Wanted::Raw => "bytes in {\"raw\":\"..\"}",
@@ -111,19 +106,19 @@ fn write_choices<W: fmt::Write>(choices: &[Choice<'_>], f: &mut fmt::Formatter<W
     Ok(())
 }
 
-/// Why no bytes are made.
+/// Why JSON can't be turned into bytes.
 #[derive(Drop)]
 pub enum MakeError {
     /// Memory ran out.
     OutOfMemory,
 
-    /// A part of the JSON isn't what it has to be.
+    /// A part of the JSON is wrong.
     Wrong {
-        /// Its place, as a JSON pointer; empty of the whole.
+        /// The place, as a JSON pointer; empty for the whole.
         path: String,
-        /// What was found there, as JSON; a list, an object and a long text by a word for it.
+        /// The JSON at this place, or a few words for a list, an object or a long text.
         found: String,
-        /// What is wanted there.
+        /// The JSON that is wanted there.
         wanted: Wanted,
     },
 }

@@ -1,4 +1,4 @@
-//! Events sent to a format of serde, whose error is set aside: what is handed back of it through many calls is one byte.
+//! Events sent to a serde format. Its error is stored in [`Aside`], so that a result takes one byte on the way back through many calls.
 
 ghost use Rattle.serde.specs.Event.{Logs, boolean, field_key, map_begins, map_ends, seq_begins, seq_ends, signed, text, unsigned};
 ghost use Rattle.serde.specs.declared.name.Case.TheVariants.{AsIs};
@@ -7,26 +7,26 @@ ghost use Rattle.std.specs.Prelude.{None, OnOk};
 use serde::Serializer;
 use std::alloc::Global;
 
-/// The format failed, and its error is set aside.
+/// The format failed; its error is in [`Aside`].
 #[derive(Clone, Copy)]
 pub enum Stopped {
     /// The format failed.
     Failed,
 }
 
-/// What calls that send are given beside the format.
+/// The allocator and the error of calls that send events.
 #[derive(Drop)]
 pub struct Aside<E> {
-    /// Takes the texts of bytes in hex.
+    /// Allocates the hex texts of bytes.
     pub alloc: Global,
     /// The format's error, once it failed.
     pub error: Option<E>,
 }
 
-/// What was sent, or that the format failed.
+/// The result of sending.
 pub type Done = Result<(), Stopped>;
 
-// What a call of the format gave; its error is set aside.
+// The result of a call to the format; an error is stored.
 macro_rules! done {
     ($sent:expr, $aside:expr) => {
         match $sent {
@@ -39,35 +39,35 @@ macro_rules! done {
     };
 }
 
-/// An object begins.
+/// Begins an object.
 pub fn begin_map<S: Serializer>(out: &mut S, aside: &mut Aside<S::Error>) -> Done
     ensures { OnOk result (Logs (S.written out.old) (S.written out.new) (map_begins None)) }
 {
     done!(out.begin_map(None), aside)
 }
 
-/// An object ends.
+/// Ends an object.
 pub fn end_map<S: Serializer>(out: &mut S, aside: &mut Aside<S::Error>) -> Done
     ensures { OnOk result (Logs (S.written out.old) (S.written out.new) (map_ends)) }
 {
     done!(out.end_map(), aside)
 }
 
-/// A list begins.
+/// Begins a list.
 pub fn begin_seq<S: Serializer>(out: &mut S, aside: &mut Aside<S::Error>) -> Done
     ensures { OnOk result (Logs (S.written out.old) (S.written out.new) (seq_begins None)) }
 {
     done!(out.begin_seq(None), aside)
 }
 
-/// A list ends.
+/// Ends a list.
 pub fn end_seq<S: Serializer>(out: &mut S, aside: &mut Aside<S::Error>) -> Done
     ensures { OnOk result (Logs (S.written out.old) (S.written out.new) (seq_ends)) }
 {
     done!(out.end_seq(), aside)
 }
 
-/// The name of a member.
+/// Sends the name of a member.
 pub fn key<S: Serializer>(name: &str, out: &mut S, aside: &mut Aside<S::Error>) -> Done
     ensures { OnOk result (Logs (S.written out.old) (S.written out.new) (field_key name.now AsIs)) }
 {
@@ -95,7 +95,6 @@ pub fn unsigned<S: Serializer>(value: u64, out: &mut S, aside: &mut Aside<S::Err
     done!(out.u64(value), aside)
 }
 
-// A number that may be negative.
 pub(crate) fn signed<S: Serializer>(value: i64, out: &mut S, aside: &mut Aside<S::Error>) -> Done
     ensures { OnOk result (Logs (S.written out.old) (S.written out.new) (signed value)) }
 {

@@ -1,4 +1,4 @@
-//! Forms, and the parts of a table that they name by their places.
+//! Forms, and the parts of a table, which forms name by their places.
 
 /// A number. Little-endian unless its name ends in `Be`; a signed one is two's complement.
 #[derive(Clone, Copy)]
@@ -27,28 +27,28 @@ pub enum Number {
     U64Be,
 }
 
-/// What bytes are. The number of a form within this one is its place among the parts of the table.
+/// The format of bytes. A form, a record, a list and so on within it is given by its place in the table.
 #[derive(Clone, Copy)]
 pub enum Form {
     /// A number.
     Number(Number),
-    /// A number that may have a name, by these names.
+    /// A number, shown by its name if the names at this place have it.
     Named(Number, usize),
     /// A handle of `tc`, four bytes.
     Handle,
-    /// No bytes at all.
+    /// No bytes: true if the attribute is there.
     Flag,
-    /// One byte: no or yes.
+    /// One byte, 0 or 1.
     Truth,
-    /// A text and one NUL.
+    /// A text with a NUL at its end.
     Text,
-    /// A text, with what NULs there are in it.
+    /// A text without a NUL at its end; it may contain NULs.
     Bare,
     /// Any bytes.
     Hex,
-    /// So many bytes.
+    /// This number of bytes.
     Bytes(usize),
-    /// So many bytes of padding: in a record they are shown only where one isn't zero.
+    /// This number of padding bytes; a record shows them only if one isn't zero.
     Pad(usize),
     /// A MAC address.
     Mac,
@@ -56,19 +56,19 @@ pub enum Form {
     Ipv4,
     /// An IPv6 address.
     Ipv6,
-    /// A record of these fields.
+    /// A record with these fields.
     Record(usize),
-    /// One element of this form after the other, to the end.
+    /// Elements of this form, to the end.
     Array(usize),
-    /// So many elements of this form.
+    /// A fixed number of elements of this form.
     Times(usize, usize),
-    /// A list of attributes by these rows.
+    /// A list of attributes with these rows.
     List(usize),
-    /// A list of attributes by these rows, under the text of the last attribute of type 1 before them.
+    /// A list of attributes with these rows, where each attribute of type 1 (`TCA_KIND`) sets the kind of those after it.
     InForce(usize),
-    /// A list of attributes by these rows, under the text of its own first attribute of type 1, at any place.
+    /// A list of attributes with these rows, where the first attribute of type 1 (`TCA_ACT_KIND`) sets the kind of all.
     Own(usize),
-    /// A list of attributes of any types, each of which holds this form.
+    /// A list of attributes of any type, each with a payload of this form.
     Indexed(usize),
     /// The first of these choices that the bytes follow.
     Choice(usize),
@@ -78,16 +78,16 @@ pub enum Form {
 /// none that has a lifetime.
 #[derive(Clone, Copy)]
 pub struct NameOf<N> {
-    /// The number; of a signed one, its bits.
+    /// The number; if it is signed, its two's complement.
     pub number: u64,
     /// The name.
     pub name: N,
 }
 
-/// A field of a record. One of no fixed width takes all bytes that are left.
+/// A field of a record. A field without a fixed width takes all bytes that are left.
 #[derive(Clone, Copy)]
 pub struct FieldOf<N> {
-    /// The name; no two fields of a record have the same.
+    /// The name, distinct in the record.
     pub name: N,
     /// The form.
     pub form: Form,
@@ -113,16 +113,16 @@ pub struct KindRowsOf<N> {
     pub rows: usize,
 }
 
-/// A form of bytes that have a prefix, and a length if there is one.
+/// A form for bytes with a prefix, and with a length if there is one.
 #[derive(Clone, Copy)]
 pub struct ChoiceOf<N, B> {
     /// The name.
     pub name: N,
     /// The first bytes.
     pub prefix: B,
-    /// How many there are; None: any.
+    /// The length of the bytes; `None` if any.
     pub len: Option<usize>,
-    /// The form of those after the prefix.
+    /// The form of the bytes after the prefix.
     pub form: Form,
 }
 
@@ -135,10 +135,10 @@ pub enum PartOf<T, N, F, R, K, C> {
     Names(N),
     /// The fields of a record.
     Fields(F),
-    /// The rows of a list of attributes, each of which is shown in an object with this member, if it isn't empty.
+    /// The rows of a list of attributes, and the layer: if it isn't empty, each attribute is in an object with a member of this name.
     Rows(T, R),
-    /// The rows of a list of attributes whose rows depend on the kind: those of every kind, those of kinds without rows of their own,
-    /// and those of each kind, each by their place. Rows of the kind come before those of every kind. Their layers don't count.
+    /// The rows of a list that depend on the kind: the places of the rows of every kind, of the rows of kinds without rows of their own, and
+    /// of the rows of each kind. Rows of the kind come before rows of every kind. The layers of these parts have no effect.
     Kinds(usize, usize, K),
     /// Choices.
     Choices(C),
@@ -156,7 +156,7 @@ pub type Row<'a> = RowOf<&'a str>;
 /// A kind and the place of its rows.
 pub type KindRows<'a> = KindRowsOf<&'a str>;
 
-/// A form of bytes by their prefix and length.
+/// A form for bytes with a prefix and a length.
 pub type Choice<'a> = ChoiceOf<&'a str, &'a [u8]>;
 
 /// A part of a table.

@@ -1,7 +1,7 @@
-//! Forms and tables of them, as data; and what is shown and made of values that need no form within a form.
+//! Forms and tables of forms, as data; and the JSON of values whose form contains no other form, both ways.
 //!
-//! These are the forms that hold no other: numbers, texts, addresses, hex. Of those that do, records and choices, it is what stands beside
-//! what they hold: the widths of a record's fields, and the bytes behind them; the choice that bytes follow.
+//! Such forms are numbers, texts, addresses and hex. For records and choices, which contain forms: the widths of fields, the bytes after the
+//! last field, and which choice applies. Calls that take an allocator fail with `OutOfMemory` if it fails.
 #![tactic(auto)]
 
 pub mod choices;
@@ -12,6 +12,7 @@ pub mod maker;
 pub mod names;
 pub mod numbers;
 pub mod places;
+pub mod pointer;
 pub mod records;
 mod tables;
 pub mod values_made;

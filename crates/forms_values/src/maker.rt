@@ -1,4 +1,4 @@
-//! The bytes that are made, and the place in the JSON that they are made of.
+//! A buffer for the bytes made from JSON, and the place of a mistake in the JSON.
 
 ghost use Rattle.std.specs.Prelude.{◌≡◌, ◌∷◌, [], Some, replicate};
 ghost use Rattle.nla_frames.specs.Value.{le_bytes, be_bytes};
@@ -6,45 +6,36 @@ ghost use Rattle.forms_values.specs.Appended.{Appended};
 ghost use Rattle.forms_values.specs.declared.error.MakeError.TheVariants.{OutOfMemory};
 
 use crate::error::{MakeError, Wanted};
+use crate::pointer::{Step, brief, push_step};
 use serde_json::Value;
 use std::alloc::{AllocError, Global};
 
-/// Why making stops; what is wrong and where is set aside.
+/// Why making bytes stopped. The [`Maker`] has the details.
 #[derive(Clone, Copy)]
 pub enum Stop {
     /// Memory ran out.
     OutOfMemory,
-    /// The JSON isn't what it has to be.
+    /// The JSON is wrong.
     Wrong,
 }
 
-/// A step of a JSON pointer.
-#[derive(Clone, Copy)]
-pub enum Step<'v> {
-    /// To the member of an object.
-    Member(&'v str),
-    /// To an item of a list.
-    Item(usize),
-}
-
-/// The bytes so far, and what is wrong in the JSON that they are made of.
+/// The bytes so far, and the mistake in the JSON, if one was found.
 #[derive(Drop)]
 pub struct Maker<'v> {
     /// The allocator.
     pub alloc: Global,
     /// The bytes so far.
     pub bytes: Vec<u8>,
-    // What was found; None if there was no memory for it.
+    // The JSON that was found; None if there was no memory for its text.
     found: Option<String>,
     wanted: Wanted,
-    // The steps to its place, the last one first.
+    // The steps to its place, from the last to the first.
     steps: Vec<Step<'v>>,
-    // True if there was no memory for one of them.
+    // True if there was no memory for a step.
     is_lost: bool,
 }
 
 impl<'v> Maker<'v> {
-    /// Nothing so far.
     pub fn new(alloc: Global) -> Maker<'v>
         ensures { result.bytes.items ≡ [] }
     {
@@ -78,7 +69,7 @@ impl<'v> Maker<'v> {
         }
     }
 
-    /// Appends so many zeros.
+    /// Appends zeros.
     pub fn put_zeros(&mut self, count: usize) -> Result<(), Stop>
         ensures { Appended (Some (replicate count 0)) self.old.bytes.items self.new.bytes.items result }
     {
@@ -102,7 +93,7 @@ impl<'v> Maker<'v> {
         self.put(&number.to_le_bytes()[..width])
     }
 
-    // The same, byte by byte.
+    // Byte by byte.
     fn put_little_by_one(&mut self, number: u64, width: usize) -> Result<(), Stop>
         ensures { Appended (Some (le_bytes width number)) self.old.bytes.items self.new.bytes.items result }
     {
@@ -128,21 +119,21 @@ impl<'v> Maker<'v> {
         }
     }
 
-    /// Adds a step in front of those to what is wrong.
+    /// Adds a step at the front of the path to the mistake.
     pub fn at(&mut self, step: Step<'v>) {
         if self.steps.push(step).is_err() {
             self.is_lost = true;
         }
     }
 
-    /// The value isn't what is wanted.
+    /// Notes that a value is wrong.
     pub fn wrong(&mut self, found: &Value, wanted: Wanted) -> Stop {
-        self.found = found_text(self.alloc, found).ok();
+        self.found = brief(self.alloc, found).ok();
         self.wanted = wanted;
         Stop::Wrong
     }
 
-    /// A form doesn't make bytes of the value. If it has a member "raw", that isn't hex.
+    /// Notes that a value doesn't have its form. If it has a member "raw", that member isn't hex.
     pub fn unfit(&mut self, found: &Value, wanted: Wanted) -> Stop {
         match found.get("raw") {
             Some(raw) => self.wrong_member("raw", raw, Wanted::Hex),
@@ -150,14 +141,14 @@ impl<'v> Maker<'v> {
         }
     }
 
-    /// The member of the value isn't what is wanted.
+    /// Notes that a member is wrong.
     pub fn wrong_member(&mut self, name: &'static str, found: &Value, wanted: Wanted) -> Stop {
         let stop = self.wrong(found, wanted);
         self.at(Step::Member(name));
         stop
     }
 
-    /// The member of the value isn't what is wanted, or isn't there.
+    /// Notes that a member is wrong or missing.
     pub fn wrong_or_missing(&mut self, value: &Value, name: &'static str, wanted: Wanted) -> Stop {
         match value.get(name) {
             Some(found) => self.wrong_member(name, found, wanted),
@@ -165,7 +156,7 @@ impl<'v> Maker<'v> {
         }
     }
 
-    /// The value has no such member.
+    /// Notes that a member is missing.
     pub fn missing(&mut self, value: &Value, name: &'static str) -> Stop {
         if !value.is_object() {
             return self.unfit(value, Wanted::Object);
@@ -179,7 +170,7 @@ impl<'v> Maker<'v> {
         Stop::Wrong
     }
 
-    /// No member of the value has a name that is wanted.
+    /// Notes that no member has one of the names that are wanted.
     pub fn unknown(&mut self, value: &'v Value, wanted: Wanted) -> Stop {
         let members = match value.as_object() {
             Some(members) if value.get("raw").is_none() => members,
@@ -191,10 +182,10 @@ impl<'v> Maker<'v> {
         }
     }
 
-    // A member has another name than one that is wanted.
+    // Notes that a member has an unknown name.
     fn wrong_name(&mut self, name: &'v str, wanted: Wanted) -> Stop {
         self.found = match Value::try_from_str(self.alloc, name) {
-            Ok(name) => found_text(self.alloc, &name).ok(),
+            Ok(name) => brief(self.alloc, &name).ok(),
             Err(_) => None,
         };
         self.wanted = wanted;
@@ -202,7 +193,7 @@ impl<'v> Maker<'v> {
         Stop::Wrong
     }
 
-    /// What is wrong, with its place.
+    /// The error for the mistake that was noted.
     pub fn into_error(self) -> MakeError {
         if self.is_lost {
             return MakeError::OutOfMemory;
@@ -222,43 +213,12 @@ impl<'v> Maker<'v> {
         }
     }
 
-    // The place of what is wrong, as a JSON pointer.
+    // The place of the mistake, as a JSON pointer.
     fn path(&self) -> Result<String, AllocError> {
         let mut path = String::new(self.alloc);
         for step in self.steps.iter().rev() {
-            path.push('/')?;
-            match step {
-                Step::Member(name) => push_escaped(&mut path, name)?,
-                Step::Item(index) => { path.push_str(format!(in self.alloc; "{index}")?.as_str())? }
-            }
+            push_step(self.alloc, &mut path, *step)?;
         }
         Ok(path)
-    }
-}
-
-// Appends the name of a member as a pointer has it: `~0` for `~`, `~1` for `/`.
-fn push_escaped(path: &mut String, name: &str) -> Result<(), AllocError> {
-    for c in name.chars() {
-        match c {
-            '~' => path.push_str("~0")?,
-            '/' => path.push_str("~1")?,
-            c => path.push(c)?,
-        }
-    }
-    Ok(())
-}
-
-// The longest text that an error shows whole, in bytes.
-const MOST_SHOWN: usize = 80;
-
-// A value as an error shows it.
-fn found_text(alloc: Global, value: &Value) -> Result<String, AllocError> {
-    match value {
-        Value::Array(items) => format!(in alloc; "a list of {}", items.len()),
-        Value::Object(members) => format!(in alloc; "an object of {}", members.len()),
-        Value::String(text) if text.len() > MOST_SHOWN => {
-            format!(in alloc; "a text of {} bytes", text.len())
-        }
-        _ => value.to_string(alloc),
     }
 }

@@ -1,9 +1,9 @@
-//! Names in JSON: those that are reserved, and which are the same.
+//! Reserved names in JSON, and equality of names.
 
 ghost use Rattle.std.specs.Prelude.{bytes_eq, ◌≡◌};
 ghost use Rattle.forms_values.specs.Names.{is_reserved};
 
-/// True for a name that no row may have.
+/// True if no row, field or choice may have this name.
 #[inline(never)]
 pub fn is_reserved(name: &str) -> bool
     ensures { result ≡ is_reserved name.now }
@@ -16,7 +16,6 @@ pub fn is_reserved(name: &str) -> bool
         || is_same(name, "bare")
 }
 
-/// True for equal texts.
 #[inline(always)]
 pub fn is_same(a: &str, b: &str) -> bool
     ensures { result ≡ bytes_eq a.now b.now }

@@ -1,4 +1,4 @@
-//! Numbers, shown and made.
+//! Numbers as JSON, both ways.
 
 ghost use Rattle.nla_frames.specs.Value.{be_value, le_value};
 ghost use Rattle.serde_json.specs.Data.{number};
@@ -58,7 +58,7 @@ pub(crate) fn bits_of(number: Number, bytes: &[u8]) -> u64
     }
 }
 
-/// True for a number whose most significant byte is the first.
+/// True for a big-endian number.
 #[inline(always)]
 pub(crate) fn is_big(number: Number) -> bool
     ensures { result ≡ is_big number }
@@ -66,7 +66,7 @@ pub(crate) fn is_big(number: Number) -> bool
     matches!(number, Number::U16Be | Number::U32Be | Number::U64Be)
 }
 
-// The number of at most eight bytes, least significant first.
+// The little-endian number of at most eight bytes.
 #[inline(always)]
 fn little(bytes: &[u8]) -> u64
     requires { length bytes.now ≤ 8 }
@@ -80,7 +80,7 @@ fn little(bytes: &[u8]) -> u64
     }
 }
 
-// The same, byte by byte.
+// Byte by byte.
 #[inline(never)]
 fn little_by_one(bytes: &[u8]) -> u64
     requires { length bytes.now ≤ 8 }
@@ -92,7 +92,7 @@ fn little_by_one(bytes: &[u8]) -> u64
     }
 }
 
-// The number of at most eight bytes, most significant first.
+// The big-endian number of at most eight bytes.
 #[inline(never)]
 fn big(bytes: &[u8]) -> u64
     requires { length bytes.now ≤ 8 }
@@ -104,7 +104,7 @@ fn big(bytes: &[u8]) -> u64
     }
 }
 
-/// Half of how many values a number has.
+/// Half the number of values: the first number whose sign bit is set.
 #[inline(always)]
 pub(crate) fn half(number: Number) -> u64
     ensures { result ≡ half number }
@@ -117,7 +117,6 @@ pub(crate) fn half(number: Number) -> u64
     }
 }
 
-/// True for a number that may be negative.
 #[inline(always)]
 pub(crate) fn is_signed(number: Number) -> bool
     ensures { result ≡ is_signed number }
@@ -125,7 +124,7 @@ pub(crate) fn is_signed(number: Number) -> bool
     matches!(number, Number::I8 | Number::I16 | Number::I32 | Number::I64)
 }
 
-/// What is shown of bytes as a number.
+/// Sends bytes as a number, or raw if they have another length.
 #[inline(always)]
 pub fn send_bytes_number<S: Serializer>(
     number: Number,
@@ -198,7 +197,7 @@ pub(crate) fn make_number<'v>(
     }
 }
 
-// The numbers that are of these.
+// The range of numbers.
 fn wanted(which: Number) -> Wanted {
     let (least, most) = match which {
         Number::U8 => (0, 0xff),
@@ -213,7 +212,7 @@ fn wanted(which: Number) -> Wanted {
     Wanted::Number { least, most }
 }
 
-// The bits of a number, if it is one of these.
+// The bits of a number in JSON, if it is in range.
 fn bits_in(which: Number, value: &Value) -> Option<u64>
     ensures { result ≡ option_and_then (bits which) (as_number (view value.now)) }
 {

@@ -1,4 +1,4 @@
-//! What a table has at a place.
+//! The part of a table at a place.
 
 ghost use Rattle.std.specs.Prelude.{◌≡◌};
 ghost use Rattle.forms_values.specs.Places.{choices_of, fields_of, form_of, layer_of, names_of, part_at};
@@ -7,18 +7,18 @@ ghost use Rattle.forms_values.specs.Tables.{choices_view, fields_view, names_vie
 use crate::form::{Choice, Field, Form, Name, Part};
 use crate::tables::Tables;
 
-/// Where a form stands: in this table, with so many levels left, under this kind.
+/// The context of a form: the table, the levels left, and the kind in force.
 #[derive(Clone, Copy)]
 pub struct At<'k, T> {
     /// The table.
     pub table: T,
-    /// How many levels may nest from here on.
+    /// The number of levels that may nest from here on.
     pub depth: u8,
-    /// The kind in force.
+    /// The kind in force: the last `TCA_KIND` before.
     pub kind: &'k str,
 }
 
-/// The names at a place.
+/// The names at a place; none if the part there has another sort.
 pub(crate) fn names_at<T: Tables>(table: T, place: usize) -> &'static [Name<'static>]
     ensures { names_view result.now ≡ names_of (part_at (T.parts_of table) place) }
 {
@@ -28,7 +28,7 @@ pub(crate) fn names_at<T: Tables>(table: T, place: usize) -> &'static [Name<'sta
     &[]
 }
 
-/// The fields at a place.
+/// The fields at a place; none if the part there has another sort.
 pub fn fields_at<T: Tables>(table: T, place: usize) -> &'static [Field<'static>]
     ensures { fields_view result.now ≡ fields_of (part_at (T.parts_of table) place) }
 {
@@ -38,7 +38,7 @@ pub fn fields_at<T: Tables>(table: T, place: usize) -> &'static [Field<'static>]
     &[]
 }
 
-/// The layer at a place.
+/// The layer at a place; empty if there is none.
 pub fn layer_at<T: Tables>(table: T, place: usize) -> &'static str
     ensures { result.now ≡ layer_of (part_at (T.parts_of table) place) }
 {
@@ -48,7 +48,7 @@ pub fn layer_at<T: Tables>(table: T, place: usize) -> &'static str
     ""
 }
 
-/// The choices at a place.
+/// The choices at a place; none if the part there has another sort.
 pub fn choices_at<T: Tables>(table: T, place: usize) -> &'static [Choice<'static>]
     ensures { choices_view result.now ≡ choices_of (part_at (T.parts_of table) place) }
 {
@@ -58,7 +58,7 @@ pub fn choices_at<T: Tables>(table: T, place: usize) -> &'static [Choice<'static
     &[]
 }
 
-/// The form at a place.
+/// The form at a place; that of bytes for names of numbers.
 pub fn form_at<T: Tables>(table: T, place: usize) -> Form
     ensures { result ≡ form_of place (part_at (T.parts_of table) place) }
 {

@@ -1,4 +1,4 @@
-//! Records: whether bytes are enough for the fields, and what each field takes.
+//! Records: whether bytes are enough for the fields, and the bytes of each field.
 
 ghost use Rattle.serde_json.specs.Find.{get};
 ghost use Rattle.serde_json.specs.View.{view};
@@ -21,7 +21,6 @@ use crate::widths::fixed_width;
 use serde::Serializer;
 use serde_json::Value;
 
-/// True for padding.
 #[inline(always)]
 pub fn is_pad(form: Form) -> bool
     ensures { result ≡ is_pad form }
@@ -29,7 +28,7 @@ pub fn is_pad(form: Form) -> bool
     matches!(form, Form::Pad(_))
 }
 
-/// The bytes of a field, and those behind it.
+/// The bytes of a field, and the bytes after it.
 #[inline(always)]
 pub fn split(bytes: &[u8], width: Option<usize>) -> (&[u8], &[u8])
     ensures field { result.0.now ≡ field_of width bytes.now }
@@ -41,7 +40,7 @@ pub fn split(bytes: &[u8], width: Option<usize>) -> (&[u8], &[u8])
     }
 }
 
-/// The bytes behind a record.
+/// Sends the bytes after the last field, if there are any.
 pub fn send_rest<S: Serializer>(
     bytes: &[u8],
     out: &mut S,
@@ -56,7 +55,7 @@ pub fn send_rest<S: Serializer>(
     send_hex(bytes, out, aside)
 }
 
-/// True for as many zeros as the field has bytes.
+/// True if the bytes are as many zeros as the field has bytes.
 #[inline(always)]
 pub fn is_blank(width: Option<usize>, bytes: &[u8]) -> bool
     ensures { result ≡ is_blank width bytes.now }
@@ -73,7 +72,7 @@ fn all_zero(bytes: &[u8]) -> bool
     }
 }
 
-/// True if there are bytes for all fields whose width is fixed.
+/// True if there are enough bytes for all fields of fixed width.
 pub fn are_enough<T: Tables>(table: T, len: usize, fields: &[Field<'_>]) -> bool
     ensures { result ≡ are_enough (T.parts_of table) len (fields_view fields.now) }
 {
@@ -110,7 +109,7 @@ pub(crate) fn names_distinct(fields: &[Field<'_>]) -> bool
     is_free("raw", fields) && is_free("rest", fields) && are_distinct(fields)
 }
 
-/// Padding that isn't shown.
+/// Appends padding that the JSON leaves out; for another field, notes that it is missing.
 pub fn make_blank<'v, T: Tables>(
     maker: &mut Maker<'v>,
     table: T,
@@ -125,7 +124,7 @@ pub fn make_blank<'v, T: Tables>(
     maker.put_zeros(fixed_width(table, field.form).unwrap_or(0))
 }
 
-/// What is behind the fields of a record.
+/// Appends the bytes after the last field, if the JSON has any.
 pub fn make_rest<'v>(maker: &mut Maker<'v>, value: &'v Value) -> Result<(), Stop>
     ensures { Appended (rest_made (get (codes "rest") (view value.now))) maker.old.bytes.items maker.new.bytes.items result }
 {

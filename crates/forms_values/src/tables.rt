@@ -1,4 +1,4 @@
-//! Tables, whatever holds them.
+//! The trait of tables.
 
 ghost use Rattle.std.specs.Prelude.{◌≡◌};
 ghost use Rattle.forms_values.specs.Places.{fields_of};
@@ -16,7 +16,7 @@ pub trait Tables: Copy {
     fn part(self, place: usize) -> Part<'static>
         ensures { part_view result ≡ parts_of self place };
 
-    /// Whether the names of a record's fields are apart. A table that is known to have no others need not compare them each time.
+    /// True if the fields of the record at a place have distinct names. A table whose names are proved to be distinct doesn't compare them.
     fn names_distinct(self, place: usize) -> bool
         ensures { result ≡ names_distinct (fields_of (parts_of self place)) }
     {

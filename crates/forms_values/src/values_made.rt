@@ -1,4 +1,4 @@
-//! Values that hold no others, made.
+//! The bytes of values whose form contains no other form.
 
 ghost use Rattle.serde_json.specs.View.{view};
 ghost use Rattle.std.specs.Prelude.{IfNone, IfOk, IfSome, List, None, Option, Some, [], option_map, ℕ, ◌++◌, ◌∷◌, ◌≡◌};
@@ -18,7 +18,7 @@ use serde_json::Value;
 use std::alloc::{AllocError, Global};
 use tc_texts::{handle_from_tc_text, read_hex, read_ipv4, read_ipv6, read_mac};
 
-/// Appends the bytes of `{"raw":"dead"}`; None if the value isn't that, and then nothing is appended.
+/// Appends the bytes of `{"raw":"dead"}`. `None`, and nothing is appended, if the value isn't such an object.
 #[inline(always)]
 pub fn put_raw(maker: &mut Maker<'_>, value: &Value) -> Option<Result<(), Stop>>
     ensures raw { IfSome result (λ r. (other : Option (List ℕ)) → Appended (or_raw (raw_of (view value.now)) other)
@@ -62,7 +62,7 @@ fn bytes_of_hex(alloc: Global, text: &str) -> Result<Option<Vec<u8>>, AllocError
     }
 }
 
-/// Appends the bytes that a value stands for in a form that holds no other.
+/// Appends the bytes of a value whose form contains no other form.
 pub fn make_plain<'v, T: Tables>(
     maker: &mut Maker<'v>,
     table: T,
@@ -139,7 +139,7 @@ fn make_text<'v>(maker: &mut Maker<'v>, value: &'v Value) -> Result<(), Stop>
     }
 }
 
-/// A text and a NUL.
+/// Appends a text and a NUL.
 pub fn put_text(maker: &mut Maker<'_>, text: &str) -> Result<(), Stop>
     ensures { Appended (Some (text.now ++ 0 ∷ [])) maker.old.bytes.items maker.new.bytes.items result }
 {
@@ -206,7 +206,7 @@ fn ipv6_of(text: &str) -> Option<[u8; 16]>
     read_ipv6(text)
 }
 
-/// Bytes in hex, at a member of this place.
+/// Appends bytes in hex, the value of a member of this name.
 pub fn make_hex_at<'v>(
     maker: &mut Maker<'v>,
     name: &'static str,
@@ -232,7 +232,7 @@ pub(crate) fn make_hex<'v>(maker: &mut Maker<'v>, value: &'v Value) -> Result<()
     }
 }
 
-// So many bytes in hex.
+// This number of bytes in hex.
 fn make_hex_of<'v>(maker: &mut Maker<'v>, len: usize, value: &'v Value) -> Result<(), Stop>
     ensures { Appended (plain_made no_table (Form.Bytes len) (view value.now)) maker.old.bytes.items maker.new.bytes.items result }
 {

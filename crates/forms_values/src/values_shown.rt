@@ -1,4 +1,4 @@
-//! What is shown of values that hold no others.
+//! The JSON of values whose form contains no other form.
 
 ghost use Rattle.std.specs.Prelude.{OnOk, [], bytes_eq, option_map, ◌∷◌, ◌≡◌};
 ghost use Rattle.forms_values.specs.Raw.{hex, raw};
@@ -14,7 +14,7 @@ use crate::tables::Tables;
 use serde::Serializer;
 use tc_texts::{handle_text, hex_string, ipv4_text, ipv6_text, mac_text};
 
-/// A value that holds no other.
+/// Sends a value whose form contains no other form.
 #[inline(never)]
 pub fn send_plain<S: Serializer, T: Tables>(
     table: T,
@@ -175,7 +175,7 @@ fn send_text<S: Serializer>(
     }
 }
 
-/// Bytes that don't follow their form.
+/// Sends bytes that don't follow their form, as `{"raw":"dead"}`.
 #[inline(never)]
 pub fn send_raw<S: Serializer>(
     bytes: &[u8],

@@ -1,4 +1,4 @@
-//! How many bytes a form takes.
+//! The number of bytes of a form.
 
 ghost use Rattle.std.specs.Prelude.{option_and_then, ◌*◌, ◌≡◌};
 ghost use Rattle.forms_values.specs.Tables.{fields_view};
@@ -8,11 +8,11 @@ use crate::form::{Field, Form, Number};
 use crate::places::{fields_at, form_at};
 use crate::tables::Tables;
 
-/// How deep forms nest at most in a table; what is deeper is shown raw.
+/// The greatest depth of forms in a table; deeper bytes are shown raw.
 pub const DEEPEST: u8 = 16;
 
 impl Number {
-    /// How many bytes it has.
+    /// The width in bytes.
     pub fn width(self) -> usize
         ensures { result ≡ number_width self }
     {
@@ -25,7 +25,7 @@ impl Number {
     }
 }
 
-/// How many bytes a form takes, where that is fixed.
+/// The number of bytes of a form, if it is fixed.
 #[inline(always)]
 #[cycle(width)]
 fn width<T: Tables>(table: T, depth: u8, form: Form) -> Option<usize>
@@ -57,7 +57,7 @@ fn width<T: Tables>(table: T, depth: u8, form: Form) -> Option<usize>
     }
 }
 
-// How many bytes so many elements take.
+// The number of bytes of elements.
 #[inline(never)]
 #[cycle(width)]
 fn times_width<T: Tables>(table: T, depth: u8, count: usize, form: Form) -> Option<usize>
@@ -69,7 +69,7 @@ fn times_width<T: Tables>(table: T, depth: u8, count: usize, form: Form) -> Opti
     }
 }
 
-// How many bytes the fields take.
+// The number of bytes of fields.
 #[inline(never)]
 #[cycle(width)]
 fn fields_width<T: Tables>(table: T, depth: u8, fields: &[Field<'_>]) -> Option<usize>
@@ -89,7 +89,7 @@ fn fields_width<T: Tables>(table: T, depth: u8, fields: &[Field<'_>]) -> Option<
     Some(total)
 }
 
-/// How many bytes a form takes, where that is fixed and it nests no deeper than [`DEEPEST`].
+/// The number of bytes of a form, if it is fixed and the form nests no deeper than [`DEEPEST`].
 #[inline(always)]
 #[tactic(auto, unfolding(crate::specs::Widths::fixed))]
 pub fn fixed_width<T: Tables>(table: T, form: Form) -> Option<usize>
