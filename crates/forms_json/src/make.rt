@@ -23,8 +23,8 @@ use forms_attributes::attributes_made::{
 use forms_attributes::rows::{RowList, kind_from, row_held_in, rows_from, rows_under};
 use forms_values::choices::choice_held;
 use forms_values::maker::{Maker, Stop};
-use forms_values::pointer::Step;
 use forms_values::places::{At, choices_at, fields_at, form_at, layer_at};
+use forms_values::pointer::Step;
 use forms_values::records::{make_blank, make_rest};
 use forms_values::values_made::{make_hex_at, make_plain, put_raw};
 use forms_values::widths::DEEPEST;
