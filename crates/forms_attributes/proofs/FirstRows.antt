@@ -9,23 +9,23 @@ use Rattle.forms_values.proofs.Search.{first_of_two, first_passes, none_not_some
 use Rattle.forms_values.proofs.Leaves.{same_bytes}
 
 -- if no element in front passes, the first that passes is after them
-pub first_behind : {X Y : Type 0} (see : Y → X) (test : X → Bool) (n : ℕ) (ys : List Y) → first test (map see (take n ys)) ≡ None
+pub first_after : {X Y : Type 0} (see : Y → X) (test : X → Bool) (n : ℕ) (ys : List Y) → first test (map see (take n ys)) ≡ None
     → first test (map see ys) ≡ first test (map see (drop n ys))
-first_behind see test zero ys e = refl
-first_behind see test (suc n) [] e = refl
-first_behind see test (suc n) (y ∷ ys) e =
+first_after see test zero ys e = refl
+first_after see test (suc n) [] e = refl
+first_after see test (suc n) (y ∷ ys) e =
     elim (cases_Bool (test (see y))) [
       | inl is ↦ absurd (none_not_some (see y) (sym e ∙ cond-true (test (see y)) (Some (see y)) (first test (map see (take n ys))) is))
       | inr other ↦
           cond-false (test (see y)) (Some (see y)) (first test (map see ys)) other
-          ∙ first_behind see test n ys (sym (cond-false (test (see y)) (Some (see y)) (first test (map see (take n ys))) other) ∙ e)
+          ∙ first_after see test n ys (sym (cond-false (test (see y)) (Some (see y)) (first test (map see (take n ys))) other) ∙ e)
     ]
 
 -- the first after them
-pub first_there : {X Y : Type 0} (see : Y → X) (test : X → Bool) (n : ℕ) (ys behind : List Y) (y : Y) → first test (map see (take n ys)) ≡ None
-    → drop n ys ≡ y ∷ behind → test (see y) ≡ true → first test (map see ys) ≡ Some (see y)
-first_there see test n ys behind y none is passes =
-    first_behind see test n ys none ∙ ap (λ zs. first test (map see zs)) is ∙ cond-true (test (see y)) (Some (see y)) (first test (map see behind)) passes
+pub first_there : {X Y : Type 0} (see : Y → X) (test : X → Bool) (n : ℕ) (ys following : List Y) (y : Y) → first test (map see (take n ys)) ≡ None
+    → drop n ys ≡ y ∷ following → test (see y) ≡ true → first test (map see ys) ≡ Some (see y)
+first_there see test n ys following y none is passes =
+    first_after see test n ys none ∙ ap (λ zs. first test (map see zs)) is ∙ cond-true (test (see y)) (Some (see y)) (first test (map see following)) passes
 
 -- a row that is the first of its type and of its name is shown
 pub shown_at : (own common : List Row) (word : ℕ) (r : Row) → first (of_type word) own ≡ Some r → first (of_name r.name) own ≡ Some r

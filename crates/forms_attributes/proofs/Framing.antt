@@ -64,10 +64,10 @@ pub framed_end : {T : Type 0} (old mid new : List ℕ) (start n l0 l1 w0 w1 word
     → start + 4 ≤ length old → n ≡ length old - start → n ≤ 65535 → word < 65536 → l0 ≡ n % 256 → l1 ≡ n / 256 → w0 ≡ word % 256 → w1 ≡ word / 256
     → mid ≡ take start old ++ (l0 ∷ l1 ∷ w0 ∷ w1 ∷ drop (start + 4) old) → x ≡ pad_or (drop (start + 4) old) given → Appended x mid new r
     → Appended (framed_with word (drop (start + 4) old) given) (take start old) new r
-framed_end old mid new start n l0 l1 w0 w1 word x given r room is_n few small e0 e1 e2 e3 is_mid is_x h =
+framed_end old mid new start n l0 l1 w0 w1 word x given r enough is_n few small e0 e1 e2 e3 is_mid is_x h =
     let v = drop (start + 4) old in
-    let behind = length-drop (start + 4) old in
-    let all : n ≡ 4 + length v = omega (arith, room, is_n, behind) in
+    let following = length-drop (start + 4) old in
+    let all : n ≡ 4 + length v = omega (arith, enough, is_n, following) in
     let short : 4 + length v < 65536 = omega (arith, all, few) in
     let fits : nat_le (length v) 65531 ≡ true = le-leb (length v) 65531 (omega (arith, short)) in
     let bytes = (4 + length v) % 256 ∷ (4 + length v) / 256 ∷ word % 256 ∷ word / 256 ∷ v in
@@ -89,7 +89,7 @@ four_more m = omega arith
 -- the padding after a payload, whose header has four bytes
 pub pad_is : (old : List ℕ) (start n : ℕ) → start + 4 ≤ length old → n ≡ length old - start
     → Some (replicate {A = ℕ} ((4 - n % 4) % 4) 0) ≡ pad_or (drop (start + 4) old) None
-pad_is old start n room is_n =
-    let behind = length-drop (start + 4) old in
-    let all : n ≡ length (drop (start + 4) old) + 4 = omega (arith, room, is_n, behind) in
+pad_is old start n enough is_n =
+    let following = length-drop (start + 4) old in
+    let all : n ≡ length (drop (start + 4) old) + 4 = omega (arith, enough, is_n, following) in
     ap (λ (k : ℕ). Some (replicate {A = ℕ} ((4 - k) % 4) 0)) (ap (λ (k : ℕ). k % 4) all ∙ four_more (length (drop (start + 4) old)))

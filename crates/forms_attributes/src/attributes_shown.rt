@@ -42,8 +42,8 @@ pub fn front(bytes: &[u8]) -> Option<(Frame<'_>, &[u8])>
     if len > bytes.len() {
         return None;
     }
-    let (frame, behind) = bytes.split_at(len);
-    let (pad, after) = split(behind, Some((4 - len % 4) % 4));
+    let (frame, rest) = bytes.split_at(len);
+    let (pad, after) = split(rest, Some((4 - len % 4) % 4));
     let word = two_bytes(&bytes[2..]);
     let value = &frame[4..];
     Some((Frame { word, value, pad }, after))

@@ -1,4 +1,4 @@
--- What is found in the object that an attribute is shown as, and in what a reader of JSON makes of it.
+-- The members of the object that shows an attribute, also as a reader of JSON has them.
 use Rattle.std.proofs.Common.{◌≡◌, ℕ, Bool, true, false, List, [], ◌∷◌, ◌++◌, length, Option, Some, None, refl, ap, sym, ◌∙◌, cond, true≢false, ◌-◌, suc}
 use Rattle.std.proofs.Common.{take, arith}
 use Rattle.std.specs.Prelude.{option_map, bytes_eq, codes, not, ◌==◌, nat_le}
@@ -32,7 +32,7 @@ pad_seen c = cond (is_blank (Some (padding (length c.value))) c.pad) None (Some 
 abbrev pub bare_seen : List ℕ → Option Data
 bare_seen value = cond (ends_in_nul value) None (Some (boolean true))
 
--- a member of this name, the mark of a bare kind, the word and the padding where they stand beside, and no other
+-- a member of this name, the mark of a bare kind, the nla_type and the padding if they are shown, and no other
 pub record Finds (d : Data) (name : List ℕ) (x : Data) (mark : Option Data) (wanted : ℕ) (c : PaddedFrame) : Type 0 where
   pub it : get name d ≡ Some x
   pub bare : get (codes "bare") d ≡ mark
@@ -150,7 +150,7 @@ kind_again v t e =
     go true ends = ap Some (ends_so v ends)
     go false other = refl
 
--- no name of what isn't by its row
+-- no reserved name
 pub record Plain (name : List ℕ) : Type 0 where
   pub raw : bytes_eq name (codes "raw") ≡ false
   pub other : bytes_eq name (codes "Other") ≡ false

@@ -1,4 +1,4 @@
--- Frames, and elements one after the other, are made again of what is shown of them.
+-- The JSON of frames and of elements leads back to them.
 use Rattle.std.proofs.Common.{◌≡◌, ℕ, zero, suc, ◌≤◌, ◌+◌, Bool, true, List, [], ◌∷◌, ◌++◌, length, take, drop, Option, Some, None, refl, ap, sym, ◌∙◌}
 use Rattle.std.proofs.Common.{cond, arith, append_assoc}
 use Rattle.std.specs.Prelude.{nat_le, ◌&&◌, unwrap_or, false}
@@ -22,13 +22,13 @@ use Rattle.forms_values.specs.Records.{each_made, elements, elements_of, joined}
 use Rattle.forms_values.specs.Tables.{Table}
 use Rattle.forms_values.proofs.Leaves.{raw_of-raw}
 
--- what two parts are made, one after the other
+-- the bytes of two parts, concatenated
 pub joined_made : (x y : Option (List ℕ)) (a b whole : List ℕ) → x ≡ Some a → y ≡ Some b → a ++ b ≡ whole → joined x y ≡ Some whole
 joined_made x y a b whole ex ey e = rw (ex, ey) (ap Some e)
 
 -- ---- frames
 
--- what is taken for a frame
+-- the bytes read as a frame
 pub record Stands (c : PaddedFrame) : Type 0 where
   pub short : nat_le (length c.value) 65531 ≡ true
   pub word : as_word c.word ≡ Some c.word
@@ -54,7 +54,7 @@ in_front b h e =
     let four : length (header (length v) f.word) ≡ 4 = length-header (length v) f.word in
     let lead : length head ≡ n = omega (arith, sized, length-append (header (length v) f.word) v, four) in
     let parts : b ≡ head ++ (fr.pad ++ after) = fr.parts ∙ sym (append_assoc (header (length v) f.word) v (fr.pad ++ after)) in
-    let behind : drop n b ≡ fr.pad ++ after = ap (drop n) parts ∙ drop_at head (fr.pad ++ after) n lead in
+    let following : drop n b ≡ fr.pad ++ after = ap (drop n) parts ∙ drop_at head (fr.pad ++ after) n lead in
     let p = padding n in
     record {
       stands = record {
@@ -66,7 +66,7 @@ in_front b h e =
       whole =
           append_assoc (header (length v) f.word) (v ++ take p (drop n b)) (drop p (drop n b))
           ∙ ap (λ t. header (length v) f.word ++ t) (append_assoc v (take p (drop n b)) (drop p (drop n b)))
-          ∙ ap (λ (t : List ℕ). header (length v) f.word ++ (v ++ t)) (take-append-drop p (drop n b) ∙ behind) ∙ sym fr.parts;
+          ∙ ap (λ (t : List ℕ). header (length v) f.word ++ (v ++ t)) (take-append-drop p (drop n b) ∙ following) ∙ sym fr.parts;
     }
 
 module _ (Made : List ℕ → Data → Option (List ℕ)) (One : List ℕ → PaddedFrame → Data) (has : Bool)

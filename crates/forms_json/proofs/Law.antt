@@ -1,4 +1,4 @@
--- Bytes are made again of what is shown of them, by any table, in any form and under any kind.
+-- The JSON of bytes leads back to them, with any table, in any form and under any kind.
 use Rattle.forms_values.specs.declared.form.Form.TheVariants as form
 use Rattle.std.proofs.Common.{◌≡◌, ℕ, zero, suc, inl, inr, Bool, true, false, List, [], ◌∷◌, ◌++◌, length, take, drop, Option, Some, None, refl, ap, sym}
 use Rattle.std.proofs.Common.{◌∙◌, cond, true≢false, subst, arith}
@@ -42,13 +42,13 @@ use Rattle.forms_json.proofs.Found.{plain}
 use Rattle.forms_values.proofs.Search.{none_not_some, some_is, Guarded, guarded, held_again}
 use Rattle.nla_frames.specs.Frame.{padding}
 use Rattle.forms_json.specs.Ordered.{ordered}
-use Rattle.forms_json.proofs.Ordered.{Apart, Reader, as_it_is, in_order, each_item, pad_apart, named_apart, kind_apart}
+use Rattle.forms_json.proofs.Ordered.{Distinct, Reader, as_it_is, in_order, each_item, pad_distinct, named_distinct, kind_distinct}
 
 no_bytes : (b : List ℕ) → length b ≡ 0 → [] ≡ b
 no_bytes [] e = refl
 no_bytes (x ∷ b) e = absurd (omega (arith, e))
 
--- what is shown of a text is that text alone
+-- the JSON of a text is this text
 pub text_again : (b t : List ℕ) → text_in b ≡ Some t → t ++ 0 ∷ [] ≡ b
 text_again b t e =
     cond_both (bytes_eq (take (length b - 1) b ++ 0 ∷ []) b && is_utf8 (take (length b - 1) b)) (Some (take (length b - 1) b)) None
@@ -60,7 +60,7 @@ text_again b t e =
 
 -- ---- attributes, in any object where their members are found
 
--- the kind that a frame tells in a list that has kinds
+-- the kind that a frame sets in a list that has kinds
 pub kind_word : (has : Bool) (c : PaddedFrame) (t : List ℕ) → kind_in has c ≡ Some t → (has ≡ true) × (kind_text c.value ≡ Some t)
 kind_word has c t e =
     elim (cases_Bool (has && type_of c.word == 1)) [
@@ -78,7 +78,7 @@ no_kind true d e = ap (option_and_then as_str) e
 no_kind false d e = refl
 
 module _ (Made : List ℕ → Form → Data → Option (List ℕ)) (rows : List Row) (has : Bool) where
-  -- what is wanted of an attribute's JSON
+  -- the bytes that an attribute's JSON must lead back to
   record Again (k : List ℕ) (c : PaddedFrame) (d : Data) : Type 0 where
     made : attribute_made Made rows has k d ≡ Some (frame_bytes c)
     kind : kind_named has d ≡ kind_in has c
@@ -171,7 +171,7 @@ module _ (table : Table) (Made : List ℕ → Form → Data → Option (List ℕ
   raw_again : (k : List ℕ) (f : Form) (b : List ℕ) → IsBytes b → Holds k f (raw b) b
   raw_again k f b h = ap (λ o. or_raw o (in_form table Made k f (raw b))) (raw_of-raw b h)
 
-  -- what is shown in the form where a test holds, and raw elsewhere
+  -- the JSON in the form if a test holds, else raw
   tested : (k : List ℕ) (f : Form) (t : Bool) (d : Data) (b : List ℕ) → IsBytes b → (t ≡ true → Holds k f d b) → Holds k f (cond t d (raw b)) b
   tested k f t d b h stands = cond_both t d (raw b) (λ x. Holds k f x b) stands (λ e. raw_again k f b h)
 
@@ -299,7 +299,7 @@ module _ (read : Data → Data) (r : Reader read) where
   pad_seen_read : (c : PaddedFrame) → option_map read (pad_seen c) ≡ pad_seen c
   pad_seen_read c = seen_read (is_blank (Some (padding (length c.value))) c.pad) (hex c.pad) (r.of_text _)
 
-  finds_read : (ms : Members) (name : List ℕ) (x : Data) (mark : Option Data) (word : ℕ) (c : PaddedFrame) → Apart ms → option_map read mark ≡ mark
+  finds_read : (ms : Members) (name : List ℕ) (x : Data) (mark : Option Data) (word : ℕ) (c : PaddedFrame) → Distinct ms → option_map read mark ≡ mark
       → Finds (object ms) name x mark word c → Finds (read (object ms)) name (read x) mark word c
   finds_read ms name x mark word c a kept f = record {
     it = r.found ms name a ∙ ap (option_map read) f.it;
@@ -360,14 +360,14 @@ module _ (read : Data → Data) (r : Reader read) where
             let ms = member (codes "Other") x (pad_member c) in
             let found = r.found (member (codes "word") (number (unsigned c.word)) (member (codes "value") (hex c.value) no_members)) in
             other_found Made rows has k c (read x) _ e s
-            (finds_read ms (codes "Other") x None c.word c (not_pad_member (codes "Other") c refl, pad_apart c) refl (other_finds Made rows has c x))
+            (finds_read ms (codes "Other") x None c.word c (not_pad_member (codes "Other") c refl, pad_distinct c) refl (other_finds Made rows has c x))
             (found (codes "word") (refl, (refl, tt)) ∙ ap Some (r.of_number _)) (found (codes "value") (refl, (refl, tt)) ∙ ap Some (r.of_text _))
         by_row_again (Some q) is e =
             let g = guarded rows (λ (q : Row). q.name) counts (λ q. type_of q.word == type_of c.word) (first (of_type c.word) rows) q is in
             let own = plain q.name g.passed in
             let x = Inner k q.form c.value in
             row_found Made rows has k c q (read x) _ e s g
-            (finds_read (member q.name x (beside q.word c)) q.name x None q.word c (named_apart q.name x q.word c own.word own.pad) refl
+            (finds_read (member q.name x (beside q.word c)) q.name x None q.word c (named_distinct q.name x q.word c own.word own.pad) refl
             (finds q.name x q.word c (swapped q.name (codes "word") own.word) (swapped q.name (codes "pad") own.pad)
             (swapped q.name (codes "bare") own.bare)))
             (again k q.form c.value s.value)
@@ -376,7 +376,7 @@ module _ (read : Data → Data) (r : Reader read) where
         by_kind_again (Some t) e =
             kind_found Made rows has k c t _ e s
             (subst (λ x. Finds (read (kind_shown c t)) (codes "Kind") x (bare_seen c.value) 1 c) (r.of_text t)
-            (finds_read (member (codes "Kind") (string t) (bare_member c.value (beside 1 c))) (codes "Kind") (string t) (bare_seen c.value) 1 c (kind_apart t c)
+            (finds_read (member (codes "Kind") (string t) (bare_member c.value (beside 1 c))) (codes "Kind") (string t) (bare_seen c.value) 1 c (kind_distinct t c)
             (seen_read (ends_in_nul c.value) (boolean true) (r.of_truth true)) (kind_finds t c)))
         by_kind_again None e = by_row_again (shown_row rows c.word) refl e
 
@@ -403,11 +403,11 @@ module _ (read : Data → Data) (r : Reader read) where
       indexed_again k i c s =
           let x = Inner k (form_of i (part_at table i)) c.value in
           let ms = member (codes "tab") (number (unsigned c.word)) (member (codes "attributes") x (pad_member c)) in
-          let apart : Apart ms = (not_pad_member (codes "tab") c refl, (not_pad_member (codes "attributes") c refl, pad_apart c)) in
+          let distinct : Distinct ms = (not_pad_member (codes "tab") c refl, (not_pad_member (codes "attributes") c refl, pad_distinct c)) in
           indexed_found table Made k i c (read x) (read (object ms)) s
-          (r.found ms (codes "raw") apart ∙ ap (option_map read) (not_pad_member (codes "raw") c refl))
-          (r.found ms (codes "tab") apart ∙ ap Some (r.of_number _)) (r.found ms (codes "attributes") apart)
-          (r.found ms (codes "pad") apart ∙ ap (option_map read) (get_pad_member c) ∙ pad_seen_read c) (again k (form_of i (part_at table i)) c.value s.value)
+          (r.found ms (codes "raw") distinct ∙ ap (option_map read) (not_pad_member (codes "raw") c refl))
+          (r.found ms (codes "tab") distinct ∙ ap Some (r.of_number _)) (r.found ms (codes "attributes") distinct)
+          (r.found ms (codes "pad") distinct ∙ ap (option_map read) (get_pad_member c) ∙ pad_seen_read c) (again k (form_of i (part_at table i)) c.value s.value)
 
       choice_again : (k : List ℕ) (i : ℕ) (b : List ℕ) (o : Option Choice) → IsBytes b → chosen (choices_of (part_at table i)) b ≡ o
           → Again_in k (form.Choice i) (by_choice (Inner k) b o) b
@@ -416,11 +416,11 @@ module _ (read : Data → Data) (r : Reader read) where
           subst (λ d. Holds table Made k (form.Choice i) d b) (sym same) (hex_made-hex b h)
       choice_again k i b (Some c) h is =
           let cs = choices_of (part_at table i) in
-          let behind = drop (length c.prefix) b in
-          let x = read (Inner k c.form behind) in
+          let following = drop (length c.prefix) b in
+          let x = read (Inner k c.form following) in
           subst (λ d. Holds table Made k (form.Choice i) d b) (sym (r.of_one c.name _))
           (choice_found table Made k cs b c x (one c.name x) h (guarded cs (λ (q : Choice). q.name) is_choice (follows b) (first (follows b) cs) c is)
-          (here c.name x no_members) (λ q e. passes q c.name x no_members e) (again k c.form behind (IsBytes-drop (length c.prefix) b h)))
+          (here c.name x no_members) (λ q e. passes q c.name x no_members e) (again k c.form following (IsBytes-drop (length c.prefix) b h)))
 
       record_again : (k : List ℕ) (i : ℕ) (b : List ℕ) → IsBytes b → names_distinct (fields_of (part_at table i)) ≡ true
           → Again_in k (form.Record i) (object (members table (Inner k) (fields_of (part_at table i)) b)) b
@@ -429,23 +429,23 @@ module _ (read : Data → Data) (r : Reader read) where
           let ms = members table (Inner k) fs b in
           let all = and_parts (is_free (codes "raw") fs && is_free (codes "rest") fs) (are_distinct fs) e in
           let names = and_parts (is_free (codes "raw") fs) (is_free (codes "rest") fs) all.0 in
-          let apart = members_apart (Inner k) fs b all.1 names.1 in
+          let distinct = members_distinct (Inner k) fs b all.1 names.1 in
           ap (λ o. or_raw (option_and_then hex_made o) (in_form table Made k (form.Record i) (read (object ms))))
-          (r.found ms (codes "raw") apart ∙ ap (option_map read) (absent table (Inner k) (codes "raw") fs b names.0 refl))
+          (r.found ms (codes "raw") distinct ∙ ap (option_map read) (absent table (Inner k) (codes "raw") fs b names.0 refl))
           ∙ fields_again table (Inner k) (Made k) read (again k) r.of_text fs b (read (object ms)) h
-          (λ name later. r.found ms name apart, r.found ms (codes "rest") apart) all.1 names.1
+          (λ name later. r.found ms name distinct, r.found ms (codes "rest") distinct) all.1 names.1
         where
-          members_apart : (One : Form → List ℕ → Data) (fs : List Field) (b : List ℕ) → are_distinct fs ≡ true → is_free (codes "rest") fs ≡ true
-              → Apart (members table One fs b)
-          members_apart One [] [] a free = tt
-          members_apart One [] (x ∷ b) a free = (refl, tt)
-          members_apart One (f ∷ fs) b a free =
+          members_distinct : (One : Form → List ℕ → Data) (fs : List Field) (b : List ℕ) → are_distinct fs ≡ true → is_free (codes "rest") fs ≡ true
+              → Distinct (members table One fs b)
+          members_distinct One [] [] a free = tt
+          members_distinct One [] (x ∷ b) a free = (refl, tt)
+          members_distinct One (f ∷ fs) b a free =
               let w = field_width table f in
               let later = after_field w b in
               let own = and_parts (is_free f.name fs) (are_distinct fs) a in
               let unlike = and_parts (not (bytes_eq (codes "rest") f.name)) (is_free (codes "rest") fs) free in
-              let more = members_apart One fs later own.1 unlike.1 in
-              cond_both (is_pad f.form && is_blank w (field_of w b)) (members table One fs later) _ Apart
+              let more = members_distinct One fs later own.1 unlike.1 in
+              cond_both (is_pad f.form && is_blank w (field_of w b)) (members table One fs later) _ Distinct
               (λ e. more) (λ e. (absent table One f.name fs later own.0 (swapped (codes "rest") f.name (not-false _ unlike.0)), more))
 
       elements_again : (k : List ℕ) (f : Form) (b : List ℕ) → IsBytes b

@@ -1,4 +1,4 @@
--- What is left to append of items, fields and attributes, and of what is within them.
+-- The bytes left to append for items, fields and attributes.
 use Rattle.std.proofs.Common.{◌≡◌, ℕ, zero, suc, ◌+◌, ◌-◌, ◌<◌, ◌≤◌, List, [], ◌++◌, length, get_or, drop, Option, Some, None, Result, Ok, Err, refl}
 use Rattle.std.proofs.Common.{subst, sym, ap, ◌∙◌, append-nil, append_assoc, arith}
 use Rattle.std.specs.Prelude.{option_map, unwrap_or, option_and_then, Bool, codes, false}
@@ -103,7 +103,7 @@ module _ (table : Table) (Made : Form → Data → Option (List ℕ)) (fs : List
     fields_fail e fails =
         joined_fails (field_made table Made (field_view (get_or fs i q)) (get (get_or fs i q).name.now d)) _ _ start now e field_here fails
 
--- attributes, whose rows go by the kind so far
+-- attributes, whose rows depend on the kind so far
 module _ (Listed : List Row → List ℕ → Data → Option (List ℕ)) (Rows : List ℕ → List Row) (has : Bool) (vs : List Value) (i : ℕ) (first k start now : List ℕ)
     (left : Left (each_under (λ j d. Listed (Rows j) j d) has k (items_view (drop i vs))) (each_under (λ j d. Listed (Rows j) j d) has first (items_view vs))
     start now) where
@@ -152,7 +152,7 @@ itself : (o : Option (List ℕ)) → or_raw o o ≡ o
 itself None = refl
 itself (Some b) = refl
 
--- what is raw is made at any depth
+-- raw bytes are made at any depth
 pub raw_made : {T : Type 0} (table : Table) (n : ℕ) (k : List ℕ) (f : Form) (d : Data) (old new : List ℕ) (r : Result T Stop)
     → ((other : Option (List ℕ)) → Appended (or_raw (raw_of d) other) old new r) → Appended (make table n k f d) old new r
 raw_made table zero k f d old new r h = appended_as (or_raw (raw_of d) (raw_of d)) (raw_of d) old new r (itself (raw_of d)) (h (raw_of d))
@@ -163,7 +163,7 @@ or_else : {T : Type 0} (raw made : Option (List ℕ)) (old mid new : List ℕ) (
 or_else raw made old mid new r none same h =
     subst (λ o. Appended (or_raw o made) old new r) (sym none) (subst (λ (b : List ℕ). Appended made b new r) same h)
 
--- what isn't raw is made by its form, with a level less
+-- JSON that isn't raw is made in its form, with one level less
 pub level_made : {T : Type 0} (table : Table) (n m : ℕ) (k : List ℕ) (f : Form) (d : Data) (old mid new : List ℕ) (r : Result T Stop)
     → (1 ≤ n) × (m ≡ n - 1) → raw_of d ≡ None → mid ≡ old → Appended (in_form table (make table m) k f d) mid new r → Appended (make table n k f d) old new r
 level_made table zero m k f d old mid new r less none same h = absurd (omega (arith, less.0))

@@ -20,29 +20,29 @@ use Rattle.forms_values.proofs.Search.{none_not_some}
 -- ---- what is shown names each member once
 
 -- no two members have one name
-abbrev pub Apart : Members → Type 0
-Apart no_members = Unit {0}
-Apart (member k d ms) = (get_member k ms ≡ None) × Apart ms
+abbrev pub Distinct : Members → Type 0
+Distinct no_members = Unit {0}
+Distinct (member k d ms) = (get_member k ms ≡ None) × Distinct ms
 
-pub pad_apart : (c : PaddedFrame) → Apart (pad_member c)
-pad_apart c =
-    cond_both (is_blank (Some (padding (length c.value))) c.pad) no_members (member (codes "pad") (hex c.pad) no_members) Apart
+pub pad_distinct : (c : PaddedFrame) → Distinct (pad_member c)
+pad_distinct c =
+    cond_both (is_blank (Some (padding (length c.value))) c.pad) no_members (member (codes "pad") (hex c.pad) no_members) Distinct
     (λ blank. tt) (λ shown. (refl, tt))
 
-beside_apart : (word : ℕ) (c : PaddedFrame) → Apart (beside word c)
-beside_apart word c =
-    cond_both (c.word == word) (pad_member c) (member (codes "word") (number (unsigned c.word)) (pad_member c)) Apart (λ same. pad_apart c)
-    (λ other. (not_pad_member (codes "word") c refl, pad_apart c))
+beside_distinct : (word : ℕ) (c : PaddedFrame) → Distinct (beside word c)
+beside_distinct word c =
+    cond_both (c.word == word) (pad_member c) (member (codes "word") (number (unsigned c.word)) (pad_member c)) Distinct (λ same. pad_distinct c)
+    (λ other. (not_pad_member (codes "word") c refl, pad_distinct c))
 
-pub named_apart : (name : List ℕ) (x : Data) (word : ℕ) (c : PaddedFrame) → bytes_eq name (codes "word") ≡ false → bytes_eq name (codes "pad") ≡ false
-    → Apart (member name x (beside word c))
-named_apart name x word c w p = (get_beside word c name w ∙ not_pad_member name c p, beside_apart word c)
+pub named_distinct : (name : List ℕ) (x : Data) (word : ℕ) (c : PaddedFrame) → bytes_eq name (codes "word") ≡ false → bytes_eq name (codes "pad") ≡ false
+    → Distinct (member name x (beside word c))
+named_distinct name x word c w p = (get_beside word c name w ∙ not_pad_member name c p, beside_distinct word c)
 
-pub kind_apart : (t : List ℕ) (c : PaddedFrame) → Apart (member (codes "Kind") (string t) (bare_member c.value (beside 1 c)))
-kind_apart t c = (
+pub kind_distinct : (t : List ℕ) (c : PaddedFrame) → Distinct (member (codes "Kind") (string t) (bare_member c.value (beside 1 c)))
+kind_distinct t c = (
   get_bare_member c.value (beside 1 c) (codes "Kind") refl ∙ get_beside 1 c (codes "Kind") refl ∙ not_pad_member (codes "Kind") c refl,
-  cond_both (ends_in_nul c.value) (beside 1 c) (member (codes "bare") (boolean true) (beside 1 c)) Apart (λ ends. beside_apart 1 c)
-      (λ bare. (no_bare_beside 1 c, beside_apart 1 c)),
+  cond_both (ends_in_nul c.value) (beside 1 c) (member (codes "bare") (boolean true) (beside 1 c)) Distinct (λ ends. beside_distinct 1 c)
+      (λ bare. (no_bare_beside 1 c, beside_distinct 1 c)),
 )
 
 -- ---- readers
@@ -58,7 +58,7 @@ pub record Reader (read : Data → Data) : Type 0 where
   pub of_truth : (b : Bool) → read (boolean b) ≡ boolean b
   pub of_list : (ds : Items) → read (array ds) ≡ array (each_item read ds)
   pub of_one : (name : List ℕ) (d : Data) → read (one name d) ≡ one name (read d)
-  pub found : (ms : Members) (q : List ℕ) → Apart ms → get q (read (object ms)) ≡ option_map read (get_member q ms)
+  pub found : (ms : Members) (q : List ℕ) → Distinct ms → get q (read (object ms)) ≡ option_map read (get_member q ms)
   pub no_text : (ms : Members) → as_str (read (object ms)) ≡ None
 
 -- JSON unchanged
@@ -100,7 +100,7 @@ kept (member k d ms) before q e =
           kept ms (put k (ordered d) before) q (sym (passes q k d ms other) ∙ e) ∙ get_member-put_other q k (ordered d) before (differs q k other)
     ]
 
-found_so : (ms before : Members) (q : List ℕ) (x : Data) → Apart ms → get_member q ms ≡ Some x → get_member q (ordered_members ms before) ≡ Some (ordered x)
+found_so : (ms before : Members) (q : List ℕ) (x : Data) → Distinct ms → get_member q ms ≡ Some x → get_member q (ordered_members ms before) ≡ Some (ordered x)
 found_so no_members before q x a e = absurd (none_not_some x e)
 found_so (member k d ms) before q x a e =
     elim (cases_Bool (bytes_eq q k)) [
@@ -112,7 +112,7 @@ found_so (member k d ms) before q x a e =
       | inr other ↦ found_so ms (put k (ordered d) before) q x a.1 (sym (passes q k d ms other) ∙ e)
     ]
 
-found_ordered : (ms : Members) (q : List ℕ) → Apart ms → get_member q (ordered_members ms no_members) ≡ option_map ordered (get_member q ms)
+found_ordered : (ms : Members) (q : List ℕ) → Distinct ms → get_member q (ordered_members ms no_members) ≡ option_map ordered (get_member q ms)
 found_ordered ms q a = go (get_member q ms) refl
   where
     go : (o : Option Data) → get_member q ms ≡ o → get_member q (ordered_members ms no_members) ≡ option_map ordered (get_member q ms)

@@ -1,4 +1,4 @@
--- Records are made again of what is shown of them.
+-- The JSON of records leads back to them.
 use Rattle.std.proofs.Common.{◌≡◌, ℕ, inl, inr, Bool, true, false, List, [], ◌∷◌, ◌++◌, length, Option, Some, None, refl, ap, sym, ◌∙◌, cond, true≢false}
 use Rattle.std.specs.Prelude.{option_map, unwrap_or, replicate, ◌==◌, bytes_eq, codes, not, ◌&&◌}
 use Rattle.std.proofs.lemmas.Bool.{cases_Bool, cond_both, and_parts, eqb-true}
@@ -83,9 +83,9 @@ module _ (table : Table) (Inner : Form → List ℕ → Data) (Made : Form → D
   free_here : (f : Field) (fs : List Field) → is_free f.name (f ∷ fs) ≡ false
   free_here f fs = ap (λ t. not t && is_free f.name fs) (same_bytes f.name)
 
-  -- a name that isn't free among these fields isn't one that is
-  apart : (name other : List ℕ) (fs : List Field) → is_free name fs ≡ false → is_free other fs ≡ true → bytes_eq name other ≡ false
-  apart name other fs e free =
+  -- a name that a field has isn't one that no field has
+  distinct : (name other : List ℕ) (fs : List Field) → is_free name fs ≡ false → is_free other fs ≡ true → bytes_eq name other ≡ false
+  distinct name other fs e free =
       elim (cases_Bool (bytes_eq name other)) [
         | inl same ↦ absurd (true≢false (sym free ∙ ap (λ n. is_free n fs) (sym ((bytes_eq-Decides name other).0 same)) ∙ e))
         | inr differs ↦ differs
@@ -97,17 +97,17 @@ module _ (table : Table) (Inner : Form → List ℕ → Data) (Made : Form → D
 
   pub fields_again : (fs : List Field) (b : List ℕ) (d : Data) → IsBytes b → Finds d fs b → are_distinct fs ≡ true → is_free rest fs ≡ true
       → fields_made table Made fs d ≡ Some b
-  fields_again [] b d h finds apart_all free = ap rest_made finds.1 ∙ rest_again b h
-  fields_again (f ∷ fs) b d h finds apart_all free =
+  fields_again [] b d h finds all_distinct free = ap rest_made finds.1 ∙ rest_again b h
+  fields_again (f ∷ fs) b d h finds all_distinct free =
       let w = field_width table f in
       let chunk = field_of w b in
       let later = after_field w b in
       let after = members table Inner fs later in
-      let own = and_parts (is_free f.name fs) (are_distinct fs) apart_all in
+      let own = and_parts (is_free f.name fs) (are_distinct fs) all_distinct in
       let unlike_rest = and_parts (not (bytes_eq rest f.name)) (is_free rest fs) free in
       let finds_later : Finds d fs later = (
         λ name e. finds.0 name (free_later name f fs e)
-            ∙ ap (option_map read) (past_field table Inner name f chunk after (apart name f.name fs e own.0)),
+            ∙ ap (option_map read) (past_field table Inner name f chunk after (distinct name f.name fs e own.0)),
         finds.1 ∙ ap (option_map read) (past_field table Inner rest f chunk after (not-false _ unlike_rest.0)),
       ) in
       joined_made (field_made table Made f (get f.name d)) (fields_made table Made fs d) chunk later b

@@ -1,4 +1,4 @@
--- What is sent of frames, elements and fields, one after the other, and of what is within them.
+-- The events of frames, elements and fields, in order.
 use Rattle.std.proofs.Common.{◌≡◌, ℕ, zero, suc, ◌+◌, ◌-◌, ◌<◌, ◌≤◌, true, false, List, [], ◌∷◌, length, drop, take, Some, None, refl, subst, ◌∙◌, sym}
 use Rattle.std.proofs.Common.{ap, append-nil, arith, get_or, Result}
 use Rattle.std.specs.Prelude.{◌==◌, Bool, OnOk, unwrap_or}
@@ -40,10 +40,10 @@ module _ (One : List ℕ → PaddedFrame → Data) (has : Bool) (len i : ℕ) (s
   frames_more next after c lt found is_after is_next sent end later =
       let one_less : len - i ≡ suc (len - (i + 1)) = omega (arith, lt) in
       let k = unwrap_or (kind_in has c) kind in
-      let behind = subst (λ j. Sent (items_events (frames One has (len - (i + 1)) j (after_first left))) new end) is_next
+      let following = subst (λ j. Sent (items_events (frames One has (len - (i + 1)) j (after_first left))) new end) is_next
       (subst (λ a. Sent (items_events (frames One has (len - (i + 1)) next a)) new end) is_after later) in
       let here = subst (λ j. Sent (events (One j c)) mid new) is_next sent in
-      let both = sent_then (events (One k c)) (items_events (frames One has (len - (i + 1)) k (after_first left))) mid new end here behind in
+      let both = sent_then (events (One k c)) (items_events (frames One has (len - (i + 1)) k (after_first left))) mid new end here following in
       before end (subst (λ n. Sent (items_events (frames One has n kind left)) mid end) (sym one_less)
       (subst (λ o. Sent (items_events (first_or_tail One has kind left (λ j. frames One has (len - (i + 1)) j (after_first left)) o)) mid end) found both))
 
@@ -120,7 +120,7 @@ module _ (table : Table) (Inner : Form → List ℕ → Data) (fs : List CodeFie
 
 -- ---- levels
 
--- what is shown has a level less within
+-- the JSON of what is within has one level less
 pub level_sent : {T E : Type 0} (table : Table) (n m : ℕ) (k : List ℕ) (f : Form) (b : List ℕ) (old new : Log) (r : Result T E) → (1 ≤ n) × (m ≡ n - 1)
     → OnOk r (Sent (events (shown table (show table m) k f b)) old new) → OnOk r (Sent (events (show table n k f b)) old new)
 level_sent table zero m k f b old new r less h = absurd (omega (arith, less.0))
@@ -151,7 +151,7 @@ empty_is b e = eqb-true (length b) 0 (sym e)
 pub full_is : (b : List ℕ) → false ≡ (length b == 0) → length b ≡ 0 → ⊥
 full_is b e none = true≢false (sym (eq-eqb (length b) 0 none) ∙ sym e)
 
--- a form that holds no other
+-- a form that contains no other
 pub plain_when : (table : Table) (Inner : List ℕ → Form → List ℕ → Data) (k : List ℕ) (f : Form) (b : List ℕ) → ((i : ℕ) → f ≡ form.Record i → ⊥)
     → ((i : ℕ) → f ≡ form.Array i → ⊥)
     → ((n i : ℕ) → f ≡ form.Times n i → ⊥) → ((i : ℕ) → f ≡ form.List i → ⊥) → ((i : ℕ) → f ≡ form.InForce i → ⊥) → ((i : ℕ) → f ≡ form.Own i → ⊥)

@@ -1,4 +1,4 @@
--- Which bytes JSON stands for in a form, by a table, under a kind.
+-- The bytes of JSON in a form, with a table, under a kind.
 use Rattle.std.specs.Prelude.{List, Option, [], false, option_and_then, suc, true, zero, ℕ}
 use Rattle.serde_json.specs.Data.{Data}
 use Rattle.serde_json.specs.Find.{as_array}
@@ -16,7 +16,7 @@ use Rattle.forms_values.specs.declared.form.Form.TheVariants as form
 
 -- `Inner` makes what is within
 module _ (table : Table) (Inner : List ℕ → Form → Data → Option (List ℕ)) where
-  -- what a form makes, by what stands at its place
+  -- the bytes of a form, by the part at its place
   abbrev pub in_form : List ℕ → Form → Data → Option (List ℕ)
   in_form kind (form.Record i) d = fields_made table (Inner kind) (fields_of (part_at table i)) d
   in_form kind (form.Array i) d = option_and_then (each_made (Inner kind (form_of i (part_at table i)))) (as_array d)
@@ -33,6 +33,6 @@ abbrev pub make : Table → ℕ → List ℕ → Form → Data → Option (List 
 make table zero kind f d = raw_of d
 make table (suc n) kind f d = or_raw (raw_of d) (in_form table (make table n) kind f d)
 
--- what is made, at the depth that is used, under no kind
+-- the bytes, at the greatest depth, under no kind
 unfoldable pub made_of : Table → Form → Data → Option (List ℕ)
 made_of table f d = make table deepest [] f d

@@ -1,4 +1,4 @@
--- What a reader of JSON makes of an object: its members in the order of their names, and of two with one name the last.
+-- JSON as a reader has it: members in the order of their names, and of two with one name the last.
 use Rattle.serde_json.specs.Data.{Data, null, boolean, number, string, array, object, Items, no_items, item, Members, no_members, member, put}
 
 abbrev mutual
@@ -14,7 +14,7 @@ abbrev mutual
   ordered_items no_items = no_items
   ordered_items (item d ds) = item (ordered d) (ordered_items ds)
 
-  -- behind those found
+  -- after the members found so far
   pub ordered_members : Members → Members → Members
   ordered_members no_members found = found
   ordered_members (member k d ms) found = ordered_members ms (put k (ordered d) found)

@@ -1,4 +1,4 @@
--- What is shown of bytes in a form, by a table, under a kind. What doesn't follow its form is shown raw.
+-- The JSON of bytes in a form, with a table, under a kind. Bytes that don't follow their form are raw.
 use Rattle.std.specs.Prelude.{List, [], false, if◌then◌else◌, length, suc, true, zero, ℕ, ◌&&◌}
 use Rattle.serde_json.specs.Data.{Data, array, object}
 use Rattle.forms_attributes.specs.Attributes.{attribute, frames, indexed, layered}
@@ -15,7 +15,7 @@ use Rattle.forms_values.specs.declared.form.Form.TheVariants as form
 
 -- `Inner` shows what is within
 module _ (table : Table) (Inner : List ℕ → Form → List ℕ → Data) where
-  -- what a form shows, by what stands at its place
+  -- the JSON of a form, by the part at its place
   abbrev pub shown : List ℕ → Form → List ℕ → Data
   shown kind (form.Record i) b =
       if names_distinct (fields_of (part_at table i)) && are_enough table (length b) (fields_of (part_at table i))
@@ -31,11 +31,11 @@ module _ (table : Table) (Inner : List ℕ → Form → List ℕ → Data) where
   shown kind (form.Choice i) b = by_choice (Inner kind) b (chosen (choices_of (part_at table i)) b)
   shown kind f b = plain_shown table f b
 
--- forms nest so deep, and what is deeper is raw
+-- forms nest this deep; deeper bytes are raw
 abbrev pub show : Table → ℕ → List ℕ → Form → List ℕ → Data
 show table zero kind f b = raw b
 show table (suc n) kind f b = shown table (show table n) kind f b
 
--- what is shown, at the depth that is used, under no kind
+-- the JSON, at the greatest depth, under no kind
 unfoldable pub shown_of : Table → Form → List ℕ → Data
 shown_of table f b = show table deepest [] f b

@@ -1,4 +1,4 @@
-//! Bytes of JSON, by form.
+//! The bytes of JSON in a form.
 
 ghost use Rattle.serde_json.specs.Find.{as_array, get};
 ghost use Rattle.serde_json.specs.View.{view};
@@ -32,7 +32,7 @@ use forms_values::{Choice, Field, Form, MakeError, Row, Tables, Wanted};
 use serde_json::Value;
 use std::alloc::Global;
 
-/// The bytes that JSON stands for in a form, by a table.
+/// The bytes of JSON in a form, with a table.
 #[tactic(auto, unfolding(crate::specs::Made::made_of))]
 pub fn made<T: Tables>(
     alloc: Global,
@@ -55,7 +55,7 @@ pub fn made<T: Tables>(
     }
 }
 
-// Appends the bytes that a JSON value stands for in a form.
+// Appends the bytes of a JSON value in a form.
 #[cycle(make)]
 fn make_form<'v, T: Tables>(
     maker: &mut Maker<'v>,
@@ -82,7 +82,7 @@ fn make_form<'v, T: Tables>(
     }
 }
 
-// The same, of a value that isn't raw bytes; what is within has the levels that are left.
+// Appends the bytes of a value that isn't raw. Values within it have the levels that are left.
 #[cycle(make)]
 fn make_in_form<'v, T: Tables>(
     maker: &mut Maker<'v>,
@@ -154,7 +154,7 @@ fn make_field<'v, T: Tables>(
     }
 }
 
-// What a member holds, in its form.
+// Appends the bytes of a member's value, in its form.
 #[cycle(make)]
 fn make_member<'v, T: Tables>(
     maker: &mut Maker<'v>,
@@ -351,7 +351,7 @@ fn make_held<'v, T: Tables>(
     }
 }
 
-// An attribute of this word, whose value is of this form.
+// Appends an attribute with this `nla_type`, and a value in this form.
 #[cycle(make)]
 fn make_value<'v, T: Tables>(
     maker: &mut Maker<'v>,

@@ -1,4 +1,4 @@
-//! What is shown of bytes in a form.
+//! The JSON of bytes in a form.
 
 ghost use Rattle.serde.specs.Event.{Log};
 ghost use Rattle.serde_json.specs.Data.{Members, array};
@@ -31,16 +31,13 @@ use forms_values::{Choice, Field, Form, Tables};
 use serde::{Described, Serialize, Serializer};
 use std::alloc::Global;
 
-/// Bytes in a form, by a table, for a format of serde.
+/// Bytes in a form, with a table: a value for a serde format.
 #[derive(Drop)]
 pub struct Shown<'a, T> {
-    /// The table.
     pub table: T,
-    /// The form.
     pub form: Form,
-    /// The bytes.
     pub bytes: &'a [u8],
-    /// Takes the texts of bytes in hex.
+    /// Allocates the hex texts of bytes.
     pub alloc: Global,
 }
 
@@ -54,7 +51,7 @@ impl<'a, T: Tables> Serialize for Shown<'a, T> {
     }
 }
 
-/// Sends what is shown of bytes in a form.
+/// Sends the JSON of bytes in a form.
 #[tactic(auto, unfolding(crate::specs::Shown::shown_of))]
 pub fn send_shown<S: Serializer, T: Tables>(
     table: T,
@@ -80,7 +77,7 @@ pub fn send_shown<S: Serializer, T: Tables>(
     }
 }
 
-// Sends what is shown of bytes within others. Most fields and attributes are numbers, and a number needs no call of `send_any`.
+// Sends bytes in a form. Most fields and attributes are numbers, which need no call of `send_any`.
 #[inline(always)]
 #[cycle(send)]
 fn send_form<S: Serializer, T: Tables>(
@@ -124,7 +121,7 @@ fn send_any<S: Serializer, T: Tables>(
     }
 }
 
-// The same; what is within has the levels that are left.
+// Sends bytes in a form. Bytes within them have the levels that are left.
 #[inline(always)]
 #[cycle(send)]
 fn send_in_form<S: Serializer, T: Tables>(
@@ -288,7 +285,7 @@ fn send_each_element<S: Serializer, T: Tables>(
     send_form(at, form, left, out, aside)
 }
 
-// A list of attributes; its kinds are in force, or the one kind is.
+// Sends a list of attributes. If `in_force`, its attributes of type 1 set the kind.
 #[inline(never)]
 #[cycle(send)]
 fn send_list<S: Serializer, T: Tables>(

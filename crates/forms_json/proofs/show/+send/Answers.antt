@@ -191,7 +191,7 @@ send_choice-returns-in_ok-send_form-in-Some g t c =
     (g.S.Serializer.written c.end_map.new.out))) c.in-Some.ensures (on_ok_weaker c.end_map.result (object_sent c.in-Some.choice.name.now
     (Inner c.in-Some.choice.form (drop (length c.in-Some.choice.prefix.now) c.args.bytes.now)) no_members _ _ _ _ _ _ c.in_ok-begin_map-in-Some.ensures
     c.in_ok-key-in-Some.ensures (subst (λ b. Sent (events (Inner c.in-Some.choice.form b)) (g.S.Serializer.written c.key.new.out)
-    (g.S.Serializer.written c.send_form.new.out)) c.behind-held.ensures c.in_ok-send_form-in-Some.ensures)
+    (g.S.Serializer.written c.send_form.new.out)) c.bytes_from-held.ensures c.in_ok-send_form-in-Some.ensures)
     (sent_none (g.S.Serializer.written c.send_form.new.out))) c.end_map.ensures)
 
 pub send_indexed-returns : goal.send_indexed-returns
