@@ -1,4 +1,4 @@
--- Floats that are the same bits.
+-- Floats with the same bits.
 use Rattle.std.proofs.Common.{◌≡◌, Bool, true, false, refl, ap, sym, ◌∙◌, subst}
 use lib.Dec.{T}
 use lib.Ieee.{Float, nan, inf, fin, is_nan, fits, to_bits, of_bits, binary64}

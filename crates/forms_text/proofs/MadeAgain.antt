@@ -1,4 +1,4 @@
--- The bytes of which JSON is shown are made of it, unless memory runs out.
+-- JSON that is shown for bytes is turned into these bytes, unless memory runs out.
 use Rattle.std.proofs.Common.{◌≡◌, ℕ, Bool, true, false, List, [], Some, refl, sym, ◌∙◌, subst}
 use Rattle.nla_frames.specs.Value.{IsBytes}
 use Rattle.serde_json.specs.Data.{Data}

@@ -1,4 +1,4 @@
--- The text of JSON is read as this JSON, its members in the order of their names, and has no name twice.
+-- The text of JSON is read as this JSON, its members in the order of their names, and no object in it has a name twice.
 use Rattle.std.proofs.Common.{ℕ, zero, suc, pos, negsuc, List, [], Some, None, refl, ap, sym, append-nil, arith, subst, inl, inr, true≢false}
 use Rattle.std.proofs.Common.{◌≡◌, ◌≢◌, ◌≤◌, ◌∙◌}
 use Rattle.std.specs.Prelude.{option_map, option_and_then, All, IsSomeAnd, bytes_eq}
@@ -117,7 +117,7 @@ mutual
 
 -- ---- texts
 
--- the tokens of JSON are one value, where it nests at most so deep
+-- the tokens of JSON are one value, if it nests at most this deep
 whole : (levels : ℕ) (j : json.Json) → depth j ≤ levels → option_and_then (λ p. if_last p.0 p.1) (value levels (json_tokens j)) ≡ Some j
 whole levels j h =
     ap (λ ts. option_and_then (λ p. if_last p.0 p.1) (value levels ts)) (sym (append-nil (json_tokens j)))

@@ -1,4 +1,4 @@
--- JSON whose text is read as it is: it nests at most so deep, its numbers are integers of 64 bits, and no object in it has a
+-- JSON whose text is read unchanged: it nests at most n levels deep, its numbers are integers of 64 bits, and no object in it has a
 -- name twice.
 use Rattle.std.specs.Prelude.{ℕ, zero, suc, ◌<◌, ◌^◌, pos, negsuc}
 use Rattle.serde_json.specs.Data.{Num, unsigned, negative, float, Data, null, boolean, number, string, array, object}

@@ -1,4 +1,4 @@
--- Plain values are readable as they are shown: their numbers have 64 bits, and they nest in one object at most.
+-- The JSON of plain values is readable: its numbers have 64 bits, and it nests in one object at most.
 use Rattle.std.proofs.Common.{◌≡◌, ℕ, suc, ◌-◌, ◌*◌, ◌^◌, ◌<◌, ◌≤◌, Bool, true, false, List, [], ◌∷◌, length, Option, Some, None, negsuc, cond, arith, refl}
 use Rattle.std.specs.Prelude.{◌==◌, ◌||◌, nat_lt, bytes_eq, codes}
 use Rattle.std.specs.Str.{is_utf8}
@@ -47,7 +47,7 @@ number_kept k b len h = kept_num (is_signed k) (half k) (bits_of k b) (half_top 
 pub raw_readable : (b : List ℕ) (n : ℕ) → Readable (raw b) (suc n)
 raw_readable b n = ((refl, tt), (tt, tt))
 
--- where a test holds, and raw elsewhere
+-- if a test holds, else raw
 pub tested : (t : Bool) (d : Data) (b : List ℕ) (n : ℕ) → (t ≡ true → Readable d (suc n)) → Readable (cond t d (raw b)) (suc n)
 tested t d b n h = cond_both t d (raw b) (λ x. Readable x (suc n)) h (λ e. raw_readable b n)
 

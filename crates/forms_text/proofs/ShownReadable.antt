@@ -1,4 +1,4 @@
--- What is shown of bytes is readable: it nests at most three levels deeper for each form within a form.
+-- The JSON of bytes is readable: it nests at most three levels deeper for each form within a form.
 use Rattle.std.proofs.Common.{◌≡◌, ℕ, zero, suc, ◌^◌, ◌<◌, Bool, true, false, List, [], ◌∷◌, length, take, drop, Option, Some, None, arith, refl}
 use Rattle.std.specs.Prelude.{◌==◌, ◌&&◌, not, nat_le, bytes_eq, unwrap_or, codes}
 use Rattle.std.proofs.lemmas.Bool.{cond_both, and_parts}
@@ -193,7 +193,7 @@ module _ (table : Table) (Inner : List ℕ → Form → List ℕ → Data) (m : 
       let o = chosen (choices_of (part_at table i)) b in twice (by_choice (Inner k) b o) (choice_readable (Inner k) m (inner k) b o h)
   level_readable k f b h = plain_readable table f b (suc (suc (suc m))) h
 
--- how deep what is shown nests, where forms nest so deep
+-- how deep JSON nests, if forms nest this deep
 abbrev pub levels : ℕ → ℕ
 levels zero = 0
 levels (suc n) = suc (suc (suc (levels n)))

@@ -1,4 +1,4 @@
--- The text of what is shown of bytes is read, has no name twice, and is made into these bytes, unless memory runs out.
+-- The text of the JSON of bytes is read, no object in it has a name twice, and it is turned into these bytes, unless memory runs out.
 use Rattle.std.proofs.Common.{◌≡◌, ℕ, List, [], Option, Some, None, refl, ap, sym, ◌∙◌, arith}
 use Rattle.std.specs.Prelude.{option_and_then, IsSomeAnd, IsUtf8}
 use Rattle.json.specs.Json.{Json, document}
@@ -43,7 +43,7 @@ module _ (table : Table) (f : Form) (bytes : List ℕ) (h : IsBytes bytes) where
     all_made : option_and_then (made_of table f) (read text) ≡ Some bytes
     all_made = ap (option_and_then (made_of table f)) shown_is_read ∙ shown_made
 
-    -- the bytes that are made of the text are these
+    -- the text is turned into these bytes
     pub same_made : (b : List ℕ) → option_and_then (made_of table f) (read text) ≡ Some b → b ≡ bytes
     same_made b e = some_is b bytes (sym e ∙ all_made)
 
@@ -54,7 +54,7 @@ module _ (table : Table) (f : Form) (bytes : List ℕ) (h : IsBytes bytes) where
     never_twice None once twice = absurd once
     never_twice (Some j) once twice = absurd (twice once)
 
-    -- it isn't read, or no bytes are made of it, where memory ran out alone
+    -- it fails to be read, or to be turned into bytes, only if memory ran out
     pub only_memory : (e : TextError) → IsUtf8 text → IsTextCause table f text e → IsMemory e
     only_memory (Read OutOfMemory) utf8 cause = refl
     only_memory (Read (NotJson line column)) utf8 cause = unread (cause utf8).0

@@ -1,4 +1,4 @@
--- A text that `json` doesn't read `serde_json` doesn't read either: `json` lets lists and objects nest one level deeper.
+-- A text that `json` can't read can't be read by `serde_json` either: `json` lets lists and objects nest one level deeper.
 use Rattle.std.proofs.Common.{◌≡◌, ℕ, ◌≤◌, List, Option, Some, None, option_and_then, refl, sym, ap, arith, ◌∙◌}
 use Rattle.json.specs.Token.{Token}
 use Rattle.json.specs.Lex.{tokens}
@@ -9,13 +9,13 @@ use Rattle.json.proofs.Printed.Trees.{value-json_tokens}
 use Rattle.json.proofs.Unique.Spelling.{value-json_tokens_back}
 use Rattle.serde_json.specs.Read.{of_json, read}
 
--- what is read at a depth is read a level deeper
+-- JSON that is read at a depth is read one level deeper too
 deeper : (ts r : List Token) (j : Json) → value 127 ts ≡ Some (j, r) → value 128 ts ≡ Some (j, r)
 deeper ts r j e =
     let within : depth j ≤ 127 = value-depth 127 ts r j e in
     ap (value 128) (value-json_tokens_back 127 ts r j e) ∙ value-json_tokens j 128 r (omega arith)
 
--- a value that is the whole text
+-- a value that fills the text
 abbrev whole : Option (Json × List Token) → Option Json
 whole found = option_and_then (λ p. if_last p.0 p.1) found
 

@@ -1,4 +1,4 @@
--- The tokens that JSON is written as, once it is sent, are those of the JSON.
+-- JSON that is sent is written as its own tokens.
 use Rattle.std.proofs.Common.{◌≡◌, ℕ, zero, suc, pos, negsuc, List, [], ◌∷◌, ◌++◌, Some, None, refl, sym, append_assoc, subst}
 use Rattle.json.specs.Lex.{tokens}
 use Rattle.json.specs.Tree.{json_tokens, items_tokens, members_tokens}

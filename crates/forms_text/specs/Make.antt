@@ -1,4 +1,4 @@
--- Why no bytes are made of a text.
+-- Why a text can't be turned into bytes.
 use Rattle.std.specs.Prelude.{◌≡◌, ℕ, List, option_and_then}
 use Rattle.serde_json.specs.Read.{read}
 use Rattle.forms_values.specs.declared.error.MakeError.TheVariants as make
@@ -16,7 +16,7 @@ abbrev pub IsMemory : TextError → Type 0
 IsMemory (Read e) = e ≡ read_error.OutOfMemory
 IsMemory (Make e) = e ≡ make.OutOfMemory
 
--- the text isn't read, or no bytes are made of what is read
+-- the text can't be read, or the JSON that is read can't be turned into bytes
 abbrev pub IsTextCause : Table → Form → List ℕ → TextError → Type 0
 IsTextCause table form text (Read e) = IsCause text e
 IsTextCause table form text (Make e) = Fails (option_and_then (made_of table form) (read text)) e

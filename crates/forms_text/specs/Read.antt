@@ -1,4 +1,4 @@
--- Texts that are read as JSON, and why a text isn't read.
+-- Texts that are read as JSON, and why a text can't be read.
 use Rattle.std.specs.Prelude.{◌≡◌, ℕ, ◌+◌, ◌-◌, ◌||◌, Bool, true, false, List, [], ◌∷◌, nat_le, None, IsSomeAnd, IsUtf8}
 use Rattle.json.specs.Json.{document}
 use Rattle.json.specs.Lex.{tokens}
@@ -30,7 +30,7 @@ opens_too_many depth (Token.bad ∷ ts) = opens_too_many depth ts
 abbrev pub is_too_deep : List ℕ → Bool
 is_too_deep text = opens_too_many 0 (tokens text)
 
--- why a text isn't read: it isn't JSON, or an object has a name twice
+-- why a text can't be read: it isn't JSON, or an object has a name twice
 abbrev pub IsCause : List ℕ → ReadError → Type 0
 IsCause text OutOfMemory = Unit {0}
 IsCause text (NotJson line column) = IsUtf8 text → (read text ≡ None) × (is_too_deep text ≡ false)

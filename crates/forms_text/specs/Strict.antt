@@ -1,4 +1,4 @@
--- The JSON of bytes, and why no bytes are made of JSON.
+-- The JSON of bytes as a reader has it, and why JSON can't be turned into bytes strictly.
 use Rattle.std.specs.Prelude.{◌≡◌, ℕ, List}
 use Rattle.serde_json.specs.Data.{Data}
 use Rattle.forms_values.specs.declared.error.MakeError.TheVariants.{OutOfMemory}
@@ -9,7 +9,7 @@ use Rattle.forms_values.specs.Tables.{Table}
 use Rattle.forms_text.specs.declared.error.StrictError.{StrictError}
 use Rattle.forms_text.specs.declared.error.StrictError.TheVariants.{Make}
 
--- what is shown of bytes, the members of each object in the order of their names
+-- the JSON of bytes, the members of each object in the order of their names
 abbrev pub json_of : Table → Form → List ℕ → Data
 json_of table form bytes = ordered (shown_of table form bytes)
 

@@ -5,6 +5,6 @@ use Rattle.serde_json.specs.Data.{Data}
 use Rattle.serde_json.specs.Sent.{AreTokensOf}
 use Rattle.forms_values.specs.Sent.{events}
 
--- this is what `serde_json` writes of JSON that is sent to it: compact, indented, or on the way to a `Value` (`narrow`)
+-- the text that `serde_json` writes for JSON that is sent to it: compact, indented, or on the way to a `Value` (`narrow`)
 abbrev pub IsJsonText : Data → List ℕ → Type 0
 IsJsonText json text = (narrow : Bool) × AreTokensOf narrow (Some (events json)) (tokens text)

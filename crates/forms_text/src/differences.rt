@@ -1,4 +1,4 @@
-//! The places where two values of JSON differ.
+//! The places where two JSON values differ.
 
 use crate::same::is_same;
 use forms_values::pointer::{Step, brief, pointer};
@@ -6,14 +6,14 @@ use serde_json::{Map, Value};
 use std::alloc::{AllocError, Global};
 use std::fmt;
 
-/// A place where JSON differs from what is wanted.
+/// A place where JSON differs from the JSON that is wanted.
 #[derive(Drop)]
 pub struct Difference {
-    /// The place, as a JSON pointer (RFC 6901); empty of the whole.
+    /// The place, as a JSON pointer (RFC 6901); empty for the whole.
     pub path: String,
-    /// What is there, as JSON; a list, an object and a long text by a word for it. None where nothing is.
+    /// The JSON at this place, or a few words for a list, an object or a long text; `None` if there is none.
     pub found: Option<String>,
-    /// What is wanted there. None where nothing is.
+    /// The JSON that is wanted there; `None` if there should be none.
     pub wanted: Option<String>,
 }
 
@@ -38,7 +38,7 @@ fn text_or_nothing(text: &Option<String>) -> &str {
     }
 }
 
-/// The places where JSON differs from what is wanted: of lists item by item, of objects member by member.
+/// The places where JSON differs from the JSON that is wanted: lists are compared item by item, objects member by member.
 pub fn differences<'v>(
     alloc: Global,
     found: &'v Value,
@@ -49,7 +49,7 @@ pub fn differences<'v>(
     Ok(search.differences)
 }
 
-/// The first of them; of JSON that is what is wanted, the whole.
+/// The first difference; the whole if there is none.
 pub(crate) fn first_difference<'v>(
     alloc: Global,
     found: &'v Value,
@@ -63,12 +63,12 @@ pub(crate) fn first_difference<'v>(
     }
 }
 
-// What was found so far, and where the search is.
+// The differences so far, and the place of the search.
 #[derive(Drop)]
 struct Search<'v> {
     alloc: Global,
     place: Vec<Step<'v>>,
-    // How many differences are listed at most.
+    // The greatest number of differences to list.
     most: usize,
     differences: Vec<Difference>,
 }
@@ -143,7 +143,7 @@ impl<'v> Search<'v> {
         Ok(())
     }
 
-    // Lists this place.
+    // Adds this place to the list.
     fn put(&mut self, found: Option<&Value>, wanted: Option<&Value>) -> Result<(), AllocError> {
         if self.differences.len() < self.most {
             let difference = between(self.alloc, &self.place, found, wanted)?;

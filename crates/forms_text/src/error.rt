@@ -1,4 +1,4 @@
-//! Why a text isn't read, and why no bytes are made of it.
+//! Why a text can't be read, or turned into bytes.
 
 ghost use Rattle.std.specs.Prelude.{◌↔◌, ◌≡◌, IsTrue};
 ghost use Rattle.forms_values.specs.declared.error.MakeError.TheVariants.{OutOfMemory};
@@ -11,13 +11,13 @@ use std::alloc::AllocError;
 use std::error::Error;
 use std::fmt;
 
-/// Why a text isn't read as JSON.
+/// Why a text can't be read as JSON.
 #[derive(Drop)]
 pub enum ReadError {
     /// Memory ran out.
     OutOfMemory,
 
-    /// It isn't JSON, or isn't UTF-8, or has a number that no float holds; the place is where reading stopped.
+    /// It isn't JSON, or isn't UTF-8, or has a number too large for a float; the place is where reading stopped.
     NotJson {
         /// The line, counted from 1.
         line: usize,
@@ -66,17 +66,17 @@ impl fmt::Debug for ReadError {
 
 impl Error for ReadError {}
 
-/// Why no bytes are made of a text.
+/// Why a text can't be turned into bytes.
 #[derive(Drop)]
 pub enum TextError {
-    /// It isn't read as JSON.
+    /// It can't be read as JSON.
     Read(ReadError),
-    /// What is read stands for no bytes.
+    /// The JSON that it has can't be turned into bytes.
     Make(MakeError),
 }
 
 impl TextError {
-    /// Whether memory ran out.
+    /// True if memory ran out.
     pub fn is_memory(&self) -> bool
         ensures { IsTrue result ↔ IsMemory self.now }
     {
@@ -104,12 +104,12 @@ impl fmt::Debug for TextError {
 
 impl Error for TextError {}
 
-/// Why no bytes are made strictly.
+/// Why JSON can't be turned into bytes strictly.
 #[derive(Drop)]
 pub enum StrictError {
-    /// The JSON stands for no bytes, or memory ran out.
+    /// The JSON can't be turned into bytes, or memory ran out.
     Make(MakeError),
-    /// What is shown of its bytes is other JSON.
+    /// The JSON of its bytes differs.
     Differs(Difference),
 }
 

@@ -1,4 +1,4 @@
-//! Laws of the texts of what is shown. The functions do nothing: their contracts are the laws.
+//! Laws of the text of JSON. The functions do nothing: their contracts are the laws.
 
 ghost use Rattle.std.specs.Prelude.{◌≡◌, ℕ, List, Some};
 ghost use Rattle.serde_json.specs.Data.{Data};
@@ -11,9 +11,9 @@ ghost use Rattle.forms_text.specs.Text.{IsJsonText};
 
 use forms_json::{Form, Tables};
 
-/// Whatever the table, the form and the bytes are: the text that `serde_json` writes of what is shown, compact or indented, is
-/// read. It is read as what is shown, the members of each object in the order of their names; no object in it has a name
-/// twice; and what is read is made into the bytes.
+/// For every table, form and list of bytes: the text that `serde_json` writes for their JSON, compact or indented, is read. It is read
+/// as this JSON, the members of each object in the order of their names; no object in it has a name twice; and the JSON that is read leads
+/// back to the bytes.
 pub fn shown_text_is_made<T: Tables>(table: T, form: Form, bytes: &[u8])
     ensures read { (text : List ℕ) → IsJsonText (shown_of (T.parts_of table) form bytes.now) text
         → read text ≡ Some (ordered (shown_of (T.parts_of table) form bytes.now)) }

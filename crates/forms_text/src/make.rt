@@ -1,4 +1,4 @@
-//! The bytes of a text.
+//! The bytes of JSON text.
 
 ghost use Rattle.std.specs.Prelude.{◌≡◌, ℕ, List, Some, IfOk, OnOk, IfErr, IsUtf8, MatchResult, option_and_then};
 ghost use Rattle.nla_frames.specs.Value.{IsBytes};
@@ -14,8 +14,8 @@ use crate::read::read_json;
 use forms_json::{Form, Tables, made};
 use std::alloc::Global;
 
-/// The bytes that a text of JSON stands for in a form, by a table. Of the text that `serde_json` writes of what is
-/// shown of bytes these bytes are made, unless memory runs out.
+/// The bytes of JSON text in a form, with a table. The text that `serde_json` writes for the JSON of bytes leads back to them, unless
+/// memory runs out.
 pub fn bytes_of_text<T: Tables>(
     alloc: Global,
     table: T,

@@ -1,4 +1,4 @@
-//! Text read as JSON in which no object has a name twice.
+//! Reading text as JSON in which no object has a name twice.
 
 ghost use Rattle.std.specs.Prelude.{◌≡◌, Some, None, IfOk, IfErr, OnOk, IsUtf8};
 ghost use Rattle.serde_json.specs.Errors.{IsMemory};
@@ -13,8 +13,7 @@ use serde_json::{Error, Value};
 use std::alloc::{AllocError, Global};
 use std::str;
 
-/// Reads a text as JSON. Where an object has a name twice, `Value::from_slice` of `serde_json` keeps the last of its values;
-/// this fails.
+/// Reads a text as JSON. If an object has a name twice, this fails; `Value::from_slice` of `serde_json` keeps the last of the values.
 pub fn read_json(alloc: Global, text: &[u8]) -> Result<Value, ReadError>
     ensures utf8 { OnOk result (IsUtf8 text.now) }
     ensures read { IfOk result (λ json. read text.now ≡ Some (view json)) }
@@ -45,7 +44,7 @@ fn read_text(alloc: Global, text: &str) -> Result<Value, ReadError>
             Ok(path) => Err(ReadError::Repeated { path }),
             Err(_) => Err(ReadError::OutOfMemory),
         },
-        // What `serde_json` reads `json` reads too.
+        // `json` reads all that `serde_json` reads.
         Err(json::Error::Invalid) => unreachable!(),
         Err(json::Error::OutOfMemory | json::Error::TooLong) => Err(ReadError::OutOfMemory),
     }
@@ -66,7 +65,7 @@ fn place(text: &[u8], offset: usize) -> (usize, usize) {
     (line, column)
 }
 
-// Why `serde_json` doesn't read a text.
+// Why `serde_json` can't read a text.
 fn fault(alloc: Global, text: &str, e: &Error) -> ReadError
     requires { ¬ IsMemory e.now → read text.now ≡ None }
     ensures { IsCause text.now result }
@@ -82,10 +81,10 @@ fn fault(alloc: Global, text: &str, e: &Error) -> ReadError
     }
 }
 
-// How many lists and objects may be open at once.
+// The greatest number of open lists and objects.
 const MAX_DEPTH: usize = 127;
 
-// Whether more are.
+// True if more are open somewhere.
 fn is_too_deep(alloc: Global, text: &str) -> Result<bool, AllocError>
     ensures { IfOk result (λ b. b ≡ is_too_deep text.now) }
 {

@@ -20,7 +20,7 @@ fn repeated_in(alloc: Global, json: &Value<'_>) -> Result<String, AllocError> {
     pointer(alloc, &place)
 }
 
-// True if an object has a name twice: the place stays that of the second.
+// True if an object has a name twice; the place is then that of the second.
 #[cycle(repeated)]
 fn find_repeated<'v, 'a>(
     alloc: Global,

@@ -1,4 +1,4 @@
-//! Whether two values of JSON are the same.
+//! Equality of JSON values.
 
 ghost use Rattle.std.specs.Prelude.{◌≡◌, ◌↔◌, IsTrue, true};
 ghost use Rattle.serde_json.specs.Find.{is_float};
@@ -6,7 +6,7 @@ ghost use Rattle.serde_json.specs.View.{items_view, members_view, number_view, v
 
 use serde_json::{Map, Number, Value};
 
-/// Whether two values are the same JSON.
+/// True if two values are the same JSON.
 #[cycle(same)]
 pub fn is_same(one: &Value, other: &Value) -> bool
     ensures { IsTrue result ↔ (view one.now ≡ view other.now) }
@@ -22,7 +22,7 @@ pub fn is_same(one: &Value, other: &Value) -> bool
     }
 }
 
-// Whether two numbers are the same integer, or the same float.
+// True if two numbers are the same integer, or the same float.
 fn is_same_number(one: &Number, other: &Number) -> bool
     ensures { IsTrue result ↔ (number_view one.now ≡ number_view other.now) }
 {
@@ -69,7 +69,7 @@ fn same_members(one: &Map<String, Value>, other: &Map<String, Value>) -> bool
     others.next().is_none()
 }
 
-// Whether two numbers that are no integers are the same.
+// True if two floats are the same.
 fn is_same_float(one: &Number, other: &Number) -> bool
     requires one { is_float (number_view one.now) ≡ true }
     requires other { is_float (number_view other.now) ≡ true }
@@ -81,7 +81,7 @@ fn is_same_float(one: &Number, other: &Number) -> bool
     }
 }
 
-// Whether two floats are the same, zeros by their signs.
+// True if two floats are the same; zeros of different sign aren't.
 fn is_same_double(one: f64, other: f64) -> bool
     ensures { IsTrue result ↔ (one ≡ other) }
 {

@@ -1,4 +1,4 @@
-//! Bytes that are made strictly.
+//! The bytes of JSON, strictly.
 
 ghost use Rattle.std.specs.Prelude.{◌≡◌, ℕ, List, Some, IfOk, MatchResult};
 ghost use Rattle.nla_frames.specs.Value.{IsBytes};
@@ -14,7 +14,7 @@ use forms_json::{Form, Shown, Tables, made};
 use serde_json::{Value, to_value};
 use std::alloc::{AllocError, Global};
 
-/// The bytes of which this JSON is shown in a form, by a table.
+/// The bytes whose JSON this is, in a form, with a table.
 pub fn made_strictly<T: Tables>(
     alloc: Global,
     table: T,
@@ -42,7 +42,7 @@ pub fn made_strictly<T: Tables>(
     }
 }
 
-/// The JSON of bytes in a form, as a reader of JSON has it.
+/// The JSON of bytes in a form, as a reader has it: the members of each object in the order of their names.
 pub fn shown_json<T: Tables>(
     alloc: Global,
     table: T,
@@ -51,7 +51,7 @@ pub fn shown_json<T: Tables>(
 ) -> Result<Value, AllocError>
     ensures { IfOk result (λ json. view json ≡ json_of (T.parts_of table) form bytes.now) }
 {
-    // A law, which does nothing: the text of what is shown is read as what is shown.
+    // A law, which does nothing: the text of the JSON of bytes is read as this JSON.
     shown_text_is_made(table, form, bytes);
     let shown = Shown {
         table,
@@ -65,7 +65,7 @@ pub fn shown_json<T: Tables>(
     }
 }
 
-// The error of JSON whose bytes are shown as other JSON.
+// The error for JSON whose bytes have other JSON.
 fn differs(alloc: Global, json: &Value, shown: &Value) -> StrictError {
     match first_difference(alloc, json, shown) {
         Ok(difference) => StrictError::Differs(difference),
