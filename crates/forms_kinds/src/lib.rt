@@ -9,7 +9,7 @@ ghost use Rattle.forms_kinds.specs.Table.{tc_tables};
 use forms_values::{Part, Tables};
 pub use parts::{ACTION_LIST, ACTION_MESSAGE, PLACES, TC_LIST, TC_MESSAGE};
 
-/// The tables of Linux's traffic control. It takes no memory.
+/// The table of Linux's traffic control; it allocates nothing.
 #[derive(Clone, Copy)]
 pub struct TcTables;
 

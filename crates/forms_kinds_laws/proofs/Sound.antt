@@ -1,4 +1,4 @@
--- Parts whose rows, choices and names all count, and whose places have their parts. That the fields of a record have distinct names `forms_kinds` proves.
+-- Parts in which every row, choice and name counts, and each place has its part. `forms_kinds` proves that the fields of a record have distinct names.
 use Rattle.std.proofs.Common.{◌≡◌, ℕ, Bool, true, false, List, [], ◌∷◌, ◌++◌, ◌&&◌, refl, if◌then◌else◌}
 use Rattle.std.proofs.lemmas.Bool.{and_parts}
 use Rattle.std.specs.List.{list_all}
@@ -16,7 +16,7 @@ use Rattle.forms_kinds_laws.specs.Sorts.{names_its_parts, leaves_kinds}
 abbrev pub rows_apart : List Row → Bool
 rows_apart rows = numbers_differ (types_of_rows rows) && (texts_differ (names_of_rows rows) && (all_count rows && all_shown rows))
 
--- the rows at a place, and those of every kind behind them
+-- the rows at a place, and the rows of every kind after them
 abbrev pub apart_with : Table → ℕ → ℕ → Bool
 apart_with table common i = rows_apart (rows_of (table i) ++ rows_of (table common))
 
@@ -51,7 +51,7 @@ are_distinct rows e =
     let c : (all_count rows ≡ true) × (all_shown rows ≡ true) = and_parts _ _ b.1 in
     record { types = a.0; names = b.0; counted = c.0; shown = c.1 }
 
--- those of the place that a kind has, if those of all places are
+-- the rows at a kind's place, if the rows at all places are
 at_kind : (table : Table) (kind : List ℕ) (common others : ℕ) (kinds : List KindRows)
     → apart_with table common others ≡ true → list_all (λ k. apart_with table common k.rows) kinds ≡ true
     → apart_with table common (kind_place kind others kinds) ≡ true
@@ -83,7 +83,7 @@ pub record Sound (part : Part) : Type 0 where
   pub numbers : numbers_differ (numbers_named (names_of part)) ≡ true
   pub names : texts_differ (names_of_numbers (names_of part)) ≡ true
   pub places : names_its_parts tc_tables part ≡ true
-  pub beside_kinds : leaves_kinds tc_tables part ≡ true
+  pub with_kinds : leaves_kinds tc_tables part ≡ true
 
 pub sound : (part : Part) → is_sound tc_tables part ≡ true → Sound part
 sound part e =
@@ -102,5 +102,5 @@ sound part e =
       numbers = f.0;
       names = g.0;
       places = h.0;
-      beside_kinds = h.1;
+      with_kinds = h.1;
     }

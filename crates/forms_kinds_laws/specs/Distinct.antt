@@ -1,4 +1,4 @@
--- Texts and numbers of a table, no two of which are the same.
+-- Distinct texts and numbers of a table.
 use Rattle.std.specs.Prelude.{Bool, List, [], bytes_eq, is_some, map, not, true, ℕ, ◌&&◌, ◌==◌, ◌∷◌}
 use Rattle.std.specs.List.{list_all}
 use Rattle.forms_attributes.specs.Rows.{counts, shown_row, type_of}
@@ -6,7 +6,7 @@ use Rattle.forms_values.specs.Names.{is_reserved}
 use Rattle.forms_values.specs.Tables.{Choice, Kinds, Name, Part, Row}
 
 module _ {T : Type 0} (same : T → T → Bool) where
-  -- x is none of these
+  -- x isn't in the list
   abbrev pub is_none_of : T → List T → Bool
   is_none_of x [] = true
   is_none_of x (y ∷ ys) = not (same x y) && is_none_of x ys
@@ -38,7 +38,7 @@ all_count rows = list_all counts rows
 abbrev pub all_shown : List Row → Bool
 all_shown rows = list_all (λ r. is_some (shown_row rows r.word)) rows
 
--- no row has the type of a kind, by which no row is asked for in a list with kinds
+-- no row has type 1, which sets the kind in a list with kinds
 abbrev pub none_is_kind : List Row → Bool
 none_is_kind rows = list_all (λ r. not (type_of r.word == 1)) rows
 
@@ -57,7 +57,7 @@ names_of_choices choices = map (λ c. c.name) choices
 abbrev pub none_reserved : List (List ℕ) → Bool
 none_reserved names = list_all (λ t. not (is_reserved t)) names
 
--- the kinds by which a list's rows are found
+-- the kinds that have rows in a list
 abbrev pub kinds_of : Part → List (List ℕ)
 kinds_of (Kinds common others kinds) = map (λ k. k.kind) kinds
 kinds_of part = []

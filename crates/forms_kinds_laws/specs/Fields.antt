@@ -1,4 +1,4 @@
--- What the fields of records are, and their names.
+-- The fields of records, and their names.
 use Rattle.std.specs.Prelude.{ℕ, List, [], ◌∷◌, codes}
 use Rattle.tc_canon.specs.Layouts as layouts
 use Rattle.forms_values.specs.declared.form.Form.{Form}
@@ -7,12 +7,12 @@ use Rattle.forms_values.specs.declared.form.Number.{Number}
 use Rattle.forms_values.specs.declared.form.Number.TheVariants as number
 use Rattle.forms_values.specs.Tables.{Name}
 
--- what a value is: a form, or a number with these names
+-- a value: in a form, or a number with these names
 pub data Value : Type 0 where
   plain : Form → Value
   numbered : Number → List Name → Value
 
--- the fields of a record, those of a record within it between two marks
+-- the fields of a record; those of a record within it are between `begins` and `ends`
 pub data FieldSaid : Type 0 where
   field : Value → List ℕ → FieldSaid
   padding : ℕ → FieldSaid

@@ -1,4 +1,4 @@
--- What the codec's tables have of each type, from type 0 on: how its value is shown, and its name.
+-- The types of the codec's tables, from type 0 on: how a value is shown, and its name.
 use Rattle.std.specs.Prelude.{List, [], ◌∷◌, codes}
 use Rattle.forms_kinds_laws.specs.Named.{Named, no_name, named, NamedKind, anything, compared, u8, u16, u32, u16_be, u32_be}
 use Rattle.forms_kinds_laws.specs.Named.{handle, mac, ipv4, ipv6, bytes, text, bare, flag, truth}

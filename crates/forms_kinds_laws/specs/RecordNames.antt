@@ -1,4 +1,4 @@
--- The fields of the codec's records, with their names and what each is.
+-- The fields of the codec's records, with their names and values.
 use Rattle.std.specs.Prelude.{List, [], ◌∷◌, codes}
 use Rattle.forms_kinds_laws.specs.Fields.{FieldSaid, field, padding, begins, ends, u8, u16, u32, u64, u16_be, u32_be, i16, i32, handle, ipv4}
 use Rattle.forms_kinds_laws.specs.Fields.{family, action_type, mirror_type}

@@ -25,7 +25,7 @@ field_said table name (form.Record i) = begins name ∷ (map (leaf_said table) (
 field_said table name (form.Array i) = []
 field_said table name f = field (value_of table f) name ∷ []
 
--- what the fields of a table's record are, up to an array behind them
+-- the fields of a record of the table, up to an array after them
 abbrev pub fields_said : Table → List Field → List FieldSaid
 fields_said table [] = []
 fields_said table (f ∷ fs) = field_said table f.name f.form ++ fields_said table fs

@@ -1,4 +1,4 @@
--- What the codec's tables and names say of an attribute, beside what the rows of a table of forms say of its type.
+-- The attributes of the codec's tables, and the attributes in the rows of a table of forms.
 use Rattle.std.specs.Prelude.{◌≡◌, ℕ, zero, suc, ◌+◌, ◌-◌, List, [], ◌∷◌, ◌++◌, map, Option, Some, None}
 use Rattle.tc_canon.specs.Descriptor.{Class, le, be, masked, array, raw, text, warning, presence, truth, fields, selector, pair}
 use Rattle.tc_canon.specs.Descriptor.{Rows, others, types, unread, options, little}
@@ -10,7 +10,7 @@ use Rattle.forms_values.specs.declared.form.Number.TheVariants as number
 use Rattle.forms_values.specs.Tables.{Row, Table}
 use Rattle.forms_attributes.specs.Rows.{shown_row}
 use Rattle.forms_kinds_laws.specs.Tables.{fields_at}
-use Rattle.forms_kinds_laws.specs.Named.{Look, alone, anything, compared, Named, named_at, name_of, look_named}
+use Rattle.forms_kinds_laws.specs.Named.{Look, leaf, anything, compared, Named, named_at, name_of, look_named}
 use Rattle.forms_kinds_laws.specs.Records.{layout_of}
 
 -- ---- what a value is on the wire. Bytes that the codec keeps raw may be anything; lists are compared on their own
@@ -57,7 +57,7 @@ wire_of_form table form.Bare = warning
 wire_of_form table (form.Record i) = fields (layout_of table (fields_at table (form.Record i)))
 wire_of_form table f = raw
 
--- what the codec keeps raw may have any form
+-- a value that the codec keeps raw may have any form
 abbrev pub wire_beside : Class → Table → Form → Class
 wire_beside raw table f = raw
 wire_beside class table f = wire_of_form table f
@@ -69,7 +69,7 @@ look_of (form.Record i) = compared
 look_of (form.List i) = compared
 look_of (form.Indexed i) = compared
 look_of (form.Choice i) = compared
-look_of f = alone f
+look_of f = leaf f
 
 abbrev pub look_beside : Look → Form → Look
 look_beside anything f = anything
@@ -87,33 +87,33 @@ pub record Said : Type 0 where
 abbrev pub said_of : ℕ → ℕ → Class → Named → Said
 said_of n flags class x = record { type = n; word = n + flags; name = name_of x; wire = wire_of class; look = look_named x }
 
--- of so many types from one on
+-- for a number of types, from one on
 abbrev pub said_from : ℕ → ℕ → ℕ → Class → List Named → List Said
 said_from zero n flags class names = []
 said_from (suc more) n flags class names = said_of n flags class (named_at names n) ∷ said_from more (suc n) flags class names
 
--- of a type that the codec writes and never reads, which is shown nowhere so far
+-- for a type that the codec writes and never reads, which may be shown in any way
 abbrev pub said_unread : ℕ → Class → Named → Said
 said_unread n class x = record { type = n; word = n; name = name_of x; wire = wire_of class; look = anything }
 
--- by the codec's rows and names; options are compared by kind
+-- from the codec's rows and names; options are compared by kind
 abbrev pub said : Rows → List Named → List Said
 said others names = []
 said (types first last flags class rows) names = said_from (suc last - first) first flags class names ++ said rows names
 said (unread n class rows) names = said_unread n class (named_at names n) ∷ said rows names
 said (options n kinds rows) names = said rows names
 
--- by the row that an attribute of this type is shown by
+-- from the row that shows an attribute of this type
 abbrev pub found : Table → Said → Option Row → Said
 found table s None = record { type = s.type; word = 0; name = []; wire = raw; look = anything }
 found table s (Some r) =
     record { type = s.type; word = r.word; name = r.name; wire = wire_beside s.wire table r.form; look = look_beside s.look r.form }
 
--- these rows have all of the codec's
+-- these rows have all rows of the codec
 abbrev pub HasRows : Table → List Row → Rows → List Named → Type 0
 HasRows table rows codec names = map (λ s. found table s (shown_row rows s.type)) (said codec names) ≡ said codec names
 
--- the codec's rows behind the first, which sets a kind
-abbrev pub behind_kind : Rows → Rows
-behind_kind (types first last flags class rows) = rows
-behind_kind rows = rows
+-- the codec's rows after the first, which sets a kind
+abbrev pub after_kind : Rows → Rows
+after_kind (types first last flags class rows) = rows
+after_kind rows = rows

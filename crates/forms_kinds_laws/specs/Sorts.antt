@@ -1,4 +1,4 @@
--- The part that a form or a part names by its place: names of numbers, fields, rows, choices, or one form.
+-- The sort of the part that a form or a part names by its place: names of numbers, fields, rows, choices, or one form.
 use Rattle.std.specs.Prelude.{Bool, List, [], false, map, true, ℕ, ◌&&◌, ◌∷◌}
 use Rattle.std.specs.List.{list_all}
 use Rattle.forms_values.specs.declared.form.Form.{Form}
@@ -34,7 +34,7 @@ abbrev pub is_choices : Part → Bool
 is_choices (Choices choices) = true
 is_choices part = false
 
--- what an array or an indexed list holds: a form other than bytes, or a record
+-- an element of an array or an indexed list: a form other than bytes, or a record
 abbrev pub is_element : Part → Bool
 is_element (One form.Hex) = false
 is_element (One f) = true
@@ -43,7 +43,7 @@ is_element part = false
 
 -- ---- places
 
--- the form names a part of its sort, or none
+-- the form names a part of its sort, or no part
 abbrev pub names_its_part : Table → Form → Bool
 names_its_part table (form.Named number i) = is_names (table i)
 names_its_part table (form.Record i) = is_fields (table i)
@@ -80,6 +80,6 @@ leaves_kind table f = true
 abbrev pub leaves_kinds : Table → Part → Bool
 leaves_kinds table part = list_all (leaves_kind table) (forms_in part)
 
--- all that a part names is there, and of its sort
+-- all parts that a part names are there, and of their sort
 abbrev pub names_its_parts : Table → Part → Bool
 names_its_parts table part = list_all (names_its_part table) (forms_in part) && list_all (λ i. is_rows (table i)) (places_of_rows part)

@@ -1,4 +1,4 @@
--- The forms of attributes, fields and choices of a table of forms.
+-- The forms of attributes, fields and choices in a table of forms.
 use Rattle.std.specs.Prelude.{ℕ, zero, suc, List, [], ◌∷◌, Option, Some, None, bytes_eq, if◌then◌else◌}
 use Rattle.forms_values.specs.declared.form.Form.{Form}
 use Rattle.forms_values.specs.declared.form.Form.TheVariants as form
@@ -58,6 +58,11 @@ abbrev pub first_field : Table → Form → Form
 first_field table f = first_form (fields_at table f)
 
 -- ---- choices
+
+-- the choices of a form; None if it has none
+abbrev pub choices_at : Table → Form → Option (List Choice)
+choices_at table (form.Choice i) = Some (choices_of (part_at table i))
+choices_at table f = None
 
 abbrev pub form_of_choice : List Choice → ℕ → Form
 form_of_choice [] n = form.Hex

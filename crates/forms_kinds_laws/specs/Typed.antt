@@ -1,10 +1,12 @@
 -- Where the typed kinds are in the table.
-use Rattle.std.specs.Prelude.{ℕ, List, [], ◌∷◌, codes, map, option_map, unwrap_or}
+use Rattle.std.specs.Prelude.{ℕ, List, [], ◌∷◌, None, Option, codes, map, option_map, unwrap_or}
 use Rattle.forms_kinds_laws.specs.Named.{NamedKind}
 use Rattle.forms_values.specs.declared.form.Form.{Form}
-use Rattle.forms_values.specs.Tables.{Row}
+use Rattle.forms_values.specs.declared.form.Number.TheVariants as number
+use Rattle.forms_values.specs.Numbers.{bytes_of}
+use Rattle.forms_values.specs.Tables.{Choice, Row}
 use Rattle.forms_kinds.specs.Table.{tc_tables, tc_message, action_message}
-use Rattle.forms_kinds_laws.specs.Tables.{form_of_field, first_field, choice_form, rows_at, form_at, held_at, place_in}
+use Rattle.forms_kinds_laws.specs.Tables.{form_of_field, first_field, choice_form, choices_at, fields_at, rows_at, form_at, held_at, place_in}
 use Rattle.forms_values.specs.Places.{part_at, layer_of}
 use Rattle.forms_attributes.specs.Rows.{shown_row}
 
@@ -38,7 +40,7 @@ action_message_rows = rows_at tc_tables [] (form_of_field tc_tables action_messa
 abbrev pub one_action : Form
 one_action = held_at tc_tables (form_at action_message_rows 1)
 
--- what the lists of actions of filters hold
+-- an element of each filter's list of actions
 abbrev pub actions_in_filters : List Form
 actions_in_filters =
     held_at tc_tables (form_at (options_rows (codes "flower")) 3)
@@ -59,6 +61,44 @@ action_options_rows kind = rows_at tc_tables kind (action_options kind)
 -- the statistics of a kind
 abbrev pub statistics_rows : List ℕ → List Row
 statistics_rows kind = rows_at tc_tables kind (form_at (tc_rows kind) 7)
+
+-- the statistics in an action of a kind, and the attributes in them
+abbrev pub action_statistics : List ℕ → Form
+action_statistics kind = form_at (action_rows kind) 4
+
+abbrev pub action_statistics_rows : List ℕ → List Row
+action_statistics_rows kind = rows_at tc_tables kind (action_statistics kind)
+
+-- a kind's own statistics: of a message, and in its list of statistics
+abbrev pub xstats : List ℕ → Form
+xstats kind = form_at (tc_rows kind) 4
+
+abbrev pub app : List ℕ → Form
+app kind = form_at (statistics_rows kind) 4
+
+-- the names of the fields of a record
+abbrev pub field_names : Form → List (List ℕ)
+field_names f = map (λ x. x.name) (fields_at tc_tables f)
+
+-- what chooses a record: its name, the bytes before it, and a length if there is one
+pub record Key : Type 0 where
+  pub name : List ℕ
+  pub prefix : List ℕ
+  pub len : Option ℕ
+
+abbrev pub key_of : Choice → Key
+key_of c = record { name = c.name; prefix = c.prefix; len = c.len }
+
+-- the keys of the choices of a form
+abbrev pub keys_at : Form → Option (List Key)
+keys_at f = option_map (map key_of) (choices_at tc_tables f)
+
+-- TCA_FQ_CODEL_XSTATS_QDISC and TCA_FQ_CODEL_XSTATS_CLASS
+abbrev pub fq_codel_keys : List Key
+fq_codel_keys =
+    record { name = codes "Qdisc"; prefix = bytes_of number.U32 0; len = None }
+    ∷ record { name = codes "Class"; prefix = bytes_of number.U32 1; len = None }
+    ∷ []
 
 -- the record of a kind's own statistics, by its number among the choices
 abbrev pub xstats_at : Form → ℕ → Form

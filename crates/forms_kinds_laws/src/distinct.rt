@@ -1,4 +1,4 @@
-//! Laws: names, types and numbers are distinct, and places have their parts.
+//! Laws: names, types and numbers are distinct, and each place that a form names has its part.
 
 ghost use Rattle.std.specs.Prelude.{ℕ, List, IsTrue};
 ghost use Rattle.forms_values.specs.Places.{rows_under, fields_of, choices_of, names_of};
@@ -16,7 +16,7 @@ pub fn attributes_are_distinct()
     ensures counted { (place : ℕ) (kind : List ℕ) → IsTrue (all_count (rows_under tc_tables place kind)) }
     ensures shown { (place : ℕ) (kind : List ℕ) → IsTrue (all_shown (rows_under tc_tables place kind)) }
     ensures kinds { (place : ℕ) → IsTrue (texts_differ (kinds_of (tc_tables place))) }
-    ensures beside_kinds { (place : ℕ) → IsTrue (leaves_kinds tc_tables (tc_tables place)) }
+    ensures with_kinds { (place : ℕ) → IsTrue (leaves_kinds tc_tables (tc_tables place)) }
 {}
 
 /// The fields of each record, and each list of choices: no two have one name, and none has a name that is reserved.
@@ -26,13 +26,13 @@ pub fn fields_are_distinct()
     ensures unreserved { (place : ℕ) → IsTrue (none_reserved (names_of_choices (choices_of (tc_tables place)))) }
 {}
 
-/// Numbers with names: no number has two names, and no name has two numbers.
+/// No number has two names, and no name has two numbers.
 pub fn named_numbers_are_distinct()
     ensures numbers { (place : ℕ) → IsTrue (numbers_differ (numbers_named (names_of (tc_tables place)))) }
     ensures names { (place : ℕ) → IsTrue (texts_differ (names_of_numbers (names_of (tc_tables place)))) }
 {}
 
-/// What the forms of both messages and of all parts name by its place is there, and of the sort that the form needs.
+/// Each part that a form names by its place is there, and of the sort that the form needs.
 pub fn places_have_their_parts()
     ensures tc { IsTrue (names_its_part tc_tables tc_message) }
     ensures action { IsTrue (names_its_part tc_tables action_message) }

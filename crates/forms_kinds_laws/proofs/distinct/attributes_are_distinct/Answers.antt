@@ -8,5 +8,5 @@ returns c = record {
   counted = λ place kind. ((every_part place).rows kind).counted;
   shown = λ place kind. ((every_part place).rows kind).shown;
   kinds = λ place. (every_part place).kinds;
-  beside_kinds = λ place. (every_part place).beside_kinds;
+  with_kinds = λ place. (every_part place).with_kinds;
 }
