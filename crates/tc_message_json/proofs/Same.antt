@@ -1,4 +1,4 @@
--- The bytes of two messages are the same if and only if the same is shown of them.
+-- The bytes of two messages are the same if and only if their JSON is.
 use Rattle.std.proofs.Common.{◌≡◌, ◌↔◌, ℕ, List, [], ap}
 use Rattle.nla_frames.specs.Value.{IsBytes}
 use Rattle.forms_values.specs.declared.form.Form.{Form}

@@ -18,7 +18,7 @@ pub trait HasForm: Emitable {
     fn form() -> Form
         ensures { result ≡ form };
 
-    /// What its messages speak of, for the place of a fault.
+    /// The object that these messages describe, for the place of a fault.
     fn what() -> What;
 }
 

@@ -1,4 +1,4 @@
-//! A message for a format of serde.
+//! A message as a value for a serde format.
 
 ghost use Rattle.std.specs.Prelude.{◌≡◌, IfOk, IfSome, IsSome};
 ghost use Rattle.tc_message_json.specs.Sent.{SentIfFits};
@@ -10,8 +10,8 @@ use serde::{Described, Serialize, Serializer};
 use std::alloc::{AllocError, Global};
 use tc_wire::Emitable;
 
-/// A message for a format of serde, and what takes its bytes. Where it doesn't fit, or memory runs out, serializing fails with
-/// the format's error.
+/// A message as a value for a serde format, and the allocator of its bytes. If the message doesn't fit, or memory runs out, serializing
+/// fails with the format's error.
 #[derive(Drop)]
 pub struct Shown<'a, M>(pub &'a M, pub Global);
 

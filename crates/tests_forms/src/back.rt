@@ -17,7 +17,7 @@ pub(crate) fn form_of(form: messages::Form) -> Form {
     }
 }
 
-/// True if bytes are made of the text of what is shown of them.
+/// True if the text of the JSON of bytes leads back to them.
 pub(crate) fn come_back(alloc: Global, form: Form, bytes: &[u8]) -> Result<bool, Fail> {
     let shown = Shown {
         table: TcTables,
@@ -32,7 +32,7 @@ pub(crate) fn come_back(alloc: Global, form: Form, bytes: &[u8]) -> Result<bool,
     }
 }
 
-// How many of these don't come back.
+// Counts the inputs that don't come back.
 fn lost(alloc: Global, inputs: &[Input]) -> Result<usize, Fail> {
     let mut lost = 0usize;
     for input in inputs {
@@ -43,7 +43,7 @@ fn lost(alloc: Global, inputs: &[Input]) -> Result<usize, Fail> {
     Ok(lost)
 }
 
-// How many there are of these messages, cut at every length and with each byte changed, and how many of them don't come back.
+// The number of these messages, cut at every length and with each byte changed, and how many of them don't come back.
 fn lost_of(alloc: Global, rows: &[Row]) -> Result<(usize, usize), Fail> {
     let (mut count, mut missing) = (0usize, 0usize);
     for row in rows {
