@@ -376,8 +376,8 @@ module _ (read : Data → Data) (r : Reader read) where
         by_kind_again (Some t) e =
             kind_found Made rows has k c t _ e s
             (subst (λ x. Finds (read (kind_shown c t)) (codes "Kind") x (bare_seen c.value) 1 c) (r.of_text t)
-            (finds_read (member (codes "Kind") (string t) (bare_member c.value (beside 1 c))) (codes "Kind") (string t) (bare_seen c.value) 1 c (kind_distinct t c)
-            (seen_read (ends_in_nul c.value) (boolean true) (r.of_truth true)) (kind_finds t c)))
+            (finds_read (member (codes "Kind") (string t) (bare_member c.value (beside 1 c))) (codes "Kind") (string t) (bare_seen c.value) 1 c
+            (kind_distinct t c) (seen_read (ends_in_nul c.value) (boolean true) (r.of_truth true)) (kind_finds t c)))
         by_kind_again None e = by_row_again (shown_row rows c.word) refl e
 
     -- ---- any form
@@ -407,7 +407,8 @@ module _ (read : Data → Data) (r : Reader read) where
           indexed_found table Made k i c (read x) (read (object ms)) s
           (r.found ms (codes "raw") distinct ∙ ap (option_map read) (not_pad_member (codes "raw") c refl))
           (r.found ms (codes "tab") distinct ∙ ap Some (r.of_number _)) (r.found ms (codes "attributes") distinct)
-          (r.found ms (codes "pad") distinct ∙ ap (option_map read) (get_pad_member c) ∙ pad_seen_read c) (again k (form_of i (part_at table i)) c.value s.value)
+          (r.found ms (codes "pad") distinct ∙ ap (option_map read) (get_pad_member c) ∙ pad_seen_read c)
+          (again k (form_of i (part_at table i)) c.value s.value)
 
       choice_again : (k : List ℕ) (i : ℕ) (b : List ℕ) (o : Option Choice) → IsBytes b → chosen (choices_of (part_at table i)) b ≡ o
           → Again_in k (form.Choice i) (by_choice (Inner k) b o) b

@@ -16,7 +16,8 @@ use Rattle.forms_attributes.specs.Frames.{PaddedFrame, frame_at, after_first}
 use Rattle.forms_attributes.specs.Kinds.{kind_in, own_kind}
 use Rattle.forms_values.specs.Places.{part_at, fields_of, layer_of, choices_of, form_of, rows_under}
 use Rattle.forms_values.specs.Raw.{hex}
-use Rattle.forms_values.specs.Records.{is_pad, names_distinct, are_enough, are_distinct, is_free, is_blank, field_of, after_field, members, elements, elements_of}
+use Rattle.forms_values.specs.Records.{is_pad, names_distinct, are_enough, are_distinct, is_free, is_blank, field_of, after_field}
+use Rattle.forms_values.specs.Records.{members, elements, elements_of}
 use Rattle.forms_attributes.specs.Rows.{type_of, counts, of_type, shown_row}
 use Rattle.forms_values.specs.Search.{first}
 use Rattle.forms_json.specs.Shown.{shown, show}
