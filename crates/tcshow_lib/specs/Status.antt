@@ -1,7 +1,7 @@
 -- The exit status.
 use Rattle.std.specs.Prelude.{ℕ, Bool, true, false, Result, Ok, Err}
-use Rattle.tcshow_lib.specs.declared.status.Stop.{Stop}
-use Rattle.tcshow_lib.specs.declared.status.Stop.TheVariants.{NoCapture, NoRoute, Closed, Read, Write, NoMemory}
+use Rattle.tcshow_input.specs.declared.stop.Stop.{Stop}
+use Rattle.tcshow_input.specs.declared.stop.Stop.TheVariants.{NoCapture, NoRoute, Closed, Read, Write, NoMemory}
 
 -- 1 if something was refused
 abbrev pub refused_status : Bool → ℕ

@@ -5,28 +5,12 @@
 //! refused the fault with its offset and its path.
 #![tactic(auto)]
 
-mod answer;
 pub mod arguments;
 pub mod asked;
-mod capture;
 pub mod choice;
-mod chosen;
-mod counts;
-mod found;
-mod json;
-mod kernel;
 pub mod kinds;
-mod line;
-mod lines;
-mod links;
 pub mod names;
 mod notes;
-mod notice;
-mod output;
-pub mod packets;
-mod pages;
 pub mod program;
 pub mod run;
-mod shower;
 pub mod status;
-mod summary;

@@ -1,20 +1,19 @@
 //! The program: what it is asked for is done over its streams, and how it ends is its exit status.
 
 ghost use Rattle.std.specs.Prelude.{◌≡◌, ◌≢◌, OnOk};
-ghost use Rattle.tcshow_lib.specs.State.{Ran};
+ghost use Rattle.tcshow_input.specs.State.{Ran};
 ghost use Rattle.tcshow_lib.specs.Status.{status_of};
-ghost use Rattle.tcshow_lib.specs.Writing.{GrowsClean};
-ghost use Rattle.tcshow_lib.specs.declared.asked.Form.TheVariants.{Json};
+ghost use Rattle.tcshow_input.specs.Writing.{GrowsClean};
+ghost use Rattle.tcshow_input.specs.declared.asked.Form.TheVariants.{Json};
 ghost use Rattle.tcshow_lib.specs.declared.run.Ended.{Ended};
 
 use crate::arguments::{Request, Task, request_of};
-use crate::asked::{Asked, Form};
+use crate::asked::{Asked, Form, asked_of};
 use crate::choice::{Choice, NoChoice};
 use crate::kinds::{explain, is_known, put_schema_of_line, write_all_kinds};
 use crate::names::names_in;
-use crate::packets::Packets;
 use crate::run::{Ended, run};
-use crate::status::{Stop, status_of};
+use crate::status::status_of;
 use clap::Error;
 use clap::error::ErrorKind;
 use std::alloc::{Allocator, Global};
@@ -26,6 +25,7 @@ use tc_chosen::Chosen;
 use tc_colours::Coloured;
 use tc_streams::{complain, write_all};
 use tc_words::LINK_FORMS;
+use tcshow_input::{Packets, Stop};
 
 /// The whole program: reads its arguments, shows the messages of its input on standard output, and returns the exit
 /// status. Why it ended early is written to `errors`. `is_terminal` says whether standard output is a terminal.
@@ -176,7 +176,7 @@ fn show_chosen<R: AllocGlobal + Files + Input + Print, E: Write>(
     chosen: Chosen<'_>,
     errors: &mut E,
 ) -> u8 {
-    let asked = Asked::of_request(request, chosen, names);
+    let asked = asked_of(request, chosen, names);
     let mut writer = io::writer(rt);
     if request.in_colours {
         let mut writer = Coloured::new(rt.alloc(), writer);

@@ -2,22 +2,17 @@
 
 ghost use Rattle.std.specs.Prelude.{◌≡◌, ◌≢◌, false, List, OnOk};
 ghost use Rattle.tc_input.specs.Left.{rest_of, left_of};
-ghost use Rattle.tcshow_lib.specs.Found.{Thing};
-ghost use Rattle.tcshow_lib.specs.Reading.{AreIn, Begins};
-ghost use Rattle.tcshow_lib.specs.declared.asked.Form.TheVariants.{Json};
-ghost use Rattle.tcshow_lib.specs.State.{state_of, Progress, Ends, Completes, Ran};
-ghost use Rattle.tcshow_lib.specs.Writing.{GrowsClean};
+ghost use Rattle.tcshow_json.specs.Found.{Thing};
+ghost use Rattle.tcshow_input.specs.Reading.{AreIn, Begins};
+ghost use Rattle.tcshow_input.specs.declared.asked.Form.TheVariants.{Json};
+ghost use Rattle.tcshow_input.specs.State.{state_of, Progress, Ends, Completes, Ran};
+ghost use Rattle.tcshow_input.specs.Writing.{GrowsClean};
 
-use crate::asked::Asked;
-use crate::capture::show_capture;
-use crate::lines::{is_hex_text, show_lines};
-use crate::packets::Packets;
-use crate::shower::Shower;
-use crate::status::Stop;
 use std::alloc::{Allocator, Global};
 use std::io::{Read, Write};
 use tc_capture::Capture;
 use tc_input::Input;
+use tcshow_input::{Asked, Packets, Shower, Stop, is_hex_text, show_capture, show_lines};
 
 /// How a run ended.
 #[derive(Clone, Copy)]
@@ -73,7 +68,7 @@ fn show_and_write<A: Allocator + Copy, R: Read, W: Write>(
 }
 
 // Shows all messages, and their summary.
-#[tactic(auto, using(crate::proofs::Clean::clean_none))]
+#[tactic(auto, using(tcshow_input::proofs::Clean::clean_none))]
 fn show<A: Allocator + Copy, R: Read, W: Write>(
     shower: &mut Shower<'_, A>,
     packets: &mut Packets,
@@ -91,7 +86,7 @@ fn show<A: Allocator + Copy, R: Read, W: Write>(
 }
 
 // The same of an input of which the first bytes were read.
-#[tactic(auto, using(crate::proofs::Clean::clean_none))]
+#[tactic(auto, using(tcshow_input::proofs::Clean::clean_none))]
 fn show_all<A: Allocator + Copy, R: Read, W: Write>(
     shower: &mut Shower<'_, A>,
     packets: &mut Packets,
@@ -115,7 +110,7 @@ fn show_all<A: Allocator + Copy, R: Read, W: Write>(
 }
 
 // Shows a capture, or lines of hex.
-#[tactic(auto, using(crate::proofs::Clean::clean_none))]
+#[tactic(auto, using(tcshow_input::proofs::Clean::clean_none))]
 fn show_input<A: Allocator + Copy, R: Read, W: Write>(
     shower: &mut Shower<'_, A>,
     packets: &mut Packets,

@@ -1,6 +1,6 @@
 use Rattle.std.proofs.lemmas.Result.{on_ok_weaker}
-use Rattle.tcshow_lib.specs.State.{state_of}
-use Rattle.tcshow_lib.proofs.Progress.{ran}
+use Rattle.tcshow_input.specs.State.{state_of}
+use Rattle.tcshow_input.proofs.Progress.{ran}
 use Rattle.tcshow_lib.proofs.run.run.Goals as goal
 
 pub returns-clause-ran : goal.returns-clause-ran

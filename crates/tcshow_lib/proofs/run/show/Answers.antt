@@ -1,7 +1,7 @@
 use Rattle.std.proofs.lemmas.Result.{on_ok_weaker}
 use Rattle.tc_input.specs.Left.{left_of, rest_of}
-use Rattle.tcshow_lib.specs.State.{state_of}
-use Rattle.tcshow_lib.proofs.InOrder.{begun_are}
+use Rattle.tcshow_input.specs.State.{state_of}
+use Rattle.tcshow_input.proofs.InOrder.{begun_are}
 use Rattle.tcshow_lib.proofs.run.show.Goals as goal
 
 pub returns-clause-ran : goal.returns-clause-ran

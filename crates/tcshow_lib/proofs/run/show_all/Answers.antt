@@ -1,4 +1,4 @@
-use Rattle.tcshow_lib.specs.State.{state_of}
+use Rattle.tcshow_input.specs.State.{state_of}
 use Rattle.tcshow_lib.proofs.run.show_all.Goals as goal
 
 pub returns-clause-ran : goal.returns-clause-ran

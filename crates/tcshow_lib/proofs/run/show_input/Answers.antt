@@ -2,9 +2,9 @@ use Rattle.std.proofs.Common.{◌∙◌, sym, ap, option_map}
 use Rattle.std.proofs.lemmas.Result.{on_ok_weaker}
 use Rattle.tc_capture.specs.Capture.{state_of as place_of, capture_at}
 use Rattle.tc_input.specs.Left.{left_of, rest_of}
-use Rattle.tcshow_lib.specs.Reading.{is_hex_text}
-use Rattle.tcshow_lib.specs.State.{state_of}
-use Rattle.tcshow_lib.proofs.InOrder.{capture_begins, text_begins}
+use Rattle.tcshow_input.specs.Reading.{is_hex_text}
+use Rattle.tcshow_input.specs.State.{state_of}
+use Rattle.tcshow_input.proofs.InOrder.{capture_begins, text_begins}
 use Rattle.tcshow_lib.proofs.run.show_input.Goals as goal
 
 pub returns-in-Some-clause-ran : goal.returns-in-Some-clause-ran

@@ -1,0 +1,74 @@
+//! The attributes of a message in an outline.
+
+ghost use Rattle.std.specs.Prelude.{◌≡◌, IfOk, is_some, option_map};
+ghost use Rattle.tc_outline.specs.Located.{items_of_message, message_fault};
+ghost use Rattle.tc_outline.specs.declared.what.What.{What as WhatType};
+ghost use Rattle.tcshow_json.specs.Found.{message_view};
+
+use crate::asked::Asked;
+use crate::links::Links;
+use std::alloc::{AllocError, Allocator, Global};
+use tc_columns::{KindColumns, Root};
+use tc_outline::{Fault, Page, What, outline};
+use tcshow_json::{Found, Header};
+
+// The columns that a message is shown by, with these names of interfaces.
+fn columns_of<'a>(
+    asked: &Asked<'_>,
+    interfaces: &'a [(u32, &'a str)],
+    found: &Found<'_>,
+) -> KindColumns<'a> {
+    KindColumns {
+        root: root_of(found),
+        interfaces,
+        all: asked.all,
+    }
+}
+
+// The name of a fault, where there is one.
+fn name_of(fault: &Option<Fault>) -> Option<&'static str>
+    ensures { is_some result ≡ is_some (option_map (λ fault. fault.error) fault.now) }
+{
+    match fault {
+        Some(fault) => Some(fault.error.name()),
+        None => None,
+    }
+}
+
+/// Shows the attributes of a message, and returns the name of its fault, where it has one.
+pub(crate) fn show_attributes<A: Allocator>(
+    json: Global,
+    asked: &Asked<'_>,
+    links: &Links,
+    page: &mut Page<A>,
+    found: &Found<'_>,
+) -> Result<Option<&'static str>, AllocError>
+    ensures { IfOk result (λ name. (what : WhatType) × (is_some name ≡ is_some (message_fault (items_of_message what (message_view found.now).payload)))) }
+{
+    let given = asked.names;
+    let names = links.with(given.names)?;
+    let columns = columns_of(asked, names.as_slice(), found);
+    let fault = outline(json, page, found.payload, columns)?;
+    Ok(name_of(&fault))
+}
+
+// What a message speaks of: that of its type, and of one without a netlink header as far as its kind says so.
+fn root_of(found: &Found<'_>) -> Root {
+    match found.what {
+        What::Qdisc => Root::Qdisc,
+        What::Class => Root::Class,
+        What::Filter if found.kind() == b"u32".as_slice() => Root::U32Filter,
+        What::Filter => Root::Filter,
+        What::Chain => Root::Chain,
+        What::Action if is_flush(&found.header) => Root::Flush,
+        What::Action => Root::Action,
+    }
+}
+
+// True of what answers a flush: its flags have `NLM_F_ROOT`.
+fn is_flush(header: &Option<Header>) -> bool {
+    match header {
+        Some(header) => header.name == "RTM_DELACTION" && header.flags & 0x100 != 0,
+        None => false,
+    }
+}

@@ -1,0 +1,42 @@
+//! How a run ends early.
+
+ghost use Rattle.std.specs.Prelude.{◌≡◌};
+ghost use Rattle.tcshow_input.specs.declared.stop.Stop.TheVariants.{NoMemory};
+
+use std::alloc::AllocError;
+
+/// Why a run ended before the end of its input.
+#[derive(Clone, Copy, PartialEq, Eq)]
+pub enum Stop {
+    /// The input is no capture, and no lines of hex.
+    NoCapture,
+    /// The capture has packets, but none of route netlink.
+    NoRoute,
+    /// The output was closed.
+    Closed,
+    /// The input failed.
+    Read,
+    /// The output failed.
+    Write,
+    /// Memory ran out.
+    NoMemory,
+}
+
+impl From<AllocError> for Stop {
+    ghost from_gives = { λ _ e. e ≡ NoMemory };
+
+    fn from(_e: AllocError) -> Stop {
+        Stop::NoMemory
+    }
+}
+
+impl From<tc_streams::Stop> for Stop {
+    fn from(stop: tc_streams::Stop) -> Stop {
+        match stop {
+            tc_streams::Stop::Closed => Stop::Closed,
+            tc_streams::Stop::Read => Stop::Read,
+            tc_streams::Stop::Write => Stop::Write,
+            tc_streams::Stop::NoMemory => Stop::NoMemory,
+        }
+    }
+}

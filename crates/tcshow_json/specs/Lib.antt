@@ -1,0 +1,4 @@
+pub mod Found
+pub mod Line
+pub mod ByWords
+pub mod Replies

@@ -1,0 +1,169 @@
+//! A message as a line of JSON.
+
+ghost use Rattle.std.specs.Prelude.{◌≡◌, IfOk, Some, None, [], is_some, option_map, true};
+ghost use Rattle.serde.specs.Event.{Log};
+ghost use Rattle.serde_json.specs.Sent.{IsTextOf};
+ghost use Rattle.tcshow_json.specs.ByWords.{IsLineOf, is_refused, is_fault};
+ghost use Rattle.tcshow_json.specs.Found.{message_view};
+ghost use Rattle.tcshow_json.specs.Line.{IsAccepted, IsRefused, IsLine, line_events, verdict_events};
+
+use crate::found::Found;
+use crate::json::{MessageLine, Verdict};
+use crate::pages::{show_place, some_text, text_of, time_page};
+use nla_frames::DecodeError;
+use serde::Serialize;
+use std::alloc::{AllocError, Allocator, Global};
+use tc_capture::Holds;
+use tc_outline::{Layout, Page};
+use tc_wire::{TcActionMessage, TcMessage, WholeMessage};
+
+/// A message as JSON, and the name of its fault where it is refused.
+#[derive(Drop)]
+pub struct Line {
+    pub json: Vec<u8>,
+    pub fault: Option<&'static str>,
+}
+
+/// The line of a message.
+pub fn line_of<A: Allocator + Copy>(
+    alloc: A,
+    json: Global,
+    found: &Found<'_>,
+) -> Result<Line, AllocError>
+    ensures line { IfOk result (λ line. IsLineOf (message_view found.now) line.json.items) }
+    ensures fault { IfOk result (λ line. is_some line.fault ≡ is_refused (message_view found.now)) }
+{
+    match found.holds {
+        Holds::Tc => line_as::<A, TcMessage<A>>(alloc, json, found),
+        Holds::Action => line_as::<A, TcActionMessage<A>>(alloc, json, found),
+    }
+}
+
+#[tactic(auto, using(crate::proofs::ByWords::read_is, crate::proofs::ByWords::fault_is))]
+fn line_as<A: Allocator + Copy, M: WholeMessage<A> + Drop>(
+    alloc: A,
+    json: Global,
+    found: &Found<'_>,
+) -> Result<Line, AllocError>
+    ensures line { IfOk result (λ line. IsLine M.words (message_view found.now) line.json.items) }
+    ensures fault { IfOk result (λ line. is_some line.fault ≡ is_fault (M.words.read found.now.payload.now)) }
+{
+    M::correspond(found.payload);
+    match M::read(alloc, found.payload) {
+        Ok(message) => accepted_line(alloc, json, found, &message),
+        Err(DecodeError::OutOfMemory) => Err(AllocError),
+        Err(error) => refused_line(alloc, json, found, &error),
+    }
+}
+
+// The line of a message that is read.
+fn accepted_line<A: Allocator + Copy, M: WholeMessage<A>>(
+    alloc: A,
+    json: Global,
+    found: &Found<'_>,
+    message: &M,
+) -> Result<Line, AllocError>
+    ensures fault { IfOk result (λ line. line.fault ≡ None) }
+    ensures line { IfOk result (λ line. IsAccepted M.words (message_view found.now) (M.message message.now) line.json.items) }
+{
+    let json = accepted_json(alloc, json, found, message)?;
+    Ok(Line { json, fault: None })
+}
+
+fn accepted_json<A: Allocator + Copy, M: WholeMessage<A>>(
+    alloc: A,
+    json: Global,
+    found: &Found<'_>,
+    message: &M,
+) -> Result<Vec<u8>, AllocError>
+    ensures { IfOk result (λ line. IsAccepted M.words (message_view found.now) (M.message message.now) line.items) }
+{
+    let fits = message.is_writable();
+    let settled = message.is_settled();
+    let canonical = M::is_canonical(found.payload);
+    let verdict = Verdict::Read {
+        fits,
+        settled,
+        canonical,
+    };
+    let time = time_page(alloc, &found.origin)?;
+    json_with(json, some_text(&time), found, verdict)
+}
+
+// The line of a message that is refused.
+fn refused_line<A: Allocator + Copy>(
+    alloc: A,
+    json: Global,
+    found: &Found<'_>,
+    error: &DecodeError,
+) -> Result<Line, AllocError>
+    ensures fault { IfOk result (λ line. is_some line.fault ≡ true) }
+    ensures line { IfOk result (λ line. IsRefused (message_view found.now) error.now line.json.items) }
+{
+    let json = refused_json(alloc, json, found, error)?;
+    Ok(Line {
+        json,
+        fault: Some(error.name()),
+    })
+}
+
+fn refused_json<A: Allocator + Copy>(
+    alloc: A,
+    json: Global,
+    found: &Found<'_>,
+    error: &DecodeError,
+) -> Result<Vec<u8>, AllocError>
+    ensures { IfOk result (λ line. IsRefused (message_view found.now) error.now line.items) }
+{
+    let time = time_page(alloc, &found.origin)?;
+    refused_at(alloc, json, some_text(&time), found, error)
+}
+
+// The same with the time of its packet.
+fn refused_at<A: Allocator>(
+    alloc: A,
+    json: Global,
+    time: Option<&str>,
+    found: &Found<'_>,
+    error: &DecodeError,
+) -> Result<Vec<u8>, AllocError>
+    ensures { IfOk result (λ line. IsRefused (message_view found.now) error.now line.items) }
+{
+    let mut path = Page::new(alloc, Layout::OneLine);
+    let offset = show_place(&mut path, found)? as u64;
+    let verdict = Verdict::Refused {
+        error,
+        offset,
+        path: text_of(&path),
+    };
+    json_with(json, time, found, verdict)
+}
+
+// The line with the time of its packet and this verdict.
+fn json_with(
+    json: Global,
+    time: Option<&str>,
+    found: &Found<'_>,
+    verdict: Verdict<'_, '_>,
+) -> Result<Vec<u8>, AllocError>
+    ensures { IfOk result (λ line. IsTextOf (Some (line_events (option_map (λ t. t.now) time.entry) (message_view found.now) (verdict_events verdict.entry)))
+        line.items) }
+{
+    let line = MessageLine {
+        time,
+        found: *found,
+        verdict,
+        alloc: json,
+    };
+    json_of(json, &line)
+}
+
+/// A value as JSON.
+pub fn json_of<T: Serialize>(alloc: Global, value: &T) -> Result<Vec<u8>, AllocError>
+    ensures { IfOk result (λ json. (log : Log) × T.writes value.now (Some []) log × IsTextOf log json.items) }
+{
+    match serde_json::to_vec(alloc, value) {
+        Ok(json) => Ok(json),
+        Err(_) => Err(AllocError),
+    }
+}

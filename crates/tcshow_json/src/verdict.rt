@@ -1,0 +1,36 @@
+//! Whether the codec refuses a message.
+
+ghost use Rattle.std.specs.Prelude.{◌≡◌, IfOk};
+ghost use Rattle.tcshow_json.specs.ByWords.{is_refused, is_fault};
+ghost use Rattle.tcshow_json.specs.Found.{message_view};
+
+use crate::found::Found;
+use nla_frames::DecodeError;
+use std::alloc::{AllocError, Allocator};
+use tc_capture::Holds;
+use tc_wire::{TcActionMessage, TcMessage, WholeMessage};
+
+/// True of a message that the codec refuses.
+pub fn is_refused<A: Allocator + Copy>(alloc: A, found: &Found<'_>) -> Result<bool, AllocError>
+    ensures { IfOk result (λ refused. refused ≡ is_refused (message_view found.now)) }
+{
+    match found.holds {
+        Holds::Tc => is_refused_as::<A, TcMessage<A>>(alloc, found.payload),
+        Holds::Action => is_refused_as::<A, TcActionMessage<A>>(alloc, found.payload),
+    }
+}
+
+#[tactic(auto, using(tcshow_json::proofs::ByWords::read_is, tcshow_json::proofs::ByWords::fault_is))]
+fn is_refused_as<A: Allocator + Copy, M: WholeMessage<A> + Drop>(
+    alloc: A,
+    payload: &[u8],
+) -> Result<bool, AllocError>
+    ensures { IfOk result (λ refused. refused ≡ is_fault (M.words.read payload.now)) }
+{
+    M::correspond(payload);
+    match M::read(alloc, payload) {
+        Ok(_) => Ok(false),
+        Err(DecodeError::OutOfMemory) => Err(AllocError),
+        Err(_) => Ok(true),
+    }
+}
