@@ -6,14 +6,14 @@ use Rattle.std.proofs.lemmas.List.Elements.{All-append}
 use Rattle.tc_outline.specs.Page.{is_shown}
 use Rattle.tcshow_input.specs.Writing.{GrowsClean}
 
--- nothing is written at first
+-- nothing is written
 pub clean_none : (a : Option (List ℕ)) → GrowsClean a a
 clean_none a = ([], Appends-nil a, λ k d lt. absurd (omega arith))
 
--- what is written first, and then
+-- two writes
 pub clean_then : (a b c : Option (List ℕ)) → GrowsClean a b → GrowsClean b c → GrowsClean a c
 clean_then a b c h k = (h.0 ++ k.0, Appends-trans a b c h.0 k.0 h.1 k.1, All-append (λ b. IsTrue (is_shown true b)) h.0 k.0 h.2 k.2)
 
--- the same, step by step, of what is no JSON
+-- two steps of a run whose output isn't JSON
 pub clean_step : (j k : Bool) (a b c : Option (List ℕ)) → (j ≡ false → GrowsClean a b) → k ≡ j → (k ≡ false → GrowsClean b c) → j ≡ false → GrowsClean a c
 clean_step j k a b c first same next q = clean_then a b c (first q) (next (same ∙ q))

@@ -1,4 +1,4 @@
--- What is found in a dump.
+-- The things in a dump.
 use Rattle.std.proofs.Common.{◌≡◌, ◌==◌, ℕ, false, List, [], ◌∷◌, length, subst, true≢false}
 use Rattle.std.specs.Prelude.{Option}
 use Rattle.tc_capture.specs.declared.kind.Holds.{Holds}
@@ -6,7 +6,7 @@ use Rattle.tcshow_input.specs.Things.{things_on_line}
 use Rattle.tcshow_input.specs.Reading.{things_dumped}
 use Rattle.tcshow_input.specs.State.{State, Puts}
 
--- the header and the bytes may be said otherwise
+-- equal headers and equal bytes have the same things
 pub dumped_after : (h k : Option Holds) (d e : List ℕ) (s n : State) → h ≡ k → d ≡ e → Puts (things_dumped h d) s n → Puts (things_dumped k e) s n
 dumped_after h k d e s n same_header same p =
     subst (λ x. Puts (things_dumped k x) s n) same (subst (λ (x : Option Holds). Puts (things_dumped x d) s n) same_header p)

@@ -1,4 +1,4 @@
--- What is found in an input, in its order.
+-- The things in an input, in order.
 use Rattle.std.proofs.Common.{◌≡◌, ◌∙◌, ◌<◌, ℕ, Bool, true, false, List, [], ◌∷◌, ◌++◌, length, take, refl, sym, ap, subst, append_assoc, append-nil}
 use Rattle.std.specs.Prelude.{Option, Some, None, IfSome, if◌then◌else◌}
 use Rattle.std.specs.Io.KnownBytes.{Keeps, prepend_known}
@@ -13,8 +13,8 @@ use Rattle.tc_input.specs.Lines.{most_line, lines_left, lines_of, IsLineGap}
 use Rattle.tc_input.specs.Pieces.{found_in, pieces_left, IsGap}
 use Rattle.tc_input.specs.Text.{OnLine}
 use Rattle.tc_input.proofs.LongLines.{long_is_apart, long_is_said}
-use Rattle.tcshow_json.specs.Found.{Thing, hole}
-use Rattle.tcshow_input.specs.Reading.{things_in_piece, packets_after, things_in_pieces, things_in_gap, is_passed, things_said, things_on_lines, is_hex_text}
+use Rattle.tcshow_json.specs.Messages.{Thing, hole}
+use Rattle.tcshow_input.specs.Reading.{things_in_piece, packets_after, things_in_pieces, things_in_gap, is_passed, things_of_line, things_on_lines, is_hex_text}
 use Rattle.tcshow_input.specs.Reading.{things_dumped, things_by_place, things_at, dump_by_place, dump_after}
 use Rattle.tcshow_input.specs.Reading.{things_by, things_in_file, AreIn, Begins, capture_left, text_left, GivesUpTo}
 
@@ -28,7 +28,7 @@ gives_then xs ys (Some x) None c p q = absurd p
 gives_then xs ys (Some x) (Some y) None p q = absurd q
 gives_then xs ys (Some x) (Some y) (Some z) p q = p ∙ ap (λ l. xs ++ l) q ∙ sym (append_assoc xs ys z)
 
--- whether they go on
+-- the input goes on, or not
 pub on_is : (t u : Bool) (before : Option (List Thing)) (xs : List Thing) (after : Option (List Thing)) → t ≡ u → GivesUpTo u before xs after
     → GivesUpTo t before xs after
 on_is t u before xs after same given = subst (λ (b : Bool). GivesUpTo b before xs after) (sym same) given
@@ -70,7 +70,7 @@ module _ (n : ℕ) (s : State) where
   gap_gives (Cut e) before after h = rest_gives before (rest h.0 ∷ []) h.1
   gap_gives End before after h = rest_gives before [] h
 
--- the place of a capture stays
+-- the place in a capture is unchanged
 pub same_place : (n : ℕ) (s t : State) (on : Bool) (xs : List Thing) (before : Option (List ℕ)) (after : Option (List Thing)) → s ≡ t
     → GivesUpTo on (capture_left n s before) xs after → GivesUpTo on (capture_left n t before) xs after
 same_place n s t on xs before after same given = subst (λ (k : State). GivesUpTo on (capture_left n k before) xs after) same given
@@ -105,7 +105,7 @@ module _ (header : Option Holds) (dump line : List ℕ) where
     long_things : things_at header dump line ≡ things_dumped header dump ++ (hole false ∷ [])
     long_things =
         ap (things_by_place header dump line) (long_is_apart line long dump)
-        ∙ ap (λ (said : OnLine). things_dumped header dump ++ things_said header said) (long_is_said line long)
+        ∙ ap (λ (said : OnLine). things_dumped header dump ++ things_of_line header said) (long_is_said line long)
 
     no_dump : dump_after dump line ≡ []
     no_dump = ap (dump_by_place dump) (long_is_apart line long dump)
@@ -135,7 +135,7 @@ pub long_gives : (header : Option Holds) (dump next : List ℕ) (n : ℕ) (on : 
 long_gives header dump next n true now before after h none = long_goes_on header dump h.0 h.1 next before after h.2 none
 long_gives header dump next n false now before after h none = long_ends header dump h.0 h.1 before h.2
 
--- the header that lines have stays
+-- the header of lines is unchanged
 pub same_header : (h k : Option Holds) (d e : List ℕ) (on : Bool) (xs : List Thing) (before after : Option (List ℕ)) → h ≡ k
     → GivesUpTo on (text_left h d before) xs (text_left h e after) → GivesUpTo on (text_left k d before) xs (text_left k e after)
 same_header h k d e on xs before after same given =

@@ -1,17 +1,17 @@
--- What a run does, step by step.
+-- Steps of a run.
 use Rattle.std.proofs.Common.{◌≡◌, ◌∙◌, ℕ, Bool, false, List, [], ◌++◌, refl, sym, ap, subst, append_assoc, append-nil}
 use Rattle.std.proofs.KnownBytes.{Appends-nil, Appends-trans}
 use Rattle.std.specs.Prelude.{Option, ◌||◌}
 use Rattle.std.specs.Io.KnownBytes.{Appends}
-use Rattle.tcshow_input.specs.declared.asked.Asked.{Asked}
-use Rattle.tcshow_json.specs.Found.{Thing}
+use Rattle.tcshow_input.specs.declared.options.Options.{Options}
+use Rattle.tcshow_json.specs.Messages.{Thing}
 use Rattle.tcshow_input.specs.Reading.{AreIn}
 use Rattle.tcshow_input.specs.Shown.{ShowsEach, ShowsSummary}
 use Rattle.tcshow_input.specs.State.{State, Puts, Progress, Ends, Completes, Ran, start, is_json}
 use Rattle.tc_streams.specs.Written.{GrowsByFront}
 use Rattle.tcshow_input.proofs.Puts.{each_append, or_assoc, or_false, puts_none}
 
--- what is put is not yet written
+-- appended text that isn't written yet
 pub progress_puts : (a : Option (List ℕ)) (things : List Thing) (s n : State) → Puts things s n → Progress things a a s n
 progress_puts a things s n h = record {
   text = h.0;
@@ -22,7 +22,7 @@ progress_puts a things s n h = record {
   kept = h.3.text;
   json = h.3.json;
   header = h.3.header;
-  choice = h.3.choice;
+  filter = h.3.filter;
   summary = h.3.summary;
   bad = h.3.bad;
 }
@@ -36,36 +36,36 @@ progress_then xs ys a b c s m n h k = record {
   fault = h.fault || k.fault;
   out = h.out ++ k.out;
   shown =
-      let later = subst (λ j. ShowsEach j s.choice ys k.text k.fault) h.json (subst (λ j. ShowsEach m.json j ys k.text k.fault) h.choice k.shown) in
-      each_append s.json s.choice xs ys h.text k.text h.fault k.fault h.shown later;
+      let later = subst (λ j. ShowsEach j s.filter ys k.text k.fault) h.json (subst (λ j. ShowsEach m.json j ys k.text k.fault) h.filter k.shown) in
+      each_append s.json s.filter xs ys h.text k.text h.fault k.fault h.shown later;
   written = Appends-trans a b c h.out k.out h.written k.written;
   kept =
       append_assoc h.out k.out n.text ∙ ap (λ l. h.out ++ l) k.kept ∙ sym (append_assoc h.out m.text k.text) ∙ ap (λ l. l ++ k.text) h.kept
       ∙ append_assoc s.text h.text k.text;
   json = k.json ∙ h.json;
   header = k.header ∙ h.header;
-  choice = k.choice ∙ h.choice;
+  filter = k.filter ∙ h.filter;
   summary = k.summary ∙ h.summary;
   bad = k.bad ∙ ap (λ l. l || k.fault) h.bad ∙ or_assoc s.bad h.fault k.fault;
 }
 
--- something is put, of which nothing or a part is written then
+-- appended text, of which nothing or a part is written then
 pub puts_progress : (xs : List Thing) (a b : Option (List ℕ)) (s m n : State) → Puts xs s m → Progress [] a b m n → Progress xs a b s n
 puts_progress xs a b s m n p h =
     subst (λ l. Progress l a b s n) (append-nil xs) (progress_then xs [] a a b s m n (progress_puts a xs s m p) h)
 
--- something is put after a write
+-- text appended after a write
 pub progress_more : (xs : List Thing) (a b : Option (List ℕ)) (s m n : State) → Progress [] a b s m → Puts xs m n → Progress xs a b s n
 progress_more xs a b s m n h p = progress_then [] xs a b b s m n h (progress_puts b xs m n p)
 
 -- a state whose text is written
 pub emptied : (s : State) (json : Bool) (text : List ℕ) → json ≡ s.json → text ≡ []
-    → record { json = json; header = s.header; choice = s.choice; summary = s.summary; text = text; bad = s.bad } ≡ record s { text = [] }
+    → record { json = json; header = s.header; filter = s.filter; summary = s.summary; text = text; bad = s.bad } ≡ record s { text = [] }
 emptied s json text j t =
-    let with : Bool → List ℕ → State = λ j t. record { json = j; header = s.header; choice = s.choice; summary = s.summary; text = t; bad = s.bad } in
+    let with : Bool → List ℕ → State = λ j t. record { json = j; header = s.header; filter = s.filter; summary = s.summary; text = t; bad = s.bad } in
     ap (λ j. with j text) j ∙ ap (λ t. with s.json t) t
 
--- all that is put is written
+-- all appended text is written
 pub progress_write : (a b : Option (List ℕ)) (s n : State) (rest : List ℕ) → GrowsByFront a b s.text rest → rest ≡ [] → n ≡ record s { text = [] }
     → Progress [] a b s n
 progress_write a b s n rest h none same =
@@ -78,7 +78,7 @@ progress_write a b s n rest h none same =
       kept = ap (λ l. h.0 ++ l) (sym none) ∙ sym h.1 ∙ sym (append-nil s.text);
       json = refl;
       header = refl;
-      choice = refl;
+      filter = refl;
       summary = refl;
       bad = sym (or_false s.bad);
     })
@@ -103,10 +103,10 @@ completes things a b c s m n rest h w none same =
     )
 
 -- a run from the beginning
-pub ran : (asked : Asked) (file a b : Option (List ℕ)) (s n : State) (fault : Bool)
-    → s ≡ start asked → fault ≡ n.bad → (things : List Thing) × AreIn file s.header things × Completes things a b s n → Ran asked fault file a b
-ran asked file a b s n fault start same h =
+pub ran : (options : Options) (file a b : Option (List ℕ)) (s n : State) (fault : Bool)
+    → s ≡ start options → fault ≡ n.bad → (things : List Thing) × AreIn file s.header things × Completes things a b s n → Ran options fault file a b
+ran options file a b s n fault start same h =
     let begun = subst (λ (x : State). Completes h.0 a b x n) start h.2 in
     let is_fault = same ∙ begun.6 in
-    let shown = subst (λ x. ShowsEach (is_json asked.form) asked.chosen h.0 begun.0 x) (sym is_fault) begun.3 in
+    let shown = subst (λ x. ShowsEach (is_json options.format) options.filter h.0 begun.0 x) (sym is_fault) begun.3 in
     (h.0, begun.0, begun.2, subst (λ (x : State). AreIn file x.header h.0) start h.1, shown, begun.4, begun.5)

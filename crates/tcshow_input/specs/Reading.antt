@@ -1,4 +1,4 @@
--- What is found in an input: the pieces of a capture, or the lines of a text, in their order.
+-- The things found in an input, in order: in the pieces of a capture, or on the lines of a text.
 use Rattle.std.specs.Prelude.{◌≡◌, ℕ, ◌+◌, ◌-◌, ◌^◌, min, Bool, true, false, ◌||◌, ◌&&◌, ◌==◌, nat_le, List, [], ◌∷◌, ◌++◌, take}
 use Rattle.std.specs.Prelude.{Option, Some, None, Ok, Err, IfSome, option_map, if◌then◌else◌}
 use Rattle.tc_capture.specs.declared.kind.Holds.{Holds}
@@ -14,25 +14,24 @@ use Rattle.tc_input.specs.Left.{Gives}
 use Rattle.tc_input.specs.Lines.{lines_of, lines_left}
 use Rattle.tc_input.specs.Pieces.{found_in, pieces_left}
 use Rattle.tc_input.specs.Text.{OnLine, nothing, no_hex, too_long, octets, on_line}
-use Rattle.tcshow_json.specs.Found.{Thing, hole}
+use Rattle.tcshow_json.specs.Messages.{Thing, hole}
 use Rattle.tcshow_input.specs.Things.{things_of, things_on_line}
 
 -- ---- of a capture
 
--- how many packets there are after one more, up to 2^64 - 1; a stream has none
+-- the number of packets after one more, at most 2^64 - 1; a stream has none
 abbrev pub count_after : ℕ → Link → ℕ
 count_after n Plain = n
 count_after n Cooked = min (n + 1) (2 ^ 64 - 1)
 count_after n (Other link) = min (n + 1) (2 ^ 64 - 1)
 
--- the number of the packet, from 1 on
+-- the number of the packet, from 1
 abbrev pub number_after : ℕ → Link → Option ℕ
 number_after n Plain = None
 number_after n Cooked = Some (min (n + 1) (2 ^ 64 - 1))
 number_after n (Other link) = Some (min (n + 1) (2 ^ 64 - 1))
 
--- what is found in a piece, after so many packets: what its packet has; a fault, where it can't be read; and a place without a message,
--- where it is only too long
+-- the things in a piece after n packets: those of its packet; a fault if it can't be read; a place without a message if it is too long
 abbrev pub things_in_piece : ℕ → What → List Thing
 things_in_piece n (pieces.read (Ok (Some p))) = things_of (number_after n p.link) p
 things_in_piece n (pieces.read (Ok None)) = []
@@ -40,7 +39,7 @@ things_in_piece n (pieces.read (Err e)) = hole true ∷ []
 things_in_piece n pieces.skipped = hole false ∷ []
 things_in_piece n (pieces.rest e) = hole true ∷ []
 
--- how many packets there are then
+-- the number of packets after the piece
 abbrev pub packets_after : ℕ → What → ℕ
 packets_after n (pieces.read (Ok (Some p))) = count_after n p.link
 packets_after n (pieces.read (Ok None)) = n
@@ -52,7 +51,7 @@ abbrev pub things_in_pieces : ℕ → List What → List Thing
 things_in_pieces n [] = []
 things_in_pieces n (piece ∷ later) = things_in_piece n piece ++ things_in_pieces (packets_after n piece) later
 
--- where no piece is
+-- the things in a gap
 abbrev pub things_in_gap : Gap → List Thing
 things_in_gap More = []
 things_in_gap (Skipped n) = hole false ∷ []
@@ -60,7 +59,7 @@ things_in_gap (Broken e) = hole true ∷ []
 things_in_gap (Cut e) = hole true ∷ []
 things_in_gap End = []
 
--- whether the capture goes on after it
+-- whether the capture goes on after the gap
 abbrev pub is_passed : Gap → Bool
 is_passed More = true
 is_passed (Skipped n) = true
@@ -70,28 +69,28 @@ is_passed End = false
 
 -- ---- of lines of hex
 
--- what is found on a line
-abbrev pub things_said : Option Holds → OnLine → List Thing
-things_said header nothing = []
-things_said header no_hex = hole true ∷ []
-things_said header too_long = hole false ∷ []
-things_said header (octets bs) = things_on_line header bs
+-- the things on a line that isn't part of a dump
+abbrev pub things_of_line : Option Holds → OnLine → List Thing
+things_of_line header nothing = []
+things_of_line header no_hex = hole true ∷ []
+things_of_line header too_long = hole false ∷ []
+things_of_line header (octets bs) = things_on_line header bs
 
--- what is found in a dump, where there is one
+-- the things in a dump; no things without bytes
 abbrev pub things_dumped : Option Holds → List ℕ → List Thing
 things_dumped header [] = []
 things_dumped header (b ∷ dump) = things_on_line header (b ∷ dump)
 
--- what is known to be found after one more line, behind the bytes of a dump: nothing yet where the dump goes on
+-- the things that end with one more line, after the bytes of a dump: none if the dump goes on
 abbrev pub things_by_place : Option Holds → List ℕ → List ℕ → Place → List Thing
 things_by_place header dump line (begins bytes) = things_dumped header dump
 things_by_place header dump line (goes_on bytes) = []
-things_by_place header dump line apart = things_dumped header dump ++ things_said header (on_line line)
+things_by_place header dump line apart = things_dumped header dump ++ things_of_line header (on_line line)
 
 abbrev pub things_at : Option Holds → List ℕ → List ℕ → List Thing
 things_at header dump line = things_by_place header dump line (place_at dump line)
 
--- the bytes of the dump then
+-- the bytes of the dump after the line
 abbrev pub dump_by_place : List ℕ → Place → List ℕ
 dump_by_place dump (begins bytes) = bytes
 dump_by_place dump (goes_on bytes) = dump ++ bytes
@@ -111,31 +110,31 @@ is_hex_digit b = (nat_le 48 b && nat_le b 57) || (nat_le 97 b && nat_le b 102) |
 abbrev pub is_blank : ℕ → Bool
 is_blank b = b == 32 || b == 9 || b == 13 || b == 35 || b == 10
 
--- whether lines of hex may begin so
+-- whether lines of hex can begin with these bytes
 abbrev pub is_hex_text : List ℕ → Bool
 is_hex_text [] = false
 is_hex_text (b ∷ first) = is_hex_digit b || is_blank b
 
 -- ---- of an input
 
--- by its first four bytes
+-- the things in an input whose first four bytes announce this capture, or none
 abbrev pub things_by : Option Holds → Option State → List ℕ → Option (List Thing)
 things_by header (Some s) file = Some (things_in_pieces 0 (found_in s file))
 things_by header None file = if is_hex_text (take 4 file) then Some (things_on_lines header [] (lines_of file)) else None
 
--- what is found in a file that is a capture, or lines of hex
+-- the things in a file, if it is a capture or lines of hex
 unfoldable pub things_in_file : Option Holds → List ℕ → Option (List Thing)
 things_in_file header file = things_by header (capture_at (take 4 file)) file
 
--- these things, where the file is known
+-- these are the things in the file, if the file is known
 abbrev pub AreIn : Option (List ℕ) → Option Holds → List Thing → Type 0
 AreIn file header things = IfSome file (λ bytes. things_in_file header bytes ≡ Some things)
 
--- the same of an input of which the first bytes were read
+-- these are the things in an input whose first bytes were read, if it is known
 abbrev pub Begins : List ℕ → Option (List ℕ) → Option Holds → List Thing → Type 0
 Begins first file header things = IfSome file (λ bytes. take 4 first ≡ take 4 bytes → things_in_file header bytes ≡ Some things)
 
--- ---- of what is left of it
+-- ---- of the rest of an input
 
 abbrev pub capture_left : ℕ → State → Option (List ℕ) → Option (List Thing)
 capture_left n s left = option_map (things_in_pieces n) (pieces_left s left)
@@ -143,7 +142,7 @@ capture_left n s left = option_map (things_in_pieces n) (pieces_left s left)
 abbrev pub text_left : Option Holds → List ℕ → Option (List ℕ) → Option (List Thing)
 text_left header dump left = option_map (things_on_lines header dump) (lines_left left)
 
--- these come first, and then what is left; or they are all
+-- the things come before those of the rest; or they are all, if the input ends
 abbrev pub GivesUpTo : Bool → Option (List Thing) → List Thing → Option (List Thing) → Type 0
 GivesUpTo true before things after = Gives before things after
 GivesUpTo false before things after = Gives before things (Some [])

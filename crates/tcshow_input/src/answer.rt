@@ -1,18 +1,18 @@
-//! The answer to one message.
+//! Messages, printed.
 
 use crate::attributes::show_attributes;
-use crate::shower::Shower;
+use crate::printer::Printer;
 use std::alloc::{AllocError, Allocator};
-use tcshow_json::{Found, begin_message, line_of};
+use tcshow_json::{Message, begin_message, line_of};
 
-impl<'a, A: Allocator + Copy> Shower<'a, A> {
+impl<'a, A: Allocator + Copy> Printer<'a, A> {
     ghost use Rattle.std.specs.Prelude.{◌≡◌, ◌∷◌, [], List, ℕ, Bool, true, false, OnOk};
-    ghost use Rattle.tcshow_json.specs.Found.{message_view, message};
+    ghost use Rattle.tcshow_json.specs.Messages.{message_view, message};
     ghost use Rattle.tcshow_input.specs.Shown.{ShowsMessage};
     ghost use Rattle.tcshow_input.specs.State.{state_of, Grows, Puts};
 
-    /// Shows a message where it is chosen.
-    pub(crate) fn put_message(&mut self, found: &Found<'_>) -> Result<(), AllocError>
+    /// Prints a message if the filter matches it.
+    pub(crate) fn put_message(&mut self, found: &Message<'_>) -> Result<(), AllocError>
         ensures form { self.new.output.is_json ≡ self.old.output.is_json }
         ensures put { OnOk result (Puts (message (message_view found.now) ∷ []) (state_of self.old) (state_of self.new)) }
     {
@@ -25,8 +25,7 @@ impl<'a, A: Allocator + Copy> Shower<'a, A> {
         self.show_message(found)
     }
 
-    // Shows a message.
-    fn show_message(&mut self, found: &Found<'_>) -> Result<(), AllocError>
+    fn show_message(&mut self, found: &Message<'_>) -> Result<(), AllocError>
         ensures form { self.new.output.is_json ≡ self.old.output.is_json }
         ensures put { OnOk result ((text : List ℕ) × (bad : Bool) × ShowsMessage self.old.output.is_json (message_view found.now) text bad
             × Grows text bad (state_of self.old) (state_of self.new)) }
@@ -39,18 +38,18 @@ impl<'a, A: Allocator + Copy> Shower<'a, A> {
         }
     }
 
-    fn put_outline(&mut self, found: &Found<'_>) -> Result<(), AllocError>
+    fn put_outline(&mut self, found: &Message<'_>) -> Result<(), AllocError>
         ensures form { self.new.output.is_json ≡ self.old.output.is_json }
         ensures put { OnOk result ((text : List ℕ) × (bad : Bool) × ShowsMessage false (message_view found.now) text bad
             × Grows text bad (state_of self.old) (state_of self.new)) }
     {
         begin_message(&mut self.page, found)?;
-        let name = show_attributes(self.json, self.asked, &self.links, &mut self.page, found)?;
+        let name = show_attributes(self.json, self.options, &self.links, &mut self.page, found)?;
         self.put_page()?;
         self.count_fault(name)
     }
 
-    fn put_line(&mut self, found: &Found<'_>) -> Result<(), AllocError>
+    fn put_line(&mut self, found: &Message<'_>) -> Result<(), AllocError>
         requires { self.old.output.is_json ≡ true }
         ensures form { self.new.output.is_json ≡ self.old.output.is_json }
         ensures put { OnOk result ((text : List ℕ) × (bad : Bool) × ShowsMessage true (message_view found.now) text bad

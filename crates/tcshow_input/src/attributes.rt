@@ -3,29 +3,27 @@
 ghost use Rattle.std.specs.Prelude.{◌≡◌, IfOk, is_some, option_map};
 ghost use Rattle.tc_outline.specs.Located.{items_of_message, message_fault};
 ghost use Rattle.tc_outline.specs.declared.what.What.{What as WhatType};
-ghost use Rattle.tcshow_json.specs.Found.{message_view};
+ghost use Rattle.tcshow_json.specs.Messages.{message_view};
 
-use crate::asked::Asked;
 use crate::links::Links;
+use crate::options::Options;
 use std::alloc::{AllocError, Allocator, Global};
 use tc_columns::{KindColumns, Root};
 use tc_outline::{Fault, Page, What, outline};
-use tcshow_json::{Found, Header};
+use tcshow_json::{Message, NetlinkHeader};
 
-// The columns that a message is shown by, with these names of interfaces.
 fn columns_of<'a>(
-    asked: &Asked<'_>,
+    options: &Options<'_>,
     interfaces: &'a [(u32, &'a str)],
-    found: &Found<'_>,
+    found: &Message<'_>,
 ) -> KindColumns<'a> {
     KindColumns {
         root: root_of(found),
         interfaces,
-        all: asked.all,
+        all: options.all,
     }
 }
 
-// The name of a fault, where there is one.
 fn name_of(fault: &Option<Fault>) -> Option<&'static str>
     ensures { is_some result ≡ is_some (option_map (λ fault. fault.error) fault.now) }
 {
@@ -35,25 +33,25 @@ fn name_of(fault: &Option<Fault>) -> Option<&'static str>
     }
 }
 
-/// Shows the attributes of a message, and returns the name of its fault, where it has one.
+/// Writes the attributes of a message, and returns the name of its first fault.
 pub(crate) fn show_attributes<A: Allocator>(
     json: Global,
-    asked: &Asked<'_>,
+    options: &Options<'_>,
     links: &Links,
     page: &mut Page<A>,
-    found: &Found<'_>,
+    found: &Message<'_>,
 ) -> Result<Option<&'static str>, AllocError>
     ensures { IfOk result (λ name. (what : WhatType) × (is_some name ≡ is_some (message_fault (items_of_message what (message_view found.now).payload)))) }
 {
-    let given = asked.names;
+    let given = options.names;
     let names = links.with(given.names)?;
-    let columns = columns_of(asked, names.as_slice(), found);
+    let columns = columns_of(options, names.as_slice(), found);
     let fault = outline(json, page, found.payload, columns)?;
     Ok(name_of(&fault))
 }
 
-// What a message speaks of: that of its type, and of one without a netlink header as far as its kind says so.
-fn root_of(found: &Found<'_>) -> Root {
+// The object that a message describes, according to its type; without a netlink header, according to its kind.
+fn root_of(found: &Message<'_>) -> Root {
     match found.what {
         What::Qdisc => Root::Qdisc,
         What::Class => Root::Class,
@@ -65,8 +63,8 @@ fn root_of(found: &Found<'_>) -> Root {
     }
 }
 
-// True of what answers a flush: its flags have `NLM_F_ROOT`.
-fn is_flush(header: &Option<Header>) -> bool {
+// True if the message flushes actions: `RTM_DELACTION` with `NLM_F_ROOT`.
+fn is_flush(header: &Option<NetlinkHeader>) -> bool {
     match header {
         Some(header) => header.name == "RTM_DELACTION" && header.flags & 0x100 != 0,
         None => false,

@@ -1,41 +1,41 @@
-//! A capture, packet by packet.
+//! Captures, printed packet by packet.
 
 ghost use Rattle.std.specs.Prelude.{◌≡◌, ℕ, false, List, [], Some, Err, take, OnOk, IfOk};
 ghost use Rattle.tc_capture.specs.Capture.{next_piece};
 ghost use Rattle.tc_capture.specs.Capture.{state_of as place_of};
 ghost use Rattle.tc_input.specs.Left.{rest_of, left_of, Gives};
-ghost use Rattle.tcshow_json.specs.Found.{Thing};
+ghost use Rattle.tcshow_json.specs.Messages.{Thing};
 ghost use Rattle.tcshow_input.specs.Things.{are_read, other_than_outgoing};
 ghost use Rattle.tcshow_input.specs.Reading.{capture_left, is_passed, GivesUpTo};
 ghost use Rattle.tcshow_input.specs.State.{state_of, Progress, Puts};
 ghost use Rattle.tcshow_input.specs.Writing.{GrowsClean};
 
 use crate::packets::Packets;
-use crate::shower::Shower;
+use crate::printer::Printer;
 use crate::stop::Stop;
 use std::alloc::{AllocError, Allocator};
 use std::io::{Read, Write};
 use tc_capture::{Capture, CaptureError, Contents, Messages, NetlinkMessage, Packet, Piece, Res};
 use tc_input::{Gap, Input, next_piece, read_on};
-use tcshow_json::{Found, Notice, Origin, Reply};
+use tcshow_json::{Message, Notice, Origin, Reply};
 
-/// Shows a capture to its end.
+/// Prints the messages of a capture, from its next piece to its end.
 pub fn show_capture<A: Allocator + Copy, R: Read, W: Write>(
-    shower: &mut Shower<'_, A>,
+    printer: &mut Printer<'_, A>,
     packets: &mut Packets,
     input: &mut Input<A>,
     mut capture: Capture,
     reader: &mut R,
     writer: &mut W,
 ) -> Result<(), Stop>
-    ensures form { shower.new.output.is_json ≡ shower.old.output.is_json }
-    ensures clean { shower.old.output.is_json ≡ false → GrowsClean (W.contents writer.old) (W.contents writer.new) }
+    ensures form { printer.new.output.is_json ≡ printer.old.output.is_json }
+    ensures clean { printer.old.output.is_json ≡ false → GrowsClean (W.contents writer.old) (W.contents writer.new) }
     ensures ran { OnOk result ((things : List Thing)
-        × Progress things (W.contents writer.old) (W.contents writer.new) (state_of shower.old) (state_of shower.new)
+        × Progress things (W.contents writer.old) (W.contents writer.new) (state_of printer.old) (state_of printer.new)
         × Gives (capture_left packets.old.count (place_of capture) (left_of input.old (R.remaining reader.old))) things (Some [])) }
 {
     for _ in 0..u64::MAX {
-        let goes_on = show_piece(shower, packets, input, &mut capture, reader, writer)?;
+        let goes_on = show_piece(printer, packets, input, &mut capture, reader, writer)?;
         if !goes_on {
             return Ok(());
         }
@@ -43,40 +43,39 @@ pub fn show_capture<A: Allocator + Copy, R: Read, W: Write>(
     Err(Stop::Read)
 }
 
-// Shows the next piece of a capture. False where the capture ends.
+// Prints the next piece of a capture. Returns false at the end of the capture.
 fn show_piece<A: Allocator + Copy, R: Read, W: Write>(
-    shower: &mut Shower<'_, A>,
+    printer: &mut Printer<'_, A>,
     packets: &mut Packets,
     input: &mut Input<A>,
     capture: &mut Capture,
     reader: &mut R,
     writer: &mut W,
 ) -> Result<bool, Stop>
-    ensures form { shower.new.output.is_json ≡ shower.old.output.is_json }
-    ensures clean { shower.old.output.is_json ≡ false → GrowsClean (W.contents writer.old) (W.contents writer.new) }
+    ensures form { printer.new.output.is_json ≡ printer.old.output.is_json }
+    ensures clean { printer.old.output.is_json ≡ false → GrowsClean (W.contents writer.old) (W.contents writer.new) }
     ensures ran { IfOk result (λ goes_on. (things : List Thing)
-        × Progress things (W.contents writer.old) (W.contents writer.new) (state_of shower.old) (state_of shower.new)
+        × Progress things (W.contents writer.old) (W.contents writer.new) (state_of printer.old) (state_of printer.new)
         × GivesUpTo goes_on (capture_left packets.old.count (place_of capture.old) (left_of input.old (R.remaining reader.old))) things
         (capture_left packets.new.count (place_of capture.new) (left_of input.new (R.remaining reader.new)))) }
 {
     let at = input.offset();
     match next_piece(capture, input) {
         Ok(piece) => {
-            shower.put_piece(packets, &piece, at)?;
+            printer.put_piece(packets, &piece, at)?;
             let used = piece.used;
             input.use_up(used);
-            shower.write_much(writer)?;
+            printer.write_much(writer)?;
             Ok(true)
         }
-        Err(fault) => goes_on(shower, input, capture, fault, reader, writer),
+        Err(fault) => goes_on(printer, input, capture, fault, reader, writer),
     }
 }
 
-// What comes where no piece is at the front of what was read: more is read, or a piece is passed over that is too long.
-// False where the capture ends.
+// Reads more if the bytes that were read don't hold a piece, or skips a piece that is too long. Returns false at the end of the capture.
 #[tactic(auto, using(crate::proofs::Clean::clean_then, crate::proofs::Clean::clean_none))]
 fn goes_on<A: Allocator + Copy, R: Read, W: Write>(
-    shower: &mut Shower<'_, A>,
+    printer: &mut Printer<'_, A>,
     input: &mut Input<A>,
     capture: &Capture,
     fault: CaptureError,
@@ -84,21 +83,21 @@ fn goes_on<A: Allocator + Copy, R: Read, W: Write>(
     writer: &mut W,
 ) -> Result<bool, Stop>
     requires { next_piece (place_of capture.now) (take 1048576 (rest_of input.old)) ≡ Err fault }
-    ensures form { shower.new.output.is_json ≡ shower.old.output.is_json }
-    ensures clean { shower.old.output.is_json ≡ false → GrowsClean (W.contents writer.old) (W.contents writer.new) }
+    ensures form { printer.new.output.is_json ≡ printer.old.output.is_json }
+    ensures clean { printer.old.output.is_json ≡ false → GrowsClean (W.contents writer.old) (W.contents writer.new) }
     ensures ran { IfOk result (λ goes_on. (things : List Thing)
-        × Progress things (W.contents writer.old) (W.contents writer.new) (state_of shower.old) (state_of shower.new)
+        × Progress things (W.contents writer.old) (W.contents writer.new) (state_of printer.old) (state_of printer.new)
         × ((n : ℕ) → GivesUpTo goes_on (capture_left n (place_of capture.now) (left_of input.old (R.remaining reader.old))) things
         (capture_left n (place_of capture.now) (left_of input.new (R.remaining reader.new))))) }
 {
     let at = input.offset();
-    shower.write(writer)?;
+    printer.write(writer)?;
     let gap = read_on(capture, input, fault, reader)?;
-    shower.put_gap(gap, at)?;
+    printer.put_gap(gap, at)?;
     Ok(is_passed(gap))
 }
 
-// True where a capture goes on.
+// True if the capture goes on after the gap.
 fn is_passed(gap: Gap) -> bool
     ensures { result ≡ is_passed gap }
 {
@@ -108,7 +107,7 @@ fn is_passed(gap: Gap) -> bool
     }
 }
 
-// True if all messages of a packet are whole.
+// True if all messages of a packet can be read.
 fn are_read(bytes: &[u8]) -> bool
     ensures { result ≡ are_read bytes.now }
 {
@@ -121,7 +120,7 @@ fn are_read(bytes: &[u8]) -> bool
     true
 }
 
-// A packet type, where it isn't the usual one: `PACKET_OUTGOING`.
+// The packet type, unless it is the usual one (`PACKET_OUTGOING`).
 fn other_than_outgoing(packet_type: Option<u16>) -> Option<u16>
     ensures { result ≡ other_than_outgoing packet_type }
 {
@@ -131,7 +130,7 @@ fn other_than_outgoing(packet_type: Option<u16>) -> Option<u16>
     }
 }
 
-impl<'a, A: Allocator + Copy> Shower<'a, A> {
+impl<'a, A: Allocator + Copy> Printer<'a, A> {
     ghost use Rattle.std.specs.Prelude.{◌≡◌, ◌∷◌, ◌++◌, [], true, OnOk};
     ghost use Rattle.tc_capture.specs.Outcome.{seen};
     ghost use Rattle.tc_capture.specs.Front.{front_of};
@@ -140,12 +139,12 @@ impl<'a, A: Allocator + Copy> Shower<'a, A> {
     ghost use Rattle.tc_capture.specs.Answer.{answer_in};
     ghost use Rattle.tc_capture.specs.Message.{message_of};
     ghost use Rattle.tcshow_input.specs.Reading.{things_in_piece, things_in_gap, packets_after, count_after, number_after};
-    ghost use Rattle.tcshow_json.specs.Found.{hole, is_fault, thing_of, answer_with};
+    ghost use Rattle.tcshow_json.specs.Messages.{hole, is_fault, thing_of, answer_with};
     ghost use Rattle.tcshow_input.specs.Things.{thing_in, things_in, things_held, things_of};
-    ghost use Rattle.tcshow_input.specs.Things.{cut_behind, origin_of};
+    ghost use Rattle.tcshow_input.specs.Things.{cut_after, origin_of};
     ghost use Rattle.tcshow_input.specs.State.{state_of, Puts};
 
-    /// Counts a place without a message, and says what is there.
+    /// Counts and prints a place without a message.
     pub(crate) fn put_hole(&mut self, notice: Notice, at: u64) -> Result<(), AllocError>
         ensures form { self.new.output.is_json ≡ self.old.output.is_json }
         ensures put { OnOk result (Puts (hole (is_fault notice) ∷ []) (state_of self.old) (state_of self.new)) }
@@ -154,7 +153,7 @@ impl<'a, A: Allocator + Copy> Shower<'a, A> {
         self.put_notice(notice, at)
     }
 
-    // Says what comes where no piece is.
+    // Prints a gap in a capture.
     fn put_gap(&mut self, gap: Gap, at: u64) -> Result<(), AllocError>
         ensures form { self.new.output.is_json ≡ self.old.output.is_json }
         ensures put { OnOk result (Puts (things_in_gap gap) (state_of self.old) (state_of self.new)) }
@@ -167,7 +166,6 @@ impl<'a, A: Allocator + Copy> Shower<'a, A> {
         }
     }
 
-    // Shows the messages of a piece of a capture.
     fn put_piece(
         &mut self,
         packets: &mut Packets,
@@ -187,7 +185,7 @@ impl<'a, A: Allocator + Copy> Shower<'a, A> {
         }
     }
 
-    // Shows the messages of a packet, whose bytes are at this place of the input.
+    // Prints the messages of a packet whose bytes begin at this offset of the input.
     fn put_packet(
         &mut self,
         packets: &mut Packets,
@@ -205,7 +203,6 @@ impl<'a, A: Allocator + Copy> Shower<'a, A> {
         self.put_contents(number, packet, &held, at)
     }
 
-    // Shows what a packet holds.
     fn put_contents(
         &mut self,
         number: Option<u64>,
@@ -231,7 +228,7 @@ impl<'a, A: Allocator + Copy> Shower<'a, A> {
         }
     }
 
-    // Shows the messages of route netlink that a packet holds, and says where it is cut.
+    // Prints the route netlink messages of a packet, and where it is cut.
     fn put_route(
         &mut self,
         number: Option<u64>,
@@ -242,7 +239,7 @@ impl<'a, A: Allocator + Copy> Shower<'a, A> {
     ) -> Result<(), AllocError>
         ensures form { self.new.output.is_json ≡ self.old.output.is_json }
         ensures put { OnOk result (Puts (things_in (origin_of number packet_type (captured_of packet.now)) messages.now
-            ++ cut_behind packet.now.is_whole messages.now) (state_of self.old) (state_of self.new)) }
+            ++ cut_after packet.now.is_whole messages.now) (state_of self.old) (state_of self.new)) }
     {
         let origin = Origin {
             time: packet.time,
@@ -255,11 +252,11 @@ impl<'a, A: Allocator + Copy> Shower<'a, A> {
         self.put_cut(packet.is_whole, messages, end)
     }
 
-    // Says that the capture holds only the first bytes of a packet, where the messages in them are whole.
+    // Prints that the capture holds only the first bytes of a packet, unless a message in them is cut, which is printed with the messages.
     #[tactic(auto, using(crate::proofs::Puts::puts_none))]
     fn put_cut(&mut self, is_whole: bool, messages: &[u8], at: u64) -> Result<(), AllocError>
         ensures form { self.new.output.is_json ≡ self.old.output.is_json }
-        ensures put { OnOk result (Puts (cut_behind is_whole messages.now) (state_of self.old) (state_of self.new)) }
+        ensures put { OnOk result (Puts (cut_after is_whole messages.now) (state_of self.old) (state_of self.new)) }
     {
         if is_whole {
             return Ok(());
@@ -270,7 +267,7 @@ impl<'a, A: Allocator + Copy> Shower<'a, A> {
         self.put_hole(Notice::Snapped, at)
     }
 
-    // Counts a packet that holds no messages of route netlink.
+    // Counts a packet without route netlink messages.
     fn count_foreign(&mut self, contents: &Contents<'_>)
         ensures same { state_of self.new ≡ state_of self.old }
     {
@@ -285,7 +282,7 @@ impl<'a, A: Allocator + Copy> Shower<'a, A> {
         }
     }
 
-    /// Shows the netlink messages in bytes at this place of the input.
+    /// Prints the netlink messages in bytes at this offset of the input.
     pub(crate) fn put_messages(
         &mut self,
         origin: Origin,
@@ -305,7 +302,7 @@ impl<'a, A: Allocator + Copy> Shower<'a, A> {
         Ok(())
     }
 
-    // Shows the next message of a packet, or says how they end early.
+    // Prints the next message of a packet, or why the messages end early.
     fn put_next(
         &mut self,
         origin: Origin,
@@ -322,7 +319,6 @@ impl<'a, A: Allocator + Copy> Shower<'a, A> {
         }
     }
 
-    // Shows a netlink message.
     fn put_netlink(
         &mut self,
         origin: Origin,
@@ -331,13 +327,13 @@ impl<'a, A: Allocator + Copy> Shower<'a, A> {
         ensures form { self.new.output.is_json ≡ self.old.output.is_json }
         ensures put { OnOk result (Puts (thing_of origin (message_of message.now) ∷ []) (state_of self.old) (state_of self.new)) }
     {
-        match Found::in_netlink(origin, message) {
+        match Message::in_netlink(origin, message) {
             Some(found) => self.put_message(&found),
             None => self.put_other(origin, message),
         }
     }
 
-    // Shows an answer of the kernel to a request of traffic control, or counts another netlink message.
+    // Prints an answer of the kernel to a traffic control request, or counts another netlink message.
     fn put_other(&mut self, origin: Origin, message: &NetlinkMessage<'_>) -> Result<(), AllocError>
         ensures form { self.new.output.is_json ≡ self.old.output.is_json }
         ensures put { OnOk result (Puts (answer_with origin (message_of message.now) (answer_in (message_of message.now)) ∷ [])
@@ -352,7 +348,7 @@ impl<'a, A: Allocator + Copy> Shower<'a, A> {
         }
     }
 
-    // Says how the messages of a packet end early: where the capture holds a part of it, that is why.
+    // Prints why the messages of a packet end early: it is cut, or broken.
     fn put_end(&mut self, fault: CaptureError, is_whole: bool, at: u64) -> Result<(), AllocError>
         ensures form { self.new.output.is_json ≡ self.old.output.is_json }
         ensures put { OnOk result (Puts (hole true ∷ []) (state_of self.old) (state_of self.new)) }

@@ -1,34 +1,34 @@
-//! What a run has met.
+//! Counts of a run.
 
 ghost use Rattle.std.specs.Prelude.{◌≡◌, ◌||◌, true};
-ghost use Rattle.tcshow_json.specs.Found.{is_fault};
+ghost use Rattle.tcshow_json.specs.Messages.{is_fault};
 ghost use Rattle.tcshow_input.specs.State.{is_bad};
 
 use serde::Serialize;
 use tcshow_json::Notice;
 
-/// How many there were of what, `u64::MAX` at most.
+/// Counts of a run, each at most `u64::MAX`.
 #[derive(Clone, Copy, Default, Serialize)]
 pub struct Counts {
-    /// Messages that were shown, refused ones too.
+    /// Messages that were printed, refused ones too.
     pub(crate) shown: u64,
-    /// Answers of the kernel that were shown.
+    /// Answers of the kernel that were printed.
     pub(crate) answers: u64,
-    /// Messages that were refused.
+    /// Messages that the codec refused.
     pub(crate) refused: u64,
-    /// Messages of traffic control, and answers to them, that weren't chosen.
+    /// Traffic control messages, and answers to them, that the filter left out.
     pub(crate) left_out: u64,
-    /// Netlink messages that are no traffic control.
+    /// Other netlink messages.
     pub(crate) others: u64,
     /// Packets of a link type other than netlink's.
     pub(crate) other_links: u64,
     /// Packets of a netlink family other than route netlink.
     pub(crate) other_families: u64,
-    /// Packets of which the capture holds a part, and the end of a capture that is cut.
+    /// Packets that the capture holds in part, and a capture that ends within a piece.
     pub(crate) cut: u64,
-    /// Packets and lines that are too long.
+    /// Packets and lines over the limit.
     pub(crate) skipped: u64,
-    /// Places where a capture, a packet or a line can't be read on.
+    /// Places where a capture, a packet or a line can't be read.
     pub(crate) broken: u64,
 }
 
@@ -44,7 +44,7 @@ impl Counts {
         }
     }
 
-    /// Counts a message that is refused.
+    /// Counts a refused message.
     pub(crate) fn count_refused(&mut self)
         ensures { is_bad self.new ≡ (is_bad self.old || true) }
     {

@@ -1,15 +1,15 @@
-//! The names of interfaces that a capture has.
+//! Names of interfaces in a capture.
 
-use crate::shower::Shower;
+use crate::printer::Printer;
 use std::alloc::{AllocError, Allocator, Global};
 use std::str;
 use tc_capture::NetlinkMessage;
 use tc_words::{NamedLink, RTM_NEWLINK, link_of_message};
 
-// `NLM_F_REQUEST` of `linux/netlink.h`.
+// `NLM_F_REQUEST`, `linux/netlink.h`.
 const NLM_F_REQUEST: u16 = 1;
 
-/// The names of interfaces in messages of links: of each the last.
+/// The last name of each interface in the `RTM_NEWLINK` messages so far.
 #[derive(Drop)]
 pub(crate) struct Links {
     alloc: Global,
@@ -24,7 +24,7 @@ impl Links {
         }
     }
 
-    // Keeps the name of an interface; one that isn't UTF-8 isn't kept.
+    // Keeps the name of an interface, unless it isn't UTF-8.
     fn learn(&mut self, link: &NamedLink<'_>) -> Result<(), AllocError> {
         match str::from_utf8(link.name) {
             Ok(name) => self.keep(link.index, String::from_str(self.alloc, name)?),
@@ -43,7 +43,7 @@ impl Links {
         Ok(())
     }
 
-    /// The names that were given, and behind them those of the capture.
+    /// The names of `--names`, and after them those of the capture.
     pub(crate) fn with<'a>(
         &'a self,
         given: &'a [(u32, &'a str)],
@@ -61,11 +61,11 @@ impl Links {
     }
 }
 
-impl<'a, A: Allocator + Copy> Shower<'a, A> {
+impl<'a, A: Allocator + Copy> Printer<'a, A> {
     ghost use Rattle.std.specs.Prelude.{◌≡◌, OnOk};
     ghost use Rattle.tcshow_input.specs.State.{state_of};
 
-    /// Keeps the name in a message of a link. A request isn't believed, since the kernel may refuse it.
+    /// Keeps the name in an `RTM_NEWLINK` message. A request is passed over, since the kernel may refuse it.
     pub(crate) fn learn(&mut self, message: &NetlinkMessage<'_>) -> Result<(), AllocError>
         ensures form { self.new.output.is_json ≡ self.old.output.is_json }
         ensures same { OnOk result (state_of self.new ≡ state_of self.old) }

@@ -1,4 +1,4 @@
-//! Text that is shown and not yet written.
+//! Buffered output.
 
 ghost use Rattle.std.specs.Prelude.{◌≡◌, false, true};
 ghost use Rattle.tc_outline.specs.Page.{IsShown};
@@ -9,7 +9,7 @@ use std::io::Write;
 use tc_outline::Page;
 use tc_streams::write_all;
 
-/// Text that is shown and not yet written: printable ASCII and line feeds, or JSON.
+/// Text that isn't written yet: printable ASCII and line feeds, or JSON.
 #[derive(Drop)]
 pub(crate) struct Output<A: Allocator> {
     bytes: Vec<u8, A>,
@@ -22,7 +22,7 @@ impl<A: Allocator> Output<A> {
     ghost use Rattle.tcshow_input.specs.Writing.{GrowsClean};
     ghost use Rattle.tc_streams.specs.Written.{GrowsByFront};
 
-    /// An empty one, for JSON or for people.
+    /// An empty output, for JSON or for outlines.
     pub(crate) fn new(alloc: A, is_json: bool) -> Output<A>
         ensures form { result.is_json ≡ is_json }
         ensures empty { result.bytes.items ≡ [] }
@@ -39,12 +39,12 @@ impl<A: Allocator> Output<A> {
         self.is_json
     }
 
-    /// How many bytes are on it.
+    /// Bytes that aren't written yet.
     pub(crate) fn len(&self) -> usize {
         self.bytes.len()
     }
 
-    /// A line feed.
+    /// Appends a line feed.
     pub(crate) fn line_feed(&mut self) -> Result<(), AllocError>
         ensures form { self.new.is_json ≡ self.old.is_json }
         ensures put { OnOk result (self.new.bytes.items ≡ self.old.bytes.items ++ 10 ∷ []) }
@@ -53,7 +53,7 @@ impl<A: Allocator> Output<A> {
         Ok(())
     }
 
-    /// What a page holds.
+    /// Appends the text on a page.
     pub(crate) fn page<B: Allocator>(&mut self, page: &Page<B>) -> Result<(), AllocError>
         ensures form { self.new.is_json ≡ self.old.is_json }
         ensures put { OnOk result ((shown : List ℕ) × IsShown true shown × (self.new.bytes.items ≡ self.old.bytes.items ++ shown)) }
@@ -61,7 +61,7 @@ impl<A: Allocator> Output<A> {
         self.bytes.extend_from_slice(page.bytes())
     }
 
-    /// JSON.
+    /// Appends JSON.
     pub(crate) fn json(&mut self, json: &[u8]) -> Result<(), AllocError>
         requires { self.old.is_json ≡ true }
         ensures form { self.new.is_json ≡ self.old.is_json }
@@ -70,7 +70,7 @@ impl<A: Allocator> Output<A> {
         self.bytes.extend_from_slice(json)
     }
 
-    /// Writes all of it, and begins anew; where it fails, the rest is lost.
+    /// Writes all text and empties the output. If the writer fails, the rest of the text is lost.
     pub(crate) fn write<W: Write>(&mut self, writer: &mut W) -> Result<(), Stop>
         ensures form { self.new.is_json ≡ self.old.is_json }
         ensures clean { self.old.is_json ≡ false → GrowsClean (W.contents writer.old) (W.contents writer.new) }

@@ -1,14 +1,14 @@
-//! The packets of a capture.
+//! Counts of a capture's packets.
 
 use std::fmt;
 use tc_capture::{Contents, Link, Packet, Res};
 
-/// What was met of the packets of a capture.
+/// Counts of a capture's packets, and what the first foreign ones hold.
 #[derive(Clone, Copy, Default)]
 pub struct Packets {
-    /// How many there are.
+    /// Packets so far.
     pub count: u64,
-    /// How many of them are of route netlink.
+    /// Packets of route netlink.
     route: u64,
     /// The first link type other than netlink's.
     link: Option<u32>,
@@ -20,7 +20,7 @@ impl Packets {
     ghost use Rattle.std.specs.Prelude.{◌≡◌};
     ghost use Rattle.tcshow_input.specs.Reading.{count_after, number_after};
 
-    /// One more packet, of which the number is returned, from 1 on; none of a stream, which has no packets.
+    /// Counts a packet and returns its number (from 1), or `None` for a stream, which has no packets.
     pub(crate) fn count(&mut self, packet: &Packet<'_>) -> Option<u64>
         ensures count { self.new.count ≡ count_after self.old.count packet.now.link }
         ensures number { result ≡ number_after self.old.count packet.now.link }
@@ -32,7 +32,7 @@ impl Packets {
         Some(self.count)
     }
 
-    /// What one of them holds.
+    /// Counts the contents of a packet.
     pub(crate) fn meet(&mut self, contents: &Res<Contents<'_>>)
         ensures { self.new.count ≡ self.old.count }
     {
@@ -48,13 +48,13 @@ impl Packets {
         }
     }
 
-    /// True if there are packets of something else, and none of route netlink.
+    /// True if there are packets of another link type or netlink family, and none of route netlink.
     pub fn are_foreign(&self) -> bool {
         self.route == 0 && (self.link.is_some() || self.family.is_some())
     }
 }
 
-/// What a capture without route netlink has.
+/// The complaint about a capture without route netlink.
 impl fmt::Display for Packets {
     fn fmt<W: fmt::Write>(&self, f: &mut fmt::Formatter<W>) -> fmt::Result {
         write!(f, "no route netlink in {} packets", self.count)?;

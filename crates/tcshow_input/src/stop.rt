@@ -8,15 +8,15 @@ use std::alloc::AllocError;
 /// Why a run ended before the end of its input.
 #[derive(Clone, Copy, PartialEq, Eq)]
 pub enum Stop {
-    /// The input is no capture, and no lines of hex.
+    /// The input is neither a capture nor lines of hex.
     NoCapture,
     /// The capture has packets, but none of route netlink.
     NoRoute,
     /// The output was closed.
     Closed,
-    /// The input failed.
+    /// Reading failed.
     Read,
-    /// The output failed.
+    /// Writing failed.
     Write,
     /// Memory ran out.
     NoMemory,

@@ -1,4 +1,4 @@
-//! How many messages of each type and kind there were, and how many of each fault.
+//! Counts of messages by type and kind, and of faults.
 
 use crate::counts::Counts;
 use serde::Serialize;
@@ -6,38 +6,38 @@ use std::alloc::{AllocError, Allocator, Global};
 use tc_outline::Page;
 use tcshow_json::show_word;
 
-// The most rows that are counted apart; all others are counted as one more.
+// The most rows; other types and kinds share one more row.
 const MOST_ROWS: usize = 256;
 
-// The longest kind that is counted apart, in bytes of the text that it is shown as.
+// The longest kind that has a row of its own, in bytes of its text.
 const MOST_KIND: usize = 64;
 
-/// How many messages of a type are of a kind.
+/// A row: messages of a type and a kind.
 #[derive(Drop, Serialize)]
 pub(crate) struct Count {
-    /// The name of the type; empty of what isn't counted apart, and where there is no header.
+    /// Name of the message type; empty for the shared row, and without a netlink header.
     #[serde(rename = "type")]
     rtm: &'static str,
-    /// The kind as it is shown.
+    /// The kind as outlines have it.
     kind: String,
     count: u64,
 }
 
-/// How many messages have a fault of this name.
+/// A row: messages that are refused for a fault.
 #[derive(Drop, Serialize)]
 pub(crate) struct FaultCount {
     name: &'static str,
     count: u64,
 }
 
-/// The counts of a run.
+/// The summary of a run.
 #[derive(Drop, Serialize)]
 pub(crate) struct Summary {
     messages: Vec<Count>,
     faults: Vec<FaultCount>,
 }
 
-/// A summary as a line of JSON.
+/// The JSON line of a summary.
 #[derive(Drop, Serialize)]
 pub(crate) struct SummaryLine<'a> {
     pub(crate) summary: &'a Summary,
@@ -52,7 +52,7 @@ impl Summary {
         }
     }
 
-    /// One message more of this type and this kind.
+    /// Counts a message of this type and kind.
     pub(crate) fn count_message(
         &mut self,
         alloc: Global,
@@ -68,7 +68,7 @@ impl Summary {
         self.count_other(alloc)
     }
 
-    // One message more that isn't counted apart.
+    // Counts a message in the shared row.
     fn count_other(&mut self, alloc: Global) -> Result<(), AllocError> {
         if self.is_counted("", "others") {
             return Ok(());
@@ -76,7 +76,7 @@ impl Summary {
         self.add(alloc, "", "others")
     }
 
-    // Counts one more in the row of this type and this kind; false where there is no such row.
+    // Counts a message in the row of its type and kind; false if there is no such row.
     fn is_counted(&mut self, rtm: &str, kind: &str) -> bool {
         for row in &mut self.messages {
             if row.rtm == rtm && row.kind.as_str() == kind {
@@ -99,7 +99,7 @@ impl Summary {
         )
     }
 
-    /// One fault more of this name.
+    /// Counts a fault.
     pub(crate) fn count_fault(&mut self, name: &'static str) -> Result<(), AllocError> {
         for row in &mut self.faults {
             if row.name == name {
@@ -110,7 +110,7 @@ impl Summary {
         Ok(self.faults.push(FaultCount { name, count: 1 })?)
     }
 
-    /// Shows it as lines.
+    /// Writes the summary as lines.
     pub(crate) fn show<A: Allocator>(
         &self,
         all: &Counts,

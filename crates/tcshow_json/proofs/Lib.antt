@@ -1,1 +1,1 @@
-pub mod ByWords
+pub mod Grammars

@@ -1,4 +1,4 @@
-pub mod Found
+pub mod Messages
 pub mod Line
-pub mod ByWords
+pub mod Grammars
 pub mod Replies

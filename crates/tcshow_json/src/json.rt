@@ -1,15 +1,15 @@
-//! What is sent to serde of a message.
+//! Messages and answers of the kernel, serialized.
 
 ghost use Rattle.std.specs.Prelude.{◌≡◌, OnOk, Some, option_map, codes, ◌++◌};
 ghost use Rattle.tc_form_values.specs.Sent.{Sent};
-ghost use Rattle.tcshow_json.specs.Found.{header_view, message_view};
+ghost use Rattle.tcshow_json.specs.Messages.{header_view, message_view};
 ghost use Rattle.tcshow_json.specs.Line.{bool_field, number_field, text_field, number_if, text_if, packet_events, place_in_capture, port_events, number_events};
 ghost use Rattle.tcshow_json.specs.Line.{flags_events, header_events, header_if, origin_events, forms_events, read_events, object};
 ghost use Rattle.tcshow_json.specs.Line.{form_of, shown_events, message_events, fault_numbers, place_events, details, fault_events, verdict_events};
-ghost use Rattle.tcshow_json.specs.Line.{told_events, line_events};
-ghost use Rattle.tcshow_json.specs.Line.{quoted_events, request_events, located_events, said_events, error_events, answer_events, answered_events};
+ghost use Rattle.tcshow_json.specs.Line.{body_events, line_events};
+ghost use Rattle.tcshow_json.specs.Line.{quoted_events, request_events, located_events, reason_events, error_events, answer_events, answered_events};
 
-use crate::found::{Found, Header, Origin};
+use crate::message::{Message, NetlinkHeader, Origin};
 use nla_frames::DecodeError;
 use serde::{Described, Serialize, Serializer};
 use std::alloc::Global;
@@ -17,55 +17,55 @@ use tc_capture::Holds;
 use tc_forms::{Form, send_shown};
 use tc_kinds::{ACTION_MESSAGE, TC_MESSAGE, TcTables};
 
-/// What the codec says of a message.
+/// The codec's verdict on a message.
 #[derive(Clone, Copy)]
 pub(crate) enum Verdict<'e, 'p> {
-    /// It is read.
+    /// The codec reads the message.
     Read {
         fits: bool,
         settled: bool,
         canonical: bool,
     },
-    /// It is refused.
+    /// The codec refuses the message.
     Refused {
         error: &'e DecodeError,
-        /// Where the fault is in the message, in bytes.
+        /// Offset of the fault in the message, in bytes.
         offset: u64,
-        /// Where it is in the message as a tree.
+        /// Path of the fault, such as `/attributes/1/Options`.
         path: &'p str,
     },
 }
 
-/// The line of a message.
+/// The JSON line of a message.
 #[derive(Drop)]
 pub(crate) struct MessageLine<'t, 'a, 'e, 'p> {
     pub(crate) time: Option<&'t str>,
-    pub(crate) found: Found<'a>,
+    pub(crate) found: Message<'a>,
     pub(crate) verdict: Verdict<'e, 'p>,
     pub(crate) alloc: Global,
 }
 
-/// What an answer of the kernel says of a request.
+/// Error, text and place in an answer of the kernel.
 #[derive(Clone, Copy)]
-pub(crate) struct Said<'n, 't, 'p> {
-    /// The name of the error, or its number.
+pub(crate) struct Reason<'n, 't, 'p> {
+    /// Name of the error, such as `EINVAL`; its number if it has no name.
     pub(crate) errno: &'n str,
     pub(crate) text: Option<&'t str>,
-    /// Where the fault is in the request, in bytes from the end of the netlink header.
+    /// Offset of the fault in the request (`NLMSGERR_ATTR_OFFS`), in bytes from the end of the netlink header.
     pub(crate) offset: Option<u64>,
-    /// Where it is in the message as a tree.
+    /// Path of the fault in the request.
     pub(crate) path: Option<&'p str>,
 }
 
-/// The line of an answer of the kernel to a request.
+/// The JSON line of an answer of the kernel.
 #[derive(Drop)]
 pub(crate) struct AnswerLine<'s, 'n, 't, 'p, 'a> {
     pub(crate) time: Option<&'s str>,
-    pub(crate) header: Header,
-    pub(crate) said: Said<'n, 't, 'p>,
-    /// True if the payload of the request isn't there.
+    pub(crate) header: NetlinkHeader,
+    pub(crate) reason: Reason<'n, 't, 'p>,
+    /// True if the kernel quoted only the request's header (`NLM_F_CAPPED`).
     pub(crate) is_capped: bool,
-    pub(crate) request: Found<'a>,
+    pub(crate) request: Message<'a>,
     pub(crate) alloc: Global,
 }
 
@@ -83,7 +83,7 @@ impl<'t, 'a, 'e, 'p> Serialize for MessageLine<'t, 'a, 'e, 'p> {
 
 impl<'s, 'n, 't, 'p, 'a> Described for AnswerLine<'s, 'n, 't, 'p, 'a> {
     ghost writes = { λ l. Sent (answered_events (option_map (λ t. t.now) l.time) (header_view l.header)
-        (error_events l.said.errno.now (option_map (λ t. t.now) l.said.text) l.said.offset (option_map (λ t. t.now) l.said.path))
+        (error_events l.reason.errno.now (option_map (λ t. t.now) l.reason.text) l.reason.offset (option_map (λ t. t.now) l.reason.path))
         l.is_capped (message_view l.request)) };
 }
 
@@ -98,15 +98,15 @@ impl<'s, 'n, 't, 'p, 'a> Serialize for AnswerLine<'s, 'n, 't, 'p, 'a> {
 impl<'t, 'a, 'e, 'p> MessageLine<'t, 'a, 'e, 'p> {
     fn show_members<S: Serializer>(&self, out: &mut S) -> Result<(), S::Error>
         ensures { OnOk result (Sent (origin_events (option_map (λ t. t.now) self.now.time) self.now.found.origin (option_map header_view self.now.found.header)
-            ++ told_events (verdict_events self.now.verdict) self.now.found.holds self.now.found.payload.now)
+            ++ body_events (verdict_events self.now.verdict) self.now.found.holds self.now.found.payload.now)
             (S.written out.old) (S.written out.new)) }
     {
         show_origin(self.time, &self.found.origin, &self.found.header, out)?;
-        self.show_told(out)
+        self.show_body(out)
     }
 
-    fn show_told<S: Serializer>(&self, out: &mut S) -> Result<(), S::Error>
-        ensures { OnOk result (Sent (told_events (verdict_events self.now.verdict) self.now.found.holds self.now.found.payload.now)
+    fn show_body<S: Serializer>(&self, out: &mut S) -> Result<(), S::Error>
+        ensures { OnOk result (Sent (body_events (verdict_events self.now.verdict) self.now.found.holds self.now.found.payload.now)
             (S.written out.old) (S.written out.new)) }
     {
         show_verdict(&self.verdict, out)?;
@@ -117,38 +117,37 @@ impl<'t, 'a, 'e, 'p> MessageLine<'t, 'a, 'e, 'p> {
 impl<'s, 'n, 't, 'p, 'a> AnswerLine<'s, 'n, 't, 'p, 'a> {
     fn show_members<S: Serializer>(&self, out: &mut S) -> Result<(), S::Error>
         ensures { OnOk result (Sent (origin_events (option_map (λ t. t.now) self.now.time) self.now.request.origin (Some (header_view self.now.header))
-            ++ answer_events (error_events self.now.said.errno.now (option_map (λ t. t.now) self.now.said.text) self.now.said.offset
-            (option_map (λ t. t.now) self.now.said.path)) self.now.is_capped (message_view self.now.request)) (S.written out.old) (S.written out.new)) }
+            ++ answer_events (error_events self.now.reason.errno.now (option_map (λ t. t.now) self.now.reason.text) self.now.reason.offset
+            (option_map (λ t. t.now) self.now.reason.path)) self.now.is_capped (message_view self.now.request)) (S.written out.old) (S.written out.new)) }
     {
         show_origin(self.time, &self.request.origin, &Some(self.header), out)?;
         self.show_answer(out)
     }
 
     fn show_answer<S: Serializer>(&self, out: &mut S) -> Result<(), S::Error>
-        ensures { OnOk result (Sent (answer_events (error_events self.now.said.errno.now (option_map (λ t. t.now) self.now.said.text)
-            self.now.said.offset (option_map (λ t. t.now) self.now.said.path)) self.now.is_capped (message_view self.now.request))
+        ensures { OnOk result (Sent (answer_events (error_events self.now.reason.errno.now (option_map (λ t. t.now) self.now.reason.text)
+            self.now.reason.offset (option_map (λ t. t.now) self.now.reason.path)) self.now.is_capped (message_view self.now.request))
             (S.written out.old) (S.written out.new)) }
     {
-        show_error(&self.said, out)?;
+        show_error(&self.reason, out)?;
         show_request(self.is_capped, &self.request, self.alloc, out)
     }
 }
 
-// What the kernel says of a request.
-fn show_error<S: Serializer>(said: &Said<'_, '_, '_>, out: &mut S) -> Result<(), S::Error>
-    ensures { OnOk result (Sent (error_events said.now.errno.now (option_map (λ t. t.now) said.now.text) said.now.offset
-        (option_map (λ t. t.now) said.now.path)) (S.written out.old) (S.written out.new)) }
+fn show_error<S: Serializer>(reason: &Reason<'_, '_, '_>, out: &mut S) -> Result<(), S::Error>
+    ensures { OnOk result (Sent (error_events reason.now.errno.now (option_map (λ t. t.now) reason.now.text) reason.now.offset
+        (option_map (λ t. t.now) reason.now.path)) (S.written out.old) (S.written out.new)) }
 {
-    show_text("errno", said.errno, out)?;
-    show_said(said, out)
+    show_text("errno", reason.errno, out)?;
+    show_reason(reason, out)
 }
 
-fn show_said<S: Serializer>(said: &Said<'_, '_, '_>, out: &mut S) -> Result<(), S::Error>
-    ensures { OnOk result (Sent (said_events (option_map (λ t. t.now) said.now.text) said.now.offset
-        (option_map (λ t. t.now) said.now.path)) (S.written out.old) (S.written out.new)) }
+fn show_reason<S: Serializer>(reason: &Reason<'_, '_, '_>, out: &mut S) -> Result<(), S::Error>
+    ensures { OnOk result (Sent (reason_events (option_map (λ t. t.now) reason.now.text) reason.now.offset
+        (option_map (λ t. t.now) reason.now.path)) (S.written out.old) (S.written out.new)) }
 {
-    show_text_if("text", said.text, out)?;
-    show_located(said.offset, said.path, out)
+    show_text_if("text", reason.text, out)?;
+    show_located(reason.offset, reason.path, out)
 }
 
 fn show_located<S: Serializer>(
@@ -162,10 +161,10 @@ fn show_located<S: Serializer>(
     show_text_if("path", path, out)
 }
 
-// The request that is answered.
+// The request that the answer quotes.
 fn show_request<S: Serializer>(
     is_capped: bool,
-    request: &Found<'_>,
+    request: &Message<'_>,
     alloc: Global,
     out: &mut S,
 ) -> Result<(), S::Error>
@@ -177,7 +176,7 @@ fn show_request<S: Serializer>(
 
 fn show_object<S: Serializer>(
     is_capped: bool,
-    request: &Found<'_>,
+    request: &Message<'_>,
     alloc: Global,
     out: &mut S,
 ) -> Result<(), S::Error>
@@ -191,7 +190,7 @@ fn show_object<S: Serializer>(
 
 fn show_quoted<S: Serializer>(
     is_capped: bool,
-    request: &Found<'_>,
+    request: &Message<'_>,
     alloc: Global,
     out: &mut S,
 ) -> Result<(), S::Error>
@@ -204,7 +203,7 @@ fn show_quoted<S: Serializer>(
 
 fn show_payload<S: Serializer>(
     is_capped: bool,
-    request: &Found<'_>,
+    request: &Message<'_>,
     alloc: Global,
     out: &mut S,
 ) -> Result<(), S::Error>
@@ -217,11 +216,11 @@ fn show_payload<S: Serializer>(
     show_message(request.holds, request.payload, alloc, out)
 }
 
-// What each line begins with.
+// The members that each line begins with.
 fn show_origin<S: Serializer>(
     time: Option<&str>,
     origin: &Origin,
-    header: &Option<Header>,
+    header: &Option<NetlinkHeader>,
     out: &mut S,
 ) -> Result<(), S::Error>
     ensures { OnOk result (Sent (origin_events (option_map (λ t. t.now) time.entry) origin.now (option_map header_view header.now))
@@ -231,7 +230,10 @@ fn show_origin<S: Serializer>(
     show_header_if(header, out)
 }
 
-fn show_header_if<S: Serializer>(header: &Option<Header>, out: &mut S) -> Result<(), S::Error>
+fn show_header_if<S: Serializer>(
+    header: &Option<NetlinkHeader>,
+    out: &mut S,
+) -> Result<(), S::Error>
     ensures { OnOk result (Sent (header_if (option_map header_view header.now)) (S.written out.old) (S.written out.new)) }
 {
     match header {
@@ -268,21 +270,21 @@ fn show_packet_type<S: Serializer>(packet_type: Option<u16>, out: &mut S) -> Res
     }
 }
 
-fn show_header<S: Serializer>(header: &Header, out: &mut S) -> Result<(), S::Error>
+fn show_header<S: Serializer>(header: &NetlinkHeader, out: &mut S) -> Result<(), S::Error>
     ensures { OnOk result (Sent (header_events (header_view header.now)) (S.written out.old) (S.written out.new)) }
 {
     show_text("type", header.name, out)?;
     show_flags(header, out)
 }
 
-fn show_flags<S: Serializer>(header: &Header, out: &mut S) -> Result<(), S::Error>
+fn show_flags<S: Serializer>(header: &NetlinkHeader, out: &mut S) -> Result<(), S::Error>
     ensures { OnOk result (Sent (flags_events (header_view header.now)) (S.written out.old) (S.written out.new)) }
 {
     show_number("flags", u64::from(header.flags), out)?;
     show_numbers_of(header, out)
 }
 
-fn show_numbers_of<S: Serializer>(header: &Header, out: &mut S) -> Result<(), S::Error>
+fn show_numbers_of<S: Serializer>(header: &NetlinkHeader, out: &mut S) -> Result<(), S::Error>
     ensures { OnOk result (Sent (number_events header.now.sequence header.now.port) (S.written out.old) (S.written out.new)) }
 {
     show_number("seq", u64::from(header.sequence), out)?;
@@ -298,7 +300,6 @@ fn show_port<S: Serializer>(port: u32, out: &mut S) -> Result<(), S::Error>
     show_number("portid", u64::from(port), out)
 }
 
-// What the codec says of a message.
 fn show_verdict<S: Serializer>(verdict: &Verdict<'_, '_>, out: &mut S) -> Result<(), S::Error>
     ensures { OnOk result (Sent (verdict_events verdict.now) (S.written out.old) (S.written out.new)) }
 {
@@ -335,7 +336,7 @@ fn show_forms<S: Serializer>(settled: bool, canonical: bool, out: &mut S) -> Res
     show_bool("canonical", canonical, out)
 }
 
-// The bytes of a message, whatever they are.
+// The message as a tree; bytes that have no tree as hex.
 fn show_message<S: Serializer>(
     holds: Holds,
     payload: &[u8],
@@ -348,7 +349,6 @@ fn show_message<S: Serializer>(
     show_bytes(holds, payload, alloc, out)
 }
 
-// The form of each of the two messages.
 fn form_of(holds: Holds) -> Form
     ensures { result ≡ form_of holds }
 {
@@ -369,7 +369,6 @@ fn show_bytes<S: Serializer>(
     send_shown(TcTables, form_of(holds), payload, alloc, out)
 }
 
-// The fault of a message that is refused.
 fn show_fault<S: Serializer>(
     error: &DecodeError,
     offset: u64,
@@ -401,7 +400,7 @@ fn show_place<S: Serializer>(offset: u64, path: &str, out: &mut S) -> Result<(),
     show_text("path", path, out)
 }
 
-// The numbers of a fault, each under its name.
+// The numbers of a fault, each under its field's name.
 fn show_numbers<S: Serializer>(error: &DecodeError, out: &mut S) -> Result<(), S::Error>
     ensures { OnOk result (Sent (fault_numbers error.now) (S.written out.old) (S.written out.new)) }
 {

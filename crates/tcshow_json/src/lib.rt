@@ -1,18 +1,20 @@
-//! What is written of a message of traffic control, and of an answer of the kernel to one: the line of JSON, and what an outline has beside the
-//! attributes.
+//! Lines of JSON for traffic control messages and for the kernel's answers to them, and the parts of an outline that aren't attributes: time,
+//! netlink header, error.
+//!
+//! Calls that take an allocator fail with `AllocError` if it fails.
 #![tactic(auto)]
 
-mod found;
 mod json;
 mod line;
+mod message;
 mod notice;
 mod pages;
 mod reply;
 mod verdict;
 
-pub use found::{Found, Header, NOWHERE, Origin};
 pub use line::{Line, json_of, line_of};
+pub use message::{Message, NO_ORIGIN, NetlinkHeader, Origin};
 pub use notice::{Notice, NoticeLine};
 pub use pages::{begin_message, show_netlink, show_word, text_of};
-pub use reply::{Reply, errno_page, put_request, reply_line, show_said};
+pub use reply::{Reply, errno_page, put_request, reply_line, show_reason};
 pub use verdict::is_refused;

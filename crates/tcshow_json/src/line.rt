@@ -1,14 +1,14 @@
-//! A message as a line of JSON.
+//! The JSON line of a message.
 
 ghost use Rattle.std.specs.Prelude.{◌≡◌, IfOk, Some, None, [], is_some, option_map, true};
 ghost use Rattle.serde.specs.Event.{Log};
 ghost use Rattle.serde_json.specs.Sent.{IsTextOf};
-ghost use Rattle.tcshow_json.specs.ByWords.{IsLineOf, is_refused, is_fault};
-ghost use Rattle.tcshow_json.specs.Found.{message_view};
+ghost use Rattle.tcshow_json.specs.Grammars.{IsLineOf, is_refused, is_fault};
+ghost use Rattle.tcshow_json.specs.Messages.{message_view};
 ghost use Rattle.tcshow_json.specs.Line.{IsAccepted, IsRefused, IsLine, line_events, verdict_events};
 
-use crate::found::Found;
 use crate::json::{MessageLine, Verdict};
+use crate::message::Message;
 use crate::pages::{show_place, some_text, text_of, time_page};
 use nla_frames::DecodeError;
 use serde::Serialize;
@@ -17,18 +17,18 @@ use tc_capture::Holds;
 use tc_outline::{Layout, Page};
 use tc_wire::{TcActionMessage, TcMessage, WholeMessage};
 
-/// A message as JSON, and the name of its fault where it is refused.
+/// The JSON of a message, and the name of its fault if the codec refuses it.
 #[derive(Drop)]
 pub struct Line {
     pub json: Vec<u8>,
     pub fault: Option<&'static str>,
 }
 
-/// The line of a message.
+/// Writes the JSON line of a message, without a line feed.
 pub fn line_of<A: Allocator + Copy>(
     alloc: A,
     json: Global,
-    found: &Found<'_>,
+    found: &Message<'_>,
 ) -> Result<Line, AllocError>
     ensures line { IfOk result (λ line. IsLineOf (message_view found.now) line.json.items) }
     ensures fault { IfOk result (λ line. is_some line.fault ≡ is_refused (message_view found.now)) }
@@ -39,11 +39,11 @@ pub fn line_of<A: Allocator + Copy>(
     }
 }
 
-#[tactic(auto, using(crate::proofs::ByWords::read_is, crate::proofs::ByWords::fault_is))]
+#[tactic(auto, using(crate::proofs::Grammars::read_is, crate::proofs::Grammars::fault_is))]
 fn line_as<A: Allocator + Copy, M: WholeMessage<A> + Drop>(
     alloc: A,
     json: Global,
-    found: &Found<'_>,
+    found: &Message<'_>,
 ) -> Result<Line, AllocError>
     ensures line { IfOk result (λ line. IsLine M.words (message_view found.now) line.json.items) }
     ensures fault { IfOk result (λ line. is_some line.fault ≡ is_fault (M.words.read found.now.payload.now)) }
@@ -56,11 +56,11 @@ fn line_as<A: Allocator + Copy, M: WholeMessage<A> + Drop>(
     }
 }
 
-// The line of a message that is read.
+// The line of a message that the codec reads.
 fn accepted_line<A: Allocator + Copy, M: WholeMessage<A>>(
     alloc: A,
     json: Global,
-    found: &Found<'_>,
+    found: &Message<'_>,
     message: &M,
 ) -> Result<Line, AllocError>
     ensures fault { IfOk result (λ line. line.fault ≡ None) }
@@ -73,7 +73,7 @@ fn accepted_line<A: Allocator + Copy, M: WholeMessage<A>>(
 fn accepted_json<A: Allocator + Copy, M: WholeMessage<A>>(
     alloc: A,
     json: Global,
-    found: &Found<'_>,
+    found: &Message<'_>,
     message: &M,
 ) -> Result<Vec<u8>, AllocError>
     ensures { IfOk result (λ line. IsAccepted M.words (message_view found.now) (M.message message.now) line.items) }
@@ -90,11 +90,11 @@ fn accepted_json<A: Allocator + Copy, M: WholeMessage<A>>(
     json_with(json, some_text(&time), found, verdict)
 }
 
-// The line of a message that is refused.
+// The line of a message that the codec refuses.
 fn refused_line<A: Allocator + Copy>(
     alloc: A,
     json: Global,
-    found: &Found<'_>,
+    found: &Message<'_>,
     error: &DecodeError,
 ) -> Result<Line, AllocError>
     ensures fault { IfOk result (λ line. is_some line.fault ≡ true) }
@@ -110,7 +110,7 @@ fn refused_line<A: Allocator + Copy>(
 fn refused_json<A: Allocator + Copy>(
     alloc: A,
     json: Global,
-    found: &Found<'_>,
+    found: &Message<'_>,
     error: &DecodeError,
 ) -> Result<Vec<u8>, AllocError>
     ensures { IfOk result (λ line. IsRefused (message_view found.now) error.now line.items) }
@@ -119,12 +119,11 @@ fn refused_json<A: Allocator + Copy>(
     refused_at(alloc, json, some_text(&time), found, error)
 }
 
-// The same with the time of its packet.
 fn refused_at<A: Allocator>(
     alloc: A,
     json: Global,
     time: Option<&str>,
-    found: &Found<'_>,
+    found: &Message<'_>,
     error: &DecodeError,
 ) -> Result<Vec<u8>, AllocError>
     ensures { IfOk result (λ line. IsRefused (message_view found.now) error.now line.items) }
@@ -139,11 +138,10 @@ fn refused_at<A: Allocator>(
     json_with(json, time, found, verdict)
 }
 
-// The line with the time of its packet and this verdict.
 fn json_with(
     json: Global,
     time: Option<&str>,
-    found: &Found<'_>,
+    found: &Message<'_>,
     verdict: Verdict<'_, '_>,
 ) -> Result<Vec<u8>, AllocError>
     ensures { IfOk result (λ line. IsTextOf (Some (line_events (option_map (λ t. t.now) time.entry) (message_view found.now) (verdict_events verdict.entry)))
@@ -158,7 +156,7 @@ fn json_with(
     json_of(json, &line)
 }
 
-/// A value as JSON.
+/// Serializes a value as JSON.
 pub fn json_of<T: Serialize>(alloc: Global, value: &T) -> Result<Vec<u8>, AllocError>
     ensures { IfOk result (λ json. (log : Log) × T.writes value.now (Some []) log × IsTextOf log json.items) }
 {

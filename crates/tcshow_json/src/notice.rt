@@ -1,26 +1,26 @@
-//! Why a part of an input isn't shown as messages.
+//! Notices: places in an input that hold no message.
 
 use serde::Serialize;
 use std::alloc::{AllocError, Global};
 use tc_capture::CaptureError;
 
-/// Why something of an input isn't shown as messages.
+/// Why a place in an input holds no message.
 #[derive(Clone, Copy)]
 pub enum Notice {
-    /// The capture holds only the first bytes.
+    /// The capture ends there, or holds only the first bytes of a packet.
     Cut(CaptureError),
-    /// The capture holds only the first bytes of a packet, and the messages in them are whole.
+    /// The capture holds only the first bytes of a packet, and they are whole messages.
     Snapped,
-    /// It is whole, but longer than what is read: so many bytes.
+    /// Longer than the limit; its length in bytes.
     Skipped(u64),
-    /// It can't be read on.
+    /// Bytes that can't be read as the format says.
     Broken(CaptureError),
-    /// A line isn't hex.
+    /// A line that isn't hex.
     NoHex,
 }
 
 impl Notice {
-    /// What is said.
+    /// The notice in words.
     pub fn text(&self, alloc: Global) -> Result<String, AllocError> {
         match self {
             Notice::Cut(fault) => format!(in alloc; "cut: {fault}"),
@@ -34,11 +34,11 @@ impl Notice {
     }
 }
 
-/// A notice as a line of JSON.
+/// The JSON line of a notice.
 #[derive(Drop, Serialize)]
 pub struct NoticeLine<'a> {
-    /// What is said.
+    /// The notice in words.
     pub note: &'a str,
-    /// Where it is in the input, in bytes.
+    /// Offset in the input, in bytes.
     pub at: u64,
 }

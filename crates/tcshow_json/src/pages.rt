@@ -1,6 +1,6 @@
-//! What is shown of a message beside its attributes.
+//! The parts of an outline that aren't attributes: time, netlink header, path of a fault.
 
-use crate::found::{Found, Header, Origin};
+use crate::message::{Message, NetlinkHeader, Origin};
 use std::alloc::{AllocError, Allocator};
 use std::str;
 use tc_capture::{Holds, Time};
@@ -11,7 +11,7 @@ pub fn text_of<A: Allocator>(page: &Page<A>) -> &str {
     str::from_utf8(page.bytes()).unwrap_or("")
 }
 
-/// Shows a time: seconds, and nine digits after a point.
+// Writes a time: seconds, a point and nine digits.
 fn show_time<A: Allocator>(page: &mut Page<A>, time: &Time) -> Result<(), AllocError> {
     page.number(time.seconds)?;
     page.text(".")?;
@@ -23,7 +23,7 @@ fn show_time<A: Allocator>(page: &mut Page<A>, time: &Time) -> Result<(), AllocE
     Ok(())
 }
 
-/// Shows a blank and a word, if there is one.
+/// Writes a blank and the word, unless it is empty.
 pub fn show_word<A: Allocator>(page: &mut Page<A>, word: &str) -> Result<(), AllocError> {
     if word.is_empty() {
         return Ok(());
@@ -32,20 +32,20 @@ pub fn show_word<A: Allocator>(page: &mut Page<A>, word: &str) -> Result<(), All
     page.text(word)
 }
 
-/// Begins the line of a message: its time, and its netlink header.
+/// Writes the time and the netlink header that the line of a message begins with.
 pub fn begin_message<A: Allocator>(
     page: &mut Page<A>,
-    found: &Found<'_>,
+    found: &Message<'_>,
 ) -> Result<(), AllocError> {
     show_time_of(page, &found.origin)?;
     show_netlink(page, found)
 }
 
-/// Shows the netlink header of a message: its type, its flags in words, its sequence number, and the port where it isn't 0. Of a message
-/// without one it shows what it holds.
+/// Writes the netlink header of a message: type, flags in words, sequence number, and the port unless it is 0. For a message
+/// without a netlink header, `tc` or `action`.
 pub fn show_netlink<A: Allocator>(
     page: &mut Page<A>,
-    found: &Found<'_>,
+    found: &Message<'_>,
 ) -> Result<(), AllocError> {
     match &found.header {
         Some(header) => {
@@ -59,10 +59,10 @@ pub fn show_netlink<A: Allocator>(
     }
 }
 
-/// Shows the flags, the sequence number and the port of a netlink header.
+/// Writes the flags, the sequence number and the port of a netlink header.
 pub fn show_numbers<A: Allocator>(
     page: &mut Page<A>,
-    header: &Header,
+    header: &NetlinkHeader,
 ) -> Result<(), AllocError> {
     show_flags(page, header)?;
     page.text(" seq ")?;
@@ -74,8 +74,8 @@ pub fn show_numbers<A: Allocator>(
     page.number(u64::from(header.port))
 }
 
-// Shows flags in words, and bits without one in hex.
-fn show_flags<A: Allocator>(page: &mut Page<A>, header: &Header) -> Result<(), AllocError> {
+// Writes flags in words, and the bits that have no word in hex.
+fn show_flags<A: Allocator>(page: &mut Page<A>, header: &NetlinkHeader) -> Result<(), AllocError> {
     let mut rest = header.flags;
     for words in [FLAGS.as_slice(), flags_of(header.name)] {
         for (bit, word) in words {
@@ -96,7 +96,7 @@ fn show_flags<A: Allocator>(page: &mut Page<A>, header: &Header) -> Result<(), A
     Ok(())
 }
 
-// The flags of every netlink message (`NLM_F_REQUEST` and so on of `linux/netlink.h`).
+// Flags of every netlink message (`NLM_F_REQUEST` to `NLM_F_DUMP_FILTERED`, `linux/netlink.h`).
 const FLAGS: [(u16, &str); 6] = [
     (0x01, "request"),
     (0x02, "multi"),
@@ -106,7 +106,7 @@ const FLAGS: [(u16, &str); 6] = [
     (0x20, "dump_filtered"),
 ];
 
-// Those of requests that make something, that ask for it, and that delete it; of answers. `NLM_F_ROOT` of a request that deletes flushes.
+// Flags of `RTM_NEW*`, `RTM_GET*` and `RTM_DEL*` messages, of `RTM_DELACTION` (`NLM_F_ROOT` flushes) and of `NLMSG_ERROR`.
 const MAKING: [(u16, &str); 4] = [
     (0x400, "create"),
     (0x200, "excl"),
@@ -136,11 +136,8 @@ fn flags_of(name: &str) -> &'static [(u16, &'static str)] {
     }
 }
 
-/// Shows the time of a packet and a blank, if it has one.
-pub fn show_time_of<A: Allocator>(
-    page: &mut Page<A>,
-    origin: &Origin,
-) -> Result<(), AllocError> {
+/// Writes the time of a packet and a blank, if the time is known.
+pub fn show_time_of<A: Allocator>(page: &mut Page<A>, origin: &Origin) -> Result<(), AllocError> {
     if let Some(time) = &origin.time {
         show_time(page, time)?;
         page.blank()?;
@@ -148,34 +145,31 @@ pub fn show_time_of<A: Allocator>(
     Ok(())
 }
 
-/// Shows the time of a packet, if it has one.
-pub fn show_some_time<A: Allocator>(
-    page: &mut Page<A>,
-    origin: &Origin,
-) -> Result<(), AllocError> {
+/// Writes the time of a packet, if it is known.
+pub fn show_some_time<A: Allocator>(page: &mut Page<A>, origin: &Origin) -> Result<(), AllocError> {
     match &origin.time {
         Some(time) => show_time(page, time),
         None => Ok(()),
     }
 }
 
-/// A page with the time of a packet, if it has one.
+/// A page with the time of a packet; empty if it isn't known.
 pub fn time_page<A: Allocator>(alloc: A, origin: &Origin) -> Result<Page<A>, AllocError> {
     let mut page = Page::new(alloc, Layout::OneLine);
     show_some_time(&mut page, origin)?;
     Ok(page)
 }
 
-/// The text on a page, if there is some.
+/// The text on a page; `None` if it is empty.
 pub fn some_text<A: Allocator>(page: &Page<A>) -> Option<&str> {
     let text = text_of(page);
     if text.is_empty() { None } else { Some(text) }
 }
 
-/// The offset of the first fault of a message; its path is shown.
+/// Writes the path of a message's first fault, and returns its offset in bytes.
 pub fn show_place<A: Allocator>(
     path: &mut Page<A>,
-    found: &Found<'_>,
+    found: &Message<'_>,
 ) -> Result<usize, AllocError> {
     match locate(found.payload, found.what) {
         Some(fault) => {

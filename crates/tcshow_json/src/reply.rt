@@ -1,13 +1,13 @@
-//! Answers of the kernel to requests of traffic control.
+//! The kernel's answers (`NLMSG_ERROR`) to traffic control requests.
 
 ghost use Rattle.std.specs.Prelude.{◌≡◌, IfOk};
 ghost use Rattle.tc_capture.specs.Answer.{answer_of};
-ghost use Rattle.tcshow_json.specs.Found.{header_view, is_silent, message_view};
+ghost use Rattle.tcshow_json.specs.Messages.{header_view, is_silent, message_view};
 ghost use Rattle.tcshow_json.specs.Line.{IsAnswered};
 
-use crate::found::{Found, Header, Origin, header_of};
-use crate::json::{AnswerLine, Said};
+use crate::json::{AnswerLine, Reason};
 use crate::line::json_of;
+use crate::message::{Message, NetlinkHeader, Origin, header_of};
 use crate::pages::{show_numbers, show_some_time, show_time_of, show_word, some_text, text_of};
 use nla_frames::strip_nul;
 use std::alloc::{AllocError, Allocator, Global};
@@ -15,30 +15,30 @@ use std::str;
 use tc_capture::{Answer, NLMSG_HEADER_LEN, NetlinkMessage, answer_in, errno_name};
 use tc_outline::{Layout, Page, path_at};
 
-// True of an acknowledgement without a text; with one it is a warning.
+// True if the answer is an acknowledgement without a text. With a text it is a warning.
 fn is_silent(answer: &Answer<'_>) -> bool
     ensures { result ≡ is_silent (answer_of answer.now) }
 {
     answer.error == 0 && answer.text.is_none()
 }
 
-/// An answer of the kernel to a request of traffic control.
+/// An error or a warning of the kernel about a traffic control request.
 #[derive(Clone, Copy)]
 pub struct Reply<'a> {
-    pub header: Header,
+    pub header: NetlinkHeader,
     pub answer: Answer<'a>,
-    /// The request; of a capped answer its payload is empty.
-    pub request: Found<'a>,
+    /// The request. Its payload is empty if the answer is capped (`NLM_F_CAPPED`).
+    pub request: Message<'a>,
 }
 
 impl<'a> Reply<'a> {
     ghost use Rattle.std.specs.Prelude.{◌≡◌};
     ghost use Rattle.tc_capture.specs.Answer.{answer_in};
     ghost use Rattle.tc_capture.specs.Message.{message_of};
-    ghost use Rattle.tcshow_json.specs.Found.{answer_with};
+    ghost use Rattle.tcshow_json.specs.Messages.{answer_with};
     ghost use Rattle.tcshow_json.specs.Replies.{reply_thing};
 
-    /// The answer in a netlink message; `None` where that is none, an acknowledgement without a text, or of another request.
+    /// The answer in a netlink message. `None` if it isn't an answer, is an acknowledgement without a text, or answers another request.
     pub fn in_netlink(origin: Origin, message: &NetlinkMessage<'a>) -> Option<Reply<'a>>
         ensures { reply_thing result ≡ answer_with origin (message_of message.now) (answer_in (message_of message.now)) }
     {
@@ -46,7 +46,7 @@ impl<'a> Reply<'a> {
         if is_silent(&answer) {
             return None;
         }
-        let request = Found::in_netlink(origin, &answer.request)?;
+        let request = Message::in_netlink(origin, &answer.request)?;
         Some(Reply {
             header: header_of("NLMSG_ERROR", message),
             answer,
@@ -54,7 +54,7 @@ impl<'a> Reply<'a> {
         })
     }
 
-    /// Where the fault is in the message of the request, in bytes from its beginning.
+    // Offset of the fault in the request, in bytes from the end of the netlink header.
     fn offset(&self) -> Option<u64> {
         match self.answer.offset {
             Some(offset) => Some(u64::from(offset).saturating_sub(NLMSG_HEADER_LEN as u64)),
@@ -62,7 +62,7 @@ impl<'a> Reply<'a> {
         }
     }
 
-    /// Shows the name of the error, or its number where it has none; a warning has no error.
+    // Writes the name of the error, its number if it has no name, or `warning` for error 0.
     fn show_errno<A: Allocator>(&self, page: &mut Page<A>) -> Result<(), AllocError> {
         if self.answer.error == 0 {
             return page.text("warning");
@@ -73,7 +73,7 @@ impl<'a> Reply<'a> {
         }
     }
 
-    // Shows what is wrong, as the kernel says it; in hex where it isn't UTF-8.
+    // Writes the kernel's text (`NLMSGERR_ATTR_MSG`), in hex if it isn't UTF-8.
     fn show_text<A: Allocator>(&self, page: &mut Page<A>) -> Result<(), AllocError> {
         let bytes = match self.answer.text {
             Some(text) => strip_nul(text),
@@ -85,7 +85,7 @@ impl<'a> Reply<'a> {
         }
     }
 
-    // Shows the place of the fault in the message as a tree, where it is known.
+    // Writes the path of the fault, if the answer has its offset.
     fn show_path<A: Allocator>(&self, page: &mut Page<A>) -> Result<(), AllocError> {
         if let Some(offset) = self.offset() {
             if let Some(path) = path_at(self.request.payload, self.request.what, offset as usize) {
@@ -96,19 +96,19 @@ impl<'a> Reply<'a> {
     }
 }
 
-// A page with the name of the error.
+/// A page with the name of the error; see [`Reply`].
 pub fn errno_page<A: Allocator>(alloc: A, reply: &Reply<'_>) -> Result<Page<A>, AllocError> {
     let mut page = Page::new(alloc, Layout::OneLine);
     reply.show_errno(&mut page)?;
     Ok(page)
 }
 
-// The outline of a request, indented.
+/// Writes the outline of a request, indented.
 pub fn put_request<A: Allocator>(page: &mut Page<A>, request: Page<A>) -> Result<(), AllocError> {
     put_indented(page, text_of(&request))
 }
 
-// Lines, indented; on one line, in braces.
+// Writes lines indented; on a page of one line, in braces.
 fn put_indented<A: Allocator>(page: &mut Page<A>, text: &str) -> Result<(), AllocError> {
     for line in text.split('\n') {
         page.begin(1)?;
@@ -117,8 +117,8 @@ fn put_indented<A: Allocator>(page: &mut Page<A>, text: &str) -> Result<(), Allo
     page.end()
 }
 
-// The line of what the kernel says.
-pub fn show_said<A: Allocator + Copy>(
+/// Writes the line of an answer: time, error, netlink header, text and place of the fault.
+pub fn show_reason<A: Allocator + Copy>(
     alloc: A,
     page: &mut Page<A>,
     errno: &str,
@@ -135,7 +135,6 @@ pub fn show_said<A: Allocator + Copy>(
     }
 }
 
-// The time, the name of the error and the header.
 fn begin_answer<A: Allocator>(
     page: &mut Page<A>,
     errno: &str,
@@ -148,7 +147,7 @@ fn begin_answer<A: Allocator>(
     show_numbers(page, &reply.header)
 }
 
-// Where the fault is, in bytes and as a place in the tree.
+// Writes the offset and the path of the fault.
 fn show_fault_at<A: Allocator>(
     alloc: A,
     page: &mut Page<A>,
@@ -162,14 +161,11 @@ fn show_fault_at<A: Allocator>(
     show_word(page, text_of(&path))
 }
 
-// What a line of JSON says of an answer, as texts.
+// Texts in the JSON line of an answer.
 #[derive(Drop)]
 struct Texts<A: Allocator> {
-    // The time of its packet.
     time: Page<A>,
-    // What is wrong.
     text: Page<A>,
-    // Where that is.
     path: Page<A>,
 }
 
@@ -189,7 +185,7 @@ impl<A: Allocator + Copy> Texts<A> {
     }
 }
 
-// The line of JSON.
+/// Writes the JSON line of an answer, without a line feed.
 pub fn reply_line<A: Allocator + Copy>(
     alloc: A,
     json: Global,
@@ -217,7 +213,7 @@ fn line_with<A: Allocator>(
     let line = AnswerLine {
         time: some_text(&texts.time),
         header: reply.header,
-        said: Said {
+        reason: Reason {
             errno,
             text: some_text(&texts.text),
             offset: reply.offset(),

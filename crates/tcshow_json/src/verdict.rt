@@ -1,17 +1,17 @@
 //! Whether the codec refuses a message.
 
 ghost use Rattle.std.specs.Prelude.{◌≡◌, IfOk};
-ghost use Rattle.tcshow_json.specs.ByWords.{is_refused, is_fault};
-ghost use Rattle.tcshow_json.specs.Found.{message_view};
+ghost use Rattle.tcshow_json.specs.Grammars.{is_refused, is_fault};
+ghost use Rattle.tcshow_json.specs.Messages.{message_view};
 
-use crate::found::Found;
+use crate::message::Message;
 use nla_frames::DecodeError;
 use std::alloc::{AllocError, Allocator};
 use tc_capture::Holds;
 use tc_wire::{TcActionMessage, TcMessage, WholeMessage};
 
-/// True of a message that the codec refuses.
-pub fn is_refused<A: Allocator + Copy>(alloc: A, found: &Found<'_>) -> Result<bool, AllocError>
+/// True if the codec refuses the message.
+pub fn is_refused<A: Allocator + Copy>(alloc: A, found: &Message<'_>) -> Result<bool, AllocError>
     ensures { IfOk result (λ refused. refused ≡ is_refused (message_view found.now)) }
 {
     match found.holds {
@@ -20,7 +20,7 @@ pub fn is_refused<A: Allocator + Copy>(alloc: A, found: &Found<'_>) -> Result<bo
     }
 }
 
-#[tactic(auto, using(tcshow_json::proofs::ByWords::read_is, tcshow_json::proofs::ByWords::fault_is))]
+#[tactic(auto, using(tcshow_json::proofs::Grammars::read_is, tcshow_json::proofs::Grammars::fault_is))]
 fn is_refused_as<A: Allocator + Copy, M: WholeMessage<A> + Drop>(
     alloc: A,
     payload: &[u8],

@@ -5,8 +5,8 @@ ghost use Rattle.tcshow_lib.specs.Status.{refused_status, status_of};
 
 use tcshow_input::Stop;
 
-/// The exit status: 3 if a stream failed or memory ran out, 2 if there was no capture or none of route netlink, 1 if
-/// something was refused, else 0.
+/// The exit status: 3 if a stream failed or memory ran out, 2 if the input is neither a capture nor hex or has no route
+/// netlink, 1 if something was refused, broken or cut, else 0. A closed output isn't a failure.
 pub fn status_of(outcome: Result<(), Stop>, has_refused: bool) -> u8
     ensures { result ≡ status_of outcome has_refused }
 {

@@ -3,7 +3,7 @@
 use crate::netlink::Fault;
 use crate::tc_chosen::Chosen;
 use crate::tc_outline::Interfaces;
-use crate::tcshow_lib::asked::{Asked, Form};
+use crate::tcshow_lib::options::{Options, OutputFormat};
 use crate::tcshow_lib::program::serve;
 
 /// What `tcshow --json` writes of messages.
@@ -21,16 +21,16 @@ pub fn lines_of(messages: &[Vec<u8>]) -> Result<Shown, Fault> {
         return Ok(Shown::default());
     }
     let stream = stream_of(messages);
-    let asked = Asked {
-        form: Form::Json,
+    let options = Options {
+        format: OutputFormat::Json,
         without_header: None,
-        chosen: Chosen::ALL,
+        filter: Chosen::ALL,
         all: false,
         names: Interfaces { names: &[] },
         has_summary: false,
     };
     let (mut written, mut complaints) = (Vec::new(), Vec::new());
-    let status = serve(&asked, &mut stream.as_slice(), &mut written, &mut complaints);
+    let status = serve(&options, &mut stream.as_slice(), &mut written, &mut complaints);
     let text = String::from_utf8(written).map_err(|_| Fault::Broken("a message that isn't shown as text"))?;
     let lines: Vec<String> = text.lines().map(str::to_string).collect();
     if status > 1 || lines.len() != messages.len() {

@@ -216,7 +216,10 @@ pub(crate) const USER_RULES: &[Rule] = &[
     ("W : Write", "W: crate::host::io::Write"),
 ];
 
-/// Rules of `tcshow_lib`, before those of programs: it has a second allocator.
+/// The crates of `tcshow`, which have a second allocator.
+pub(crate) const SHOW_CRATES: &[&str] = &["tcshow_json", "tcshow_input", "tcshow_lib"];
+
+/// Rules of these crates, before those of programs.
 pub(crate) const SHOW_RULES: &[Rule] = &[
     ("alloc , alloc ,", "alloc,"),
     ("alloc , json ,", "alloc,"),

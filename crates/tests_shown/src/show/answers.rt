@@ -2,7 +2,7 @@
 
 use crate::show::runs::{Written, all_in, chosen_in, counted_in, gives_of_hex};
 use tc_chosen::Chosen;
-use tcshow_lib::asked::Form;
+use tcshow_lib::options::OutputFormat;
 
 // pcap, a packet for each: EINVAL of a request, with a text and a place, from the port 77, of packet type 7; the same, capped; an
 // acknowledgement; EEXIST of a request for links; NLMSG_DONE; an error 777 of a request that is cut; an acknowledgement with a warning.
@@ -79,10 +79,19 @@ static REFUSED_FLOWER: Chosen<'static> = Chosen {
 
 #[test]
 fn answers(rt: HostRuntime) {
-    let asked = counted_in(Form::Lines);
-    assert!(rt; gives_of_hex(rt.alloc(), &asked, ANSWERS, 0, Written::Is(&[LINES]), ""));
-    let asked = all_in(Form::Json);
-    assert!(rt; gives_of_hex(rt.alloc(), &asked, ANSWERS, 0, Written::Is(&[JSON]), ""));
-    let asked = chosen_in(Form::OneLine, REFUSED_FLOWER);
-    assert!(rt; gives_of_hex(rt.alloc(), &asked, ANSWERS, 0, Written::Is(&[ONE_LINE]), ""));
+    let options = counted_in(OutputFormat::Lines);
+    assert!(rt; gives_of_hex(rt.alloc(), &options, ANSWERS, 0, Written::Is(&[LINES]), ""));
+    let options = all_in(OutputFormat::Json);
+    assert!(rt; gives_of_hex(rt.alloc(), &options, ANSWERS, 0, Written::Is(&[JSON]), ""));
+    let options = chosen_in(OutputFormat::OneLine, REFUSED_FLOWER);
+    assert!(rt;
+        gives_of_hex(
+            rt.alloc(),
+            &options,
+            ANSWERS,
+            0,
+            Written::Is(&[ONE_LINE]),
+            ""
+        )
+    );
 }

@@ -2,7 +2,7 @@
 
 use crate::show::runs::{Written, all_in, gives, writes};
 use std::alloc::{AllocError, Global};
-use tcshow_lib::asked::Form;
+use tcshow_lib::options::OutputFormat;
 
 const PLAIN: &str = "380000002400050681f12469000000000000000004000000\
 0000ffffffffffff000000000a000100626669666f00000008000200b80b0000";
@@ -60,7 +60,7 @@ const PASTED: &str = "0x38 0x00 0x00 0x00 2400:0506 81f12469 00000000 # a bfifo
 # on one line: 38:00:00:00:24:00:05:06:81:F1:24:69
 38:00:00:00:24:00:05:06:81:F1:24:69:00:00:00:00:00:00:00:00:04:00:00:00:00:00:ff:ff:ff:ff:ff:ff:00:00:00:00:0a:00:01:00:62:66:69:66:6f:00:00:00:08:00:02:00:b8:0b:00:00";
 
-// What is shown of the message.
+// The outline of the message.
 static ONE: &str =
     r#"{"type":"RTM_NEWQDISC","flags":1541,"seq":1764028801,"fits":true,"settled":true,"canonical":true,"message":{"header":{"family":"Unspec","index":4,"handle":"ffff:","parent":"root","info":0},"attributes":[{"Kind":"bfifo"},{"Options":{"limit":3000}}]}}
 "#;
@@ -74,13 +74,13 @@ fn put_all(all: &mut String, texts: &[&str]) -> Result<(), AllocError> {
     Ok(())
 }
 
-// True if this is shown of texts, each behind the one before.
+// True if this is the output for texts, each after the one before.
 fn are_shown(alloc: Global, texts: &[&str], status: u8, written: Written<'_>) -> bool {
     let mut all = String::new(alloc);
     put_all(&mut all, texts).is_ok()
         && gives(
             alloc,
-            &all_in(Form::Json),
+            &all_in(OutputFormat::Json),
             all.as_bytes(),
             status,
             written,
@@ -125,5 +125,5 @@ static GAP_SHOWN: &str =
 
 #[test]
 fn gaps(rt: HostRuntime) {
-    assert!(rt; writes(rt.alloc(), &all_in(Form::Json), GAP, 1, GAP_SHOWN));
+    assert!(rt; writes(rt.alloc(), &all_in(OutputFormat::Json), GAP, 1, GAP_SHOWN));
 }

@@ -4,7 +4,7 @@ use crate::show::runs::{Outcome, all_in, file_of_first, is_front, shown};
 use std::alloc::Global;
 use std::io::{Error, ErrorKind, Read, Result, Write};
 use std::test::Fail;
-use tcshow_lib::asked::Form;
+use tcshow_lib::options::OutputFormat;
 use tcshow_lib::program::serve;
 use tests_captures::Format;
 
@@ -77,8 +77,8 @@ fn run(alloc: Global, file: &[u8], reader: Stream, writer: Stream) -> Outcome {
     let mut from = slowly(file, reader);
     let mut to = slowly(Vec::new(alloc), writer);
     let mut errors = Vec::new(alloc);
-    let asked = all_in(Form::OneLine);
-    let status = serve(alloc, alloc, &asked, &mut from, &mut to, &mut errors);
+    let options = all_in(OutputFormat::OneLine);
+    let status = serve(alloc, alloc, &options, &mut from, &mut to, &mut errors);
     Outcome {
         status,
         written: to.inner,
@@ -86,7 +86,7 @@ fn run(alloc: Global, file: &[u8], reader: Stream, writer: Stream) -> Outcome {
     }
 }
 
-// A file, and what is written of it.
+// A file, and the output for it.
 #[derive(Drop)]
 struct Answered {
     file: Vec<u8>,
@@ -120,7 +120,7 @@ fn reads_of(whole: &Answered) -> usize {
 // A stream of two messages.
 fn stored(alloc: Global) -> std::result::Result<Answered, Fail> {
     let file = file_of_first(alloc, 2, Format::Stream, false)?;
-    let written = shown(alloc, &all_in(Form::OneLine), &file).written;
+    let written = shown(alloc, &all_in(OutputFormat::OneLine), &file).written;
     Ok(Answered { file, written })
 }
 

@@ -8,7 +8,7 @@ use Rattle.tcshow_input.proofs.lines.show_line.Goals as goal
 
 pub returns-in_ok-write_much-in-Some-clause-ran : goal.returns-in_ok-write_much-in-Some-clause-ran
 returns-in_ok-write_much-in-Some-clause-ran g c =
-    let header = (state_of c.args.shower.now).header in
+    let header = (state_of c.args.printer.now).header in
     let reader = g.R.Read.remaining c.args.reader.now in
     let rest = rest_of c.line_end.new.self in
     let line = take c.in-Some.end rest in (

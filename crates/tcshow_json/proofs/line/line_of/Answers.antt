@@ -1,8 +1,8 @@
 use Rattle.std.specs.Prelude.{is_some}
 use Rattle.std.proofs.lemmas.Result.{IfOk-weaker}
 use Rattle.tc_capture.specs.declared.kind.Holds.TheVariants.{Tc, Action}
-use Rattle.tcshow_json.specs.Found.{message_view}
-use Rattle.tcshow_json.proofs.ByWords.{line_is, refused_is}
+use Rattle.tcshow_json.specs.Messages.{message_view}
+use Rattle.tcshow_json.proofs.Grammars.{line_is, refused_is}
 use Rattle.tcshow_json.proofs.line.line_of.Goals as goal
 
 pub returns-in-Tc-clause-line : goal.returns-in-Tc-clause-line

@@ -1,7 +1,7 @@
 use Rattle.std.proofs.lemmas.Result.{IfOk-weaker}
 use Rattle.tc_capture.specs.declared.kind.Holds.TheVariants.{Tc, Action}
-use Rattle.tcshow_json.specs.Found.{message_view}
-use Rattle.tcshow_json.proofs.ByWords.{refused_is}
+use Rattle.tcshow_json.specs.Messages.{message_view}
+use Rattle.tcshow_json.proofs.Grammars.{refused_is}
 use Rattle.tcshow_json.proofs.verdict.is_refused.Goals as goal
 
 pub returns-in-Tc : goal.returns-in-Tc

@@ -6,6 +6,6 @@ use Rattle.tcshow_lib.proofs.run.run.Goals as goal
 pub returns-clause-ran : goal.returns-clause-ran
 returns-clause-ran g c =
     on_ok_weaker c.show_and_write-outcome.result
-    (ran c.args.asked.now _ _ _ (state_of c.new-shower.result) (state_of c.show_and_write-outcome.new.shower) c.has_refused.result c.new-shower.ensures
+    (ran c.args.options.now _ _ _ (state_of c.new-printer.result) (state_of c.show_and_write-outcome.new.printer) c.has_refused.result c.new-printer.ensures
     c.has_refused.ensures)
     c.show_and_write-outcome.ensures.ran

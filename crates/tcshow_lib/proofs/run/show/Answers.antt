@@ -11,7 +11,7 @@ returns-clause-ran g c =
     on_ok_weaker c.show_all.result
     (λ x. (
       x.0,
-      begun_are (state_of c.args.shower.now).header (rest_of input) (g.R.Read.remaining c.args.reader.now) left x.0 c.in_ok-input.ensures.kept
+      begun_are (state_of c.args.printer.now).header (rest_of input) (g.R.Read.remaining c.args.reader.now) left x.0 c.in_ok-input.ensures.kept
           c.in_ok-input.ensures.first x.1,
       x.2,
     ))
