@@ -20,6 +20,13 @@ impl Packets {
     ghost use Rattle.std.specs.Prelude.{◌≡◌};
     ghost use Rattle.tcshow_input.specs.Reading.{count_after, number_after};
 
+    /// No packets yet.
+    pub fn new() -> Packets
+        ensures none { result.count ≡ 0 }
+    {
+        Packets::default()
+    }
+
     /// Counts a packet and returns its number (from 1), or `None` for a stream, which has no packets.
     pub(crate) fn count(&mut self, packet: &Packet<'_>) -> Option<u64>
         ensures count { self.new.count ≡ count_after self.old.count packet.now.link }

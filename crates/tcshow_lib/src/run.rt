@@ -37,7 +37,7 @@ pub fn run<A: Allocator + Copy, R: Read, W: Write>(
     ensures clean { options.now.format ≢ Json → GrowsClean (W.contents writer.old) (W.contents writer.new) }
 {
     let mut printer = Printer::new(alloc, json, options);
-    let mut packets = Packets::default();
+    let mut packets = Packets::new();
     let outcome = show_and_write(&mut printer, &mut packets, reader, writer);
     Ended {
         outcome,
