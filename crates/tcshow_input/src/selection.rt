@@ -1,7 +1,7 @@
 //! Which messages are printed.
 
 ghost use Rattle.std.specs.Prelude.{◌≡◌, option_map};
-ghost use Rattle.tc_chosen.specs.Chosen.{seen_message};
+ghost use Rattle.tc_chosen.specs.Chosen.{seen_message as properties_view};
 ghost use Rattle.tcshow_json.specs.Messages.{header_view, message_view};
 ghost use Rattle.tcshow_input.specs.Selection.{type_in, properties_of};
 
@@ -12,7 +12,7 @@ use tcshow_json::{Message, NetlinkHeader, is_refused};
 
 // The properties of a message that filters look at.
 fn properties_of<'a>(found: &Message<'a>) -> Properties<'a>
-    ensures { seen_message result ≡ properties_of (message_view found.now) }
+    ensures { properties_view result ≡ properties_of (message_view found.now) }
 {
     Properties {
         time: found.origin.time,

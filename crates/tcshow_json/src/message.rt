@@ -141,13 +141,13 @@ fn what_of(holds: Holds, payload: &[u8]) -> What {
 
 fn kind_in(holds: Holds, payload: &[u8]) -> &[u8] {
     match holds {
-        Holds::Tc => last_kind(behind(20, payload)),
-        Holds::Action => first_action_kind(behind(4, payload)),
+        Holds::Tc => last_kind(after_header(20, payload)),
+        Holds::Action => first_action_kind(after_header(4, payload)),
     }
 }
 
 // The bytes after the message's header.
-fn behind(header: usize, payload: &[u8]) -> &[u8] {
+fn after_header(header: usize, payload: &[u8]) -> &[u8] {
     let (_, rest) = payload.split_at(header.min(payload.len()));
     rest
 }
