@@ -9,3 +9,5 @@ mod Anys
 mod Again
 mod Parts
 mod Nests
+mod Steadying
+mod NoActions

@@ -106,7 +106,8 @@ pub fn request_of<A: Allocator + Copy>(
     if !message.is_settled() {
         return Err(RestoreError::NotSettled);
     }
-    if !is_steady(alloc, in_root, &message)? {
+    let steady = is_steady(alloc, in_root, &message)?;
+    if !steady {
         return Err(RestoreError::NotSteady);
     }
     Ok(Request {
@@ -137,7 +138,8 @@ pub fn request_of_actions<A: Allocator + Copy>(
     if !message.is_settled() {
         return Err(RestoreError::NotSettled);
     }
-    if !are_steady(alloc, &message)? {
+    let steady = are_steady(alloc, &message)?;
+    if !steady {
         return Err(RestoreError::NotSteady);
     }
     Ok(Request {
@@ -168,8 +170,10 @@ fn is_steady<A: Allocator + Copy>(
     }
     match restored_message(alloc, in_root, copy) {
         Ok(again) => Ok(again == *request),
-        Err(RestoreError::OutOfMemory) => Err(RestoreError::OutOfMemory),
-        Err(_) => Ok(false),
+        Err(error) => {
+            let is = is_of_request(error)?;
+            Ok(is)
+        }
     }
 }
 
@@ -190,8 +194,21 @@ fn are_steady<A: Allocator + Copy>(
     }
     match restored_actions(alloc, copy) {
         Ok(again) => Ok(again == *request),
-        Err(RestoreError::OutOfMemory) => Err(RestoreError::OutOfMemory),
-        Err(_) => Ok(false),
+        Err(error) => {
+            let is = is_of_request(error)?;
+            Ok(is)
+        }
+    }
+}
+
+// False of an error that the request gives: not of one of memory.
+fn is_of_request(error: RestoreError) -> Result<bool, RestoreError>
+    ensures other { IfOk result (λ is. (is ≡ false) × (error ≡ OutOfMemory → ⊥)) }
+    ensures memory { IfErr result (λ e. e ≡ OutOfMemory) }
+{
+    match error {
+        RestoreError::OutOfMemory => Err(RestoreError::OutOfMemory),
+        _ => Ok(false),
     }
 }
 

@@ -1,6 +1,6 @@
 //! Options of tunnels, as they are in a request: in a nest each, with the nested flag.
 
-ghost use Rattle.std.specs.Prelude.{◌≡◌, List, ◌++◌, ◌∷◌, [], Ok, map, IfOk, IfErr};
+ghost use Rattle.std.specs.Prelude.{◌≡◌, ℕ, true, false, List, ◌++◌, ◌∷◌, [], Ok, map, IfOk, IfErr};
 ghost use Rattle.std.specs.List.{flat_map};
 ghost use Rattle.nla_frames.specs.DefaultNla.{kept_frame};
 ghost use Rattle.nla_frames.specs.Frame.{Frame};
@@ -95,7 +95,6 @@ fn with_options<A: Allocator + Copy>(
 }
 
 // Nests, and the frames of the option under way, behind one frame more.
-#[tactic(auto, using(crate::proofs::Nests::nests_cut, crate::proofs::Nests::nests_kept))]
 fn with_frame<A: Allocator + Copy>(
     alloc: A,
     front: Vec<DefaultNla<A>, A>,
@@ -108,14 +107,49 @@ fn with_frame<A: Allocator + Copy>(
         ≡ map kept_frame front.items ++ nests word (map kept_frame option.items) (kept_frame nla ∷ rest)) }
     ensures memory { IfErr result (λ e. e ≡ OutOfMemory) }
 {
-    let mut made = front;
-    let mut option = option;
     if begins(&option, &nla) {
-        made.push(nest(alloc, word, &option)?)?;
-        option.clear();
+        cut(alloc, front, word, option, nla)
+    } else {
+        kept(front, option, nla)
     }
+}
+
+// The same of a frame that begins another option.
+fn cut<A: Allocator + Copy>(
+    alloc: A,
+    front: Vec<DefaultNla<A>, A>,
+    word: u16,
+    option: Vec<DefaultNla<A>, A>,
+    nla: DefaultNla<A>,
+) -> Result<(Vec<DefaultNla<A>, A>, Vec<DefaultNla<A>, A>), RestoreError>
+    requires { begins (map kept_frame option.items) (kept_frame nla) ≡ true }
+    ensures nests { IfOk result (λ made. (rest : List Frame)
+        → map kept_frame made.0.items ++ nests word (map kept_frame made.1.items) rest
+        ≡ map kept_frame front.items ++ nests word (map kept_frame option.items) (kept_frame nla ∷ rest)) }
+    ensures memory { IfErr result (λ e. e ≡ OutOfMemory) }
+{
+    let mut made = front;
+    made.push(nest(alloc, word, &option)?)?;
+    let mut other = Vec::new(alloc);
+    other.push(nla)?;
+    Ok((made, other))
+}
+
+// The same of one that doesn't.
+fn kept<A: Allocator + Copy>(
+    front: Vec<DefaultNla<A>, A>,
+    option: Vec<DefaultNla<A>, A>,
+    nla: DefaultNla<A>,
+) -> Result<(Vec<DefaultNla<A>, A>, Vec<DefaultNla<A>, A>), RestoreError>
+    requires { begins (map kept_frame option.items) (kept_frame nla) ≡ false }
+    ensures nests { IfOk result (λ made. (word : ℕ) (rest : List Frame)
+        → map kept_frame made.0.items ++ nests word (map kept_frame made.1.items) rest
+        ≡ map kept_frame front.items ++ nests word (map kept_frame option.items) (kept_frame nla ∷ rest)) }
+    ensures memory { IfErr result (λ e. e ≡ OutOfMemory) }
+{
+    let mut option = option;
     option.push(nla)?;
-    Ok((made, option))
+    Ok((front, option))
 }
 
 // True if a frame begins another option, behind these.

@@ -1,4 +1,4 @@
-use Rattle.std.proofs.Common.{rules, ◌≡◌, [], ◌++◌, map, arith}
+use Rattle.std.proofs.Common.{◌≡◌, [], map, arith}
 use Rattle.std.proofs.lemmas.List.{nil_from_length}
 use Rattle.std.specs.List.{flat_map}
 use Rattle.std.specs.Vec.Iter.{into_iter_items}
@@ -10,7 +10,7 @@ use Rattle.tc_requests.proofs.restore_tunnels.nests_restored.Goals as goal
 pub loop-nla-preserved : goal.loop-nla-preserved
 loop-nla-preserved g c =
     let xs = map kept_frame c.loop-nla.made.items in
-    let more : map kept_frame c.in_ok-made.made.items ≡ xs ++ nests_of (kept_frame c.in-Some.nla) = search rules in (
+    let more = c.in_ok-made-2.ensures.nests in (
       tt,
       tt,
       part_more (λ nla. nests_of (kept_frame nla)) xs _ _ c.in-Some.nla (into_iter_items c.next.new.self) (into_iter_items c.loop-nla.nla-iterator) more

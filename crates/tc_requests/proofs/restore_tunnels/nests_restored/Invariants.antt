@@ -9,6 +9,6 @@ use Rattle.tc_requests.proofs.restore_tunnels.nests_restored.Given as goal
 abbrev pub invariant-loop-nla : goal.invariant-loop-nla
 invariant-loop-nla g l =
     (goal.iterator-loop-nla g).can_next l.nla-iterator
-    × (goal.iterator-loop-nla g).is_finished l.nla-iterator
+    × (goal.iterator-loop-nla g).is_finite l.nla-iterator
     × (map kept_frame l.made.items ++ flat_map (λ nla. nests_of (kept_frame nla)) (into_iter_items l.nla-iterator)
     ≡ flat_map (λ nla. nests_of (kept_frame nla)) l.fn.frames.items)

@@ -8,6 +8,6 @@ use Rattle.tc_requests.proofs.restore_tunnels.with_options.Given as goal
 abbrev pub invariant-loop-nla : goal.invariant-loop-nla
 invariant-loop-nla g l =
     (goal.iterator-loop-nla g).can_next l.nla-iterator
-    × (goal.iterator-loop-nla g).is_finished l.nla-iterator
+    × (goal.iterator-loop-nla g).is_finite l.nla-iterator
     × (map kept_frame l.made.items ++ nests l.word (map kept_frame l.option.items) (map kept_frame (into_iter_items l.nla-iterator))
     ≡ map kept_frame l.fn.front.items ++ nests l.word [] (map kept_frame l.fn.frames.items))
