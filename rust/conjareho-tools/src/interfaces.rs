@@ -140,7 +140,7 @@ mod tests {
         let len = message.len() as u32;
         message[..4].copy_from_slice(&len.to_ne_bytes());
         let shown = lines_of(&[message]).expect("a line");
-        indices_in(&from_str(&shown.lines[0]).expect("JSON")).into_iter().collect()
+        indices_in(&from_str(&shown.text).expect("JSON")).into_iter().collect()
     }
 
     fn filter(index: i32) -> Vec<u8> {

@@ -9,8 +9,8 @@ use crate::tcshow_lib::program::serve;
 /// What `tcshow --json` writes of messages.
 #[derive(Clone, PartialEq, Eq, Debug, Default)]
 pub struct Shown {
-    /// A line each, without its line feed.
-    pub lines: Vec<String>,
+    /// A line each, with its line feed.
+    pub text: String,
     /// True if the codec refuses one of them; its line says why.
     pub has_refused: bool,
 }
@@ -32,11 +32,10 @@ pub fn lines_of(messages: &[Vec<u8>]) -> Result<Shown, Fault> {
     let (mut written, mut complaints) = (Vec::new(), Vec::new());
     let status = serve(&asked, &mut stream.as_slice(), &mut written, &mut complaints);
     let text = String::from_utf8(written).map_err(|_| Fault::Broken("a message that isn't shown as text"))?;
-    let lines: Vec<String> = text.lines().map(str::to_string).collect();
-    if status > 1 || lines.len() != messages.len() {
+    if status > 1 || text.lines().count() != messages.len() || !text.ends_with('\n') {
         return Err(Fault::Broken("a message that isn't shown as one line"));
     }
-    Ok(Shown { lines, has_refused: status == 1 })
+    Ok(Shown { text, has_refused: status == 1 })
 }
 
 /// Messages as a stream: each padded to a multiple of four bytes.

@@ -130,14 +130,14 @@ pub(crate) fn objects_of(requests: &[Vec<u8>]) -> Objects {
     objects
 }
 
-// Filters of basic and bpf are matched in the order in which they stand. The one block of ingress is dumped under the parent of who asked last.
+// Filters of basic, bpf and flow are matched in the order in which they were made. The one block of ingress is dumped under the parent of who asked last.
 fn put_object(request: &[u8], header: Tcmsg, is_ingress: bool, objects: &mut Objects) {
     let kind = type_of(request);
     let is_below = matches!(kind, RTM_NEWTFILTER | RTM_NEWCHAIN);
     let (index, chain, handle) = (header.index, chain_of(request), header.handle);
     let parent = if is_below && is_ingress && header.parent >> 16 == 0xFFFF { INGRESS } else { header.parent };
     let info = if is_below { header.info } else { 0 };
-    if kind == RTM_NEWTFILTER && matches!(kind_of(request), Some(b"basic" | b"bpf")) {
+    if kind == RTM_NEWTFILTER && matches!(kind_of(request), Some(b"basic" | b"bpf" | b"flow")) {
         let handles =
             objects.entry(Key::Order { index, parent, chain, info }).or_insert_with(|| Held::Handles(Vec::new()));
         if let Held::Handles(handles) = handles {

@@ -1,5 +1,7 @@
 //! Requests, in the order in which they are sent: those that `tcmake --request --stream` makes of the same lines.
 
+use super::messages::type_of;
+use crate::netlink::message::RTM_NEWACTION;
 use crate::tc_kinds::{ACTION_MESSAGE, TC_MESSAGE, TcTables};
 use crate::tc_streams::Stop;
 use crate::tcmake_lib::lines::{RemarkKind, Source};
@@ -46,6 +48,13 @@ pub(crate) fn requests(wanted: &Wanted<'_>) -> Plan {
         let complaints = vec!["out of memory".to_string()];
         Plan { complaints, is_void: true, ..Plan::default() }
     })
+}
+
+/// The requests beside what there is. `alone` are those of the same without it; they are the same if they have no actions by themselves, since
+/// only these are compared with the actions of now, and if each line of now can be read.
+pub(crate) fn requests_beside(wanted: &Wanted<'_>, alone: &Plan, has_refused: bool) -> Plan {
+    let has_actions = alone.requests.iter().any(|request| type_of(request) == RTM_NEWACTION);
+    if has_actions || has_refused || alone.is_void { requests(wanted) } else { alone.clone() }
 }
 
 fn planned(restored: Restored) -> Result<Plan, Stop> {

@@ -141,7 +141,7 @@ fn listed(devices: &[Device]) -> String {
 
 // The interfaces of the lines.
 fn indices_of(save: &Save) -> BTreeSet<u32> {
-    let values = save.lines.iter().filter_map(|(_, line)| ::serde_json::from_str::<Value>(line).ok());
+    let values = save.lines().filter_map(|line| ::serde_json::from_str::<Value>(line).ok());
     let indices = values.filter_map(|value| {
         let message = value.get("message").unwrap_or(&value);
         message["header"]["index"].as_u64()
