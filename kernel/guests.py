@@ -75,7 +75,7 @@ class Guest:
         return self.add_lines(lines)
 
     def add_lines(self, lines):
-        """Adds a try of lines as they stand in the script."""
+        """Adds a try of lines as the script has them."""
         return self.tries.setdefault("\n".join(lines), len(self.tries))
 
     def run(self):

@@ -55,7 +55,7 @@ impl Serialize for Saved<'_> {
     }
 }
 
-// What tells an interface from another of the same name.
+// What distinguishes an interface from another of the same name.
 struct SavedDevice<'a>(&'a Device);
 
 impl Serialize for SavedDevice<'_> {

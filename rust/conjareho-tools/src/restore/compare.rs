@@ -1,7 +1,7 @@
 //! What requests make, and where what two lists of requests make differs.
 //!
 //! Requests that `tc_requests` makes of dumps have neither statistics nor times. What is left to be passed over is what the kernel counts or
-//! gives in a field of a configuration, and what it shows otherwise from one dump to the next.
+//! chooses in a field of a configuration, and what it shows otherwise from one dump to the next.
 
 use super::messages::{actions_of, chain_of, kind_of, payload_of, type_of};
 use crate::netlink::message::{
@@ -21,7 +21,7 @@ const INGRESS: u32 = 0xFFFF_0000;
 /// What an object is.
 #[derive(Clone, PartialEq, Eq, PartialOrd, Ord, Debug)]
 pub(crate) enum Key {
-    /// An action that stands by itself, by its kind and its index.
+    /// A standalone action, by its kind and its index.
     Action(String, u32),
     /// A qdisc, a class, a filter or a chain, by what its header has.
     Object { kind: u16, index: i32, parent: u32, chain: u32, info: u32, handle: u32 },
@@ -80,7 +80,7 @@ pub(crate) enum Held {
 }
 
 impl Held {
-    // The same, but for what isn't configuration.
+    // The same without what isn't configuration.
     fn normal(&self) -> Value {
         let request = match self {
             Held::Request(request) => request,
@@ -192,7 +192,7 @@ pub(crate) fn differences(wanted: &Objects, found: &Objects, may_be: impl Fn(&Ke
     all
 }
 
-// Of handles those that are wanted: filters that were there before may stand between those of a save.
+// Of handles those that are wanted: filters that were there before may be between those of a save.
 fn among<'a>(found: &'a Held, wanted: &Held) -> Cow<'a, Held> {
     match (found, wanted) {
         (Held::Handles(found), Held::Handles(wanted)) => {

@@ -63,7 +63,7 @@ pub(crate) enum FileError {
     /// It has a head and no end.
     NoEnd,
     /// Its end isn't its last line, by its number.
-    LineBehind(usize),
+    LineAfterEnd(usize),
     /// Its end is neither a number nor `true`.
     End,
     /// Its end has another number of lines than there are.
@@ -81,7 +81,7 @@ impl fmt::Display for FileError {
             FileError::Head(wanted) => write!(f, "line 1: the head lacks {wanted}"),
             FileError::SecondHead(number) => write!(f, "line {number}: a second head"),
             FileError::NoEnd => f.write_str("its end is missing: the save was cut"),
-            FileError::LineBehind(number) => write!(f, "line {number}: a line behind the end"),
+            FileError::LineAfterEnd(number) => write!(f, "line {number}: a line after the end"),
             FileError::End => f.write_str("its end is neither a number of lines nor true"),
             FileError::Count { said, found } => {
                 write!(
@@ -105,7 +105,7 @@ pub(crate) fn read_save(bytes: Vec<u8>) -> Result<Save, FileError> {
             continue;
         }
         if end.is_some() {
-            return Err(FileError::LineBehind(at + 1));
+            return Err(FileError::LineAfterEnd(at + 1));
         }
         match mark_of(line) {
             Some(Mark::Head(value)) if is_first => head = Some(head_of(&value)?),
@@ -213,7 +213,7 @@ mod tests {
         assert_eq!(error_of(HEAD), FileError::NoEnd);
         assert_eq!(error_of(&format!("{HEAD}\n{{\"a\":1}}\n")), FileError::NoEnd);
         assert_eq!(error_of(&format!("{HEAD}\n{{\"a\":1}}\n{{\"end\":2}}\n")), FileError::Count { said: 2, found: 1 });
-        assert_eq!(error_of(&format!("{HEAD}\n{{\"end\":0}}\n{{\"a\":1}}\n")), FileError::LineBehind(3));
+        assert_eq!(error_of(&format!("{HEAD}\n{{\"end\":0}}\n{{\"a\":1}}\n")), FileError::LineAfterEnd(3));
         assert_eq!(error_of(&format!("{HEAD}\n{HEAD}\n{{\"end\":0}}\n")), FileError::SecondHead(2));
         assert_eq!(error_of(&format!("{HEAD}\n{{\"end\":\"2\"}}\n")), FileError::End);
         assert_eq!(error_of("{\"save\":2}\n{\"end\":0}\n"), FileError::Version(2));

@@ -115,7 +115,7 @@ fn save_in(arguments: &Arguments, file: Vec<u8>) -> Result<Save, Ended> {
     let refused = |why: String| Ended::because(Status::NothingSent, vec![format!("{}: {why}", arguments.file_name())]);
     let save = read_save(file).map_err(|error| refused(error.to_string()))?;
     if arguments.clear && save.head.is_none() {
-        return Err(refused("--clear wants a save with a head and an end".to_string()));
+        return Err(refused("--clear requires a save with a head and an end".to_string()));
     }
     Ok(save)
 }
@@ -136,7 +136,7 @@ fn wanted_of<'a>(arguments: &Arguments, save: &'a Save, targets: &Targets, names
     }
 }
 
-// What there is now, to be made by itself or beside what stays.
+// What there is now, to be made where nothing is or beside what stays.
 fn of_now<'a>(now: &'a str, stays: Option<&'a str>) -> Wanted<'a> {
     Wanted { text: now, now: stays, replaces_actions: true, ..Wanted::default() }
 }

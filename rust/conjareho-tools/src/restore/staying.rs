@@ -146,7 +146,7 @@ mod tests {
 
     #[test]
     fn what_only_filters_hold_goes_with_them() {
-        // alone; of one filter; of two; of two and by itself; of two and of another interface's
+        // alone; of one filter; of two; of two and standalone; of two and of another interface's
         let all = [action(1, 1, 0), action(2, 1, 1), action(3, 2, 2), action(4, 3, 2), action(5, 3, 3)];
         let both = [action(3, 2, 2), action(4, 3, 2), action(5, 3, 3)];
         let filters = [filter(7, "800::1", &[&both[..], &[action(2, 1, 1)]].concat()), filter(7, "800::2", &both)];

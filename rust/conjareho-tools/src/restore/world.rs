@@ -121,7 +121,7 @@ impl<'s, T: Transport, L: Transport> World<'s, T, L> {
         }
     }
 
-    /// What the kernel told of a request of ours since the last look. The error is that another program changed something.
+    /// The notification of a request of ours since the last look. The error is that another program changed something.
     pub(crate) fn look(&mut self, place: &Place, request: Option<&[u8]>) -> Result<Option<Vec<u8>>, Stop> {
         let heard = self.watch.heard()?;
         if heard.lost {
@@ -135,8 +135,8 @@ impl<'s, T: Transport, L: Transport> World<'s, T, L> {
             return Err(Stop::Other { port: notice.port, what: what_of(&notice.message) });
         }
         let wanted = request.map(type_of);
-        let told = heard.notices.into_iter().find(|notice| notice.port == ours && Some(notice.kind) == wanted);
-        Ok(told.map(|notice| notice.message))
+        let notice = heard.notices.into_iter().find(|notice| notice.port == ours && Some(notice.kind) == wanted);
+        Ok(notice.map(|notice| notice.message))
     }
 
     /// An error if an interface has another name, index or address than it had.

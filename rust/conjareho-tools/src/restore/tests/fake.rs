@@ -1,5 +1,6 @@
-//! A kernel for tests: it keeps what requests make as they make it, dumps it, and tells listeners of it.
+//! A kernel for tests: it keeps what requests make as they make it, dumps it, and notifies listeners of it.
 
+use super::super::messages::type_of;
 use crate::netlink::attributes::put;
 use crate::netlink::message::*;
 use crate::netlink::{Kernel, Listener, Transport};
@@ -124,11 +125,11 @@ impl Fake {
 }
 
 impl State {
-    /// Tells listeners of a change by this port.
+    /// Notifies listeners of a change by this port.
     pub(super) fn tell(&mut self, message: &[u8], port: u32) {
-        let mut told = message.to_vec();
-        told[12..16].copy_from_slice(&port.to_ne_bytes());
-        self.heard.iter_mut().for_each(|heard| heard.push_back(told.clone()));
+        let mut notice = message.to_vec();
+        notice[12..16].copy_from_slice(&port.to_ne_bytes());
+        self.heard.iter_mut().for_each(|heard| heard.push_back(notice.clone()));
     }
 
     fn answer_all(&mut self, header: Header, messages: Vec<Vec<u8>>) {
@@ -152,7 +153,18 @@ impl State {
                     _ => found.index == asked.index && found.parent == asked.parent,
                 }
         };
-        let found = self.objects.iter().filter(is_asked).cloned().collect();
+        let mut found: Vec<Vec<u8>> = self.objects.iter().filter(is_asked).cloned().collect();
+        let has_filter = |it: &Vec<u8>| {
+            let own = tcmsg_of(it).unwrap_or_default();
+            type_of(it) == RTM_NEWTFILTER && (own.index, own.parent) == (asked.index, asked.parent)
+        };
+        // The chain that a filter makes.
+        if header.kind == RTM_GETCHAIN && found.is_empty() && self.objects.iter().any(has_filter) {
+            let place = Tcmsg { index: asked.index, parent: asked.parent & 0xffff_0000, ..Tcmsg::default() };
+            let mut body = tc_request(0, 0, place)[HEADER..].to_vec();
+            put(&mut body, 11, &[0; 4]);
+            found.push(request(RTM_NEWCHAIN, 0, &body));
+        }
         self.answer_all(header, found);
     }
 

@@ -1,4 +1,4 @@
-//! Runs over a kernel that refuses, tells of others, and is sent signals in the middle.
+//! Runs over a kernel that refuses and that notifies of changes by others, and with signals in the middle.
 
 mod fake;
 
@@ -185,7 +185,7 @@ fn what_others_make_is_left() {
     assert!(plain(&ran.objects).contains(&plain(&[theirs()])[0]));
 }
 
-// What the kernel does by itself has port 0; another interface may change.
+// What the kernel does without a request has port 0; another interface may change.
 #[test]
 fn what_the_kernel_does_by_itself_is_no_reason_to_stop() {
     let telling: Hook = Box::new(|state, _, _| {
