@@ -1,7 +1,7 @@
 //! Requests, in the order in which they are sent: those that `tcmake --request --stream` makes of the same lines.
 
 use super::messages::type_of;
-use crate::netlink::message::RTM_NEWACTION;
+use crate::netlink::message::{RTM_NEWACTION, RTM_NEWTFILTER};
 use crate::tc_kinds::{ACTION_MESSAGE, TC_MESSAGE, TcTables};
 use crate::tc_streams::Stop;
 use crate::tcmake_lib::lines::{RemarkKind, Source};
@@ -50,10 +50,10 @@ pub(crate) fn requests(wanted: &Wanted<'_>) -> Plan {
     })
 }
 
-/// The requests beside what there is. `alone` are those of the same without it; they are the same if they have no actions by themselves, since
-/// only these are compared with the actions of now, and if each line of now can be read.
+/// The requests beside what there is. `alone` are those of the same without it. If these have neither actions nor filters, which can hold some, and
+/// each line of now can be read, they are the same, and aren't made again.
 pub(crate) fn requests_beside(wanted: &Wanted<'_>, alone: &Plan, has_refused: bool) -> Plan {
-    let has_actions = alone.requests.iter().any(|request| type_of(request) == RTM_NEWACTION);
+    let has_actions = alone.requests.iter().any(|it| matches!(type_of(it), RTM_NEWACTION | RTM_NEWTFILTER));
     if has_actions || has_refused || alone.is_void { requests(wanted) } else { alone.clone() }
 }
 
