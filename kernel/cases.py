@@ -73,7 +73,7 @@ class Run:
             restore = self.programs.restore(f"{self.file}.json", f"{own}.state", options)
             return [f"run ip -o link > {own}.names", "dump 7", f"watch {own}.sent", f"run {restore}", "unwatch", "dump 7"]
         if verb == "shows":
-            return [f"run {rest.partition(': ')[2]}"]
+            return [f"run {rest.rpartition(': ')[2]}"]
         return []
 
     def judge(self, answers):
@@ -133,7 +133,7 @@ class Run:
         return "; ".join(self.before.differences(self.after)[:4])
 
     def judge_shows(self, rest):
-        pattern, said = rest.partition(": ")[0], next(self.answers)
+        pattern, said = rest.rpartition(": ")[0], next(self.answers)
         text = "\n".join(said.lines)
         return "" if re.fullmatch(pattern, text) else f"it shows {text!r}"
 

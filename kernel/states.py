@@ -84,11 +84,6 @@ def has_estimator(statistics):
     return any(type_ in (2, 5) for type_, _ in attributes(statistics))  # TCA_STATS_RATE_EST, TCA_STATS_RATE_EST64
 
 
-def has_several_geneve_options(options):
-    """Whether a tunnel has several geneve options: in the nest of geneve (1) each begins with its class (1)."""
-    return any(number == 1 and [it for it, _ in attributes(own)].count(1) > 1 for number, own in attributes(options))
-
-
 class Object:
     """A message of a dump: its place, and its configuration in the normal form."""
 
@@ -229,8 +224,6 @@ class State:
         for it in self.all_actions():
             if it.has_estimator:
                 out.add("estimator, of which only statistics are dumped")
-            if it.kind == "tunnel_key" and has_several_geneve_options(dict(it.config[1]).get(11, b"")):  # TCA_TUNNEL_KEY_ENC_OPTS
-                out.add("several geneve options of a tunnel")
         if any(len(set(it)) > 1 for it in root_tables(self.objects).values()):
             out.add("two root tables of u32 in one priority")
         return out

@@ -192,6 +192,47 @@ pub(crate) fn differences(wanted: &Objects, found: &Objects, may_be: impl Fn(&Ke
     all
 }
 
+/// The differences between what is wanted in blocks and what is there. There each action has its number, which counts if the wanted one has one: an
+/// action that filters share in a save may be there with one filter, and is shared again by what is sent.
+pub(crate) fn differences_in_blocks(wanted: &Objects, found: &Objects) -> Vec<Difference> {
+    let of_block = |held: &Held, wanted: &Value| {
+        let mut found = held.normal();
+        forget_numbers(wanted, &mut found);
+        found
+    };
+    let mut all = Vec::new();
+    for (key, held) in wanted {
+        let wanted = held.normal();
+        match found.get(key).map(|held| of_block(held, &wanted)) {
+            Some(found) => {
+                let first = first_difference(&wanted, &found, "");
+                all.extend(first.map(|(at, wanted, found)| Difference::Other { key: key.clone(), at, wanted, found }));
+            }
+            None => all.push(Difference::Missing(key.clone())),
+        }
+    }
+    all.extend(found.keys().filter(|key| !wanted.contains_key(key)).map(|key| Difference::Unwanted(key.clone())));
+    all
+}
+
+// Sets the number of an action to 0 where the wanted one has none.
+fn forget_numbers(wanted: &Value, found: &mut Value) {
+    match (wanted, found) {
+        (Value::Object(wanted), Value::Object(found)) => {
+            if wanted.contains_key("bindcnt") && wanted.get("index") == Some(&json!(0)) {
+                set(found.get_mut("index"));
+            }
+            for (name, value) in found {
+                forget_numbers(wanted.get(name).unwrap_or(&Value::Null), value);
+            }
+        }
+        (Value::Array(wanted), Value::Array(found)) => {
+            wanted.iter().zip(found).for_each(|(wanted, found)| forget_numbers(wanted, found));
+        }
+        _ => {}
+    }
+}
+
 // Of handles those that are wanted: filters that were there before may be between those of a save.
 fn among<'a>(found: &'a Held, wanted: &Held) -> Cow<'a, Held> {
     match (found, wanted) {
@@ -291,6 +332,18 @@ mod tests {
             json!([{"Basic": {"Classid": "1:1"}}])
         );
         assert_eq!(passed_over(json!([{"Pad": ""}, {"Chain": 3}])), json!([{"Chain": 3}]));
+    }
+
+    #[test]
+    fn a_number_counts_where_one_is_wanted() {
+        let actions = |left, right| json!([{"Parms": {"index": left, "bindcnt": 0, "refcnt": 0}}, {"index": right, "bindcnt": 0}]);
+        let seen = |wanted: Value, mut found: Value| {
+            forget_numbers(&wanted, &mut found);
+            wanted == found
+        };
+        assert!(seen(actions(0, 134), actions(7, 134)));
+        assert!(!seen(actions(0, 134), actions(7, 135)));
+        assert!(!seen(actions(7, 134), actions(0, 134)));
     }
 
     #[test]

@@ -1,7 +1,7 @@
 //! What is made and asked before the first request is sent.
 
 use super::arguments::Arguments;
-use super::compare::{Objects, differences, objects_of};
+use super::compare::{Objects, differences_in_blocks, objects_of};
 use super::file::{Save, read_save};
 use super::hardware;
 use super::messages::{blocks_of, type_of};
@@ -9,7 +9,7 @@ use super::plan::{Plan, Wanted, requests, requests_beside};
 use super::sending::{PATIENCE, PAUSE};
 use super::state;
 use super::status::Status;
-use super::staying::{staying, with_actions};
+use super::staying::{as_shared, staying, with_actions};
 use super::targets::{Targets, targets_of};
 use super::world::{Place, World, text_of};
 use crate::netlink::message::{MAGIC_BLOCK, RTM_NEWQDISC, tcmsg_of};
@@ -239,10 +239,10 @@ fn check_blocks<T: Transport, L: Transport>(
     let mut holders: Vec<u32> = used.values().copied().collect();
     holders.sort_unstable();
     holders.dedup();
-    let theirs = requests(&Wanted { text: &world.lines(&holders)?, ..Wanted::default() }).requests;
+    let theirs = requests(&Wanted { text: &as_shared(&world.lines(&holders)?), ..Wanted::default() }).requests;
     let in_blocks =
         |all: &[Vec<u8>]| objects_of(&all.iter().filter(|it| is_in_block(it, &used)).cloned().collect::<Vec<_>>());
-    let found = differences(&in_blocks(wanted), &in_blocks(&theirs), |_, _| false);
+    let found = differences_in_blocks(&in_blocks(wanted), &in_blocks(&theirs));
     if found.is_empty() {
         return Ok(());
     }

@@ -4,6 +4,9 @@ use crate::tc_texts::read_handle;
 use ::serde_json::Value;
 use std::collections::{BTreeMap, BTreeSet};
 
+// A count of those who hold an action that isn't one filter's own.
+const SHARED: u32 = 2;
+
 // The kind and the index of an action.
 type Named = (String, u64);
 
@@ -52,6 +55,38 @@ fn value_of(line: &str, types: &[&str]) -> Option<Value> {
     let value: Value = types.iter().any(|it| line.contains(it)).then(|| ::serde_json::from_str(line).ok()).flatten()?;
     let is_one = types.iter().any(|it| value["type"].as_str() == Some(it.trim_matches('"')));
     is_one.then_some(value)
+}
+
+/// Lines in which each action of a filter is one that others share, so that its request has its number.
+pub(crate) fn as_shared(lines: &str) -> String {
+    let mut text = String::new();
+    for line in lines.lines() {
+        match value_of(line, &["\"RTM_NEWTFILTER\""]) {
+            Some(mut value) => {
+                share(&mut value);
+                text.push_str(&value.to_string());
+            }
+            None => text.push_str(line),
+        }
+        text.push('\n');
+    }
+    text
+}
+
+fn share(value: &mut Value) {
+    match value {
+        Value::Array(items) => items.iter_mut().for_each(share),
+        Value::Object(members) => {
+            let has_counts = members.contains_key("bindcnt") && members.contains_key("refcnt");
+            for (name, value) in members {
+                match name.as_str() {
+                    "bindcnt" | "refcnt" if has_counts => *value = SHARED.into(),
+                    _ => share(value),
+                }
+            }
+        }
+        _ => {}
+    }
 }
 
 // How often filters hold each action. Those of a block are dumped for each of its interfaces, and count once.
