@@ -73,6 +73,10 @@ pub enum Reason {
     #[error("the action {0} is there and differs, and others hold it")]
     Held(Named),
 
+    /// An action that it shares is there and is another one, and no dump has that action by itself, so that no request can change it.
+    #[error("the action {0} is there and differs, and no line has it by itself")]
+    NoDump(Named),
+
     /// Its parent is ffff:0 under clsact, which has two sides: `ffff:fff2` (ingress) and `ffff:fff3` (egress).
     #[error("the parent ffff: doesn't say which side of clsact")]
     NoSide,

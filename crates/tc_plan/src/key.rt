@@ -38,7 +38,8 @@ pub enum Key {
         parent: u32,
         number: u32,
     },
-    /// A hash table of u32 under this parent, by the number in the upper 12 bits of its handle.
+    /// A hash table of u32 below this qdisc, or in this block that interfaces share, by the number in the upper 12 bits of its
+    /// handle.
     Table {
         index: i32,
         parent: u32,

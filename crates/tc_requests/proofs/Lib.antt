@@ -7,3 +7,5 @@ mod Steps
 mod Trees
 mod Anys
 mod Again
+mod Parts
+mod Nests

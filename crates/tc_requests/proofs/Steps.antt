@@ -1,8 +1,9 @@
 -- A list whose elements are restored one after the other.
-use Rattle.std.proofs.Common.{◌≡◌, ℕ, ◌+◌, List, [], ◌∷◌, ◌++◌, map, Option, Some, None, Ok, Err, refl, sym, ap, append_assoc}
+use Rattle.std.proofs.Common.{◌≡◌, ℕ, ◌+◌, true, false, List, [], ◌∷◌, ◌++◌, map, Option, Some, None, Ok, Err, refl, sym, ap, append_assoc}
 use Rattle.std.proofs.lemmas.List.{append-nil}
 use Rattle.tc_requests.specs.declared.restore_error.RestoreError.{RestoreError}
-use Rattle.tc_requests.specs.declared.restore_error.RestoreError.TheVariants.{OutOfMemory, NotSettled}
+use Rattle.tc_requests.specs.declared.restore_error.RestoreError.TheVariants.{OutOfMemory, NotSettled, NotSteady}
+use Rattle.tc_meaning.specs.Equal.{same_message, message_tells}
 use Rattle.tc_meaning.specs.Message.{Message}
 use Rattle.tc_meaning.specs.Tree.{Attribute}
 use Rattle.tc_requests.specs.RestoredMessages.{some_left}
@@ -15,10 +16,18 @@ gives_err OutOfMemory part whole given leads = tt
 gives_err _ part whole given leads = leads given
 
 -- and why there is no request
-pub refused_by : (Settled : Message → Type 0) (e : RestoreError) (outcome : Restored Message) → Gives (Err e) outcome → RefusedBy Settled outcome e
-refused_by Settled OutOfMemory outcome given = tt
-refused_by Settled NotSettled outcome given = λ request is. absurd (cc (given, is))
-refused_by Settled _ outcome given = given
+pub refused_by : (Settled Other : Message → Type 0) (e : RestoreError) (outcome : Restored Message) → Gives (Err e) outcome → RefusedBy Settled Other outcome e
+refused_by Settled Other OutOfMemory outcome given = tt
+refused_by Settled Other NotSettled outcome given = λ request is. absurd (cc (given, is))
+refused_by Settled Other NotSteady outcome given = λ request is. absurd (cc (given, is))
+refused_by Settled Other _ outcome given = given
+
+-- messages that are compared as equal are one; those that aren't, aren't
+pub one_message : (m n : Message) → same_message m n ≡ true → m ≡ n
+one_message m n = (message_tells m n).0
+
+pub two_messages : (m n : Message) → same_message m n ≡ false → m ≡ n → ⊥
+two_messages m n differ is = absurd (cc (differ, (message_tells m n).1 is))
 
 front_more : {X : Type 0} (xs : List X) (y : X) (r : Restored (List X)) → behind xs (r >>= λ rest. Ok (in_front (Some y) rest)) ≡ behind (xs ++ y ∷ []) r
 front_more xs y (Ok ys) = ap Ok (sym (append_assoc xs (y ∷ []) ys))

@@ -15,11 +15,10 @@ ghost use Rattle.tc_requests.specs.RestoredOptions.{cleared, fq_codel_restored, 
 
 use crate::codel_times::time_set;
 use crate::restore::{Around, NOTHING_AROUND, Restore, is_of, restore_all, restore_behind};
-use crate::restore_actions::has_several;
 use crate::restore_error::RestoreError;
 use crate::restore_filters::restored_actions;
+use crate::restore_tunnels::restored_tunnel;
 use bitflags::Flags;
-use nla_frames::Nla;
 use std::alloc::{AllocError, Allocator};
 use tc_options::{
     TcFilterBpfOption, TcFilterFlowerOption, TcFilterMatchAllOption, TcFilterU32Option, TcOption,
@@ -142,6 +141,9 @@ pub(crate) fn restored_options<A: Allocator + Copy>(
     restore_behind(alloc, front, options, kind, around, &[])
 }
 
+// `TCA_FLOWER_KEY_ENC_OPTS` and `TCA_FLOWER_KEY_ENC_OPTS_MASK` of `linux/pkt_cls.h`.
+const TUNNELS: &[u16] = &[84, 85];
+
 fn restored_flower<A: Allocator + Copy>(
     alloc: A,
     info: u32,
@@ -164,8 +166,9 @@ fn restored_flower<A: Allocator + Copy>(
             Ok(Some(TcFilterFlowerOption::Actions(actions)))
         }
         TcFilterFlowerOption::Other(nla) => {
-            if is_of(&[84, 85], &nla) && has_several(nla.value()) {
-                Err(RestoreError::TunnelOptions)
+            if is_of(TUNNELS, &nla) {
+                let nla = restored_tunnel(alloc, nla)?;
+                Ok(Some(TcFilterFlowerOption::Other(nla)))
             } else {
                 Ok(Some(TcFilterFlowerOption::Other(nla)))
             }
