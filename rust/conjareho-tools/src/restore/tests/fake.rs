@@ -163,7 +163,9 @@ impl State {
             let place = Tcmsg { index: asked.index, parent: asked.parent & 0xffff_0000, ..Tcmsg::default() };
             let mut body = tc_request(0, 0, place)[HEADER..].to_vec();
             put(&mut body, 11, &[0; 4]);
-            found.push(request(RTM_NEWCHAIN, 0, &body));
+            let mut chain = request(RTM_NEWCHAIN, 0, &body);
+            chain[6..8].copy_from_slice(&2u16.to_ne_bytes());
+            found.push(chain);
         }
         self.answer_all(header, found);
     }
