@@ -199,7 +199,8 @@ mod tests {
 
     #[test]
     fn reads_a_head_and_counts_lines() {
-        let save = read_save(format!("{HEAD}\n{{\"a\":1}}\n\n{{\"b\":2}}\r\n{{\"end\":2}}\n").into_bytes()).expect("read");
+        let save =
+            read_save(format!("{HEAD}\n{{\"a\":1}}\n\n{{\"b\":2}}\r\n{{\"end\":2}}\n").into_bytes()).expect("read");
         let head = save.head.as_ref().expect("a head");
         assert_eq!(head.devs[0].queues, Some((4, 4)));
         assert_eq!(head.names[&3], "ids");

@@ -79,7 +79,8 @@ pub(crate) fn prepare<T: Transport, L: Transport>(
     let others = blocks_of_others(world, &targets)?;
     let wanted = wanted_of(arguments, &save, &targets, &names);
     let alone = requests(&wanted);
-    let Planned { blocks, now, beside, has_refused, plan } = planned(arguments, &wanted, &alone, &targets, &others, world)?;
+    let Planned { blocks, now, beside, has_refused, plan } =
+        planned(arguments, &wanted, &alone, &targets, &others, world)?;
     let plan = checked(arguments, plan, said)?;
     let wanted = alone.requests;
     check_blocks(world, &others, &wanted)?;

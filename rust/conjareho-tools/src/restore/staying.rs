@@ -25,9 +25,9 @@ pub(crate) fn with_actions(save: &str) -> String {
 // True of the head, of the end, and of a qdisc, a class or a chain that the codec reads, as tcsave writes them.
 fn is_other(line: &str) -> bool {
     let begins = |with: &&str| line.starts_with(with);
-    let is_object = ["RTM_NEWQDISC", "RTM_NEWTCLASS", "RTM_NEWCHAIN"].iter().any(|name| {
-        line.strip_prefix("{\"type\":\"").is_some_and(|rest| rest.starts_with(name))
-    });
+    let is_object = ["RTM_NEWQDISC", "RTM_NEWTCLASS", "RTM_NEWCHAIN"]
+        .iter()
+        .any(|name| line.strip_prefix("{\"type\":\"").is_some_and(|rest| rest.starts_with(name)));
     ["{\"save\":", "{\"end\":"].iter().any(begins) || is_object && line.contains("\"message\":")
 }
 
