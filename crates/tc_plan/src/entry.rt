@@ -1,4 +1,4 @@
-//! What a dump gives and wants, and what has to be so among others.
+//! What a dump provides and requires, and which other dumps must or must not exist.
 
 ghost use Rattle.std.specs.Prelude.{◌≡◌, ◌∷◌, ◌++◌, [], codes, IfOk, if◌then◌else◌};
 ghost use Rattle.std.specs.List.{flat_map, list_any};
@@ -39,17 +39,17 @@ pub struct Entry<A: Allocator> {
     pub place: usize,
     /// What becomes of it by itself.
     pub fate: Fate,
-    /// What its request gives others.
+    /// Keys that its request provides.
     pub gives: Vec<Key, A>,
-    /// What its request wants of others.
+    /// Keys that its request requires.
     pub wants: Vec<Key, A>,
-    /// What it is, of which one dump is enough; of actions each that stands by itself.
+    /// The objects that it shows, of each of which one dump is enough; of actions each that is standalone or shared.
     pub objects: Vec<Key, A>,
-    /// What a dump has to give: the class that is a class's parent.
+    /// A key that some dump has to provide: the class that is a class's parent.
     pub must: Option<Key>,
-    /// What no dump may give: clsact, where its parent doesn't say the side.
+    /// A key that no dump may provide: clsact, if its parent doesn't say the side.
     pub must_not: Option<Key>,
-    /// What makes it, if a dump gives that: the filters of a chain without a template.
+    /// A key whose provider makes it: the filters of a chain without a template.
     pub made_by: Option<Key>,
 }
 
