@@ -93,7 +93,7 @@ static void load_modules(void) {
 
 // ---- What differs from one run to the next is set to 0 before it is written
 
-// Returns the attribute at `p`, of at most `left` bytes, or NULL where there is none.
+// Returns the attribute at `p`, of at most `left` bytes, or NULL if there is none.
 static struct nlattr *attribute(unsigned char *p, int left) {
     struct nlattr *a = (struct nlattr *)p;
 

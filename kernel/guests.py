@@ -51,7 +51,7 @@ def linux():
     return path
 
 
-# How a request ended, and the (type, bytes) that came back before that; `offset` is None where the kernel names no
+# How a request ended, and the (type, bytes) that came back before that; `offset` is None if the kernel names no
 # attribute.
 Answer = collections.namedtuple("Answer", "got error offset sentence")
 

@@ -22,7 +22,7 @@ Exit status: 0 what is there is what FILE says; 1 nothing was sent; 2 wrong usag
 pub(crate) struct Arguments {
     /// The file of the save; none for standard input.
     pub(crate) file: Option<PathBuf>,
-    /// The interface in place of the file's.
+    /// The interface instead of the file's.
     pub(crate) dev: Option<String>,
     /// The names of today by those of the file.
     pub(crate) map: BTreeMap<String, String>,

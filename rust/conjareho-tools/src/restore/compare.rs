@@ -64,7 +64,7 @@ impl fmt::Display for Place {
 }
 
 impl Key {
-    /// True of an action, which belongs to no interface.
+    /// True for an action, which belongs to no interface.
     pub(crate) fn is_action(&self) -> bool {
         matches!(self, Key::Action(..))
     }
@@ -173,7 +173,7 @@ impl fmt::Display for Difference {
     }
 }
 
-/// The differences between what is wanted and what is there. What isn't wanted is none where `may_be` says so.
+/// The differences between what is wanted and what is there. What isn't wanted is no difference if `may_be` says so.
 pub(crate) fn differences(wanted: &Objects, found: &Objects, may_be: impl Fn(&Key, &Held) -> bool) -> Vec<Difference> {
     let mut all = Vec::new();
     for (key, held) in wanted {

@@ -24,7 +24,7 @@ pub(crate) fn type_of(message: &[u8]) -> u16 {
     header_of(message).map_or(0, |header| header.kind)
 }
 
-/// True of the request of an action that is there, with other parameters.
+/// True for the request of an action that is there with other parameters.
 pub(crate) fn replaces(message: &[u8]) -> bool {
     header_of(message).is_some_and(|header| header.flags & NLM_F_REPLACE != 0)
 }

@@ -17,7 +17,7 @@ pub(crate) struct Wanted<'a> {
     pub(crate) now: Option<&'a str>,
     /// The interfaces of today by the names of the save's head.
     pub(crate) names: Option<&'a [(u32, &'a str)]>,
-    /// The interface of all lines in place of theirs.
+    /// The interface of all lines instead of theirs.
     pub(crate) index: Option<u32>,
     /// Actions that others hold too are changed.
     pub(crate) replaces_actions: bool,

@@ -218,7 +218,7 @@ fn blocks_of_others<T: Transport, L: Transport>(
     Ok(others)
 }
 
-// True of what is in one of these blocks.
+// True for what is in one of these blocks.
 fn is_in_block(request: &[u8], blocks: &BTreeMap<u32, u32>) -> bool {
     tcmsg_of(request).is_some_and(|header| header.index == MAGIC_BLOCK && blocks.contains_key(&header.parent))
 }

@@ -10,7 +10,7 @@ const SHARED: u32 = 2;
 // The kind and the index of an action.
 type Named = (String, u64);
 
-/// The lines of a save that say which actions there are and who holds them, each where it is in the save: blank lines are in the place of others.
+/// The lines of a save that say which actions there are and who holds them, each where it is in the save: other lines are blank.
 pub(crate) fn with_actions(save: &str) -> String {
     let mut text = String::new();
     for line in save.lines() {
@@ -22,7 +22,7 @@ pub(crate) fn with_actions(save: &str) -> String {
     text
 }
 
-// True of the head, of the end, and of a qdisc, a class or a chain that the codec reads, as tcsave writes them.
+// True for the head, for the end, and for a qdisc, a class or a chain that the codec reads, as tcsave writes them.
 fn is_other(line: &str) -> bool {
     let begins = |with: &&str| line.starts_with(with);
     let is_object = ["RTM_NEWQDISC", "RTM_NEWTCLASS", "RTM_NEWCHAIN"]

@@ -22,7 +22,7 @@ const NLM_F_EXCL: u16 = 0x200;
 const TC_H_ROOT: u32 = 0xFFFF_FFFF;
 
 /// What a test does before the kernel answers a request that changes something: the number of the request, from 1, and the request. The
-/// kernel answers with an error in place of it, if there is one; 0 keeps silent.
+/// kernel answers with an error instead, if there is one; 0 keeps silent.
 pub(super) type Hook = Box<dyn FnMut(&mut State, usize, &[u8]) -> Option<i32>>;
 
 pub(super) type LinksHook = Box<dyn FnMut(&mut State, usize)>;
@@ -196,7 +196,7 @@ impl State {
     }
 }
 
-// True of what goes with the root qdisc, or else with clsact.
+// True for what goes with the root qdisc, or else with clsact.
 fn is_below(header: Tcmsg, is_root: bool) -> bool {
     let is_clsact = header.handle == 0xFFFF_0000 || header.parent >> 16 == 0xFFFF && header.parent != TC_H_ROOT;
     is_clsact != is_root
