@@ -199,6 +199,9 @@ impl<T: Transport, L: Transport> Dumper<'_, T, L> {
                 Ok(chains) if chains.is_empty() => return Ok(chains),
                 chains => chains?,
             };
+            // After a chain that only actions hold (`goto chain`), the kernel dumps the last ones twice.
+            let mut seen = BTreeSet::new();
+            below.retain(|chain| seen.insert(chain.clone()));
             for chain in &mut below {
                 if tcmsg_of(chain).is_some_and(|tcmsg| tcmsg.index != MAGIC_BLOCK) {
                     chain[HEADER + 12..HEADER + 16].copy_from_slice(&parent.to_ne_bytes());
