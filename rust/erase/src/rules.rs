@@ -140,6 +140,9 @@ pub(crate) const RULES: &[Rule] = &[
     (". reserve ( $*x ) ?", ".try_grow($*x)?"),
     (". extend_from_slice (", ".try_extend("),
     (". push_reserved (", ".push("),
+    // Handles have an order, and targets can be compared.
+    ("# [ derive ( $*d ) ] pub struct TcHandle {", "#[derive($*d, PartialOrd, Ord)]\npub struct TcHandle {"),
+    ("# [ derive ( $*d ) ] pub struct Target {", "#[derive($*d, PartialEq, Eq)]\npub struct Target {"),
     // A clone can't fail, so the one that is written by hand is derived.
     ("impl Clone for TcFilterFlowerOption { $;b }", ""),
     ("pub enum TcFilterFlowerOption {", "#[derive(Clone)]\npub enum TcFilterFlowerOption {"),
@@ -162,6 +165,8 @@ pub(crate) const RULES: &[Rule] = &[
     ("# [ rattlefmt :: skip ]", "#[rustfmt::skip]"),
     // Calls of std that Rust has under another name, or had later.
     ("parse_ascii ( $x . as_bytes ( ) )", "from_str($x)"),
+    ("std :: str :: from_utf8 (", "str::from_utf8("),
+    ("str :: from_utf8 (", "core::str::from_utf8("),
     ("Ipv4Addr :: from_octets (", "Ipv4Addr::from("),
     ("Ipv6Addr :: from_octets (", "Ipv6Addr::from("),
     (":: self ;", ";"),
@@ -271,5 +276,5 @@ pub(crate) const MACROS: &[&str] = &[
 ];
 
 /// Lints that erased modules don't meet: contracts used what is now unused, and some code is easier to prove than what clippy prefers.
-pub(crate) const LINTS: &str = "dead_code, missing_docs, unused_doc_comments, unused_imports, unused_labels, unused_variables, clippy::complexity, \
-    clippy::style, clippy::large_enum_variant, clippy::manual_unwrap_or_default, clippy::result_large_err, rustdoc::broken_intra_doc_links";
+pub(crate) const LINTS: &str = "dead_code, missing_docs, unused_doc_comments, unused_imports, unused_labels, unused_must_use, unused_variables, clippy::complexity, \
+    clippy::style, clippy::large_enum_variant, clippy::manual_unwrap_or_default, clippy::result_large_err, clippy::derived_hash_with_manual_eq, rustdoc::broken_intra_doc_links";

@@ -186,7 +186,7 @@ pub fn chosen<'b>(bytes: &'b [u8], start: &[u8], len: Option<usize>) -> Option<&
 
 /// The text of a kind, without the NUL at its end.
 pub fn kind_text(payload: &[u8]) -> Option<&str> {
-    str::from_utf8(payload.strip_suffix(&[0]).unwrap_or(payload)).ok()
+    core::str::from_utf8(payload.strip_suffix(&[0]).unwrap_or(payload)).ok()
 }
 
 /// The first kind of a list.
