@@ -76,27 +76,27 @@ impl<T> Fallible<T> for Vec<T> {
     }
 }
 
-/// A number without a sign as one with a sign, which numbers have themselves since Rust 1.87.
+/// A number without a sign as one with a sign: `cast_signed`, which numbers have themselves since Rust 1.87.
 pub(crate) trait Unsigned {
     type Signed;
-    fn cast_signed(self) -> Self::Signed;
+    fn as_signed(self) -> Self::Signed;
 }
 
 /// A number with a sign as one without.
 pub(crate) trait Signed {
     type Unsigned;
-    fn cast_unsigned(self) -> Self::Unsigned;
+    fn as_unsigned(self) -> Self::Unsigned;
 }
 
 macro_rules! casts {
     ($($unsigned:ident $signed:ident,)*) => { $(
         impl Unsigned for $unsigned {
             type Signed = $signed;
-            fn cast_signed(self) -> $signed { self as $signed }
+            fn as_signed(self) -> $signed { self as $signed }
         }
         impl Signed for $signed {
             type Unsigned = $unsigned;
-            fn cast_unsigned(self) -> $unsigned { self as $unsigned }
+            fn as_unsigned(self) -> $unsigned { self as $unsigned }
         }
     )* };
 }

@@ -165,6 +165,8 @@ pub(crate) const RULES: &[Rule] = &[
     ("# [ rattlefmt :: skip ]", "#[rustfmt::skip]"),
     // Calls of std that Rust has under another name, or had later.
     ("parse_ascii ( $x . as_bytes ( ) )", "from_str($x)"),
+    (". cast_signed ( )", ".as_signed()"),
+    (". cast_unsigned ( )", ".as_unsigned()"),
     ("std :: str :: from_utf8 (", "str::from_utf8("),
     ("str :: from_utf8 (", "core::str::from_utf8("),
     ("Ipv4Addr :: from_octets (", "Ipv4Addr::from("),

@@ -12,14 +12,13 @@ pub struct Value {
 }
 
 /// What may differ, as the table names it.
-pub const REASONS: [&str; 7] = [
+pub const REASONS: [&str; 6] = [
     "the same",
-    "options of an unknown kind are raw",
+    "options of an unknown kind, which the original writes into another TCA_OPTIONS",
     "names of address families",
     "statistics of fq_codel have a length of 40 or 28",
     "a selector with too few or too many keys",
     "writing panics on a value that doesn't fit",
-    "refused for another reason, or with another text",
 ];
 
 /// The text of our value as the original writes it.
@@ -57,16 +56,14 @@ pub fn reason(ours: &Made, theirs: &Made) -> Option<usize> {
     if ours.bytes.is_none() || theirs.bytes.is_none() {
         return Some(5);
     }
-    if ours.bytes != theirs.bytes || ours.len != theirs.len {
-        let has_selector = text.contains("Selector(");
-        let has_stats = text.contains("FqCodel(");
-        return if has_selector {
-            Some(4)
-        } else if has_stats && ours.len < theirs.len {
-            Some(3)
-        } else {
-            None
-        };
+    // The original puts options of an unknown kind into another TCA_OPTIONS.
+    let raw = ours.text.matches("OptionsRaw(").count();
+    if raw > 0 && theirs.len == ours.len + 4 * raw {
+        return Some(1);
     }
-    Some(if is_family { 2 } else { usize::from(text != ours.text && ours.text.contains("OptionsRaw(")) })
+    if ours.bytes != theirs.bytes || ours.len != theirs.len {
+        let has_stats = text.contains("FqCodel(") && ours.len < theirs.len;
+        return if text.contains("Selector(") { Some(4) } else if has_stats { Some(3) } else { None };
+    }
+    Some(if is_family { 2 } else { 0 })
 }
