@@ -179,6 +179,9 @@ pub(crate) const RULES: &[Rule] = &[
     ("read_u16 ::", "u16::"),
     ("read_u32 ::", "u32::"),
     ("read_u64 ::", "u64::"),
+    // What can't fail in Rust.
+    (". append ( $*x ) ?", ".append($*x)"),
+    (". clone ( ) ?", ".clone()"),
 ];
 
 /// Rules of programs and tests, before those above.
@@ -197,7 +200,6 @@ pub(crate) const USER_RULES: &[Rule] = &[
     (". push_str ( $*x ) ?", ".try_push_str($*x)?"),
     (". to_vec ( %v )", ".try_to_vec()"),
     (". to_string ( %v )", ".try_to_string()"),
-    (". clone ( ) ?", ".clone()"),
     // Over the real `serde` and `serde_json`.
     ("match $*x . push ( $*y ) {", "match $*x.try_push($*y) {"),
     (". push ( $*y ) . is_err ( )", ".try_push($*y).is_err()"),
