@@ -1,5 +1,4 @@
-// Times what libtc_ffi.a does with messages, and libtc_bench_arena.a in an arena: those of files of lines `NAME MODE HEX`, and longer ones that are made
-// here.
+// Times calls of libtc_ffi.a and libtc_bench.a on messages: those of files of lines `NAME MODE HEX`, and longer ones that are made here.
 #define _GNU_SOURCE
 #include <malloc.h>
 #include <math.h>
@@ -10,8 +9,8 @@
 #include <string.h>
 #include <time.h>
 
-// The exports of crates/tc_ffi that are timed: those of a user, as bindings/vtc.h has them, and those of the benchmark alone. A slice is a pointer and a
-// length. A status of 0 says that it was done.
+// The exports that are timed: two of crates/tc_ffi, which bindings/vtc.h has too, and those of crates/tc_bench with the program's allocator. A slice is a
+// pointer and a length. A status of 0 is success.
 #define DECLARE(OLD, VTC, TYPE)                                                                                                 \
     uint32_t OLD##bench_##TYPE##_parse(const uint8_t *bytes, size_t len);                                                       \
     uint32_t OLD##bench_##TYPE##_length(const uint8_t *bytes, size_t len, size_t *lengths, size_t count);                       \
@@ -24,7 +23,7 @@
 DECLARE(, vtc, tc)
 DECLARE(, vtc_action, action)
 
-// Those of crates/tc_bench_arena: the same in an arena, once and then again so many times. It is emptied in between.
+// Those of crates/tc_bench in an arena: once and then `again` times. It is emptied in between.
 #define DECLARE_ARENA(TYPE)                                                                                                     \
     uint32_t bench_arena_##TYPE##_parse(const uint8_t *bytes, size_t len, size_t again);                                        \
     uint32_t bench_arena_##TYPE##_rewrite(const uint8_t *bytes, size_t len, uint8_t *buffer, size_t room, size_t again);        \

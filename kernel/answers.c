@@ -1,4 +1,4 @@
-// Writes messages with what no captured message has, in lines LABEL MODE HEX for the stored run of crates/tcforms. Numbers, names and records are
+// Writes messages with what no captured message has, in lines LABEL MODE HEX of model/labelled. Numbers, names and records are
 // those of the headers of Linux 6.1; what is newer is defined below. The bytes of a value, and of all values of a message, differ in every place as
 // far as 250 of them reach; flags, named numbers and texts are what they have to be.
 #include <arpa/inet.h>

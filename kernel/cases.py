@@ -39,6 +39,11 @@ def read_cases():
     return out
 
 
+def has_others(case):
+    """Whether another interface holds a block that d7 has."""
+    return any("dev d8 ingress_block" in " ".join(step) for step in case.steps)
+
+
 class Run:
     """A case in a guest: its lines there, and what is judged once it has run."""
 
@@ -52,7 +57,7 @@ class Run:
 
     def lines_of(self, verb, rest):
         if verb in ("tc", "sh"):
-            return [f"run {'tc ' if verb == 'tc' else ''}{rest}"]
+            return [f"run {'tc ' if verb == 'tc' else ''}{rest.replace('$SAVE', f'{self.file}.json')}"]
         if verb == "save":
             return ["dump 7", f"run {self.programs.save(f'{self.file}.json')}"]
         if verb == "terse":
@@ -68,7 +73,7 @@ class Run:
             restore = self.programs.restore(f"{self.file}.json", f"{own}.state", options)
             return [f"run ip -o link > {own}.names", "dump 7", f"watch {own}.sent", f"run {restore}", "unwatch", "dump 7"]
         if verb == "shows":
-            return [f"run {rest.partition(': ')[2]}"]
+            return [f"run {rest.rpartition(': ')[2]}"]
         return []
 
     def judge(self, answers):
@@ -113,7 +118,7 @@ class Run:
             return ""
         own = f"{self.file}.{self.count}"
         with open(f"{own}.sent", "rb") as file:
-            return judged(self.programs, f"{self.file}.json", f"{own}.state", file.read(), rest, f"{own}.names")
+            return judged(self.programs, f"{self.file}.json", f"{own}.state", file.read(), rest, f"{own}.names", has_others(self.case))
 
     def judge_says(self, rest):
         return "" if any(re.fullmatch(rest, it) for it in self.said.lines) else f"it says {self.said.lines}"
@@ -128,7 +133,7 @@ class Run:
         return "; ".join(self.before.differences(self.after)[:4])
 
     def judge_shows(self, rest):
-        pattern, said = rest.partition(": ")[0], next(self.answers)
+        pattern, said = rest.rpartition(": ")[0], next(self.answers)
         text = "\n".join(said.lines)
         return "" if re.fullmatch(pattern, text) else f"it shows {text!r}"
 

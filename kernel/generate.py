@@ -298,7 +298,7 @@ class Interface:
                 return kind
 
     def standalone_actions(self):
-        """Actions with numbers: those that stand alone, and some that only filters will hold."""
+        """Actions with numbers: standalone ones, and some that only filters will hold."""
         for number in self.chance.sample(range(100, 190), self.few(4)):
             kind = self.kind_of_action(False)
             action = f"action {kind} {self.deal.options(ACTIONS, kind)} index {number}"

@@ -18,7 +18,7 @@
 //           end ERRNO                   the end of a dump
 //           said LINE                   a line that a command wrote, to either stream
 //           status NUMBER               how the command ended
-//           died STATUS                 the process of the try ended otherwise than by itself
+//           died STATUS                 the process of the try ended otherwise than by exit
 // The last line is `finished`. One eBPF program, which lets every packet through, is open as descriptor 100 in all
 // tries.
 #define _GNU_SOURCE
@@ -93,7 +93,7 @@ static void load_modules(void) {
 
 // ---- What differs from one run to the next is set to 0 before it is written
 
-// Returns the attribute at `p`, of at most `left` bytes, or NULL where there is none.
+// Returns the attribute at `p`, of at most `left` bytes, or NULL if there is none.
 static struct nlattr *attribute(unsigned char *p, int left) {
     struct nlattr *a = (struct nlattr *)p;
 
@@ -261,7 +261,7 @@ static unsigned char tree[1 << 19]; // the link's qdiscs and classes, whole mess
 static size_t tree_length;
 
 // Writes what belongs to the link, or to a shared block, as it came, and keeps its qdiscs and classes. A chain's dump names the
-// qdisc; the parent that was asked for tells the sides of clsact apart.
+// qdisc; the parent that was asked for distinguishes the sides of clsact.
 static void write_of_link(struct nlmsghdr *h) {
     struct tcmsg *header = NLMSG_DATA(h);
 

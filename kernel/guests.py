@@ -51,7 +51,7 @@ def linux():
     return path
 
 
-# How a request ended, and the (type, bytes) that came back before that; `offset` is None where the kernel names no
+# How a request ended, and the (type, bytes) that came back before that; `offset` is None if the kernel names no
 # attribute.
 Answer = collections.namedtuple("Answer", "got error offset sentence")
 
@@ -75,7 +75,7 @@ class Guest:
         return self.add_lines(lines)
 
     def add_lines(self, lines):
-        """Adds a try of lines as they stand in the script."""
+        """Adds a try of lines as the script has them."""
         return self.tries.setdefault("\n".join(lines), len(self.tries))
 
     def run(self):

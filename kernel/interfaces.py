@@ -10,7 +10,7 @@ from streams import judged
 
 OF_A_GUEST = 20  # interfaces
 
-# The actions of the interface are deleted, and another one has actions with the numbers that the kernel gives first.
+# The actions of the interface are deleted, and another one has actions with the numbers that the kernel chooses first.
 KINDS = "bpf connmark csum ct ctinfo gact ife mirred mpls nat pedit police sample simple skbedit skbmod tunnel_key vlan"
 FLUSH = "".join(f"actions flush action {it}\n" for it in KINDS.split())
 OTHERS = """qdisc add dev d9 clsact

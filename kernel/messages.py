@@ -171,7 +171,7 @@ class Notation:
 
 
 # The first message type of each object; and for each verb what is added to the type, and the flags. All requests but
-# dumps are acknowledged, and what the kernel tells others of a change comes back too (NLM_F_ECHO).
+# dumps are acknowledged, and the notification of a change comes back too (NLM_F_ECHO).
 OBJECTS = {"qdisc": 36, "tclass": 40, "tfilter": 44, "action": 48, "chain": 100}
 VERBS = {
     "new": (0, 0x60D),
@@ -412,7 +412,7 @@ def forms_of(message):
 
 
 def is_made_with_others(names, type_, data):
-    """Whether the kernel makes this object by itself: a classifier, dumped without a handle before its filters, and
+    """Whether the kernel makes this object without a request: a classifier, dumped without a handle before its filters, and
     u32's root table."""
     if type_ != OBJECTS["tfilter"]:
         return False

@@ -13,15 +13,10 @@ TARGET = "x86_64-unknown-linux-gnu"
 PROVED, SOCKETS = ("tcshow", "tcmake"), ("tcnl", "tcsave", "tcrestore")
 
 
-def folder():
-    """The folder that --tools names, if any."""
-    return os.path.abspath(sys.argv[sys.argv.index("--tools") + 1]) if "--tools" in sys.argv else ""
-
-
-def built(name):
-    """The path of a program: in the folder that --tools names, or as its crate is built."""
-    if folder():
-        path = f"{folder()}/{name}"
+def built(name, folder):
+    """The path of a program: in a folder, or as its crate is built."""
+    if folder:
+        path = f"{folder}/{name}"
         return path if os.path.exists(path) else lacks(f"There is no {path}.")
     crate = f"{TOP}/crates/{name}"
     path = f"{crate}/out/{name}"
@@ -41,11 +36,10 @@ def built(name):
     return path
 
 
-def linked(names):
-    """The paths of programs of rust/conjareho-tools, linked statically: in the folder that --tools names if they are there, else as cargo
-    builds them."""
-    own = {name: f"{folder()}/{name}" for name in names}
-    if folder() and all(map(os.path.exists, own.values())):
+def linked(names, folder):
+    """The paths of programs of rust/conjareho-tools, linked statically: in a folder if they are there, else as cargo builds them."""
+    own = {name: f"{folder}/{name}" for name in names}
+    if folder and all(map(os.path.exists, own.values())):
         return own
     if not shutil.which("cargo"):
         lacks("There is no cargo, which builds the programs of rust/conjareho-tools.")
@@ -58,13 +52,18 @@ def linked(names):
 
 
 class Programs:
-    """The programs, and the shell's text that starts each of them."""
+    """The programs, those of a folder if one is named, and the shell's text that starts each of them."""
 
-    def __init__(self):
-        self.paths = {**{it: built(it) for it in PROVED}, **linked(SOCKETS)}
+    def __init__(self, folder=None):
+        self.folder = folder and os.path.abspath(folder)
+        self.paths = {**{it: built(it, self.folder) for it in PROVED}, **linked(SOCKETS, self.folder)}
         with open(f"{OUT}/programs", "w") as file:
             file.writelines(f"{name.upper()}={path}\nexport {name.upper()}\n" for name, path in self.paths.items())
             file.write(f"TMPDIR={OUT}\nexport TMPDIR\n")
+
+    def rewriting(self):
+        """The path of tcrewrite."""
+        return built("tcrewrite", self.folder)
 
     def command(self, text):
         return f". {OUT}/programs; {text}"

@@ -12,16 +12,18 @@ QDISC, CLASS, FILTER, CHAIN, ACTIONS = 36, 40, 44, 100, (48, 49, 50)  # message 
 COUNTED = {3, 4, 6, 7, 9}  # TCA_STATS, TCA_XSTATS, TCA_FCNT, TCA_STATS2, TCA_PAD
 COUNTED_OF_ACTION = {4, 5, 9, 10}  # TCA_ACT_STATS, TCA_ACT_PAD, TCA_ACT_USED_HW_STATS, TCA_ACT_IN_HW_COUNT
 
-# Of each kind of filter, the attribute with its actions, and that of padding. Of an action, that of its times (struct
-# tcf_t), 1 for those not named here.
+# Of each kind of filter, the attribute with its actions. Of each kind, that of padding, which is there or not by the place in the dump. Of an
+# action, that of its times (struct tcf_t), 1 for those not named here.
 ACTIONS_OF = {"basic": 3, "bpf": 1, "cgroup": 1, "flow": 9, "flower": 3, "fw": 4, "matchall": 2, "route": 6, "u32": 7}
-PAD_OF = {"basic": 6, "matchall": 5, "u32": 12}
+PAD_OF = {"basic": 6, "matchall": 5, "u32": 12, "htb": 8, "tbf": 8, "netem": 9, "cake": 1, "taprio": 6}
 TIMES_OF = {"connmark": 2, "csum": 2, "ct": 2, "ctinfo": 2, "ife": 2, "nat": 2, "police": 6}
 
 # Of each kind of action, the attributes that begin with its number and counts, 2 for those not named here; and the places
 # of number, refcnt and bindcnt in it: those of tc_gen, and those of tc_police.
 PARMS_OF = {"connmark": [1], "csum": [1], "ct": [1], "ctinfo": [3], "ife": [1], "nat": [1], "pedit": [2, 4], "police": [1]}
 COUNTS, COUNTS_OF_POLICE = (0, 12, 16), (0, 44, 48)
+
+HEAD_OF = {"netem": 24}  # the bytes of a record before the attributes of its options (struct tc_netem_qopt)
 
 ROOT_TABLE = 0x80000000  # the first of u32's root tables; the kernel numbers them in the order in which priorities are made
 IN_ORDER = {"basic", "bpf", "flow"}  # of these filters the order within a priority counts; others are found by their handle
@@ -39,6 +41,14 @@ def attributes(data):
         out.append((type_ & 0x3FFF, data[at + 4 : at + length]))
         at += length + -length % 4
     return out
+
+
+def options_of(kind, data):
+    """The attributes of options, with what is before them as attribute 0; all of it as attribute 0 if it isn't attributes."""
+    head = HEAD_OF.get(kind, 0)
+    found = attributes(data[head:])
+    is_whole = sum(4 + len(it) + -len(it) % 4 for _, it in found) == len(data) - head
+    return [(0, data[:head]), *found] if is_whole else [(0, data)]
 
 
 def text(data):
@@ -74,11 +84,6 @@ def has_estimator(statistics):
     return any(type_ in (2, 5) for type_, _ in attributes(statistics))  # TCA_STATS_RATE_EST, TCA_STATS_RATE_EST64
 
 
-def has_several_geneve_options(options):
-    """Whether a tunnel has several geneve options: in the nest of geneve (1) each begins with its class (1)."""
-    return any(number == 1 and [it for it, _ in attributes(own)].count(1) > 1 for number, own in attributes(options))
-
-
 class Object:
     """A message of a dump: its place, and its configuration in the normal form."""
 
@@ -88,7 +93,7 @@ class Object:
         self.own = dict(attributes(data[20:]))
         self.kind = text(self.own.get(1, b""))
         self.chain = int.from_bytes(self.own.get(11, b""), "little")
-        self.options = attributes(self.own.get(2, b""))
+        self.options = options_of(self.kind, self.own.get(2, b""))
         self.actions = []
         if type_ == FILTER:
             lists = [it for number, it in self.options if number == ACTIONS_OF.get(self.kind)]
@@ -131,7 +136,7 @@ def root_tables(objects):
 
 
 def renumbered(objects):
-    """Gives the root table of each priority of u32 the number 800:, and filters below ingress one parent: the kernel dumps
+    """Renumbers the root table of each priority of u32 to 800:, and filters below ingress one parent: the kernel dumps
     them with that of the last request."""
     ingress = {it.index for it in objects if it.type == QDISC and it.kind == "ingress"}
     for it in objects:
@@ -219,8 +224,6 @@ class State:
         for it in self.all_actions():
             if it.has_estimator:
                 out.add("estimator, of which only statistics are dumped")
-            if it.kind == "tunnel_key" and has_several_geneve_options(dict(it.config[1]).get(11, b"")):  # TCA_TUNNEL_KEY_ENC_OPTS
-                out.add("several geneve options of a tunnel")
         if any(len(set(it)) > 1 for it in root_tables(self.objects).values()):
             out.add("two root tables of u32 in one priority")
         return out

@@ -15,7 +15,7 @@ SENDERS = 0x1 | 0x4 | 0x8
 
 
 def messages(data):
-    """The messages of a netlink stream: type, flags, sequence number with port id, and the bytes behind the header."""
+    """The messages of a netlink stream: type, flags, sequence number with port id, and the bytes after the header."""
     out, at = [], 0
     while at + 16 <= len(data):
         length, type_, flags, *number = struct.unpack_from("<IHHII", data, at)
@@ -27,13 +27,13 @@ def messages(data):
 
 
 def stream_of(data):
-    """The messages of a netlink stream, each a type and the bytes behind its header."""
+    """The messages of a netlink stream, each a type and the bytes after its header."""
     return [(type_, payload) for type_, *_, payload in messages(data)]
 
 
 def asked(data):
-    """Of what a process and the kernel said to each other, what the process said: the first message of each number. Of what the kernel does by
-    itself it tells with port id 0."""
+    """Of what a process and the kernel said to each other, what the process said: the first message of each number. The kernel's notifications of
+    what it does without a request have port id 0."""
     first = {}
     for it in messages(data):
         first.setdefault(it[2], it)

@@ -1,4 +1,4 @@
-"""What is shown of bytes by their form. The tables of forms are in `kinds.py`; both are the model of `tcforms`, whose stored run has what
+"""What is shown of bytes by their form. The tables of forms are in `kinds.py`; both are the model of `tcshow --json`, whose stored run has what
 they write. They share nothing with the crates.
 
 A form says what bytes are: a number, a record, a list of attributes. Bytes that follow their form are shown by it; what doesn't follow it exactly is shown

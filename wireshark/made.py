@@ -4,7 +4,7 @@ import re
 import struct
 
 TOP = os.path.dirname(os.path.dirname(os.path.abspath(__file__)))
-NAMED = f'{TOP}/crates/tcforms/stdin'  # the stored messages with names
+NAMED = f'{TOP}/model/labelled'  # the messages with labels
 VERBS, OBJECTS = ['new', 'del', 'get'], {'qdisc': 36, 'tclass': 40, 'tfilter': 44, 'action': 48, 'chain': 100}
 
 

@@ -4,9 +4,9 @@ use std::path::Path;
 /// The crates that the codec, its requests, index and captures are made of, with those below them.
 const CODEC: &[&str] = &["tc_wire", "tc_index", "tc_requests", "tc_capture"];
 
-/// The crates of forms.
+/// The crates of forms, and the places of faults.
 #[allow(dead_code)] // programs have more
-const FORMS: &[&str] = &["tc_forms", "tc_forms_text", "tc_kinds"];
+const FORMS: &[&str] = &["forms_json", "forms_text", "forms_kinds", "tc_outline"];
 
 /// These crates of a folder and those below them, by the `crates.txt` beside it, but for these others.
 fn below(folder: &Path, roots: &[&str], others: &[String]) -> Vec<String> {

@@ -1,8 +1,8 @@
--- The octets of an address that was made of them.
+-- The octets of an address that was built from them.
 use Rattle.std.proofs.Common.{◌≡◌, ℕ, suc, ◌+◌, ◌*◌, ◌/◌, ◌%◌, ◌<◌, List, [], ◌∷◌, length, get_or, refl, arith}
 use Rattle.std.specs.Net.Addr.{segments_of, octets_of}
 
--- two octets, as one number and apart again
+-- two octets, joined to one number and split again
 high_again : (a b : ℕ) → b < 256 → (a * 256 + b) / 256 ≡ a
 high_again a b below = omega arith
 

@@ -4,7 +4,7 @@ use Rattle.std.proofs.Common.{pow-suc, Fits, w8}
 use Rattle.std.proofs.lemmas.List.{get_or-drop}
 use Rattle.nla_frames.specs.Value.{IsBytes, le_bytes, le_value}
 
--- what is known of any slice of `u8` in hand
+-- the elements of a slice of `u8` are bytes
 pub IsBytes-slice : (bytes : List ℕ) → ((i : ℕ) → Fits w8 (get_or bytes i 0)) → IsBytes bytes
 IsBytes-slice bytes fits = record { each = λ i. omega (arith, fits i) }
 

@@ -12,7 +12,7 @@ use Rattle.nla_frames.proofs.FrameBytes.{IsBytes-frame_bytes, next_frame-frame_b
 use Rattle.nla_frames.proofs.Bytes.{IsBytes-nil, IsBytes-append}
 use Rattle.nla_frames.proofs.CutSteps.{cut-nil, cut-next_frame, cut_refused, by_frames}
 
--- each frame that is cut could stand on the wire
+-- each frame that is cut could be on the wire
 pub IsWireFrame-cut : (bytes : List ℕ) → IsBytes bytes → AllByRecursion IsWireFrame (cut bytes).frames
 IsWireFrame-cut = by_frames (λ (bytes : List ℕ). IsBytes bytes → AllByRecursion IsWireFrame (cut bytes).frames) none broken more
   where
@@ -27,7 +27,7 @@ IsWireFrame-cut = by_frames (λ (bytes : List ℕ). IsBytes bytes → AllByRecur
     more bytes f after e later is =
         rw (cut-next_frame bytes f after e) (IsWireFrame-next_frame bytes f after is e, later (IsBytes-next_frame bytes f after is e).1)
 
--- no cutting ends for want of memory
+-- no cutting ends because memory ran out
 pub cut_not_memory : (bytes : List ℕ) → (cut bytes).fault ≡ Some OutOfMemory → ⊥
 cut_not_memory = by_frames (λ (bytes : List ℕ). (cut bytes).fault ≡ Some OutOfMemory → ⊥) none broken more
   where
@@ -69,6 +69,6 @@ pub IsBytes-frames : (fs : List Frame) → AllByRecursion IsWireFrame fs → IsB
 IsBytes-frames [] is = IsBytes-nil
 IsBytes-frames (f ∷ fs) is = IsBytes-append (frame_bytes f) (flat_map frame_bytes fs) (IsBytes-frame_bytes f is.0.bytes) (IsBytes-frames fs is.1)
 
--- values that can stand on the wire are written as bytes
+-- values that can be on the wire are written as bytes
 pub IsBytes-list_bytes : {X : Type 0} (frame : X → Frame) (xs : List X) → AllByRecursion (λ x. IsWireFrame (frame x)) xs → IsBytes (list_bytes frame xs)
 IsBytes-list_bytes frame xs each = rw (list_bytes-map frame xs) (IsBytes-frames (map frame xs) (map_each IsWireFrame frame xs each))

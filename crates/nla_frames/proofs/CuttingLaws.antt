@@ -39,7 +39,7 @@ CutsUp-Begins bytes f after [] None b c = Ends-Begins bytes f (subst (λ (t : Li
 CutsUp-Begins bytes f after (g ∷ fs) None b c = (after, b, c)
 CutsUp-Begins bytes f after fs (Some e) b c = (c.0, (after, b, c.1), c.2)
 
--- any frame that stands at the front before what is cut
+-- any frame that is at the front before what is cut
 CutsUp-Front : (bytes : List ℕ) (f : Frame) (after : List ℕ) (fs : List Frame) (fault : Option DecodeError) → Front bytes f after → CutsUp after fs fault
     → CutsUp bytes (f ∷ fs) fault
 CutsUp-Front bytes f after fs fault front c = go front.full_or_last

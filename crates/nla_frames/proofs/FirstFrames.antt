@@ -1,4 +1,4 @@
--- What `next_frame` answers is what stands at the front of the bytes.
+-- `next_frame` returns the frame at the front of the bytes, or its fault.
 use Rattle.std.proofs.Common.{◌≡◌, ◌⊎◌, ℕ, List, [], ◌∷◌, length, Ok, Err, subst, inl, inr, arith}
 use Rattle.nla_frames.specs.declared.error.DecodeError.{DecodeError}
 use Rattle.nla_frames.specs.Value.{IsBytes}
@@ -16,7 +16,7 @@ StartsWith-Front bytes f after front = by_padding front.full_or_last
     by_padding (inl full) = inr (after, record { frame = front.frame; pad = front.pad; full = full; parts = front.parts })
     by_padding (inr last) = inl (Ends-Front bytes f (subst (λ (t : List ℕ). Front bytes f t) last front))
 
--- a frame that is found stands at the front
+-- a frame that is found is at the front
 pub first_found : (bytes : List ℕ) (f : Frame) (after : List ℕ) → IsBytes bytes → next_frame bytes ≡ Ok (f, after) → StartsWith bytes f
 first_found bytes f after is found = StartsWith-Front bytes f after (Front-next_frame bytes f after is found)
 

@@ -1,4 +1,4 @@
--- The bytes of a frame: how many they are, and that the frame is read back of them.
+-- The bytes of a frame: their number, and that the frame reads back from them.
 use Rattle.std.proofs.Common.{◌≡◌, ℕ, ◌+◌, List, ◌++◌, length, replicate, Ok, ap, ◌∙◌, arith, inl, append_assoc}
 use Rattle.std.proofs.lemmas.List.{length-append, length-replicate}
 use Rattle.nla_frames.specs.Value.{IsBytes, le_bytes}
@@ -14,7 +14,7 @@ unfolding padded
 length-padded value = length-append value (replicate (padding (length value)) 0)
     ∙ ap (λ (k : ℕ). length value + k) (length-replicate (padding (length value)) 0)
 
--- the bytes of a frame are as many as it is said to take
+-- the number of a frame's bytes is its length
 pub length_frame_bytes : (f : Frame) → length (frame_bytes f) ≡ frame_length f
 unfolding frame_bytes
 length_frame_bytes f = omega (
@@ -39,7 +39,7 @@ pub IsBytes-frame_bytes : (f : Frame) → IsBytes f.value → IsBytes (frame_byt
 unfolding frame_bytes
 IsBytes-frame_bytes f is = IsBytes-append (header (length f.value) f.word) (padded f.value) (IsBytes-header (length f.value) f.word) (IsBytes-padded f.value is)
 
--- a frame as it is written stands in front of what follows
+-- a frame as it is written is in front of what follows
 pub Begins-frame_bytes : (f : Frame) (rest : List ℕ) → IsFrame f → Begins (frame_bytes f ++ rest) f rest
 unfolding frame_bytes padded
 Begins-frame_bytes f rest is =

@@ -1,4 +1,4 @@
--- A frame that stands at the front of bytes is the next one.
+-- A frame that is at the front of bytes is the next one.
 use Rattle.std.proofs.Common.{◌≡◌, ◌⊎◌, ℕ, min, ◌+◌, ◌*◌, ◌/◌, ◌^◌, ◌<◌, ◌≤◌, false, ltb, List, [], ◌++◌, length, take, drop, Ok, refl, sym, subst, ◌∙◌, arith, inl, inr}
 use Rattle.std.proofs.Common.{append_assoc}
 use Rattle.std.proofs.lemmas.Bool.{le-ltb, cases_lt}
@@ -76,7 +76,7 @@ skip_padding pad after n within (inr last) =
     let all : drop n (pad ++ []) ≡ [] = drop_all n (pad ++ []) (omega (arith, length-append {A = ℕ} pad [])) in
     rw last all
 
--- a frame that stands at the front is the next one
+-- a frame that is at the front is the next one
 pub next_frame_at : (f : Frame) (pad after : List ℕ) → IsFrame f → length pad ≤ padding (length f.value)
     → (length pad ≡ padding (length f.value)) ⊎ (after ≡ [])
     → next_frame (header (length f.value) f.word ++ (f.value ++ (pad ++ after))) ≡ Ok (f, after)
@@ -103,7 +103,7 @@ next_frame_at f pad after is within ends =
 pub next_frame-Front : (bytes : List ℕ) (f : Frame) (after : List ℕ) → Front bytes f after → next_frame bytes ≡ Ok (f, after)
 next_frame-Front bytes f after front = rw front.parts (next_frame_at f front.pad after front.frame front.within front.full_or_last)
 
--- a frame with its full padding stands at the front
+-- a frame with its full padding is at the front
 pub Front-Begins : (bytes : List ℕ) (f : Frame) (after : List ℕ) → Begins bytes f after → Front bytes f after
 Front-Begins bytes f after b = record { frame = b.frame; pad = b.pad; within = omega (arith, b.full); full_or_last = inl b.full; parts = b.parts }
 

@@ -1,4 +1,4 @@
--- What an iterator over frames gives next.
+-- The next item of an iterator over frames.
 use Rattle.std.proofs.Common.{◌≡◌, ℕ, ◌<◌, List, [], ◌∷◌, length, Ok, Err, Bool, false, refl, sym, ap, ◌∙◌, arith}
 use Rattle.std.specs.Prelude.{◌==◌}
 use Rattle.nla_frames.specs.declared.error.DecodeError.{DecodeError}

@@ -1,4 +1,4 @@
--- What is kept as it stands is read and written so.
+-- An attribute that is kept raw is read and written unchanged.
 use Rattle.std.proofs.Common.{◌≡◌, ◌↔◌, ℕ, List, Ok, refl, subst}
 use Rattle.nla_frames.specs.Fault.{read_as}
 use Rattle.nla_frames.specs.Frame.{Frame, IsWireFrame}

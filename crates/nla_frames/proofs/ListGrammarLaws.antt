@@ -17,7 +17,7 @@ use Rattle.nla_frames.proofs.Places.{kind_after, kind_after-InForce, InForce-kin
 use Rattle.nla_frames.proofs.ReadEach.{ReadInTurn-ReadEach, ReadEach-ReadInTurn, read_each-ReadInTurn, ReadInTurn-read_each, Refused, at_end, at_frame}
 use Rattle.nla_frames.proofs.ReadEach.{Refused-read_each}
 
--- a frame that stands at the front is cut first
+-- a frame that is at the front is cut first
 cut-StartsWith : (rest : List ℕ) (f : Frame) → StartsWith rest f → (c : Cutting) × (cut rest ≡ before_cut f c)
 cut-StartsWith rest f (inl ends) = (_, cut-Ends rest f ends)
 cut-StartsWith rest f (inr begins) = (_, cut-Begins rest f begins.0 begins.1)
@@ -28,13 +28,13 @@ Begins-CutsUp : (bytes : List ℕ) (f g : Frame) (fs : List Frame) (fault : Opti
 Begins-CutsUp bytes f g fs None c = c
 Begins-CutsUp bytes f g fs (Some e) c = (c.1.0, c.1.1, (c.0, c.1.2, c.2))
 
--- the first frame stands at the front
+-- the first frame is at the front
 StartsWith-CutsUp : (bytes : List ℕ) (f : Frame) (more : List Frame) (fault : Option DecodeError) → CutsUp bytes (f ∷ more) fault → StartsWith bytes f
 StartsWith-CutsUp bytes f [] None c = inl c
 StartsWith-CutsUp bytes f (g ∷ more) None c = inr (c.0, c.1)
 StartsWith-CutsUp bytes f more (Some e) c = inr (c.1.0, c.1.1)
 
--- any frame stands at the front of what follows the frames before it
+-- any frame is at the front of what follows the frames before it
 AreFramesAndRest-CutsUp : (bytes : List ℕ) (done : List Frame) (f : Frame) (more : List Frame) (fault : Option DecodeError)
     → CutsUp bytes (done ++ f ∷ more) fault
     → (rest : List ℕ) × AreFramesAndRest bytes done rest × StartsWith rest f
@@ -155,7 +155,7 @@ module _ {X : Type 0} (reads : Reads X) (sets : Sets Frame) where
     fault = λ e. (IsListFault-read_list first bytes e is, read_list-IsListFault first bytes e);
   }
 
-  -- where no frame is refused for want of memory, no list is
+  -- if no frame is refused because memory ran out, no list is
   pub read_list_not_memory : (first : List ℕ) (bytes : List ℕ) → ((kind : List ℕ) (f : Frame) → reads kind f ≡ Err OutOfMemory → ⊥)
       → read_list reads sets first bytes ≡ Err OutOfMemory → ⊥
   unfolding read_list

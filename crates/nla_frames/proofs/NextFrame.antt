@@ -1,4 +1,4 @@
--- What `next_frame` finds: a frame that stands at the front, or a broken one.
+-- `next_frame` finds the frame at the front, or the broken one.
 use Rattle.std.proofs.Common.{◌≡◌, ◌⊎◌, ℕ, ◌+◌, ◌^◌, ◌<◌, ◌≤◌, List, [], ◌++◌, length, take, drop, Ok, Err, refl, sym, ap, ap₂, subst, ◌∙◌, arith, inl, inr}
 use Rattle.std.proofs.Common.{append_assoc, take-add}
 use Rattle.std.proofs.lemmas.Bool.{cases_lt, lt-ltb, le-ltb}
@@ -86,7 +86,7 @@ next_frame-is bytes next e = is_next bytes next (Finds-is bytes (Ok next) e)
 no_memory : (bytes : List ℕ) → Finds bytes (Err OutOfMemory) → ⊥
 no_memory bytes h = elim h [ ]
 
--- no frame is refused for want of memory
+-- no frame is refused because memory ran out
 pub next_frame_not_memory : (bytes : List ℕ) → next_frame bytes ≡ Err OutOfMemory → ⊥
 next_frame_not_memory bytes e = no_memory bytes (Finds-is bytes (Err OutOfMemory) e)
 
@@ -110,7 +110,7 @@ header_is n bytes is long e =
     let first_so : le_bytes 2 (4 + n) ≡ take 2 bytes = subst (λ (k : ℕ). le_bytes 2 k ≡ take 2 bytes) e first in
     ap₂ (λ (a b : List ℕ). a ++ b) first_so second ∙ sym (take-add 2 2 bytes)
 
--- the frame of the first bytes stands at the front
+-- the frame of the first bytes is at the front
 front_of : (long : ℕ) (bytes : List ℕ) → IsBytes bytes → length_at bytes ≡ long → 4 ≤ long → long ≤ length bytes
     → Front bytes (frame_of_length long bytes) (drop (padding long) (drop long bytes))
 front_of long bytes is e h k =
@@ -141,11 +141,11 @@ front_of long bytes is e h k =
     full_or_last p rest (inl l) = inr (drop_all p rest (omega arith))
     full_or_last p rest (inr l) = inl (omega (arith, length-take p rest))
 
--- what is found stands at the front
+-- what is found is at the front
 found_front : (bytes : List ℕ) (f : Frame) (after : List ℕ) → IsBytes bytes → Finds bytes (Ok (f, after)) → Front bytes f after
 found_front bytes f after is (whole h k) = front_of (length_at bytes) bytes is refl h k
 
--- the next frame stands at the front
+-- the next frame is at the front
 pub Front-next_frame : (bytes : List ℕ) (f : Frame) (after : List ℕ) → IsBytes bytes → next_frame bytes ≡ Ok (f, after) → Front bytes f after
 Front-next_frame bytes f after is e = found_front bytes f after is (Finds-is bytes (Ok (f, after)) e)
 
@@ -160,6 +160,6 @@ found_bytes bytes f after is (whole h k) = (
 pub IsBytes-next_frame : (bytes : List ℕ) (f : Frame) (after : List ℕ) → IsBytes bytes → next_frame bytes ≡ Ok (f, after) → IsBytes f.value × IsBytes after
 IsBytes-next_frame bytes f after is e = found_bytes bytes f after is (Finds-is bytes (Ok (f, after)) e)
 
--- the next frame could stand on the wire
+-- the next frame could be on the wire
 pub IsWireFrame-next_frame : (bytes : List ℕ) (f : Frame) (after : List ℕ) → IsBytes bytes → next_frame bytes ≡ Ok (f, after) → IsWireFrame f
 IsWireFrame-next_frame bytes f after is e = record { frame = (Front-next_frame bytes f after is e).frame; bytes = (IsBytes-next_frame bytes f after is e).0 }

@@ -5,7 +5,7 @@ use Rattle.std.proofs.lemmas.Grind.{take_at_read}
 use Rattle.nla_frames.specs.Place.{Sets, kind_before, kinds_set}
 use Rattle.nla_frames.specs.Reading.{keep}
 use Rattle.nla_frames.specs.Codec.{SettledEach}
-use Rattle.nla_frames.specs.OnlyKind.{Tells, SettledUnderOwn}
+use Rattle.nla_frames.specs.OnlyKind.{Summarizes, SettledUnderOwn}
 use Rattle.nla_frames.specs.declared.only_kind.OnlyKind.{OnlyKind}
 use Rattle.nla_frames.proofs.ListWriting.{IsAt}
 
@@ -27,12 +27,12 @@ kinds_set-append sets (x ∷ front) y = ap (kind_before (sets x)) (kinds_set-app
 
 module _ {Y : Type 0} (sets : Sets Y) (items : List Y) where
   -- one element on
-  pub tells_next : (only next : OnlyKind) (i : ℕ) (item : Y) → IsAt items i item → Tells only (kinds_set sets (take i items))
-      → ((kinds : List (List ℕ)) → Tells only kinds → Tells next (kinds ++ kind_before (sets item) [])) → Tells next (kinds_set sets (take (i + 1) items))
-  tells_next only next i item here told and_told =
+  pub tells_next : (only next : OnlyKind) (i : ℕ) (item : Y) → IsAt items i item → Summarizes only (kinds_set sets (take i items))
+      → ((kinds : List (List ℕ)) → Summarizes only kinds → Summarizes next (kinds ++ kind_before (sets item) [])) → Summarizes next (kinds_set sets (take (i + 1) items))
+  tells_next only next i item here told and_summarizes =
       let more = (take_at_read items i item here.within).1 in
       let again : take (i + 1) items ≡ take i items ++ item ∷ [] = more ∙ ap (λ y. take i items ++ y ∷ []) (sym here.is) in
-      subst (Tells next) (sym (ap (kinds_set sets) again ∙ kinds_set-append sets (take i items) item)) (and_told _ told)
+      subst (Summarizes next) (sym (ap (kinds_set sets) again ∙ kinds_set-append sets (take i items) item)) (and_summarizes _ told)
 
 -- under one kind that nothing changes, each element is settled under it
 pub settled_keeping : {X : Type 0} (Settled : List ℕ → X → Type 0) (kind : List ℕ) (xs : List X)
@@ -40,7 +40,7 @@ pub settled_keeping : {X : Type 0} (Settled : List ℕ → X → Type 0) (kind :
 settled_keeping Settled kind [] = refl
 settled_keeping Settled kind (x ∷ xs) = ap (λ rest. Settled kind x × rest) (settled_keeping Settled kind xs)
 
--- where the list sets one kind, it is settled exactly if each element is settled under that one
+-- where the list sets one kind, it is settled exactly when each element is settled under that one
 pub settled_own : {Y X : Type 0} (see : Y → X) (Settled : List ℕ → X → Type 0) (sets : Sets Y) (items : List Y) (kind : List ℕ) (is_settled : Bool)
     → kinds_set sets items ≡ kind ∷ [] → IsTrue is_settled ↔ SettledEach Settled keep kind (map see items)
     → IsTrue is_settled ↔ SettledUnderOwn see Settled sets items

@@ -1,4 +1,4 @@
--- What holds of each element as a list runs, and at each place under the kind that is set last before it.
+-- Properties of each element of a list in sequence, and at each place, under the kind that is set last before it.
 use Rattle.std.proofs.Common.{◌≡◌, ◌↔◌, ℕ, zero, suc, List, [], ◌∷◌, take, Some, refl, subst}
 use Rattle.std.specs.Prelude.{slice_get}
 use Rattle.nla_frames.specs.Place.{Sets, kind_then}

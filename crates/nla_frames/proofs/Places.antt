@@ -15,7 +15,7 @@ pub kind_after-append : {X : Type 0} (sets : Sets X) (kind : List ℕ) (xs ys : 
 kind_after-append sets kind [] ys = refl
 kind_after-append sets kind (x ∷ xs) ys = kind_after-append sets (kind_then sets kind x) xs ys
 
--- elements that set nothing leave the kind as it stands
+-- elements that set nothing leave the kind unchanged
 kind_after_none : {X : Type 0} (sets : Sets X) (kind : List ℕ) (xs : List X) → AllByRecursion (λ x. sets x ≡ None) xs → kind_after sets kind xs ≡ kind
 kind_after_none sets kind [] none = refl
 kind_after_none sets kind (x ∷ xs) none = rw (none.0) (kind_after_none sets kind xs none.1)

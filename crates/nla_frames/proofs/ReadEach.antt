@@ -1,4 +1,4 @@
--- Frames are each read under the kind in force at their place exactly if they are read in turn, each under the kind that the frames before it leave. So reads
+-- Frames are each read under the kind in force at their place exactly when they are read in turn, each under the kind that the frames before it leave. So reads
 -- the function.
 use Rattle.std.proofs.Common.{◌≡◌, ◌⊎◌, ℕ, zero, suc, List, [], ◌∷◌, ◌++◌, length, map, take, slice_get, Option, Some, None, Ok, Err, refl, sym, ap, subst}
 use Rattle.std.proofs.Common.{arith, inl, inr}

@@ -2,12 +2,12 @@
 use Rattle.std.proofs.Common.{◌≡◌, ℕ, ◌<◌, ◌≤◌, ◌+◌, length, get_or, drop, map, List, [], ◌∷◌, ◌++◌, Ok, Err, refl, sym, ap, ◌∙◌, append_assoc}
 use Rattle.std.proofs.lemmas.List.{append-nil, drop_more, drop_all}
 use Rattle.nla_frames.specs.declared.error.DecodeError.{DecodeError}
-use Rattle.nla_frames.specs.Fault.{Outcome, Gives, read_as, refused}
+use Rattle.nla_frames.specs.Fault.{Outcome, Returns, read_as, refused}
 use Rattle.nla_frames.specs.Frame.{Frame}
 use Rattle.nla_frames.specs.Cutting.{cut, items_of}
 use Rattle.nla_frames.specs.Place.{Sets, kind_then}
 use Rattle.nla_frames.specs.Reading.{Reads, before, read_each, read_list, whole}
-use Rattle.nla_frames.proofs.Outcomes.{Gives-err, Gives-exact}
+use Rattle.nla_frames.proofs.Outcomes.{Returns-err, Returns-exact}
 
 -- two values in front of what is read, at once or one after the other
 before-before : {X : Type 0} (front : List X) (x : X) (others : Outcome (List X)) → before front (before (x ∷ []) others) ≡ before (front ++ x ∷ []) others
@@ -37,14 +37,14 @@ module _ {X : Type 0} (reads : Reads X) (sets : Sets Frame) where
         sym (before-before front x others) ∙ sym one ∙ so_far
 
     -- a broken frame
-    pub breaks : (e : DecodeError) (rest : List (Outcome Frame)) → items ≡ Err e ∷ rest → Gives (refused e) total
+    pub breaks : (e : DecodeError) (rest : List (Outcome Frame)) → items ≡ Err e ∷ rest → Returns (refused e) total
     unfolding read_each
-    breaks e rest next = Gives-exact e total (sym so_far ∙ rw next refl)
+    breaks e rest next = Returns-exact e total (sym so_far ∙ rw next refl)
 
     -- a frame that is refused
-    pub refuses : (e : DecodeError) (f : Frame) (rest : List (Outcome Frame)) → items ≡ Ok f ∷ rest → Gives (refused e) (reads kind f) → Gives (refused e) total
+    pub refuses : (e : DecodeError) (f : Frame) (rest : List (Outcome Frame)) → items ≡ Ok f ∷ rest → Returns (refused e) (reads kind f) → Returns (refused e) total
     unfolding read_each
-    refuses e f rest next given = Gives-err e (reads kind f) total given (λ is. sym so_far ∙ rw (next, is) refl)
+    refuses e f rest next given = Returns-err e (reads kind f) total given (λ is. sym so_far ∙ rw (next, is) refl)
 
     -- nothing is left
     pub is_done : items ≡ [] → total ≡ Ok front

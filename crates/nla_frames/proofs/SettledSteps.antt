@@ -1,4 +1,4 @@
--- Lists whose elements are asked one after the other whether they are settled.
+-- Testing the elements of a list, one after the other, for being settled.
 use Rattle.std.proofs.Common.{◌≡◌, ◌↔◌, ℕ, ◌+◌, ◌≤◌, List, [], ◌∷◌, length, map, take, drop, refl, sym, ap, subst, ◌∙◌}
 use Rattle.std.specs.List.{AllByRecursion}
 use Rattle.std.proofs.lemmas.List.{drop_more, drop_all, take_all}
@@ -19,7 +19,7 @@ all_seen see P [] = refl
 all_seen see P (y ∷ items) = ap (λ rest. P (see y) × rest) (all_seen see P items)
 
 module _ {Y : Type 0} (Typed : Y → Type 0) (Settled : List ℕ → Y → Type 0) (sets : Sets Y) (first : List ℕ) (items : List Y) where
-  -- each element before an index is typed, and those from there on are settled exactly if all are
+  -- each element before an index is typed, and those from there on are settled exactly when all are
   pub record SettledSoFar (kind : List ℕ) (i : ℕ) : Type 0 where
     pub typed : AllByRecursion Typed (take i items)
     pub left : SettledEach Settled sets kind (drop i items) ↔ SettledEach Settled sets first items

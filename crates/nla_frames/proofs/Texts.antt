@@ -1,4 +1,4 @@
--- The test of a text against what std's test of UTF-8 says.
+-- The test of a text, compared with std's test of UTF-8.
 use Rattle.std.proofs.Common.{◌≡◌, ℕ, List, Bool, true, false, refl, cond, get_or, Fits, w8}
 use Rattle.std.specs.Str.{IsUtf8, is_utf8}
 use Rattle.std.proofs.lemmas.Str.{IsUtf8-from_is_utf8, is_utf8-from_IsUtf8}
@@ -19,6 +19,6 @@ text-err value front is_front not = rw (← is_front) (go (is_utf8 front) refl)
     go true e = absurd (not (IsUtf8-from_is_utf8 front e))
     go false e = refl
 
--- what is known of any text in hand
+-- a `str` is UTF-8
 pub IsText-slice : (text : List ℕ) → ((i : ℕ) → Fits w8 (get_or text i 0)) → IsUtf8 text → IsText text
 IsText-slice text fits is_text = record { is_bytes = IsBytes-slice text fits; is_text = is_utf8-from_IsUtf8 text is_text }

@@ -7,7 +7,7 @@ use Rattle.nla_frames.specs.Frame.{Frame}
 abbrev pub frame_of : NlaBuffer → Frame
 frame_of b = record { word = b.word; value = b.value.now }
 
--- the frame alone, of a frame and what follows it
+-- the frame, without what follows it
 abbrev pub first_of : {X : Type 0} → Outcome (Frame × X) → Outcome Frame
 first_of (Ok next) = Ok next.0
 first_of (Err e) = Err e

@@ -1,5 +1,5 @@
--- What it is to read and write a thing: the meaning of its type, and the two laws that make the one the inverse
--- of the other. `W` is what it is read from, a frame or bytes; `X` is what is read.
+-- How a type is read and written, and the laws that make reading and writing inverses. `W` is the source, a frame or
+-- bytes; `X` is the abstract value.
 use Rattle.std.specs.Prelude.{◌≡◌, ℕ, ◌<◌, ◌≤◌, ◌^◌, List, [], ◌∷◌, length, take, slice_get, Some, Ok, ◌↔◌}
 use Rattle.std.specs.List.{AllByRecursion}
 use Rattle.nla_frames.specs.Fault.{Outcome}
@@ -10,14 +10,14 @@ use Rattle.nla_frames.specs.Reading.{Reads, read_list}
 use Rattle.nla_frames.specs.Emission.{list_bytes, ListFits}
 
 pub record Codec (W X : Type 0) : Type 1 where
-  -- what is read under a kind
+  -- the reading under a kind
   pub read : List ℕ → W → Outcome X
   pub write : X → W
-  -- numbers lie in their types and texts are UTF-8, as of any value in hand
+  -- numbers are in the range of their types and texts are UTF-8, as in any value of a program
   pub Typed : X → Type 0
   -- it can be written
   pub Fits : X → Type 0
-  -- it reads back under a kind as itself
+  -- it reads back as itself under a kind
   pub Settled : List ℕ → X → Type 0
 
 pub record Laws {W X : Type 0} (IsWire : W → Type 0) (codec : Codec W X) (Canon : List ℕ → W → Type 0) : Type 0 where
@@ -32,7 +32,7 @@ pub record Laws {W X : Type 0} (IsWire : W → Type 0) (codec : Codec W X) (Cano
   -- what is canonical is read, as something that fits
   pub reads : (kind : List ℕ) (w : W) → IsWire w → Canon kind w → (x : X) × (codec.read kind w ≡ Ok x) × codec.Fits x
 
--- bytes that can be counted, as of any slice in hand
+-- bytes that a slice can hold
 pub record IsWireBytes (bytes : List ℕ) : Type 0 where
   pub are_bytes : IsBytes bytes
   pub long : length bytes < 2 ^ 64
@@ -53,15 +53,15 @@ pub record SettledAfter {X : Type 0} (Settled : List ℕ → X → Type 0) (sets
   pub in_force : InForce sets first before kind
   pub settled : Settled kind x
 
--- the same said place by place, where a reader need not run through the list
+-- the same, stated for each place by itself
 abbrev pub SettledAtEach : {X : Type 0} → (List ℕ → X → Type 0) → Sets X → List ℕ → List X → Type 0
 SettledAtEach Settled sets first xs = (i : ℕ) (x : _) → slice_get xs i ≡ Some x → SettledAfter Settled sets first (take i xs) x
 
--- a frame sets the kind that the attribute sets as which it is read
+-- a frame sets the same kind as the attribute that is read from it
 abbrev pub SetTheSame : {X : Type 0} → Reads X → Sets Frame → Sets X → Type 0
 SetTheSame reads by_frame by_value = (kind : List ℕ) (f : Frame) (x : _) → IsWireFrame f → reads kind f ≡ Ok x → by_frame f ≡ by_value x
 
--- a list of frames, where frames and the values that they read as may set the kind for those after them
+-- a list of frames; frames and the values read from them may set the kind for those after them
 abbrev pub list_codec : {X : Type 0} → Sets Frame → Sets X → Codec Frame X → Codec (List ℕ) (List X)
 list_codec by_frame by_value c = record {
   read = λ kind bytes. read_list c.read by_frame kind bytes;

@@ -1,4 +1,4 @@
--- How bytes are cut into frames, as a function. `cutting` in src/laws.rt says that it is the grammar.
+-- The cutting of bytes into frames, as a function. `cutting` in src/laws.rt proves that it is the grammar.
 use Rattle.std.specs.Prelude.{ℕ, zero, suc, List, [], ◌∷◌, ◌++◌, length, map, take, drop, Option, Some, None, Ok, Err, nat_lt, if◌then◌else◌}
 use Rattle.nla_frames.specs.declared.error.DecodeError.{DecodeError}
 use Rattle.nla_frames.specs.declared.error.DecodeError.TheVariants.{FrameHeaderShort, FrameTooLong, FrameTooShort}
@@ -11,7 +11,7 @@ use Rattle.nla_frames.specs.Grammar.{length_at}
 abbrev pub frame_of_length : ℕ → List ℕ → Frame
 frame_of_length n bytes = record { word = le_value (take 2 (drop 2 bytes)); value = drop 4 (take n bytes) }
 
--- the first frame, and what follows it and its padding; of bytes that may be none
+-- the first frame and the bytes after its padding; the bytes may be empty
 unfoldable pub next_frame : List ℕ → Outcome (Frame × List ℕ)
 next_frame bytes =
     let long = length_at bytes in
@@ -20,7 +20,7 @@ next_frame bytes =
     if nat_lt long 4 then Err (FrameTooShort long) else
     Ok (frame_of_length long bytes, drop (padding long) (drop long bytes))
 
--- the frames, and the fault where one is broken
+-- the frames, and the fault if one is broken
 pub record Cutting : Type 0 where
   pub frames : List Frame
   pub fault : Option DecodeError
@@ -34,22 +34,22 @@ cut_ended e = record { frames = []; fault = Some e }
 abbrev pub before_cut : Frame → Cutting → Cutting
 before_cut f c = record { frames = f ∷ c.frames; fault = c.fault }
 
--- the next frame, and what is cut after it
+-- the next frame, and the cutting of the rest
 abbrev pub cut_after : (List ℕ → Cutting) → Outcome (Frame × List ℕ) → Cutting
 cut_after cut_rest (Ok next) = before_cut next.0 (cut_rest next.1)
 cut_after cut_rest (Err e) = cut_ended e
 
--- cut at most so many frames
+-- cuts at most n frames
 unfoldable pub cut_up_to : ℕ → List ℕ → Cutting
 cut_up_to zero bytes = nothing_cut
 cut_up_to (suc n) [] = nothing_cut
 cut_up_to (suc n) (b ∷ bytes) = cut_after (cut_up_to n) (next_frame (b ∷ bytes))
 
--- a frame takes a byte at least
+-- a frame has at least one byte, so there are no more frames than bytes
 unfoldable pub cut : List ℕ → Cutting
 cut bytes = cut_up_to (length bytes) bytes
 
--- what an iterator gives: the frames, then the fault if there is one
+-- the items of an iterator: the frames, then the fault if there is one
 abbrev pub fault_at_end : Option DecodeError → List (Outcome Frame)
 fault_at_end None = []
 fault_at_end (Some e) = Err e ∷ []

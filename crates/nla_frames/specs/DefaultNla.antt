@@ -1,4 +1,4 @@
--- What contracts see of an attribute that is kept raw.
+-- The abstract value of an attribute that is kept raw.
 use Rattle.std.specs.Prelude.{ℕ, ◌<◌, ◌≤◌, ◌^◌, List, length, Ok}
 use Rattle.nla_frames.specs.Value.{IsBytes}
 use Rattle.nla_frames.specs.Frame.{Frame}

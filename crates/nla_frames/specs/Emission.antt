@@ -8,7 +8,7 @@ use Rattle.nla_frames.specs.Frame.{Frame, frame_bytes}
 unfoldable pub list_bytes : {X : Type 0} → (X → Frame) → List X → List ℕ
 list_bytes frame xs = flat_map (λ x. frame_bytes (frame x)) xs
 
--- each value fits, and their bytes can be counted
+-- each value fits, and their length is a `usize`
 pub record ListFits {X : Type 0} (Fits : X → Type 0) (frame : X → Frame) (xs : List X) : Type 0 where
   pub each : AllByRecursion Fits xs
   pub whole : length (list_bytes frame xs) < 2 ^ 64
@@ -17,11 +17,11 @@ pub record ListFits {X : Type 0} (Fits : X → Type 0) (frame : X → Frame) (xs
 abbrev pub Writes : List ℕ → List ℕ → List ℕ → Type 0
 Writes bytes old new = new ≡ bytes ++ drop (length bytes) old
 
--- the bytes have room
+-- the buffer is long enough
 abbrev pub HasRoom : List ℕ → List ℕ → Type 0
 HasRoom bytes buffer = length bytes ≤ length buffer
 
--- the length of these bytes where they can be written, and none where they can't
+-- the length of these bytes if the value fits, and otherwise none
 abbrev pub Measures : Option ℕ → Type 0 → List ℕ → Type 0
 Measures measured Fits bytes = MatchOption measured (Fits → ⊥) (λ n. Fits × (n ≡ length bytes))
 

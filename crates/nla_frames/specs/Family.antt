@@ -1,4 +1,4 @@
--- The numbers of the families of addresses, as `linux/socket.h` has them.
+-- The numbers of the address families, as in `linux/socket.h`.
 use Rattle.std.specs.Prelude.{ℕ, ◌==◌, if◌then◌else◌}
 use Rattle.nla_frames.specs.declared.family.AddressFamily.{AddressFamily}
 use Rattle.nla_frames.specs.declared.family.AddressFamily.TheVariants.{Unspec, Unix, Inet, Bridge, Inet6, Netlink, Packet, Mpls, Other}

@@ -22,11 +22,11 @@ pub record IsWireFrame (f : Frame) : Type 0 where
   pub frame : IsFrame f
   pub bytes : IsBytes f.value
 
--- how many bytes of padding follow that many bytes
+-- the length of the padding after n bytes
 abbrev pub padding : ℕ → ℕ
 padding n = (4 - n % 4) % 4
 
--- the length and the word of a frame with that many bytes of value
+-- the length and the word of a frame whose value has n bytes
 unfoldable pub header : ℕ → ℕ → List ℕ
 header n word = le_bytes 2 (4 + n) ++ le_bytes 2 word
 
@@ -38,6 +38,6 @@ padded value = value ++ replicate (padding (length value)) 0
 unfoldable pub frame_bytes : Frame → List ℕ
 frame_bytes f = header (length f.value) f.word ++ padded f.value
 
--- how many bytes a frame takes, its padding counted
+-- the length of a frame, padding included
 abbrev pub frame_length : Frame → ℕ
 frame_length f = 4 + length f.value + padding (length f.value)

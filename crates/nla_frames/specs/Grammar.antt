@@ -5,7 +5,7 @@ use Rattle.nla_frames.specs.declared.error.DecodeError.TheVariants.{FrameHeaderS
 use Rattle.nla_frames.specs.Value.{le_value}
 use Rattle.nla_frames.specs.Frame.{Frame, IsFrame, header, padding}
 
--- a frame, its padding of any content in full, and what comes after
+-- a frame with its full padding, of any content, and what comes after
 pub record Begins (bytes : List ℕ) (f : Frame) (after : List ℕ) : Type 0 where
   pub frame : IsFrame f
   pub pad : List ℕ
@@ -34,7 +34,7 @@ AreFramesAndRest bytes (f ∷ fs) rest = (after : List ℕ) × Begins bytes f af
 abbrev pub length_at : List ℕ → ℕ
 length_at rest = le_value (take 2 rest)
 
--- at the front of the rest, where bytes are left, a frame is broken in this way
+-- bytes are left, and the frame at their front is broken in this way
 abbrev pub IsBroken : List ℕ → DecodeError → Type 0
 IsBroken rest (FrameHeaderShort left) = (left ≡ length rest) × (0 < left) × (left < 4)
 IsBroken rest (FrameTooLong long left) = (left ≡ length rest) × (4 ≤ left) × (long ≡ length_at rest) × (left < long)

@@ -1,4 +1,4 @@
--- What an iterator over frames has left.
+-- The items that an iterator over frames has left.
 use Rattle.std.specs.Prelude.{List}
 use Rattle.nla_frames.specs.declared.iterator.NlasIterator.{NlasIterator}
 use Rattle.nla_frames.specs.Fault.{Outcome}

@@ -1,5 +1,5 @@
--- What a list of frames reads as, and its first fault, in the words of the grammar: each frame is read under
--- the kind in force at its place. `list_grammar` in src/laws.rt says that `read_list` is this.
+-- The readings and faults of a list of frames, as a grammar: each frame is read under the kind in force at its place.
+-- `list_grammar` in src/laws.rt proves that `read_list` is this grammar.
 use Rattle.std.specs.Prelude.{◌≡◌, ℕ, ◌⊎◌, List, ◌∷◌, ◌++◌, length, take, slice_get, Some, Result, Ok, Err, ◌↔◌}
 use Rattle.nla_frames.specs.declared.error.DecodeError.{DecodeError}
 use Rattle.nla_frames.specs.Frame.{Frame}
@@ -44,7 +44,7 @@ pub record IsListFault {X : Type 0} (reads : Reads X) (sets : Sets Frame) (first
   pub are_read : ReadEach reads sets first frames values
   pub fault : IsBroken rest e ⊎ HasFaultyFrame reads sets first frames rest e
 
--- frames that are cut already, each read under one kind: one is refused in this way, and all before it are read
+-- of frames that are already cut, each read under one kind, one is refused in this way, and all before it are read
 pub record IsFirstRefusal {X : Type 0} (reads : Reads X) (kind : List ℕ) (fs : List Frame) (e : DecodeError) : Type 0 where
   pub before : List Frame
   pub frame : Frame

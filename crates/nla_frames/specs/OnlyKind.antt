@@ -15,11 +15,11 @@ text_set (Some text) = Some text.now
 abbrev pub kind_after : List ℕ → Option (List ℕ) → List ℕ
 kind_after kind set = unwrap_or set kind
 
--- how many kinds these are, and which if it is one
-abbrev pub Tells : OnlyKind → List (List ℕ) → Type 0
-Tells Missing kinds = kinds ≡ []
-Tells (One kind) kinds = kinds ≡ kind.now ∷ []
-Tells Several kinds = 2 ≤ length kinds
+-- `only` agrees with these kinds: none, exactly one, or several
+abbrev pub Summarizes : OnlyKind → List (List ℕ) → Type 0
+Summarizes Missing kinds = kinds ≡ []
+Summarizes (One kind) kinds = kinds ≡ kind.now ∷ []
+Summarizes Several kinds = 2 ≤ length kinds
 
 -- one kind is set, once, and each element is settled under it
 abbrev pub SettledUnderOwn : {Y X : Type 0} → (Y → X) → (List ℕ → X → Type 0) → Sets Y → List Y → Type 0

@@ -10,7 +10,7 @@ Sets X = X → Option (List ℕ)
 abbrev pub kind_then : {X : Type 0} → Sets X → List ℕ → X → List ℕ
 kind_then sets kind x = unwrap_or (sets x) kind
 
--- the kind after some elements is the text set last, or the first kind where none sets one
+-- the kind after some elements is the text set last, or the first kind if none sets one
 pub data InForce {X : Type 0} (sets : Sets X) (first : List ℕ) : List X → List ℕ → Type 0 where
   none_set : (before : List X) → AllByRecursion (λ x. sets x ≡ None) before → InForce sets first before first
   set_last : (front : List X) (x : X) (after : List X) (kind : List ℕ) → sets x ≡ Some kind → AllByRecursion (λ y. sets y ≡ None) after

@@ -5,7 +5,7 @@ use Rattle.nla_frames.specs.Frame.{Frame}
 use Rattle.nla_frames.specs.Cutting.{cut, items_of}
 use Rattle.nla_frames.specs.Place.{Sets, kind_then}
 
--- how one frame is read under a kind
+-- a reading of one frame under a kind
 abbrev pub Reads : Type 0 → Type 0
 Reads X = List ℕ → Frame → Outcome X
 
@@ -27,6 +27,6 @@ read_list reads sets kind bytes = read_each reads sets kind (items_of (cut bytes
 abbrev pub keep : {X : Type 0} → Sets X
 keep x = None
 
--- items none of which is a fault
+-- items without a fault
 abbrev pub whole : List Frame → List (Outcome Frame)
 whole fs = map Ok fs

@@ -25,8 +25,8 @@ impl<'a> NlaBuffer<'a> {
     ghost use Rattle.nla_frames.specs.Buffer.{frame_of, first_of};
     ghost use Rattle.nla_frames.specs.FirstFrame.{StartsWith, HasBrokenFront};
 
-    /// The frame at the front of the bytes; what follows it is dropped. `FrameHeaderShort`, of no bytes too,
-    /// `FrameTooLong` or `FrameTooShort` where they don't begin with a whole frame.
+    /// Reads the first frame of the bytes; what follows it is ignored. Fails with `FrameHeaderShort` (also for no
+    /// bytes), `FrameTooLong` or `FrameTooShort` if the bytes don't begin with a whole frame.
     pub fn new_checked(bytes: &'a [u8]) -> Res<Self>
         ensures found { IfOk result (λ frame. StartsWith bytes.now (frame_of frame)) }
         ensures refused { IfErr result (HasBrokenFront bytes.now) }
@@ -36,7 +36,7 @@ impl<'a> NlaBuffer<'a> {
         Ok(frame)
     }
 
-    /// `nla_len`: four, and the bytes of the value.
+    /// `nla_len`: the length of header and value in bytes, without padding.
     pub fn length(&self) -> u16
         ensures { result ≡ 4 + length (frame_of self.now).value }
     {

@@ -6,7 +6,7 @@ ghost use Rattle.nla_frames.specs.Frame.{Frame};
 
 use crate::buffer::NlaBuffer;
 use crate::error::Res;
-use crate::laws::in_hand::{bytes_in_hand, u16_in_hand};
+use crate::laws::in_range::{bytes_are_in_range, u16_is_in_range};
 use crate::meaning::{CanonMeaning, FrameMeaning};
 use crate::nla::Nla;
 use crate::parse::Parseable;
@@ -71,7 +71,7 @@ impl<A: Allocator> Nla for DefaultNla<A> {
     }
 
     fn put_value(&self, buffer: &mut [u8]) -> usize {
-        u16_in_hand(self.word);
+        u16_is_in_range(self.word);
         put_bytes(buffer, &self.value)
     }
 
@@ -80,8 +80,8 @@ impl<A: Allocator> Nla for DefaultNla<A> {
 
 impl<A: Allocator> Settle for DefaultNla<A> {
     fn is_settled_under(&self, _kind: &str) -> bool {
-        u16_in_hand(self.word);
-        bytes_in_hand(&self.value);
+        u16_is_in_range(self.word);
+        bytes_are_in_range(&self.value);
         true
     }
 }

@@ -1,4 +1,4 @@
-//! Why bytes were refused.
+//! Errors of reading.
 
 ghost use Rattle.std.specs.Prelude.{◌≡◌};
 ghost use Rattle.nla_frames.specs.declared.error.DecodeError.TheVariants.{OutOfMemory};
@@ -6,17 +6,17 @@ ghost use Rattle.nla_frames.specs.declared.error.DecodeError.TheVariants.{OutOfM
 use std::alloc::{AllocError, AllocFailed};
 use thiserror::Error;
 
-/// What a parser returns.
+/// The result of reading.
 pub type Res<T> = Result<T, DecodeError>;
 
-/// Why bytes can't be read: the first fault from left to right. All numbers count bytes.
+/// The reason why bytes can't be read: the first fault from left to right. All numbers are in bytes.
 #[derive(Drop, PartialEq, Eq, Error, Debug)]
 pub enum DecodeError {
-    /// A header or fixed record is short: it has `len` bytes, and takes `needed`.
+    /// A header or fixed record has `len` bytes and needs `needed`.
     #[error("buffer of {len} bytes, {needed} needed")]
     BufferTooSmall { len: usize, needed: usize },
 
-    /// One to three bytes are left where a frame should begin; none, where one is asked for by itself.
+    /// One to three bytes are left where a frame should begin, or none if a single frame is read.
     #[error("frame header of {left} bytes")]
     FrameHeaderShort { left: usize },
 
@@ -28,7 +28,7 @@ pub enum DecodeError {
     #[error("frame length {length} under 4")]
     FrameTooShort { length: usize },
 
-    /// A payload of the wrong length: it has `got` bytes, and its type takes `expected`.
+    /// A payload has `got` bytes, and its type requires `expected`.
     #[error("value of {got} bytes, {expected} expected")]
     WrongLength { expected: usize, got: usize },
 
@@ -36,11 +36,11 @@ pub enum DecodeError {
     #[error("text is not UTF-8")]
     NotUtf8,
 
-    /// A u32 selector has `len` bytes, fewer than its head or than the keys that it counts take.
+    /// A u32 selector has `len` bytes and needs `needed` for its head and its `nkeys` keys.
     #[error("selector of {len} bytes, {needed} needed")]
     SelectorShort { len: usize, needed: usize },
 
-    /// Statistics of fq_codel have `len` bytes, fewer than the number that says which they are.
+    /// fq_codel statistics have `len` bytes, too few for the number of their type.
     #[error("statistics of {len} bytes, 4 needed")]
     XstatsShort { len: usize },
 
@@ -48,7 +48,7 @@ pub enum DecodeError {
     #[error("action without kind")]
     MissingKind,
 
-    /// An action has two `Kind`s or more.
+    /// An action has more than one `Kind`.
     #[error("action with several kinds")]
     DuplicateKind,
 

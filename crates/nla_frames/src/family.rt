@@ -1,16 +1,16 @@
-//! Families of addresses.
+//! Address families.
 
 ghost use Rattle.std.specs.Prelude.{◌≡◌};
 ghost use Rattle.nla_frames.specs.Family.{family_of, number_of};
 
-/// A family of addresses, one byte in a message: `AF_*` of `linux/socket.h`.
+/// An address family, one byte in a message: `AF_*` of `linux/socket.h`.
 #[derive(PartialEq, Eq, Clone, Copy, Default, Debug)]
 pub enum AddressFamily {
-    /// `AF_UNSPEC`, 0: none is named.
+    /// `AF_UNSPEC`, 0: unspecified.
     #[default]
     Unspec,
 
-    /// `AF_UNIX`, 1: sockets of the machine itself.
+    /// `AF_UNIX`, 1: local sockets.
     Unix,
 
     /// `AF_INET`, 2: IPv4.
@@ -25,7 +25,7 @@ pub enum AddressFamily {
     /// `AF_NETLINK`, 16: netlink.
     Netlink,
 
-    /// `AF_PACKET`, 17: packets as a device has them.
+    /// `AF_PACKET`, 17: packets at the device.
     Packet,
 
     /// `AF_MPLS`, 28: MPLS.

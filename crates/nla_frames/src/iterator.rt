@@ -1,9 +1,9 @@
-//! The frames of a list, one by one.
+//! An iterator over frames.
 
 use crate::buffer::{NlaBuffer, split_first};
 use crate::error::Res;
 
-/// The frames that some bytes begin with, then the first fault if there is one, then nothing.
+/// An iterator over the frames of some bytes. It yields the frames, then the first fault, if any.
 #[derive(Drop)]
 pub struct NlasIterator<'a> {
     rest: &'a [u8],

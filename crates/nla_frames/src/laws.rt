@@ -1,4 +1,4 @@
-//! Laws of the definitions, each the contract of a function that does nothing at run time.
+//! Laws of the definitions, each the contract of an empty function.
 
 ghost use Rattle.std.specs.Prelude.{◌≡◌, ℕ, List, Option};
 ghost use Rattle.nla_frames.specs.Family.{family_of, number_of};
@@ -13,40 +13,40 @@ ghost use Rattle.nla_frames.specs.Codec.{Laws, IsWireBytes, list_codec, SetTheSa
 ghost use Rattle.nla_frames.specs.CanonList.{IsCanonList};
 ghost use Rattle.nla_frames.specs.DefaultNla.{kept_codec, any_frame};
 
-pub mod in_hand;
+pub mod in_range;
 
 use crate::meaning::{CanonMeaning, FrameMeaning};
 
-/// Cutting is the grammar of frames. Bytes are the frames that `cut` gives, and after them the broken frame of its
-/// fault, if it gives one; and where bytes are some frames, or some frames and a broken one, `cut` gives these.
-/// So all bytes can be cut, in exactly one way.
+/// `cut` is the grammar of frames: the bytes are the frames that `cut` returns, followed by the broken frame of its
+/// fault, if any; and if the bytes are some frames, or some frames and a broken one, `cut` returns these. So all bytes
+/// can be cut, in exactly one way.
 pub fn cutting(bytes: &[u8])
     ensures cuts { CutsUp bytes.now (cut bytes.now).frames (cut bytes.now).fault }
     ensures only { (fs : List Frame) (fault : Option DecodeError) → CutsUp bytes.now fs fault
         → cut bytes.now ≡ record { frames = fs; fault = fault } }
 {}
 
-/// Reading a list is the grammar of lists, whatever its elements are and whichever frames set a kind. `read_list`
-/// gives values if and only if the bytes are frames of which each reads as its value under the kind in force at its
-/// place: the text that was set last before it. It gives a fault if and only if, after frames that can be read, comes a
-/// broken frame or one that has no reading, with this fault. So all bytes have one reading and no fault, or no reading
-/// and one fault.
+/// `read_list` is the grammar of lists, whatever their elements are and whichever frames set a kind. It returns values
+/// if and only if the bytes are frames and each reads as its value under the kind in force at its place: the text that
+/// was set last before it. It returns a fault if and only if a broken frame, or one that has no reading, follows
+/// frames that can be read, and has this fault. So all bytes have one reading and no fault, or no reading and one
+/// fault.
 pub fn list_grammar<T: FrameMeaning>(bytes: &[u8], kind: &str)
     ensures { (sets : Sets Frame)
         → HasOneOutcome T.codec.read sets kind.now bytes.now
         (read_list T.codec.read sets kind.now bytes.now) }
 {}
 
-/// Reading and writing are inverse for lists where they are for the elements, whichever frames set a kind: what is
-/// written reads back as itself if and only if each element is settled under the kind in force at its place, and what is
-/// read is written as the same bytes if and only if these are canonical frames, padded in full.
+/// Reading and writing are inverses for lists if they are for the elements, whichever frames set a kind: a list that
+/// is written reads back as itself if and only if each element is settled under the kind in force at its place, and a
+/// list that was read is written as the same bytes if and only if these are canonical frames, padded in full.
 pub fn lists<T: CanonMeaning>()
     ensures { (by_frame : Sets Frame) (by_value : Sets T.Seen)
         → SetTheSame T.codec.read by_frame by_value → Laws IsWireFrame T.codec T.Canon
         → Laws IsWireBytes (list_codec by_frame by_value T.codec) (IsCanonList T.Canon by_frame) }
 {}
 
-/// Reading and writing are inverse for attributes that are kept raw, for which any frame is canonical.
+/// Reading and writing are inverses for attributes that are kept raw. Any frame is canonical for them.
 pub fn kept()
     ensures { Laws IsWireFrame kept_codec any_frame }
 {}

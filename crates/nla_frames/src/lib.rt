@@ -1,5 +1,5 @@
-//! Frames of netlink attributes: how they are cut from bytes and written to them, the lists that they
-//! make, and the plain values in them.
+//! Netlink attributes as frames: reading and writing of frames, of lists of frames, and of the plain values in them.
+//! Calls that take an allocator fail with `OutOfMemory` if it fails.
 #![tactic(auto)]
 
 pub mod buffer;

@@ -1,11 +1,11 @@
-//! What the types of this workspace mean, for contracts alone.
+//! The meaning of the types of this workspace, for contracts only.
 
 ghost use Rattle.std.specs.Prelude.{List, ℕ};
 ghost use Rattle.nla_frames.specs.Codec.{Codec};
 ghost use Rattle.nla_frames.specs.Frame.{Frame};
 
-/// What a type of attributes means: the value that contracts see of it, and how that value is read of a frame under a
-/// kind and written as one.
+/// The meaning of a type of attributes: its abstract value, and how that value is read from a frame under a kind and
+/// written as one.
 pub trait FrameMeaning {
     ghost Seen: { Type 0 };
 
@@ -14,12 +14,12 @@ pub trait FrameMeaning {
     ghost codec: { Codec Frame Seen };
 }
 
-/// A type for which it is defined when a frame is canonical, which `laws::lists` lifts to lists of it.
+/// A type that defines which frames are canonical; `laws::lists` lifts the definition to lists.
 pub trait CanonMeaning: FrameMeaning {
     ghost Canon: { List ℕ → Frame → Type 0 };
 }
 
-/// What a type without a frame of its own means: a record, statistics, a message.
+/// The meaning of a type without a frame of its own: a record, statistics or a message.
 pub trait BytesMeaning {
     ghost Seen: { Type 0 };
 

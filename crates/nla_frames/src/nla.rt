@@ -20,7 +20,7 @@ pub const NLA_TYPE_MASK: u16 = 0x3FFF;
 /// `NLA_HDRLEN` of `linux/netlink.h`: the bytes of `nla_len` and `nla_type`.
 pub const NLA_HEADER_SIZE: usize = 4;
 
-/// The most bytes that a value has: `nla_len` is a `u16`, and counts the header too.
+/// The maximum length of a value in bytes: `nla_len` is a `u16` and includes the header.
 pub const NLA_VALUE_MAX_SIZE: usize = 65531;
 
 /// An attribute that can be written as a frame.
@@ -29,13 +29,13 @@ pub trait Nla: FrameMeaning {
     fn kind(&self) -> u16
         ensures { result ≡ (Self.codec.write (Self.see self.now)).word };
 
-    /// How many bytes its value has, or `None` where it can't be written: where its value, or one that is nested in
-    /// it, has more than 65531 bytes, or a u32 selector in it hasn't as many keys as it counts.
+    /// The length of the value in bytes, or `None` if it can't be encoded: it, or a value nested in it, has more than
+    /// 65,531 bytes, or a u32 selector in it has another number of keys than its `nkeys` says.
     fn checked_len(&self) -> Option<usize>
         ensures { Measures result (Self.codec.Fits (Self.see self.now))
             (Self.codec.write (Self.see self.now)).value };
 
-    /// Writes its value at the front of the buffer, and returns how many bytes that took.
+    /// Writes the value at the front of the buffer and returns its length.
     fn put_value(&self, buffer: &mut [u8]) -> usize
         requires fits { Self.codec.Fits (Self.see self.now) }
         requires room { HasRoom (Self.codec.write (Self.see self.now)).value buffer.old }
@@ -47,15 +47,15 @@ pub trait Nla: FrameMeaning {
     ghost is_short: { (x : Self.Seen) → Self.codec.Fits x
         → length (Self.codec.write x).value ≤ 65531 };
 
-    /// True if the value and all nested values have at most 65531 bytes, and each u32 selector in them has as many keys
-    /// as its `nkeys` says: then it can be written.
+    /// True if the attribute can be encoded: the value and all nested values have at most 65,531 bytes, and each u32
+    /// selector in them has as many keys as its `nkeys` says.
     final fn fits(&self) -> bool
         ensures { IsTrue result ↔ Self.codec.Fits (Self.see self.now) }
     {
         self.checked_len().is_some()
     }
 
-    /// How many bytes its value has.
+    /// The length of the value in bytes.
     final fn value_len(&self) -> usize
         requires { Self.codec.Fits (Self.see self.now) }
         ensures { result ≡ length (Self.codec.write (Self.see self.now)).value }
@@ -77,7 +77,7 @@ pub trait Nla: FrameMeaning {
         self.kind() & NLA_F_NET_BYTEORDER != 0
     }
 
-    /// How many bytes its frame has, padding counted.
+    /// The length of the frame in bytes, padding included.
     #[tactic(auto, using(crate::proofs::FrameBytes::length_frame_bytes))]
     final fn frame_len(&self) -> usize
         requires { Self.codec.Fits (Self.see self.now) }
@@ -87,7 +87,7 @@ pub trait Nla: FrameMeaning {
         frame_len_of(self.value_len())
     }
 
-    /// How many bytes its frame has, padding counted, or `None` where it can't be written.
+    /// The length of the frame in bytes, padding included, or `None` if the attribute can't be encoded.
     final fn checked_frame_len(&self) -> Option<usize>
         ensures { MatchOption result (Self.codec.Fits (Self.see self.now) → ⊥) (λ n.
             Self.codec.Fits (Self.see self.now)
@@ -99,7 +99,7 @@ pub trait Nla: FrameMeaning {
         }
     }
 
-    /// Writes its frame at the front of the buffer, padded with zeros, and returns how many bytes that took.
+    /// Writes the frame at the front of the buffer, padded with zeros, and returns its length.
     #[tactic(auto, using(crate::proofs::Writing::parts), unfolding(crate::specs::Frame::frame_bytes))]
     final fn put_frame(&self, buffer: &mut [u8]) -> usize
         requires fits { Self.codec.Fits (Self.see self.now) }
@@ -109,14 +109,14 @@ pub trait Nla: FrameMeaning {
         ensures length { result ≡ frame_length (Self.codec.write (Self.see self.now)) }
         ensures typed { Self.codec.Typed (Self.see self.now) }
     {
-        // The word comes first, so that the compiler can tell the attribute's type once, for its word and its value.
+        // The word comes first, so that the compiler matches on the attribute's type once, for its word and its value.
         let word = self.kind();
         let len = put_padded(&mut buffer[NLA_HEADER_SIZE..], self);
         put_header(buffer, len, word);
         frame_len_of(len)
     }
 
-    /// Writes its value over a buffer of just its length.
+    /// Writes the value over a buffer of exactly its length.
     final fn emit_value(&self, buffer: &mut [u8])
         requires fits { Self.codec.Fits (Self.see self.now) }
         requires whole { length buffer.old ≡ length (Self.codec.write (Self.see self.now)).value }
@@ -125,7 +125,7 @@ pub trait Nla: FrameMeaning {
         self.put_value(buffer);
     }
 
-    /// Writes its frame at the front of the buffer, padded with zeros.
+    /// Writes the frame at the front of the buffer, padded with zeros.
     final fn emit_frame(&self, buffer: &mut [u8])
         requires fits { Self.codec.Fits (Self.see self.now) }
         requires room { HasRoom (frame_bytes (Self.codec.write (Self.see self.now))) buffer.old }
@@ -136,7 +136,7 @@ pub trait Nla: FrameMeaning {
     }
 }
 
-/// Writes an attribute's value and its padding, and returns how many bytes the value has.
+/// Writes an attribute's value and its padding, and returns the length of the value.
 #[tactic(auto, unfolding(crate::specs::Frame::padded))]
 fn put_padded<T: Nla>(buffer: &mut [u8], item: &T) -> usize
     requires fits { T.codec.Fits (T.see item.now) }
@@ -150,7 +150,7 @@ fn put_padded<T: Nla>(buffer: &mut [u8], item: &T) -> usize
     len
 }
 
-/// Writes the length and the word of a frame with that many bytes of value.
+/// Writes the header of a frame whose value has `len` bytes.
 #[tactic(auto, unfolding(crate::specs::Frame::header))]
 fn put_header(buffer: &mut [u8], len: usize, word: u16)
     requires short { len ≤ 65531 }
@@ -161,7 +161,7 @@ fn put_header(buffer: &mut [u8], len: usize, word: u16)
     emit_u16(buffer, (NLA_HEADER_SIZE + len) as u16);
 }
 
-/// Writes that many zeros, without a call: there are at most three, and mostly none.
+/// Writes `count` zeros without a call: there are at most three, and mostly none.
 fn put_zeros(buffer: &mut [u8], count: usize)
     requires few { count ≤ 3 }
     requires room { HasRoom (replicate count 0) buffer.old }
@@ -181,7 +181,7 @@ fn put_zeros(buffer: &mut [u8], count: usize)
     buffer[2] = 0;
 }
 
-/// How many bytes the frame of a value of that many bytes has, padding counted.
+/// The length of a frame whose value has `len` bytes, padding included.
 fn frame_len_of(len: usize) -> usize
     requires { len ≤ 65531 }
     ensures { result ≡ 4 + len + padding len }
@@ -189,7 +189,7 @@ fn frame_len_of(len: usize) -> usize
     (NLA_HEADER_SIZE + len + 3) / 4 * 4
 }
 
-/// How many bytes of padding follow that many bytes.
+/// The length of the padding after `len` bytes.
 fn padding_len(len: usize) -> usize
     ensures { result ≡ padding len }
 {

@@ -1,4 +1,4 @@
--- What attributes nest is what their classes have it to be.
+-- The nested values of attributes are those of their classes.
 use Rattle.std.proofs.Common.{Bool, refl}
 use Rattle.tc_meaning.specs.Equal.{same_scalars}
 use Rattle.tc_values.specs.Inner.{IsInner}
@@ -22,7 +22,7 @@ is_pair = record {
 pub is_attribute_body : {A : Type 0} → IsInner (attribute_body {A = A})
 is_attribute_body = is_either _ _ (are_items tc_action an_action) is_pair
 
--- ---- and it is compared as contracts see it
+-- ---- they are compared by their abstract values
 
 abbrev same_pair : Pair → Pair → Bool
 same_pair p q = same_scalars (flags_words p.0.now) (flags_words q.0.now)

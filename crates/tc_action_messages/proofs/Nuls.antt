@@ -7,7 +7,7 @@ use Rattle.std.specs.String.Boundary.{IsSplitPoint}
 use Rattle.tc_laws.specs.Loose.{before_text, without_nuls}
 use Rattle.tc_laws.proofs.TrailingNuls.{without-none, length-strip}
 
--- what is left stands in front
+-- the rest is the front
 pub take-without : (text : List ℕ) → take (length (without_nuls text)) text ≡ without_nuls text
 take-without [] = refl
 take-without (b ∷ text) = go (without_nuls text) (take-without text)
@@ -20,7 +20,7 @@ take-without (b ∷ text) = go (without_nuls text) (take-without text)
         at_end false = refl
     go (c ∷ w) same = ap (λ (front : List ℕ). b ∷ front) same
 
--- and behind it a NUL, if anything
+-- and after it a NUL, if anything
 pub nul-without : (text : List ℕ) → get_or text (length (without_nuls text)) 0 ≡ 0
 nul-without [] = refl
 nul-without (b ∷ text) = go (without_nuls text) (nul-without text)
@@ -36,7 +36,7 @@ nul-without (b ∷ text) = go (without_nuls text) (nul-without text)
 pub without-length : (text : List ℕ) → length (without_nuls text) ≤ length text
 without-length text = omega (arith, ap length (take-without text), length-take (length (without_nuls text)) text)
 
--- where one NUL less is as much, none is at the end
+-- if one NUL less makes no difference, none is at the end
 pub without-same : (text : List ℕ) → length text ≤ length (strip text) → text ≡ without_nuls text
 without-same text same = go (ends_in_nul text) refl
   where

@@ -1,4 +1,4 @@
--- Lists of which each element so far is trimmed.
+-- Lists whose elements so far are trimmed.
 use Rattle.std.proofs.Common.{◌≡◌, ℕ, suc, ◌+◌, ◌<◌, ◌≤◌, List, [], ◌∷◌, length, map, set, get_or, refl, sym, subst, ap, ap₂, ◌∙◌, arith}
 use Rattle.std.specs.List.{flat_map}
 use Rattle.tc_laws.specs.Loose.{Part, greater}
@@ -6,7 +6,7 @@ use Rattle.tc_laws.proofs.MostNuls.{greater-nothing, nothing-greater, greater-ag
 use Rattle.tc_action_messages.specs.ActionMessageAttribute.{most_nuls}
 
 module _ {Y X : Type 0} (see : Y → X) (change : X → X) (parts : X → List Part) where
-  -- the first so many elements are trimmed, the others as they were, and so many NULs at most ended one of the former
+  -- the elements before a place are trimmed, the others unchanged; `most` is the longest run of NULs removed
   pub data TrimmedTo : ℕ → List Y → List Y → ℕ → Type 0 where
     none_yet : (ys : List Y) → TrimmedTo 0 ys ys 0
     one_more : (i : ℕ) (old now : List Y) (most : ℕ) (y z : Y) → see z ≡ change (see y) → TrimmedTo i old now most

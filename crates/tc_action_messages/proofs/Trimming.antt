@@ -1,4 +1,4 @@
--- What holds no warning and no masked number stays as it is when warnings are trimmed, and no NUL ends a part of it.
+-- A value without warnings and masked numbers is unchanged when warnings are trimmed, and no part of it ends in a NUL.
 use Rattle.std.proofs.Common.{◌≡◌, ℕ, Bool, true, false, ◌&&◌, List, [], ◌∷◌, map, cond, eqb, refl, ap, ap₂, ◌∙◌, codes}
 use Rattle.std.specs.List.{flat_map}
 use Rattle.std.proofs.lemmas.Bool.{and_parts}
@@ -12,15 +12,15 @@ use Rattle.tc_meaning.specs.Meaning.{a_list}
 use Rattle.tc_meaning.proofs.Trees.{attributes_again}
 use Rattle.tc_laws.specs.Loose.{Part, parts_in_known, class_parts, table_parts, rows_parts, without_nuls}
 use Rattle.tc_laws.specs.Norm.{on, in_known, trimmed_class, trimmed_table, trimmed_rows}
-use Rattle.tc_stats.specs.Stats2.{tc_stats2}
-use Rattle.tc_action_options.specs.Mirror.{mirror_option}
-use Rattle.tc_action_options.specs.Nat.{nat_option}
-use Rattle.tc_action_options.specs.TunnelKey.{tunnel_key_option}
-use Rattle.tc_action_options.specs.ActionOption.{action_option}
+use Rattle.tc_actions.specs.Stats2.{tc_stats2}
+use Rattle.tc_actions.specs.Mirror.{mirror_option}
+use Rattle.tc_actions.specs.Nat.{nat_option}
+use Rattle.tc_actions.specs.TunnelKey.{tunnel_key_option}
+use Rattle.tc_actions.specs.ActionOption.{action_option}
 use Rattle.tc_actions.specs.ActionAttribute.{action_attribute}
 use Rattle.tc_actions.specs.Action.{an_action, tc_action}
-use Rattle.tc_action_options.specs.declared.option.TcActionOption.{TcActionOption}
-use Rattle.tc_action_options.specs.declared.option.TcActionOption.TheVariants as option
+use Rattle.tc_actions.specs.declared.actions.option.TcActionOption.{TcActionOption}
+use Rattle.tc_actions.specs.declared.actions.option.TcActionOption.TheVariants as option
 use Rattle.tc_actions.specs.declared.actions.attribute.TcActionAttribute.{TcActionAttribute}
 use Rattle.tc_actions.specs.declared.actions.attribute.TcActionAttribute.TheVariants as attribute
 use Rattle.tc_actions.specs.declared.actions.action.TcAction.{TcAction}

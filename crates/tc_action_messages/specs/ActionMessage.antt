@@ -1,4 +1,4 @@
--- An action message as contracts see it.
+-- The abstract value of an action message.
 use Rattle.std.specs.Prelude.{map, ℕ, List}
 use Rattle.tc_canon.specs.Tables.Messages.{action_message_attributes}
 use Rattle.tc_meaning.specs.Message.{Message}
@@ -11,6 +11,6 @@ use Rattle.tc_action_messages.specs.ActionMessageAttribute.{action_message_attri
 abbrev pub action_message : {A : Type 0} → TcActionMessage A → Message
 action_message m = record { header = action_message_header_scalars m.header; body = map action_message_attribute m.attributes.items }
 
--- a frame of an unknown type may be put in anywhere among its attributes
+-- a frame of an unknown type may be inserted anywhere among its attributes
 abbrev pub TakesUnknownAct : List ℕ → Message → Type 0
 TakesUnknownAct = TakesUnknown 4 action_message_attributes ReadsAct

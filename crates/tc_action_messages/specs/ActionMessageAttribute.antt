@@ -1,4 +1,4 @@
--- An attribute of an action message as contracts see it.
+-- The abstract value of an attribute of an action message.
 use Rattle.std.specs.Prelude.{◌≡◌, ℕ, List, map, string_bytes}
 use Rattle.nla_frames.specs.DefaultNla.{kept_frame}
 use Rattle.tc_canon.specs.Descriptor.{pair}
@@ -24,7 +24,7 @@ action_message_attribute (RootTimeDelta n) = known 4 (number n)
 action_message_attribute (RootExtWarnMsg text) = known 5 (is_bytes (string_bytes text))
 action_message_attribute (Other nla) = other (kept_frame nla).word (kept_frame nla).value
 
--- two attributes hold the same: actions that are seen alike one by one, the same text; one that is kept raw the same word
+-- two attributes hold the same: actions that are equal one by one, the same text; one that is kept raw the same word
 -- and payload; all others are equal
 abbrev pub SameActionMessageAttribute : {A : Type 0} → TcActionMessageAttribute A → TcActionMessageAttribute A → Type 0
 SameActionMessageAttribute (Actions v) (Actions w) = map tc_action v.items ≡ map tc_action w.items
@@ -32,7 +32,7 @@ SameActionMessageAttribute (RootExtWarnMsg s) (RootExtWarnMsg t) = string_bytes 
 SameActionMessageAttribute (Other x) (Other y) = kept_frame x ≡ kept_frame y
 SameActionMessageAttribute a b = a ≡ b
 
--- the most NULs that end one of these parts
+-- the longest run of NULs at the end of one of these parts
 abbrev pub most_nuls : List Part → ℕ
 most_nuls parts = greatest (map part_nuls parts)
 
@@ -47,6 +47,6 @@ pair_part = record {
   Settled = λ kind p. pair_codec.Settled kind (flags_words p.0.now);
 }
 
--- what attributes nest
+-- nested values of the attributes
 abbrev pub attribute_body : {A : Type 0} → Inner (Either (Items (TcAction A)) Pair)
 attribute_body = either (items_of tc_action an_action) pair_part

@@ -1,4 +1,4 @@
--- Flags with a selector as contracts see them: two words.
+-- The abstract value of flags with a selector: two words.
 use Rattle.std.specs.Prelude.{ℕ, List, [], ◌∷◌, ◌++◌}
 use Rattle.std.specs.Ordering.{nat_cmp, ordering_then}
 use Rattle.std.specs.declared.cmp.Ordering.{Ordering}
@@ -25,7 +25,7 @@ flags_codec = record {
   Settled = pair_codec.Settled;
 }
 
--- by the flags, and where these are equal, by the selector
+-- by the flags, and if these are equal, by the selector
 abbrev pub flags_cmp : TcActionMessageFlagsWithSelector → TcActionMessageFlagsWithSelector → Ordering
 flags_cmp f g =
     ordering_then (nat_cmp (message_flags_word f.flags) (message_flags_word g.flags)) (nat_cmp (message_flags_word f.selector) (message_flags_word g.selector))

@@ -48,13 +48,13 @@ pub const TCA_ROOT_EXT_WARN_MSG: u16 = 5;
 pub enum TcActionMessageAttribute<A: Allocator = Global> {
     /// Actions: `TCA_ACT_TAB` of `linux/rtnetlink.h`.
     Actions(Vec<TcAction<A>, A>),
-    /// What is asked of a dump of actions: `TCA_ROOT_FLAGS`.
+    /// Flags of a dump request: `TCA_ROOT_FLAGS`.
     Flags(TcActionMessageFlagsWithSelector),
-    /// How many actions are dumped: `TCA_ROOT_COUNT`.
+    /// Number of actions in a dump: `TCA_ROOT_COUNT`.
     RootCount(u32),
-    /// Actions used within so many milliseconds alone are dumped: `TCA_ROOT_TIME_DELTA`.
+    /// Dump only actions used within this many milliseconds: `TCA_ROOT_TIME_DELTA`.
     RootTimeDelta(u32),
-    /// A warning of the kernel's: `TCA_ROOT_EXT_WARN_MSG`. One NUL at its end is dropped when it is read, and none is written.
+    /// A warning from the kernel: `TCA_ROOT_EXT_WARN_MSG`. One NUL at its end is dropped when read, and none is written.
     RootExtWarnMsg(String<A>),
     /// Any other type.
     Other(DefaultNla<A>),
@@ -95,7 +95,7 @@ impl<'a> Same for Pair<'a> {
     }
 }
 
-// What attributes nest.
+// Nested values of the attributes.
 type Nested<'a, A> = Either<Items<'a, TcAction<A>>, Pair<'a>>;
 
 impl<A: Allocator> FrameMeaning for TcActionMessageAttribute<A> {
@@ -124,7 +124,7 @@ impl<A: Allocator + Copy> Parseable<A> for TcActionMessageAttribute<A> {
 }
 
 impl<A: Allocator> TcActionMessageAttribute<A> {
-    // The row, with what it says of the attribute: how it is written, that it fits and is settled.
+    // The row; its contract says how the attribute is written, when it fits and when it is settled.
     fn view(&self) -> (u16, Value<'_, Nested<'_, A>>)
         ensures { ShownAs attribute_body action_message_attributes
             (action_message_attribute self.now) result.0 result.1 }
@@ -132,8 +132,7 @@ impl<A: Allocator> TcActionMessageAttribute<A> {
         self.row()
     }
 
-    /// The attribute's `nla_type` (type and flags) and its value, in the form that the row of its type in the table says; of
-    /// `Other` the word and the payload that it keeps.
+    /// The `nla_type` (type and flags) and the value in the format of the type's row; both of `Other` are as read.
     pub fn row(&self) -> (u16, Value<'_, Nested<'_, A>>)
         ensures seen { action_message_attribute self.now
             ≡ attribute_of attribute_body result.0 result.1 }
@@ -151,7 +150,7 @@ impl<A: Allocator> TcActionMessageAttribute<A> {
 }
 
 impl<A: Allocator> TcActionMessageAttribute<A> {
-    // Takes all NULs off the end of a warning, and returns how many there were; of any other attribute there are none.
+    // Removes all NULs at the end of a warning and returns their number; 0 for other attributes.
     pub(crate) fn trim_warning(&mut self) -> usize
         ensures trimmed { action_message_attribute self.new
             ≡ trimmed_table without_nuls (table action_message_attributes)
@@ -167,7 +166,7 @@ impl<A: Allocator> TcActionMessageAttribute<A> {
     }
 }
 
-// Takes all NULs off the end of a text, and returns how many there were.
+// Removes all NULs at the end of a text and returns their number.
 fn trim_text<A: Allocator>(text: &mut String<A>) -> usize
     ensures trimmed { string_bytes text.new ≡ without_nuls (string_bytes text.old) }
     ensures count { result ≡ trailing_nuls (string_bytes text.old) }
@@ -179,7 +178,7 @@ fn trim_text<A: Allocator>(text: &mut String<A>) -> usize
     count
 }
 
-// What bytes are without the NULs at their end.
+// The bytes without the NULs at their end.
 fn before_nuls(bytes: &[u8]) -> &[u8]
     ensures { result.now ≡ without_nuls bytes.now }
 {

@@ -1,4 +1,4 @@
-//! The flags of an action message, with the selector that says which of them count.
+//! The flags of an action message, with the selector of those that are valid.
 
 ghost use Rattle.std.specs.Prelude.{◌≡◌, ◌≤◌, List, [], length, take};
 ghost use Rattle.nla_frames.specs.Value.{le_value};
@@ -10,31 +10,31 @@ ghost use Rattle.tc_meaning.specs.Content.{pair_codec, flags_pair};
 ghost use Rattle.tc_action_messages.specs.Flags.{flags_words, flags_codec};
 
 use bitflags::Flags;
-use nla_frames::laws::in_hand::u32_in_hand;
+use nla_frames::laws::in_range::u32_is_in_range;
 use nla_frames::{
     DecodeError, FrameMeaning, Nla, NlaBuffer, Parseable, Res, Settle, put_bytes, u32_bytes,
 };
 use std::alloc::Allocator;
 use tc_records::TcActionMessageFlags;
 
-/// The type under which they are written, `TCA_ROOT_FLAGS` of `linux/rtnetlink.h`.
+/// The attribute type, `TCA_ROOT_FLAGS` of `linux/rtnetlink.h`.
 pub const TCA_ROOT_FLAGS: u16 = 2;
 
-/// How long they are, in bytes.
+/// Length in bytes.
 pub const FLAGS_LEN: usize = 8;
 
-/// Flags, and the selector of those that count, `struct nla_bitfield32` of `linux/netlink.h`: two words of four bytes,
-/// little-endian. Ordered by the flags, and then by the selector.
+/// Flags and the selector of those that are valid, `struct nla_bitfield32` of `linux/netlink.h`: two little-endian u32.
+/// Ordered by flags, then selector.
 #[derive(PartialEq, Eq, PartialOrd, Ord, Hash, Clone, Copy, Default, Debug)]
 pub struct TcActionMessageFlagsWithSelector {
     /// The flags.
     pub flags: TcActionMessageFlags,
-    /// Which flags count: any other is ignored.
+    /// Mask of the valid flags; others are ignored.
     pub selector: TcActionMessageFlags,
 }
 
 impl TcActionMessageFlagsWithSelector {
-    /// Flags of which all that are set count.
+    /// Flags with themselves as the selector.
     pub fn new(flags: TcActionMessageFlags) -> Self
         ensures flags { result.flags ≡ flags }
         ensures selector { result.selector ≡ flags }
@@ -45,7 +45,7 @@ impl TcActionMessageFlagsWithSelector {
         }
     }
 
-    /// Flags with a selector of their own.
+    /// Flags with this selector.
     pub fn new_with_selector(flags: TcActionMessageFlags, selector: TcActionMessageFlags) -> Self
         ensures flags { result.flags ≡ flags }
         ensures selector { result.selector ≡ selector }
@@ -53,7 +53,7 @@ impl TcActionMessageFlagsWithSelector {
         Self { flags, selector }
     }
 
-    // Of a value of exactly eight bytes.
+    // Reads exactly eight bytes.
     fn of_value(value: &[u8]) -> Res<Self>
         ensures { seen flags_words result ≡ pair_codec.read [] value.now }
     {
@@ -78,15 +78,15 @@ impl TcActionMessageFlagsWithSelector {
     }
 
     // Their words have four bytes.
-    fn in_hand(&self)
+    fn in_range(&self)
         ensures { pair_codec.Typed (flags_words self.now) }
     {
-        u32_in_hand(self.flags.bits());
-        u32_in_hand(self.selector.bits());
+        u32_is_in_range(self.flags.bits());
+        u32_is_in_range(self.selector.bits());
     }
 }
 
-// The word that bytes begin with.
+// The first four bytes as a number.
 fn word_of(bytes: &[u8]) -> u32
     requires { 4 ≤ length bytes.now }
     ensures { result ≡ le_value (take 4 bytes.now) }
@@ -104,7 +104,7 @@ impl FrameMeaning for TcActionMessageFlagsWithSelector {
 }
 
 impl<A: Allocator> Parseable<A> for TcActionMessageFlagsWithSelector {
-    /// The flags of a frame of any type, whose value has exactly eight bytes, else `WrongLength`. It takes no memory.
+    /// Reads a frame of any type. Fails with `WrongLength` unless its value has eight bytes. Takes no memory.
     fn parse(_alloc: A, buf: &NlaBuffer<'_>) -> Res<TcActionMessageFlagsWithSelector>
         ensures { seen flags_words result ≡ flags_codec.read [] (frame_of buf.now) }
     {
@@ -122,7 +122,7 @@ impl Nla for TcActionMessageFlagsWithSelector {
     }
 
     fn put_value(&self, buffer: &mut [u8]) -> usize {
-        self.in_hand();
+        self.in_range();
         put_bytes(buffer, &self.to_bytes())
     }
 
@@ -130,9 +130,9 @@ impl Nla for TcActionMessageFlagsWithSelector {
 }
 
 impl Settle for TcActionMessageFlagsWithSelector {
-    /// True: they read back as themselves.
+    /// Always true.
     fn is_settled_under(&self, _kind: &str) -> bool {
-        self.in_hand();
+        self.in_range();
         true
     }
 }

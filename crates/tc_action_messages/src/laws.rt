@@ -4,7 +4,7 @@ ghost use Rattle.std.specs.Prelude.{◌≡◌, ◌↔◌, fold, Some, IsTrue, []
 ghost use Rattle.std.specs.Ordering.{is_eq};
 ghost use Rattle.tc_meaning.specs.Tree.{plain};
 ghost use Rattle.tc_meaning.specs.Whole.{OneOutcome, action_words, act_bytes, FitsAct, SettledAct};
-ghost use Rattle.tc_meaning.specs.Equal.{TellsSeen};
+ghost use Rattle.tc_meaning.specs.Equal.{IsEqualityOf};
 ghost use Rattle.tc_values.specs.Forgets.{ForgetsNothing};
 ghost use Rattle.tc_records.specs.Defaults.{DefaultsTo};
 ghost use Rattle.tc_action_messages.specs.Flags.{flags_words, flags_cmp, flags_fed};
@@ -38,20 +38,20 @@ pub fn flags_order(
     )
 }
 
-/// Flags with a selector hash as their two words do, so equal ones hash alike.
+/// Flags with a selector hash as their two words do, so equal ones have equal hashes.
 pub fn flags_hash<H: Hasher>(flags: TcActionMessageFlagsWithSelector, state: &mut H)
     ensures { state.new ≡ fold H.write state.old (flags_fed flags) }
 {
     flags.hash(state);
 }
 
-/// The default: no flag, and none that counts.
+/// The default: no flags, none valid.
 pub fn defaults()
     ensures { DefaultsTo ⟦<TcActionMessageFlagsWithSelector as Default>⟧.is_default flags_words
         (plain 0 ∷ plain 0 ∷ []) }
 {}
 
-/// All bytes read as one message and have no fault, or read as none and have one fault.
+/// Any bytes have exactly one reading and no fault, or no reading and exactly one fault.
 pub fn one_outcome(bytes: &[u8])
     ensures { OneOutcome action_words bytes.now }
 {
@@ -59,15 +59,15 @@ pub fn one_outcome(bytes: &[u8])
     laws::action_message(bytes);
 }
 
-/// `==` holds exactly where contracts see two action messages, or two parts of them, as equal.
+/// `a == b` if and only if their abstract values are equal.
 pub fn equal<A: Allocator>()
-    ensures flags { TellsSeen ⟦<TcActionMessageFlagsWithSelector as PartialEq>⟧.eq flags_words }
-    ensures attribute { TellsSeen ⟦<TcActionMessageAttribute<A> as PartialEq>⟧.eq
+    ensures flags { IsEqualityOf ⟦<TcActionMessageFlagsWithSelector as PartialEq>⟧.eq flags_words }
+    ensures attribute { IsEqualityOf ⟦<TcActionMessageAttribute<A> as PartialEq>⟧.eq
         action_message_attribute }
-    ensures message { TellsSeen ⟦<TcActionMessage<A> as PartialEq>⟧.eq action_message }
+    ensures message { IsEqualityOf ⟦<TcActionMessage<A> as PartialEq>⟧.eq action_message }
 {}
 
-/// What contracts see of an attribute forgets nothing that it holds.
+/// Two attributes with the same abstract value hold the same.
 #[tactic(auto, using(tc_values::proofs::Lists::attributes_once))]
 pub fn forgets_nothing<A: Allocator>()
     ensures { ForgetsNothing (action_message_attribute {A = A}) SameActionMessageAttribute }

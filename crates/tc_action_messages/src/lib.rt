@@ -1,5 +1,6 @@
-//! Action messages, whole: their attributes, how they are read and written, and what reading and writing promise of
-//! one another.
+//! Action messages (`RTM_*ACTION`) and their attributes.
+//!
+//! Calls that take an allocator fail with `OutOfMemory` if it fails.
 #![tactic(auto)]
 
 pub mod attribute;

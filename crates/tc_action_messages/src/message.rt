@@ -1,8 +1,8 @@
-//! Whole action messages.
+//! Action messages.
 
 ghost use Rattle.std.specs.Prelude.{◌<◌, ◌^◌, ◌≡◌, ◌≤◌, ◌↔◌, [], length, drop, false, IfOk, IsTrue};
 ghost use Rattle.std.specs.Ordering.{on};
-ghost use Rattle.nla_frames.specs.Fault.{Gives, IfRefused, UnlessMemory, seen};
+ghost use Rattle.nla_frames.specs.Fault.{Returns, IfRefused, UnlessMemory, seen};
 ghost use Rattle.nla_frames.specs.Reading.{keep};
 ghost use Rattle.nla_frames.specs.Emission.{HasRoom, Writes};
 ghost use Rattle.nla_frames.specs.declared.family.AddressFamily.TheVariants.{Unspec};
@@ -24,10 +24,10 @@ use nla_frames::{
 use std::alloc::{Allocator, Global};
 use tc_laws::{places, rewriting};
 use tc_meaning::laws;
-use tc_records::laws::in_hand::action_message_header_in_hand;
+use tc_records::laws::in_range::action_message_header_in_range;
 use tc_records::{TCA_HEADER_LEN, TcActionMessageHeader};
 
-/// A message about actions: a header and attributes.
+/// A message about actions: header and attributes.
 #[derive(Drop)]
 #[derive_where(Debug)]
 #[derive_where(Clone; A)]
@@ -61,21 +61,21 @@ impl<A: Allocator> BytesMeaning for TcActionMessage<A> {
 
 impl<A: Allocator + Copy> ParseableBytes<A> for TcActionMessage<A> {
     fn parse(alloc: A, bytes: &[u8]) -> Res<TcActionMessage<A>>
-        // What is read is what the grammar reads.
+        // The value is the grammar's reading.
         ensures found { IfOk result (λ m. ReadsAct bytes.now (action_message m)) }
-        // What is refused has this fault, and it is the first.
+        // A refusal is the first fault.
         ensures refused { IfRefused result (FaultAct bytes.now) }
-        // The function that computes both gives what is returned, unless memory ran out.
-        ensures exact { Gives (seen action_message result) (read_act bytes.now) }
-        // What fits is written as the same bytes if and only if these are canonical.
+        // The result is what the reading function computes, unless memory ran out.
+        ensures exact { Returns (seen action_message result) (read_act bytes.now) }
+        // A value that fits is written as the same bytes if and only if these are canonical.
         ensures same { IfOk result (λ m.
             FitsAct (action_message m)
             → (act_bytes (action_message m) ≡ bytes.now) ↔ CanonAct bytes.now) }
-        // Canonical bytes fail only with OutOfMemory, and read as what fits and is settled.
+        // Canonical bytes fail only with OutOfMemory, and read as a value that fits and is settled.
         ensures canonical { CanonAct bytes.now
             → UnlessMemory result (λ m.
             FitsAct (action_message m) × SettledAct (action_message m)) }
-        // What is read is unsettled if and only if it is loose: if encoding would change a part of it.
+        // The value is unsettled if and only if it is loose: if encoding would change it.
         ensures loose { IfOk result (λ m.
             SettledAct (action_message m) ↔ is_loose_act (action_message m) ≡ false) }
         // An attribute of an unknown type may be at any place, and is kept raw there.
@@ -91,14 +91,14 @@ impl<A: Allocator + Copy> ParseableBytes<A> for TcActionMessage<A> {
 
 #[tactic(auto, unfolding(tc_meaning::specs::Message::read_with))]
 fn read<A: Allocator + Copy>(alloc: A, bytes: &[u8]) -> Res<TcActionMessage<A>>
-    ensures { Gives (seen action_message result) (read_act bytes.now) }
+    ensures { Returns (seen action_message result) (read_act bytes.now) }
 {
     let header = TcActionMessageHeader::parse(bytes)?;
     let attributes = parse_list(alloc, after_header(bytes))?;
     Ok(TcActionMessage { header, attributes })
 }
 
-// What follows a header.
+// Reads the attributes after a header.
 fn after_header(bytes: &[u8]) -> &[u8]
     requires { 4 ≤ length bytes.now }
     ensures { result.now ≡ drop 4 bytes.now }
@@ -109,7 +109,7 @@ fn after_header(bytes: &[u8]) -> &[u8]
 impl<A: Allocator> Emitable for TcActionMessage<A> {
     fn checked_len(&self) -> Option<usize> {
         // A law, which does nothing: the header is typed, so it has its length in bytes.
-        action_message_header_in_hand(&self.header);
+        action_message_header_in_range(&self.header);
         match list_checked_len(&self.attributes) {
             Some(len) => len.checked_add(TCA_HEADER_LEN),
             None => None,
@@ -121,20 +121,20 @@ impl<A: Allocator> Emitable for TcActionMessage<A> {
         requires room { HasRoom (act_bytes (action_message self.now)) buffer.old }
         ensures written { Writes (act_bytes (action_message self.now)) buffer.old buffer.new }
         ensures typed { TypedAct (action_message self.now) }
-        // What is written reads back as the message if and only if it is settled.
+        // The bytes read back as the message if and only if it is settled.
         ensures back { ReadsAct (act_bytes (action_message self.now)) (action_message self.now)
             ↔ SettledAct (action_message self.now) }
     {
         // Laws, which do nothing: what is written reads back if settled, and the header is typed.
         laws::action_message(&[]);
-        action_message_header_in_hand(&self.header);
+        action_message_header_in_range(&self.header);
         put_list(&self.attributes, &mut buffer[TCA_HEADER_LEN..]);
         self.header.emit(buffer);
     }
 }
 
 impl<A: Allocator> TcActionMessage<A> {
-    /// True if its bytes, where it can be written, read back as itself: its header and each attribute are settled.
+    /// True if encoding the message and parsing the bytes gives it back: header and attributes are settled.
     pub fn is_settled(&self) -> bool
         ensures settled { IsTrue result ↔ SettledAct (action_message self.now) }
         ensures typed { IsTrue result → TypedAct (action_message self.now) }
@@ -144,11 +144,11 @@ impl<A: Allocator> TcActionMessage<A> {
     {
         // Laws, which do nothing: the bytes of a settled message are canonical, and the header is typed.
         laws::action_message(&[]);
-        action_message_header_in_hand(&self.header);
+        action_message_header_in_range(&self.header);
         self.header.is_settled() && list_settled_under(&self.attributes, "")
     }
 
-    /// Takes all NULs off the end of each warning, and returns the most that were taken off one.
+    /// Removes all NULs at the end of each warning, and returns the largest number removed from one.
     pub fn trim_warnings(&mut self) -> usize
         // Nothing else of it changes.
         ensures trimmed { action_message self.new ≡ norm_act (action_message self.old) }

@@ -1,3 +1,6 @@
+pub mod StatsBodies
+pub mod OptionBodies
+pub mod OptionLists
 pub mod Bodies
 pub mod Scanning
 pub mod AttributeLists

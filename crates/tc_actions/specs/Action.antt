@@ -1,4 +1,4 @@
--- An action as contracts see it.
+-- The abstract value of an action.
 use Rattle.std.specs.Prelude.{◌≡◌, ℕ, List, [], ◌∷◌, ◌++◌, length, map}
 use Rattle.nla_frames.specs.Frame.{Frame}
 use Rattle.tc_canon.specs.Descriptor.{Table, every, own_list}
@@ -15,7 +15,7 @@ listed action = map action_attribute action.attributes.items
 abbrev pub tc_action : {A : Type 0} → TcAction A → Attribute
 tc_action action = known action.tab (items (attributes_of (listed action)))
 
--- two actions hold the same: attributes that are seen alike one by one, and nothing else but their `tab`
+-- two actions hold the same: attributes that are equal one by one; they have nothing else but `tab`
 abbrev pub SameAction : {A : Type 0} → TcAction A → TcAction A → Type 0
 SameAction a b = (listed a ≡ listed b) × (a.attributes ≡ b.attributes → a ≡ b)
 
@@ -23,8 +23,8 @@ SameAction a b = (listed a ≡ listed b) × (a.attributes ≡ b.attributes → a
 abbrev pub an_action : Table
 an_action = every (own_list action_attributes)
 
--- where a frame's value is frames that are each padded in full, two neighbours of them exchanged leave an action under
--- the frame's word, with these attributes but for the two that are exchanged
+-- if a frame's value is frames that are each padded in full, exchanging two neighbours gives an action under the same
+-- word, with the same attributes but for the two that are exchanged
 abbrev pub KeepsOrder : Frame → List Attribute → Type 0
 KeepsOrder f xs =
     (front one two back : List ℕ) (fs : List Frame) (g h : Frame) (gs : List Frame)

@@ -1,3 +1,10 @@
+pub mod FqCodelXstats
+pub mod Xstats
+pub mod Stats2
+pub mod Mirror
+pub mod Nat
+pub mod TunnelKey
+pub mod ActionOption
 pub mod ActionAttribute
 pub mod Scan
 pub mod Action

@@ -1,5 +1,5 @@
--- A list that is canonical by one table is so by another, where the two say the same of each frame: the rows that are
--- chosen by the kind, and rows that don't look at it.
+-- A list that is canonical in one table is canonical in another if both agree on each frame: the rows that the kind
+-- selects, and rows that don't depend on it.
 use Rattle.std.proofs.Common.{◌≡◌, ℕ, List, [], ◌∷◌, Bool, true, false, ◌↔◌, IsTrue, subst, sym}
 use Rattle.std.specs.Prelude.{MatchBool, if◌then◌else◌}
 use Rattle.std.specs.Str.{bytes_eq}
@@ -14,7 +14,7 @@ module _ (C D : IsCanonAt) (k l : List ℕ) (same : (f : Frame) → C k f ↔ D 
   each-same [] = (λ x. x, λ x. x)
   each-same (f ∷ fs) = let rest = each-same fs in (λ p. ((same f).0 p.0, rest.0 p.1), λ p. ((same f).1 p.0, rest.1 p.1))
 
-  -- so the bytes are one such list exactly if they are the other
+  -- so the bytes are one such list exactly when they are the other
   pub list-same : (v : List ℕ) → IsCanonList C keep k v ↔ IsCanonList D keep l v
   list-same v = (
     λ p. record { list = p.list; frames = p.frames; whole = p.whole; holds = (each-same p.list).0 p.holds },
@@ -40,20 +40,20 @@ frame-chosen (kind name rows kinds) k f = go (bytes_eq k name) (frame-chosen kin
 pub list-chosen : (kinds : Kinds) (k v : List ℕ) → IsCanonList (CanonTable (table (rows_under kinds k))) keep k v ↔ IsCanonList (CanonKinds kinds) keep k v
 list-chosen kinds k v = list-same (CanonTable (table (rows_under kinds k))) (CanonKinds kinds) k k (frame-chosen kinds k) v
 
--- a test that tells whether bytes are such a list, under a kind
-abbrev pub Tells : Bool → IsCanonAt → List ℕ → List ℕ → Type 0
-Tells b Canon k v = IsTrue b ↔ IsCanonList Canon keep k v
+-- a test of whether bytes are such a list, under a kind
+abbrev pub Tests : Bool → IsCanonAt → List ℕ → List ℕ → Type 0
+Tests b Canon k v = IsTrue b ↔ IsCanonList Canon keep k v
 
 module _ (kinds : Kinds) (rows : Rows) (k v : List ℕ) (b : Bool) where
   -- a test by the rows of the kind
-  pub chosen-by : rows_under kinds k ≡ rows → Tells b (CanonTable (table rows)) k v → Tells b (CanonKinds kinds) k v
+  pub chosen-by : rows_under kinds k ≡ rows → Tests b (CanonTable (table rows)) k v → Tests b (CanonKinds kinds) k v
   chosen-by is tested =
       let list = list-chosen kinds k v in
-      let by_rows = subst (λ (r : Rows). Tells b (CanonTable (table r)) k v) (sym is) tested in
+      let by_rows = subst (λ (r : Rows). Tests b (CanonTable (table r)) k v) (sym is) tested in
       (λ t. list.0 (by_rows.0 t), λ p. by_rows.1 (list.1 p))
 
   -- where the kind is known
-  pub known-by : is_known kinds k ≡ true → rows_under kinds k ≡ rows → Tells b (CanonTable (table rows)) k v
+  pub known-by : is_known kinds k ≡ true → rows_under kinds k ≡ rows → Tests b (CanonTable (table rows)) k v
       → IsTrue b ↔ ((is_known kinds k ≡ true) × IsCanonList (CanonKinds kinds) keep k v)
   known-by known is tested = let list = chosen-by is tested in (λ t. (known, list.0 t), λ p. list.1 p.1)
 
@@ -64,7 +64,7 @@ abbrev pub IgnoresKinds : IsCanonAt → Type 0
 IgnoresKinds Canon = (k l : List ℕ) (f : Frame) → Canon k f ↔ Canon l f
 
 -- so not to a list
-pub under-any : (Canon : IsCanonAt) → IgnoresKinds Canon → (k l v : List ℕ) (b : Bool) → Tells b Canon l v → Tells b Canon k v
+pub under-any : (Canon : IsCanonAt) → IgnoresKinds Canon → (k l v : List ℕ) (b : Bool) → Tests b Canon l v → Tests b Canon k v
 under-any Canon ignores k l v b tested = let list = list-same Canon Canon l k (ignores l k) v in (λ t. list.0 (tested.0 t), λ p. tested.1 (list.1 p))
 
 -- a row whose class doesn't

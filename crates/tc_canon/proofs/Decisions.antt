@@ -1,4 +1,4 @@
--- What some tests tell.
+-- The results of some tests.
 use Rattle.std.proofs.Common.{◌≡◌, ℕ, ◌-◌, Bool, true, List, [], ◌∷◌, length, take, drop, Result, Ok, Err, MatchResult, ◌↔◌, IsTrue, sym, ap, ◌∙◌, bytes_eq}
 use Rattle.std.proofs.Common.{is_ok}
 use Rattle.std.specs.Str.{IsUtf8, is_utf8}

@@ -24,7 +24,7 @@ fails : (b c : Bool) → cond b false c ≡ true → (b ≡ false) × (c ≡ tru
 fails false c e = (refl, e)
 fails true c e = absurd cc
 
--- a type of no row is canonical as it stands
+-- an unknown type is canonical with any value
 unlisted-canon : (rows : Rows) (n : ℕ) (k : List ℕ) (f : Frame) → unlisted rows n ≡ true → CanonRows rows n k f
 unlisted-canon others n k f e = tt
 unlisted-canon (types first last flags class rows) n k f e =

@@ -1,4 +1,4 @@
--- A frame that is padded with zeros at the front of bytes, against the cutting of frames.
+-- A frame that is padded with zeros at the front of bytes, compared with the cutting of frames.
 use Rattle.std.proofs.Common.{◌≡◌, ℕ, suc, ◌+◌, ◌-◌, ◌*◌, ◌/◌, ◌%◌, ◌≤◌, ◌<◌, List, [], ◌∷◌, ◌++◌, length, take, drop, replicate, get_or, Ok, Err, refl, sym}
 use Rattle.std.proofs.Common.{ap, ◌∙◌, arith, append_assoc, length-append, nat_lt, false}
 use Rattle.std.proofs.lemmas.Bool.{le-ltb}

@@ -1,4 +1,4 @@
--- Lists of frames that are padded with zeros: one frame more, the end, and where no frame stands.
+-- Lists of frames that are padded with zeros: one frame more, the end, and bytes that begin with no frame.
 use Rattle.std.proofs.Common.{◌≡◌, ℕ, ◌<◌, List, [], ◌∷◌, ◌++◌, length, drop, refl, sym, ap, ◌∙◌, arith, ◌↔◌, ◌==◌, Bool, true, false}
 use Rattle.std.proofs.lemmas.Bool.{eqb-true}
 use Rattle.std.proofs.lemmas.List.{nil_from_length}

@@ -1,4 +1,4 @@
--- A list that is canonical as it runs is canonical at each place, under the kind set last before it.
+-- A list is canonical exactly when it is canonical at each place, under the kind set last before it.
 use Rattle.std.proofs.Common.{◌≡◌, ℕ, suc, zero, List, [], ◌∷◌, ◌++◌, take, refl, ap, ◌∙◌, ◌↔◌, Option, Some, None}
 use Rattle.std.specs.Prelude.{slice_get, unwrap_or}
 use Rattle.std.specs.List.{AllByRecursion}
@@ -44,14 +44,14 @@ module _ {X : Type 0} (sets : Sets X) where
   in_force k (x ∷ xs) = in_force-more k x xs _ (in_force (kind_then sets k x) xs)
 
 module _ (Canon : IsCanonAt) (sets : Sets Frame) where
-  -- canonical as it runs, so at each place
+  -- canonical in sequence, so at each place
   at-each : (k : List ℕ) (fs : List Frame) → CanonEach Canon sets k fs → (i : ℕ) (f : Frame) → slice_get fs i ≡ Some f
       → Canon (kind_after_all sets k (take i fs)) f
   at-each k [] each i f e = absurd cc
   at-each k (x ∷ fs) each zero f e = let same : x ≡ f = cc in rw (← same) each.0
   at-each k (x ∷ fs) each (suc i) f e = at-each (kind_then sets k x) fs each.1 i f e
 
-  -- canonical at each place, so as it runs
+  -- canonical at each place, so in sequence
   as-it-runs : (k : List ℕ) (fs : List Frame) → ((i : ℕ) (f : Frame) → slice_get fs i ≡ Some f → Canon (kind_after_all sets k (take i fs)) f)
       → CanonEach Canon sets k fs
   as-it-runs k [] each = tt

@@ -1,4 +1,4 @@
--- Canonical bytes: a grammar of its own, which speaks of no reading and no writing.
+-- Canonical bytes: a grammar of its own, without reading or writing.
 use Rattle.std.specs.Prelude.{◌≡◌, ◌⊎◌, ℕ, ◌+◌, ◌*◌, ◌<◌, ◌≤◌, ◌^◌, ◌==◌, true, false, List, [], ◌∷◌, length, take, drop, replicate, slice_index, slice_get}
 use Rattle.std.specs.Prelude.{codes, Some, MatchBool, ⊤}
 use Rattle.std.specs.Str.{is_utf8, bytes_eq}
@@ -10,7 +10,7 @@ use Rattle.tc_canon.specs.Descriptor.{Field, pad, Class, le, be, masked, array, 
 use Rattle.tc_canon.specs.Descriptor.{own_list, Table, table, every, by_kind, Rows, others, types, unread, options, Kinds, unknown, kind, is_within, is_known}
 use Rattle.tc_canon.specs.Layouts.{width, size_of, tc_header, action_message_header, fq_codel_qd_stats, fq_codel_cl_stats, selector_head, selector_key}
 pub use Rattle.nla_frames.specs.CanonList.{IsCanonAt, IsPaddedList, CanonEach, IsCanonList}
-use Rattle.tc_canon.specs.Kind.{kind_of_frame, TellsOne}
+use Rattle.tc_canon.specs.Kind.{kind_of_frame, SetsOneKind}
 use Rattle.tc_canon.specs.Tables.Actions.{action_attributes}
 use Rattle.tc_canon.specs.Tables.Options.{option_kinds}
 use Rattle.tc_canon.specs.Tables.Messages.{attributes, action_message_attributes}
@@ -23,7 +23,7 @@ pub record IsTerminated (v : List ℕ) : Type 0 where
   pub parts : v ≡ terminated text
   pub is_text : is_utf8 text ≡ true
 
--- a text that ends in no NUL
+-- a text without a NUL at its end
 abbrev pub IsUnterminated : List ℕ → Type 0
 IsUnterminated v = (is_utf8 v ≡ true) × (ends_in_nul v ≡ false)
 
@@ -37,21 +37,21 @@ PadsZero (f ∷ fs) v = PadsZero fs (drop (width f) v)
 abbrev pub CanonFields : List Field → List ℕ → Type 0
 CanonFields fs v = (length v ≡ size_of fs) × PadsZero fs v
 
--- how many keys the head of a selector counts
+-- the number of keys in the head of a selector
 abbrev pub keys_counted : List ℕ → ℕ
 keys_counted v = slice_index v 2
 
--- a selector: its head, and exactly the keys that it counts
+-- a selector: its head, and exactly as many keys as that says
 abbrev pub CanonSelector : List ℕ → Type 0
 CanonSelector v = CanonFields selector_head (take (size_of selector_head) v) × (length v ≡ size_of selector_head + size_of selector_key * keys_counted v)
 
--- statistics of fq_codel: a number, and after 0 and after 1 exactly the record that it names
+-- statistics of fq_codel: a number, followed by exactly the record that it names if it is 0 or 1
 pub record CanonFqCodel (v : List ℕ) : Type 0 where
   pub long : 4 ≤ length v
   pub qdisc : le_value (take 4 v) ≡ 0 → CanonFields fq_codel_qd_stats (drop 4 v)
   pub class : le_value (take 4 v) ≡ 1 → CanonFields fq_codel_cl_stats (drop 4 v)
 
--- under any other kind nothing is asked of statistics
+-- under any other kind all statistics are canonical
 abbrev pub CanonXstats : List ℕ → List ℕ → Type 0
 CanonXstats k v = MatchBool (bytes_eq k (codes "fq_codel")) (CanonFqCodel v) ⊤
 
@@ -63,7 +63,7 @@ pub record CanonAfter (Canon : IsCanonAt) (sets : Sets Frame) (first : List ℕ)
   pub in_force : InForce sets first before kind
   pub canonical : Canon kind f
 
--- the same said place by place, where a reader need not run through the list
+-- the same, stated for each place by itself
 abbrev pub CanonAtEach : IsCanonAt → Sets Frame → List ℕ → List Frame → Type 0
 CanonAtEach Canon sets first fs = (i : ℕ) (f : Frame) → slice_get fs i ≡ Some f → CanonAfter Canon sets first (take i fs) f
 
@@ -72,7 +72,7 @@ IsCanonAtEach Canon sets first bytes = IsPaddedList (CanonAtEach Canon sets firs
 
 -- a list whose frames set one kind, and are canonical under it
 abbrev pub IsCanonOwn : IsCanonAt → List ℕ → Type 0
-IsCanonOwn Canon bytes = (own : List ℕ) × IsPaddedList (λ fs. TellsOne fs own × CanonEach Canon keep own fs) bytes
+IsCanonOwn Canon bytes = (own : List ℕ) × IsPaddedList (λ fs. SetsOneKind fs own × CanonEach Canon keep own fs) bytes
 
 -- ---- the tables
 
@@ -101,8 +101,8 @@ abbrev mutual
   CanonTable (every class) k f = (f.word < 0x4000) × CanonClass class k f.value
   CanonTable (by_kind kinds) k f = CanonKinds kinds k f
 
-  -- a frame of a type is canonical in the rows: it has the row's word and a canonical value; where no row has its
-  -- type, any word and any value are canonical
+  -- a frame of a type is canonical in the rows: it has the row's word and a canonical value; if no row has its type,
+  -- any word and any value are canonical
   pub CanonRows : Rows → ℕ → List ℕ → Frame → Type 0
   CanonRows others n k f = ⊤
   CanonRows (types first last flags class rows) n k f =

@@ -2,7 +2,7 @@
 use Rattle.std.specs.Prelude.{ℕ, ◌+◌, List, [], ◌∷◌}
 use Rattle.tc_canon.specs.Descriptor.{Field, little, big, named, octets, pad}
 
--- how many bytes a field has
+-- the length of a field in bytes
 abbrev pub width : Field → ℕ
 width (little n) = n
 width (big n) = n
@@ -10,7 +10,7 @@ width (named n names) = n
 width (octets n) = n
 width (pad n) = n
 
--- how many bytes a record has
+-- the length of a record in bytes
 abbrev pub size_of : List Field → ℕ
 size_of [] = 0
 size_of (f ∷ fs) = width f + size_of fs
@@ -156,7 +156,7 @@ tunnel_key = generic_then
 
 -- ---- the selector of u32
 
--- `TcU32Selector` without its keys, 16 bytes; the third field counts the keys
+-- `TcU32Selector` without its keys, 16 bytes; the third field is the number of keys
 abbrev pub selector_head : List Field
 selector_head =
     little 1  -- flags

@@ -1,8 +1,8 @@
--- Tables whose rows are in the order of their types, so that no two rows have a type in common.
+-- Tables whose rows are sorted by type, so that no two rows have a type in common.
 use Rattle.std.specs.Prelude.{ℕ, suc, Bool, true, ◌&&◌, nat_le}
 use Rattle.tc_canon.specs.Descriptor.{Rows, others, types, unread, options}
 
--- the rows are in order, none before this type
+-- the rows are sorted, and none has a type below this one
 abbrev pub in_order : ℕ → Rows → Bool
 in_order low others = true
 in_order low (types first last flags class rows) = nat_le low first && (nat_le first last && in_order (suc last) rows)

@@ -1,6 +1,6 @@
--- The tables of attributes: types, words and classes of value. A comment beside a row names its attributes in
--- order. What a row says of the written word is in its operator: `at` and `from` write the type itself, `nested`
--- the type with the nested flag.
+-- The tables of attributes: types, words and classes of value. A comment next to a row names its attributes in order.
+-- The operator of a row says how its word is written: `at` and `from` write the type itself, `nested` the type with
+-- the nested flag.
 pub mod Statistics
 pub mod Actions
 pub mod Flower

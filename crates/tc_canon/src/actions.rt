@@ -1,4 +1,4 @@
-//! Actions.
+//! Canonical actions and their options.
 
 ghost use Rattle.std.specs.Prelude.{◌↔◌, List, ℕ, IsTrue};
 ghost use Rattle.tc_canon.specs.Descriptor.{table, by_kind, every, list_of, own_list};
@@ -100,7 +100,7 @@ impl Table for ActionAttributes {
     }
 }
 
-/// True if a value is that of a canonical action: frames that set one kind, and are canonical under it.
+/// True if a value is that of a canonical action: its frames set one kind and are canonical under it.
 pub fn canon_action(value: &[u8]) -> bool
     ensures { IsTrue result ↔ CanonAction value.now }
 {

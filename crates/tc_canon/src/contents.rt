@@ -1,4 +1,4 @@
-//! Plain values.
+//! Tests of flags and plain values.
 
 ghost use Rattle.std.specs.Prelude.{◌≡◌, ◌<◌, ◌+◌, ◌⊎◌, ◌↔◌, [], ◌∷◌, length, true, IsTrue};
 ghost use Rattle.std.specs.Str.{is_utf8};
@@ -24,14 +24,14 @@ pub(crate) fn is_nested(frame: &NlaBuffer<'_>) -> bool
     frame.word() == NLA_F_NESTED + frame.kind()
 }
 
-/// UTF-8.
+/// True if the value is UTF-8.
 pub(crate) fn is_text(bytes: &[u8]) -> bool
     ensures { IsTrue result ↔ is_utf8 bytes.now ≡ true }
 {
     std::str::from_utf8(bytes).is_ok()
 }
 
-/// A text with one NUL after it.
+/// True if the value is a text and one NUL after it.
 pub(crate) fn is_terminated(value: &[u8]) -> bool
     ensures { IsTrue result ↔ IsTerminated value.now }
 {
@@ -41,7 +41,7 @@ pub(crate) fn is_terminated(value: &[u8]) -> bool
     }
 }
 
-/// A text that ends in no NUL.
+/// True if the value is a text without a NUL at its end.
 pub(crate) fn is_unterminated(value: &[u8]) -> bool
     ensures { IsTrue result ↔ IsUnterminated value.now }
 {
@@ -51,7 +51,7 @@ pub(crate) fn is_unterminated(value: &[u8]) -> bool
     }
 }
 
-/// One byte below a bound.
+/// True if the value is one byte below a bound.
 pub(crate) fn is_u8_below(value: &[u8], bound: u8) -> bool
     ensures { IsTrue result ↔ ((length value.now ≡ 1) × (le_value value.now < bound)) }
 {
@@ -61,7 +61,7 @@ pub(crate) fn is_u8_below(value: &[u8], bound: u8) -> bool
     }
 }
 
-/// Four bytes, little-endian, whose number is below a bound.
+/// True if the value is four bytes whose little-endian number is below a bound.
 pub(crate) fn is_u32_below(value: &[u8], bound: u32) -> bool
     ensures { IsTrue result ↔ ((length value.now ≡ 4) × (le_value value.now < bound)) }
 {
@@ -71,7 +71,7 @@ pub(crate) fn is_u32_below(value: &[u8], bound: u32) -> bool
     }
 }
 
-/// One byte, 0 or 1.
+/// True if the value is one byte, 0 or 1.
 pub(crate) fn is_truth(value: &[u8]) -> bool
     ensures { IsTrue result ↔ ((value.now ≡ 0 ∷ []) ⊎ (value.now ≡ 1 ∷ [])) }
 {

@@ -57,7 +57,7 @@ pub fn canon_mpls(value: &[u8]) -> bool
     is_canonical_list::<MplsOptions>(value, &[])
 }
 
-/// Options that are numbers, addresses and arrays: types from one to another, and how many bytes each of them has.
+/// Options that are numbers, addresses and arrays: the first and last type of a range, and the length of their values.
 const WIDTHS: [(u16, u16, usize); 30] = [
     (4, 7, 6), // EthDst to EthSrcMask
     (8, 8, 2), // EthType
@@ -91,14 +91,14 @@ const WIDTHS: [(u16, u16, usize); 30] = [
     (100, 101, 4), // KeyHash, KeyHashMask
 ];
 
-/// How many bytes an option of this type has, where it is a number, an address or an array.
+/// The length of the value of a number, an address or an array; `None` for other options.
 fn width_of(kind: u16) -> Option<usize>
     ensures { result ≡ width_at flower_options kind }
 {
     find_width(&WIDTHS, kind)
 }
 
-/// How many bytes the first range that holds the type says.
+/// The length of the first range that has the type.
 #[tactic(auto, unfolding(crate::specs::Widths::look_up))]
 fn find_width(ranges: &[(u16, u16, usize)], kind: u16) -> Option<usize>
     ensures { result ≡ look_up ranges.now kind }

@@ -7,7 +7,7 @@ ghost use Rattle.tc_canon.specs.Front.{StartsPadded};
 
 use nla_frames::NlaBuffer;
 
-/// The first frame, and what follows it, where it is padded in full with zeros.
+/// The first frame and what follows it, or `None` if it isn't padded in full with zeros.
 pub(crate) fn split_padded(bytes: &[u8]) -> Option<(NlaBuffer<'_>, &[u8])>
     ensures { MatchOption result ((f : Frame) (after : List ℕ) → StartsPadded bytes.now f after → ⊥)
         (λ x. StartsPadded bytes.now (frame_of x.0) x.1.now) }
@@ -30,7 +30,7 @@ pub(crate) fn split_padded(bytes: &[u8]) -> Option<(NlaBuffer<'_>, &[u8])>
     }
 }
 
-/// Each byte of a padding is zero.
+/// True if all bytes are zero.
 fn is_zero(pad: &[u8]) -> bool
     requires few { length pad.now ≤ 3 }
     ensures { IsTrue result ↔ pad.now ≡ replicate (length pad.now) 0 }

@@ -1,4 +1,4 @@
-//! The tables of Linux traffic control as data, and the canonical form of its messages.
+//! The attribute tables of Linux traffic control as data, and tests of whether messages are canonical.
 #![tactic(auto)]
 
 mod actions;

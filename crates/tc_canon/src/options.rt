@@ -91,8 +91,8 @@ pub(crate) fn has_options(kind: &[u8]) -> bool
         || kind == b"bpf".as_slice()
 }
 
-/// True if a value is a canonical list of options under a kind. Ingress knows no type; under an unknown kind options are
-/// no list.
+/// True if a value is a canonical list of options under a kind. `ingress` has no option; under an unknown kind,
+/// options aren't a list.
 pub fn canon_options(value: &[u8], kind: &[u8]) -> bool
     ensures { IsTrue result ↔ CanonOptions kind.now value.now }
 {

@@ -1,4 +1,4 @@
-//! Fixed records: their exact length, and zeros where they have padding.
+//! Canonical fixed records: of the exact length, with their padding zero.
 
 ghost use Rattle.std.specs.Prelude.{◌↔◌, IsTrue};
 ghost use Rattle.tc_canon.specs.Layouts.{tc_header, action_message_header, stats, stats_basic, stats_queue, tcf, mirror, nat, tunnel_key};
@@ -67,7 +67,7 @@ pub(crate) fn is_tunnel_key(value: &[u8]) -> bool
     value.len() == 24
 }
 
-/// `TcU32Selector`, with exactly the keys that its head counts.
+/// `TcU32Selector`, with exactly as many keys as its `nkeys` says.
 pub(crate) fn is_selector(value: &[u8]) -> bool
     ensures { IsTrue result ↔ CanonSelector value.now }
 {

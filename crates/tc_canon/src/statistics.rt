@@ -1,4 +1,4 @@
-//! Statistics.
+//! Canonical statistics.
 
 ghost use Rattle.std.specs.Prelude.{◌↔◌, IsTrue};
 ghost use Rattle.tc_canon.specs.Descriptor.{table, list_of};
@@ -10,8 +10,8 @@ use crate::lists::{Table, is_canonical_list};
 use crate::records::{is_stats_basic, is_stats_queue};
 use nla_frames::NlaBuffer;
 
-/// Statistics under a kind: of fq_codel, a number and after 0 or 1 the record that it names; of any other kind, any
-/// bytes.
+/// True if a value is canonical statistics under a kind: for fq_codel a number, followed by the record that it names
+/// if it is 0 or 1; for any other kind any bytes.
 pub(crate) fn is_xstats(value: &[u8], kind: &[u8]) -> bool
     ensures { IsTrue result ↔ CanonXstats kind.now value.now }
 {

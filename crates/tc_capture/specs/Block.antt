@@ -1,4 +1,4 @@
--- What contracts see of a block and of a section.
+-- The abstract value of a block.
 use Rattle.tc_capture.specs.declared.pcapng.block.Block.{Block as DeclaredBlock}
 use Rattle.tc_capture.specs.PcapNg.{Block}
 

@@ -1,4 +1,4 @@
--- A capture that is read from its front, a piece at a time.
+-- Captures, read one piece at a time.
 use Rattle.std.specs.Prelude.{ℕ, ◌^◌, List, length, is_some, Option, Some, None, Ok, nat_lt, [], ◌==◌, if◌then◌else◌}
 use Rattle.byteorder.specs.Endian.{little_number}
 use Rattle.tc_capture.specs.declared.capture.Capture.{Capture}
@@ -13,22 +13,22 @@ use Rattle.tc_capture.specs.Pcap.{magic_at, pcap_header, next_in_pcap}
 use Rattle.tc_capture.specs.PcapNg.{Section, next_in_section}
 use Rattle.tc_capture.specs.Section.{section_of}
 
--- where reading has come to
+-- the state of reading
 pub data State : Type 0 where
   in_stream : Option Time → State
   before_header : State
   in_pcap : PcapFile → State
   in_section : Section → State
 
--- what contracts see of a capture
+-- the abstract value of a capture
 abbrev pub state_of : Capture → State
 state_of (Stream time) = in_stream time
 state_of PcapHeader = before_header
 state_of (Pcap file) = in_pcap file
 state_of (PcapNg section) = in_section (section_of section)
 
--- the capture whose first bytes these are: pcap by its magic number, pcapng by the type of its first block, and a stream of netlink
--- messages if the first is shorter than 2^24 bytes
+-- the capture that begins with these bytes: pcap if they are its magic number, pcapng if they are the type of its
+-- first block, and a stream of netlink messages if the first message is shorter than 2^24 bytes
 abbrev pub capture_at : List ℕ → Option State
 capture_at first =
     if nat_lt (length first) 4 then None else

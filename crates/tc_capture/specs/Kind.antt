@@ -1,14 +1,19 @@
--- The messages of traffic control, by nlmsg_type: their names in linux/rtnetlink.h, and which of the two messages each holds.
+-- The nlmsg_types of traffic control: their names in linux/rtnetlink.h, and the type of message of each.
 use Rattle.std.specs.Prelude.{ℕ, List, Option, Some, None, codes, ◌==◌, if◌then◌else◌}
-use Rattle.tc_capture.specs.declared.kind.Holds.{Holds}
-use Rattle.tc_capture.specs.declared.kind.Holds.TheVariants.{Tc, Action}
+use Rattle.tc_capture.specs.declared.kind.MessageType.{MessageType}
+use Rattle.tc_capture.specs.declared.kind.MessageType.TheVariants.{Tc, Action}
 use Rattle.tc_capture.specs.declared.kind.RtmType.{RtmType}
 
+-- the word that names a type of message
+abbrev pub word_of : MessageType → List ℕ
+word_of Tc = codes "tc"
+word_of Action = codes "action"
+
 pub record Named : Type 0 where
-  pub holds : Holds
+  pub holds : MessageType
   pub name : List ℕ
 
--- what contracts see of a row
+-- the abstract value of a row
 abbrev pub named_of : RtmType → Named
 named_of r = record { holds = r.holds; name = r.name.now }
 

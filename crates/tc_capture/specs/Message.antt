@@ -1,6 +1,6 @@
--- One netlink message. It begins with `struct nlmsghdr`, little-endian: nlmsg_len at 0 (four bytes), nlmsg_type at 4 (two),
--- nlmsg_flags at 6 (two), nlmsg_seq at 8 (four), nlmsg_pid at 12 (four). The payload follows, then padding up to a multiple of
--- four bytes; nlmsg_len counts the header and the payload.
+-- One netlink message. It begins with `struct nlmsghdr`, little-endian: nlmsg_len at 0 (four bytes), nlmsg_type at 4
+-- (two), nlmsg_flags at 6 (two), nlmsg_seq at 8 (four), nlmsg_pid at 12 (four). The payload follows, then padding up
+-- to a multiple of four bytes; nlmsg_len is the length of header and payload.
 use Rattle.std.specs.Prelude.{ℕ, ◌-◌, ◌%◌, List, length, take, drop, Ok, Err, nat_lt, if◌then◌else◌}
 use Rattle.byteorder.specs.Endian.{little_number}
 use Rattle.tc_capture.specs.declared.error.CaptureError.TheVariants.{Short, MessageTooShort}
@@ -14,11 +14,11 @@ pub record Message : Type 0 where
   pub port : ℕ
   pub payload : List ℕ
 
--- what contracts see of a message
+-- the abstract value of a message
 abbrev pub message_of : NetlinkMessage → Message
 message_of m = record { kind = m.kind; flags = m.flags; sequence = m.sequence; port = m.port; payload = m.payload.now }
 
--- how many bytes of padding follow that many bytes
+-- the length of the padding after n bytes
 abbrev pub padding : ℕ → ℕ
 padding n = (4 - n % 4) % 4
 
@@ -35,7 +35,7 @@ message_of_length n bytes = record {
   payload = drop 16 (take n bytes);
 }
 
--- the first message, and what follows it and as much of its padding as is there
+-- the first message, and the bytes after it and after as much of its padding as is there
 unfoldable pub next_message : List ℕ → Outcome (Message × List ℕ)
 next_message bytes =
     let long = length_at bytes in

@@ -17,7 +17,7 @@ pub record Captured : Type 0 where
   pub at : ℕ
   pub bytes : List ℕ
 
--- what contracts see of a packet
+-- the abstract value of a packet
 abbrev pub captured_of : Packet → Captured
 captured_of p = record { time = p.time; link = p.link; is_whole = p.is_whole; at = p.at; bytes = p.bytes.now }
 
@@ -25,14 +25,14 @@ captured_of p = record { time = p.time; link = p.link; is_whole = p.is_whole; at
 abbrev pub link_of : ℕ → Link
 link_of n = if n == 253 then Cooked else Other n
 
--- what a packet holds: messages of route netlink, with the packet type of the cooked header if there is one; messages of another
--- netlink family; or what is no netlink, by the number of its link type
+-- the contents of a packet: messages of route netlink, with the packet type of the cooked header if there is one;
+-- messages of another netlink family; or a packet of another link type, with its number
 pub data Contents : Type 0 where
   route : Option ℕ → List ℕ → Contents
   family : ℕ → Contents
   link_type : ℕ → Contents
 
--- what contracts see of it
+-- its abstract value
 abbrev pub contents_of : DeclaredContents → Contents
 contents_of (Route packet_type messages) = route packet_type messages.now
 contents_of (Family n) = family n

@@ -1,6 +1,7 @@
--- A file of classic pcap. Its header has 24 bytes: a magic number at 0, which tells the byte order and the variant of the format, and
--- the link type in the lower half of the number at 20. A packet is seconds, microseconds or nanoseconds, how many bytes the file has
--- of it, and how many there were, four bytes each, in modified pcap eight bytes more, and then its bytes.
+-- A classic pcap file. Its header has 24 bytes: a magic number at 0, which determines the byte order and the variant
+-- of the format, and the link type in the lower half of the number at 20. A packet has seconds, microseconds or
+-- nanoseconds, the number of bytes in the file, and the number of bytes on the wire, four bytes each; in modified pcap
+-- eight more bytes; and then its bytes.
 use Rattle.std.specs.Prelude.{ℕ, ◌+◌, ◌*◌, ◌%◌, List, length, take, drop, Option, Some, None, Ok, Err, nat_lt, nat_le, ◌==◌, if◌then◌else◌}
 use Rattle.byteorder.specs.Endian.{little_number, big_number}
 use Rattle.tc_capture.specs.declared.error.CaptureError.TheVariants.{Short, NotPcap}
@@ -22,7 +23,7 @@ variant_of magic =
     if magic == 0xa1b23c4d then Some Nanoseconds else
     if magic == 0xa1b2cd34 then Some Modified else None
 
--- the byte order, in which the magic number is one, and the variant
+-- the byte order in which the magic number is known, and the variant
 abbrev pub in_order : Order → Option Variant → Option (Order × Variant) → Option (Order × Variant)
 in_order order (Some variant) later = Some (order, variant)
 in_order order None later = later
@@ -43,7 +44,7 @@ abbrev pub ticks_per_second : Variant → ℕ
 ticks_per_second Nanoseconds = 1000000000
 ticks_per_second variant = 1000000
 
--- how long what is before the bytes of a packet is
+-- the length of the header of a packet in bytes
 abbrev pub record_header_len : Variant → ℕ
 record_header_len Modified = 24
 record_header_len variant = 16

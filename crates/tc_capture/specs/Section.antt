@@ -1,4 +1,4 @@
--- What contracts see of a section.
+-- The abstract value of a section.
 use Rattle.tc_capture.specs.declared.pcapng.section.Section.{Section as DeclaredSection}
 use Rattle.tc_capture.specs.PcapNg.{Section}
 

@@ -1,6 +1,6 @@
--- A file of netlink messages with nothing between them, as `rtmon` and `tc monitor` write it: each message with its padding in
--- full. A message of the type NLMSG_TSTAMP has seconds and microseconds, four bytes each, little-endian: the time of the messages
--- that follow it.
+-- A file of netlink messages with nothing between them, as `rtmon` and `tc monitor` write it: each message with its
+-- full padding. A message of the type NLMSG_TSTAMP has seconds and microseconds, four bytes each, little-endian: the
+-- time of the messages that follow it.
 use Rattle.std.specs.Prelude.{ℕ, ◌+◌, ◌*◌, List, length, take, drop, Bool, true, ◌&&◌, Option, Some, None, Ok, Err, nat_lt, nat_le, ◌==◌, if◌then◌else◌}
 use Rattle.byteorder.specs.Endian.{little_number}
 use Rattle.tc_capture.specs.declared.error.CaptureError.TheVariants.{Short, MessageTooShort}

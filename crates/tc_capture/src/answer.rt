@@ -16,22 +16,24 @@ const TEXT: u16 = 1;
 
 const OFFSET: u16 = 2;
 
-/// An answer of the kernel to a request: `struct nlmsgerr` of `linux/netlink.h`, and the extended acknowledgement behind it.
+/// An answer of the kernel to a request: `struct nlmsgerr` of `linux/netlink.h`, and the extended acknowledgement
+/// after it.
 #[derive(Clone, Copy, Debug)]
 pub struct Answer<'a> {
-    /// The number of the error, such as 22 for `EINVAL`; 0 of an acknowledgement.
+    /// The number of the error, such as 22 for `EINVAL`; 0 for an acknowledgement.
     pub error: u32,
-    /// The request; with `NLM_F_CAPPED` its netlink header alone.
+    /// The request; with `NLM_F_CAPPED` only its netlink header.
     pub request: NetlinkMessage<'a>,
-    /// True if the answer holds of the request the netlink header alone.
+    /// True if the kernel quoted only the netlink header of the request (`NLM_F_CAPPED`).
     pub is_capped: bool,
-    /// What is wrong (`NLMSGERR_ATTR_MSG`), a text that ends in NUL.
+    /// The kernel's error message (`NLMSGERR_ATTR_MSG`), a text that ends in NUL.
     pub text: Option<&'a [u8]>,
-    /// Where it is in the request, in bytes from the beginning of the netlink header (`NLMSGERR_ATTR_OFFS`).
+    /// The offset of the fault in the request, in bytes from the beginning of the netlink header
+    /// (`NLMSGERR_ATTR_OFFS`).
     pub offset: Option<u32>,
 }
 
-/// The answer that a netlink message is: of the type `NLMSG_ERROR`, with a whole request.
+/// The answer in a netlink message; `None` if its type isn't `NLMSG_ERROR`, or if the request in it isn't whole.
 #[tactic(auto, unfolding(crate::specs::Answer::answer_in))]
 pub fn answer_in<'a>(message: &NetlinkMessage<'a>) -> Option<Answer<'a>>
     ensures { option_map answer_of result ≡ answer_in (message_of message.now) }
@@ -56,7 +58,7 @@ pub fn answer_in<'a>(message: &NetlinkMessage<'a>) -> Option<Answer<'a>>
     }
 }
 
-// True of the flag `NLM_F_CAPPED`.
+// True if the flag `NLM_F_CAPPED` is set.
 fn is_capped(flags: u16) -> bool
     ensures { result ≡ is_capped flags }
 {
@@ -71,7 +73,7 @@ fn error_at(bytes: &[u8]) -> u32
     Order::Little.u32_at(bytes, 0).wrapping_neg()
 }
 
-// The request at the front, all of it or its header, and what follows it.
+// The request at the front, all of it or its header, and the bytes after it.
 fn request_at(is_capped: bool, bytes: &[u8]) -> Res<(NetlinkMessage<'_>, &[u8])>
     ensures { seen (λ x. (message_of x.0, x.1.now)) result ≡ request_at is_capped bytes.now }
 {
@@ -88,7 +90,7 @@ fn request_at(is_capped: bool, bytes: &[u8]) -> Res<(NetlinkMessage<'_>, &[u8])>
     Ok((message_of_length(NLMSG_HEADER_LEN, bytes), rest))
 }
 
-// The number that an attribute holds.
+// The number in an attribute of four bytes.
 fn offset_of(value: Option<&[u8]>) -> Option<u32>
     ensures { result ≡ offset_of (option_map (λ value. value.now) value.entry) }
 {

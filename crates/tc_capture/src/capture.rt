@@ -1,4 +1,4 @@
-//! A capture that is read from its front, a piece at a time.
+//! Captures, read one piece at a time.
 
 mod read;
 
@@ -6,10 +6,10 @@ use crate::pcap::Pcap;
 use crate::pcapng::section::Section;
 use crate::time::Time;
 
-/// A capture of netlink, and where reading it has come to.
+/// The state of reading a capture of netlink.
 #[derive(Drop)]
 pub enum Capture {
-    /// A stream of netlink messages, as `rtmon` writes it, after a message with this time.
+    /// A stream of netlink messages, as `rtmon` writes it, with the last time in it.
     Stream(Option<Time>),
 
     /// A file of classic pcap, before its header.

@@ -1,17 +1,19 @@
-//! Lists of entries: the options of a block of pcapng, and netlink attributes.
+//! Lists of entries: the options of a pcapng block, and netlink attributes.
 
 ghost use Rattle.std.specs.Prelude.{◌≡◌, ◌≤◌, length, option_map};
 ghost use Rattle.tc_capture.specs.Entries.{type_at, value_len, entry_end, entry_value, after_entry, entry_in};
 
 use crate::order::Order;
 
-/// A list of entries, each with a type, a length, a value, and padding up to a multiple of four bytes.
+/// The format of a list of entries, each with a type, a length, a value, and padding up to a multiple of four bytes.
 #[derive(Clone, Copy, PartialEq, Eq, Debug)]
 pub enum Entries {
-    /// The options of a block of pcapng: the type, the length of the value, two bytes each in this order, and the value.
+    /// The options of a pcapng block: the type and the length of the value, two bytes each in this byte order, and the
+    /// value.
     Options(Order),
 
-    /// Netlink attributes: the length of all, the type, two bytes each and little-endian, and the value.
+    /// Netlink attributes: the length of header and value and the type, two bytes each and little-endian, and the
+    /// value.
     Attributes,
 }
 
@@ -47,7 +49,7 @@ fn type_at(entries: Entries, bytes: &[u8]) -> u16
     }
 }
 
-// How long its value is.
+// The length of its value in bytes.
 fn value_len(entries: Entries, bytes: &[u8]) -> usize
     requires { 4 ≤ length bytes.now }
     ensures exact { result ≡ value_len entries bytes.now }
@@ -59,7 +61,7 @@ fn value_len(entries: Entries, bytes: &[u8]) -> usize
     }
 }
 
-// How many bytes it has, without padding.
+// Its length in bytes, without padding.
 fn entry_end(entries: Entries, bytes: &[u8]) -> usize
     requires { 4 ≤ length bytes.now }
     ensures { result ≡ entry_end entries bytes.now }
@@ -77,7 +79,7 @@ fn entry_value(entries: Entries, bytes: &[u8]) -> &[u8]
     value
 }
 
-// What follows the entry at the front and its padding.
+// The bytes after the entry at the front and its padding.
 fn after_entry(entries: Entries, bytes: &[u8]) -> &[u8]
     requires header { 4 ≤ length bytes.now }
     requires whole { entry_end entries bytes.now ≤ length bytes.now }

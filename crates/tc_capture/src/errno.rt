@@ -1,6 +1,6 @@
-//! The names of errors.
+//! Names of error numbers.
 
-// By their numbers in `asm-generic/errno-base.h` and `asm-generic/errno.h`; empty of a number without a name.
+// The names by number, from `asm-generic/errno-base.h` and `asm-generic/errno.h`; empty if a number has no name.
 #[rattlefmt::skip]
 const NAMES: [&str; 134] = [
     "", "EPERM", "ENOENT", "ESRCH", "EINTR", "EIO", "ENXIO", "E2BIG", "ENOEXEC", "EBADF", "ECHILD", "EAGAIN", "ENOMEM",
@@ -19,10 +19,10 @@ const NAMES: [&str; 134] = [
     "EOWNERDEAD", "ENOTRECOVERABLE", "ERFKILL", "EHWPOISON",
 ];
 
-// What the kernel returns where an operation isn't supported; it has no number for programs.
+// The kernel's own number for an operation that isn't supported, which `errno.h` doesn't have.
 const ENOTSUPP: u32 = 524;
 
-/// The name of an error of the kernel, such as `EINVAL` of 22.
+/// The name of an error number, such as `EINVAL` for 22.
 pub fn errno_name(number: u32) -> Option<&'static str> {
     if number == ENOTSUPP {
         return Some("ENOTSUPP");

@@ -1,14 +1,14 @@
-//! Why bytes are no whole piece of a capture.
+//! Errors of reading a capture.
 
 use thiserror::Error;
 
-/// What a reader returns.
+/// The result of reading a capture.
 pub type Res<T> = Result<T, CaptureError>;
 
-/// Why the front of some bytes can't be read. All numbers count bytes.
+/// The reason why the front of some bytes can't be read. All numbers are in bytes, except those of interfaces.
 #[derive(Clone, Copy, PartialEq, Eq, Error, Debug)]
 pub enum CaptureError {
-    /// The bytes end too early: what is at their front takes `needed` bytes at least, and `left` are there.
+    /// The bytes end too early: the piece at their front needs at least `needed` bytes, and `left` are there.
     #[error("{needed} bytes needed, {left} left")]
     Short { needed: usize, left: usize },
 
@@ -16,27 +16,27 @@ pub enum CaptureError {
     #[error("message length {length} under 16")]
     MessageTooShort { length: usize },
 
-    /// A file that isn't pcap begins a file header of it.
+    /// The header of a pcap file has no known magic number.
     #[error("no pcap header")]
     NotPcap,
 
-    /// A section of pcapng has no byte order magic.
+    /// A pcapng section has no byte order magic.
     #[error("section without byte order")]
     NoByteOrder,
 
-    /// A block's length is under twelve, or no multiple of four.
+    /// The length of a block is under twelve or not a multiple of four.
     #[error("block length {length}")]
     BlockLength { length: usize },
 
-    /// The length that ends a block isn't the one that begins it.
+    /// The length at the end of a block differs from the one at its beginning.
     #[error("block of {length} bytes ends with the length {end}")]
     BlockEnd { length: usize, end: usize },
 
-    /// The fields of a block take `needed` bytes, and its body has `left`.
+    /// The fields of a block need `needed` bytes, and its body has `left`.
     #[error("block body of {left} bytes, {needed} needed")]
     BodyTooShort { needed: usize, left: usize },
 
-    /// A packet is from an interface that its section doesn't describe.
+    /// A packet names an interface that its section doesn't describe.
     #[error("unknown interface {interface}")]
     NoInterface { interface: usize },
 

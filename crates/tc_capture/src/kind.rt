@@ -1,4 +1,4 @@
-//! Which netlink messages are traffic control.
+//! The `nlmsg_type`s of traffic control.
 
 ghost use Rattle.std.specs.Prelude.{◌≡◌, option_map};
 ghost use Rattle.tc_capture.specs.Kind.{named_of, tc_row, action_row, rtm_at};
@@ -6,12 +6,12 @@ ghost use Rattle.tc_capture.specs.Kind.{named_of, tc_row, action_row, rtm_at};
 /// `NLMSG_ERROR` of `linux/netlink.h`: an error, or the acknowledgement of a request.
 pub const NLMSG_ERROR: u16 = 2;
 
-/// `NLMSG_TSTAMP` of iproute2: the time of what follows, in the files that `rtmon` writes.
+/// `NLMSG_TSTAMP` of iproute2: the time of the messages that follow, in the files that `rtmon` writes.
 pub const NLMSG_TSTAMP: u16 = 15;
 
-/// Which of the two messages of traffic control a payload is.
+/// The type of a message: a traffic control message or an action message.
 #[derive(Clone, Copy, PartialEq, Eq, Debug)]
-pub enum Holds {
+pub enum MessageType {
     /// `struct tcmsg` and its attributes: a qdisc, a class, a filter or a chain.
     Tc,
 
@@ -19,16 +19,32 @@ pub enum Holds {
     Action,
 }
 
-/// A message type of traffic control.
+impl MessageType {
+    ghost use Rattle.std.specs.Prelude.{◌≡◌, ◌↔◌, Some};
+    ghost use Rattle.tc_capture.specs.Kind.{word_of};
+
+    /// The message type that a word names: `tc` or `action`.
+    pub fn from_word(word: &str) -> Option<MessageType>
+        ensures { (message_type : MessageType) → (result ≡ Some message_type) ↔ (word.now ≡ word_of message_type) }
+    {
+        match word {
+            "tc" => Some(MessageType::Tc),
+            "action" => Some(MessageType::Action),
+            _ => None,
+        }
+    }
+}
+
+/// An `nlmsg_type` of traffic control.
 #[derive(Clone, Copy, Debug)]
 pub struct RtmType {
-    /// What its payload is.
-    pub holds: Holds,
+    /// The type of message in its payload.
+    pub holds: MessageType,
     /// Its name in `linux/rtnetlink.h`.
     pub name: &'static str,
 }
 
-/// The message type of traffic control that this `nlmsg_type` is.
+/// The name of an `nlmsg_type`, and the type of message that it has; `None` if it isn't traffic control.
 #[tactic(auto, unfolding(crate::specs::Kind::rtm_at))]
 pub fn rtm_of(kind: u16) -> Option<RtmType>
     ensures { option_map named_of result ≡ rtm_at kind }
@@ -57,7 +73,7 @@ fn tc(name: &'static str) -> Option<RtmType>
     ensures { option_map named_of result ≡ tc_row name.now }
 {
     Some(RtmType {
-        holds: Holds::Tc,
+        holds: MessageType::Tc,
         name,
     })
 }
@@ -66,7 +82,7 @@ fn action(name: &'static str) -> Option<RtmType>
     ensures { option_map named_of result ≡ action_row name.now }
 {
     Some(RtmType {
-        holds: Holds::Action,
+        holds: MessageType::Action,
         name,
     })
 }

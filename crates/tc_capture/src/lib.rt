@@ -1,7 +1,6 @@
-//! Captures of netlink: the packets of a file that holds them, and the messages of a packet.
-//!
-//! Nothing here reads a file or takes memory. A caller keeps bytes in a buffer and asks for the piece at their front; the error
-//! `Short` says how many bytes that takes. So a reader needs a buffer of the longest piece, whatever the length of the file.
+//! Captures of netlink: reading the packets of a file, and the messages of a packet.  Nothing here does I/O or
+//! allocates. A caller keeps bytes in a buffer and reads the piece at their front; the error `Short` says how many
+//! bytes it needs. So a reader needs a buffer of the longest piece, whatever the length of the file.
 #![tactic(auto)]
 
 pub mod answer;
@@ -24,7 +23,7 @@ pub use answer::{Answer, answer_in};
 pub use capture::Capture;
 pub use errno::errno_name;
 pub use error::{CaptureError, Res};
-pub use kind::{Holds, NLMSG_ERROR, NLMSG_TSTAMP, RtmType, rtm_of};
+pub use kind::{MessageType, NLMSG_ERROR, NLMSG_TSTAMP, RtmType, rtm_of};
 pub use message::{NLMSG_HEADER_LEN, NetlinkMessage};
 pub use messages::Messages;
 pub use packet::{Contents, Link, Packet};

@@ -7,7 +7,7 @@ ghost use Rattle.tc_capture.specs.Message.{message_of, message_of_length, next_m
 use crate::error::{CaptureError, Res};
 use crate::order::Order;
 
-/// How long `struct nlmsghdr` is, in bytes.
+/// The length of `struct nlmsghdr` in bytes.
 pub const NLMSG_HEADER_LEN: usize = 16;
 
 /// A netlink message: the fields of `struct nlmsghdr` of `linux/netlink.h`, little-endian, and the payload.
@@ -29,12 +29,12 @@ pub struct NetlinkMessage<'a> {
     pub sequence: u32,
     /// `nlmsg_pid`, the port of the sender or 0.
     pub port: u32,
-    /// What follows the header, without padding.
+    /// The bytes after the header, without padding.
     pub payload: &'a [u8],
 }
 
-/// The first message of some bytes, and what follows it and its padding, which the end of the bytes may cut.
-/// `Short` or `MessageTooShort` where no whole message is there.
+/// Reads the first message of some bytes, and returns it with the bytes after its padding, which may be cut short at
+/// the end. Fails with `Short` or `MessageTooShort` if no whole message is there.
 #[tactic(auto, unfolding(crate::specs::Message::next_message))]
 pub fn next_message(bytes: &[u8]) -> Res<(NetlinkMessage<'_>, &[u8])>
     ensures { seen (λ x. (message_of x.0, x.1.now)) result ≡ next_message bytes.now }

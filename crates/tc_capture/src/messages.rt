@@ -1,4 +1,4 @@
-//! The messages of a packet.
+//! An iterator over the messages of a packet.
 
 ghost use Rattle.std.specs.Prelude.{◌≡◌};
 ghost use Rattle.tc_capture.specs.Messages.{are_zeros};
@@ -6,8 +6,8 @@ ghost use Rattle.tc_capture.specs.Messages.{are_zeros};
 use crate::error::Res;
 use crate::message::{NetlinkMessage, next_message};
 
-/// The netlink messages that some bytes begin with, then the first fault if there is one, then nothing. Zeros at the end are no
-/// message and no fault.
+/// An iterator over the netlink messages of some bytes. It yields the messages, then the first fault, if any. Zeros at
+/// the end are ignored.
 #[derive(Drop)]
 pub struct Messages<'a> {
     rest: &'a [u8],
@@ -25,7 +25,7 @@ impl<'a> Messages<'a> {
         Messages { rest: bytes }
     }
 
-    /// How many bytes are left; none after a fault.
+    /// The number of bytes left; 0 after a fault.
     pub fn bytes_left(&self) -> usize
         ensures { result ≡ length (left_of self.now) }
     {
@@ -62,7 +62,7 @@ impl<'a> Iterator for Messages<'a> {
     }
 }
 
-// True of zeros alone.
+// True if all bytes are zero.
 fn are_zeros(bytes: &[u8]) -> bool
     ensures { result ≡ are_zeros bytes.now }
 {

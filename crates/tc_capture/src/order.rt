@@ -1,11 +1,11 @@
-//! The order of the bytes of a number.
+//! Byte order.
 
 ghost use Rattle.std.specs.Prelude.{◌≡◌, ◌+◌, ◌≤◌, length, drop};
 ghost use Rattle.tc_capture.specs.Order.{number};
 
 use byteorder::{BigEndian, ByteOrder, LittleEndian};
 
-/// The order in which a number has its bytes.
+/// The byte order of numbers.
 #[derive(Clone, Copy, PartialEq, Eq, Debug)]
 pub enum Order {
     /// Little-endian.
@@ -16,7 +16,7 @@ pub enum Order {
 }
 
 impl Order {
-    /// The number of the two bytes at a place.
+    /// The number in the two bytes at an offset.
     pub fn u16_at(self, bytes: &[u8], at: usize) -> u16
         requires { at + 2 ≤ length bytes.now }
         ensures { result ≡ number self 2 (drop at bytes.now) }
@@ -28,7 +28,7 @@ impl Order {
         }
     }
 
-    /// The number of the four bytes at a place.
+    /// The number in the four bytes at an offset.
     pub fn u32_at(self, bytes: &[u8], at: usize) -> u32
         requires { at + 4 ≤ length bytes.now }
         ensures { result ≡ number self 4 (drop at bytes.now) }
@@ -40,7 +40,7 @@ impl Order {
         }
     }
 
-    /// The number of the eight bytes at a place.
+    /// The number in the eight bytes at an offset.
     pub fn u64_at(self, bytes: &[u8], at: usize) -> u64
         requires { at + 8 ≤ length bytes.now }
         ensures { result ≡ number self 8 (drop at bytes.now) }

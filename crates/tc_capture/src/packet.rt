@@ -1,4 +1,4 @@
-//! A packet of a capture.
+//! Packets of a capture.
 
 ghost use Rattle.std.specs.Prelude.{◌≡◌};
 ghost use Rattle.tc_capture.specs.Packet.{link_of};
@@ -7,40 +7,40 @@ mod netlink;
 
 use crate::time::Time;
 
-/// How long the cooked header of `LINKTYPE_NETLINK` is, in bytes.
+/// The length of the cooked header of `LINKTYPE_NETLINK` in bytes.
 pub const COOKED_HEADER_LEN: usize = 16;
 
-/// What comes before the netlink messages of a packet.
+/// The header before the netlink messages of a packet, according to its link type.
 #[derive(Clone, Copy, PartialEq, Eq, Debug)]
 pub enum Link {
-    /// Nothing.
+    /// No header.
     Plain,
 
     /// The cooked header of `LINKTYPE_NETLINK`.
     Cooked,
 
-    /// It holds no netlink messages: the number of its link type.
+    /// Another link type, with this number: the packet isn't netlink.
     Other(u32),
 }
 
-/// What a packet holds.
+/// The contents of a packet.
 #[derive(Clone, Copy, Debug)]
 pub enum Contents<'a> {
-    /// Messages of `NETLINK_ROUTE`, as many of their bytes as the capture holds.
+    /// Messages of `NETLINK_ROUTE`, as far as they were captured.
     Route {
-        /// The packet type of the cooked header (`PACKET_OUTGOING` is 4), where there is one.
+        /// The packet type of the cooked header, if there is one (`PACKET_OUTGOING` is 4).
         packet_type: Option<u16>,
         messages: &'a [u8],
     },
 
-    /// Messages of another netlink family, by its number in `linux/netlink.h`.
+    /// Messages of another netlink family, with its number in `linux/netlink.h`.
     Family(u16),
 
-    /// No netlink, but packets of the link type with this number.
+    /// A packet of another link type, with this number.
     LinkType(u32),
 }
 
-/// The link of this number in pcap and pcapng.
+/// The link type with this number in pcap and pcapng.
 pub(crate) fn link_of(number: u32) -> Link
     ensures { result ≡ link_of number }
 {
@@ -53,14 +53,14 @@ pub(crate) fn link_of(number: u32) -> Link
 /// A packet.
 #[derive(Clone, Copy, Debug)]
 pub struct Packet<'a> {
-    /// When it was captured, where the capture says so.
+    /// The time at which it was captured, if known.
     pub time: Option<Time>,
-    /// What comes before its messages.
+    /// The header before its messages.
     pub link: Link,
-    /// False where the capture holds only the first bytes of it (snaplen).
+    /// False if only its first bytes were captured (snaplen).
     pub is_whole: bool,
-    /// Where its bytes begin in the piece.
+    /// The offset of its bytes in the piece.
     pub at: usize,
-    /// The bytes of it that the capture holds.
+    /// Its bytes, as far as they were captured.
     pub bytes: &'a [u8],
 }

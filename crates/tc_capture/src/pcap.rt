@@ -1,4 +1,4 @@
-//! Files of classic pcap.
+//! Classic pcap files.
 
 mod read;
 
@@ -6,29 +6,29 @@ use crate::order::Order;
 use crate::packet::Link;
 pub(crate) use read::{magic_at, next_in_pcap, pcap_header};
 
-/// How long the header of a file is, in bytes.
+/// The length of the file header in bytes.
 pub(crate) const PCAP_HEADER_LEN: usize = 24;
 
-/// The variants of the format, by their magic numbers.
+/// A variant of the format, recognized by its magic number.
 #[derive(Clone, Copy, PartialEq, Eq, Debug)]
 pub enum Variant {
-    /// `a1b2c3d4`: times count microseconds.
+    /// `a1b2c3d4`: times in microseconds.
     Microseconds,
 
-    /// `a1b23c4d`: times count nanoseconds.
+    /// `a1b23c4d`: times in nanoseconds.
     Nanoseconds,
 
     /// `a1b2cd34`, "modified pcap": microseconds, and eight bytes more before each packet (interface, protocol, type).
     Modified,
 }
 
-/// What the header of a file says of the packets in it.
+/// The header of a pcap file.
 #[derive(Clone, Copy, PartialEq, Eq, Debug)]
 pub struct Pcap {
-    /// The order of the bytes of its own numbers.
+    /// The byte order of the numbers of the file format.
     pub order: Order,
     /// The variant of the format.
     pub variant: Variant,
-    /// What comes before the netlink messages of a packet.
+    /// The header before the netlink messages of a packet.
     pub link: Link,
 }

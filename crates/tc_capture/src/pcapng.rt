@@ -1,4 +1,4 @@
-//! Files of pcapng.
+//! pcapng files.
 
 mod block;
 pub mod interface;

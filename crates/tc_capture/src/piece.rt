@@ -1,14 +1,14 @@
-//! What a file begins with.
+//! Pieces of a capture.
 
 use crate::error::Res;
 use crate::packet::Packet;
 
-/// A piece of a capture, at the front of some bytes.
+/// A piece of a capture: a packet, a header, or another block.
 #[derive(Clone, Copy, Debug)]
 pub struct Piece<'a> {
-    /// How many bytes it has.
+    /// Its length in bytes.
     pub used: usize,
-    /// The packet that it is; `None` of a header, of a block of pcapng that is no packet, and of a time in a stream. An
-    /// error where a block of pcapng is whole, but what is in it can't be read.
+    /// The packet in it; `None` for a header, for a pcapng block without a packet, and for a time in a stream. An
+    /// error if a pcapng block is whole but can't be read.
     pub packet: Res<Option<Packet<'a>>>,
 }

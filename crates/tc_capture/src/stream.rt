@@ -1,4 +1,4 @@
-//! A file of netlink messages, with nothing between them.
+//! Streams of netlink messages, with nothing between them.
 
 ghost use Rattle.std.specs.Prelude.{◌≡◌, ◌≤◌, length};
 ghost use Rattle.byteorder.specs.Endian.{little_number};
@@ -29,7 +29,8 @@ pub(crate) fn next_in_stream(time: Option<Time>, bytes: &[u8]) -> Res<(Piece<'_>
     if length < NLMSG_HEADER_LEN {
         return Err(CaptureError::MessageTooShort { length });
     }
-    let whole = length + (4 - length % 4) % 4;
+    // If `usize` has 32 bits, a sum that overflows is longer than any slice.
+    let whole = length.saturating_add((4 - length % 4) % 4);
     if bytes.len() < whole {
         return Err(CaptureError::Short {
             needed: whole,
@@ -39,7 +40,7 @@ pub(crate) fn next_in_stream(time: Option<Time>, bytes: &[u8]) -> Res<(Piece<'_>
     Ok(front_of_length(whole, time, bytes))
 }
 
-// The message of the first bytes.
+// The message in the first `used` bytes.
 fn front_of_length(used: usize, time: Option<Time>, bytes: &[u8]) -> (Piece<'_>, Option<Time>)
     requires header { 16 ≤ length bytes.now }
     requires whole { used ≤ length bytes.now }
@@ -76,7 +77,7 @@ fn is_time(bytes: &[u8]) -> bool
     Order::Little.u16_at(bytes, 4) == NLMSG_TSTAMP && Order::Little.u32_at(bytes, 0) >= 24
 }
 
-// The time that the message at the front is.
+// The time in the message at the front.
 fn time_at_front(bytes: &[u8]) -> Time
     requires { 24 ≤ length bytes.now }
     ensures { result ≡ time_at_front bytes.now }

@@ -1,4 +1,4 @@
-//! When something was captured.
+//! Times of capture.
 
 ghost use Rattle.std.specs.Prelude.{◌≡◌, ◌<◌};
 ghost use Rattle.tc_capture.specs.Time.{time_of};
@@ -8,11 +8,11 @@ ghost use Rattle.tc_capture.specs.Time.{time_of};
 pub struct Time {
     /// Whole seconds.
     pub seconds: u64,
-    /// The rest, below a second.
+    /// Nanoseconds after the whole second, under 1,000,000,000.
     pub nanoseconds: u32,
 }
 
-/// The time after that many ticks, of which there are so many a second.
+/// The time at `ticks`, with `per_second` ticks a second.
 pub fn time_of(ticks: u64, per_second: u64) -> Time
     requires { 0 < per_second }
     ensures { result ≡ time_of ticks per_second }

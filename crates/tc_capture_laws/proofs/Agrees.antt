@@ -9,7 +9,7 @@ use Rattle.tc_capture.specs.Outcome.{Outcome}
 use Rattle.tc_capture.specs.Message.{Message}
 use Rattle.tc_capture_laws.specs.Reading.{Read, messages_of, reading, messages_read}
 use Rattle.tc_capture_laws.specs.Files.{HasAtMost}
-use Rattle.tc_capture_laws.specs.Files.{Packet, IsMessage, IsPacket, IsNoTime, message_bytes, messages_bytes, as_read, alone_as_read, all_messages}
+use Rattle.tc_capture_laws.specs.Files.{Packet, IsMessage, IsPacket, IsNoTime, message_bytes, messages_bytes, as_read, single_as_read, all_messages}
 use Rattle.tc_capture_laws.specs.Files.{stream_file, pcap_file, pcapng_file}
 use Rattle.tc_capture_laws.proofs.PcapReads.{pcap-read}
 use Rattle.tc_capture_laws.proofs.PcapNgReads.{pcapng-read}
@@ -23,7 +23,7 @@ packets-hold [] = refl
 packets-hold (p ∷ packets) = ap (λ (rest : List (Outcome Message)). map ok p.messages ++ rest) (packets-hold packets)
     ∙ sym (map-append ok p.messages (all_messages packets))
 
-messages-hold : (messages : List Message) → flat_map messages_of (map (alone_as_read None) messages) ≡ map ok messages
+messages-hold : (messages : List Message) → flat_map messages_of (map (single_as_read None) messages) ≡ map ok messages
 messages-hold [] = refl
 messages-hold (m ∷ messages) = ap (λ (rest : List (Outcome Message)). Ok m ∷ rest) (messages-hold messages)
 
@@ -62,7 +62,7 @@ module _ (order : Order) (longest most : ℕ) (packets : List Packet) (room : lo
   pub stream-holds : messages_read most (stream_file (all_messages packets)) ≡ Some (map ok (all_messages packets))
   stream-holds =
       let are = are-messages longest most packets (omega arith) all in
-      hold most (stream_file (all_messages packets)) (map (alone_as_read None) (all_messages packets)) (all_messages packets)
+      hold most (stream_file (all_messages packets)) (map (single_as_read None) (all_messages packets)) (all_messages packets)
       (stream-read most (all_messages packets) small some (each-packet IsMessage packets are.0) others (each-packet (HasAtMost most) packets are.1))
       (messages-hold (all_messages packets))
 

@@ -1,4 +1,4 @@
--- A fault that wants more bytes says how many are there, and how many are needed.
+-- A fault that needs more bytes says how many are there, and how many are needed.
 use Rattle.std.proofs.Common.{◌≡◌, ℕ, ◌+◌, ◌-◌, ◌%◌, ◌<◌, List, length, drop, Option, Some, None, Ok, Err, Bool, true, false, refl, subst}
 use Rattle.std.specs.Prelude.{nat_lt, ◌==◌, if◌then◌else◌}
 use Rattle.std.proofs.lemmas.Bool.{ltb-true}

@@ -1,4 +1,4 @@
--- The piece at the front of some bytes: how long it is, and where its packet is.
+-- The piece at the front of some bytes: its length, and the place of its packet.
 use Rattle.std.proofs.Common.{◌≡◌, ℕ, ◌+◌, ◌-◌, ◌<◌, ◌≤◌, List, length, take, drop, Option, None, Some, Ok, Err, Bool, true, false, refl, sym, ap, subst, ◌∙◌}
 use Rattle.std.proofs.Common.{arith}
 use Rattle.std.specs.Prelude.{nat_lt, nat_le, ◌==◌, ◌%◌, if◌then◌else◌}
@@ -20,7 +20,7 @@ use Rattle.tc_capture.specs.Order.{number}
 use Rattle.tc_capture.specs.Stream.{is_time, front_of_length, next_in_stream}
 use Rattle.tc_capture.specs.Pcap.{magic_at, header_with, record_header_len, packet_of_length, pcap_header, next_in_pcap}
 use Rattle.tc_capture.specs.PcapNg.{Section, Block, block_order, block_of_length, block_in, next_block, interface_in, interface_at, held_in, timed_of}
-use Rattle.tc_capture.specs.PcapNg.{timed_packet, kept_of, simple_packet, with_interface, new_section, said_by, next_in_section}
+use Rattle.tc_capture.specs.PcapNg.{timed_packet, kept_of, simple_packet, with_interface, new_section, effect_of, next_in_section}
 use Rattle.tc_capture_laws.specs.Fronts.{HoldsPacket, IsFront}
 use Rattle.tc_capture.specs.Capture.{State, in_stream, before_header, in_pcap, in_section, next_piece}
 
@@ -136,8 +136,8 @@ either : (body : List ℕ) (b : Bool) (x y : Outcome (Option Captured) × Sectio
 either body true x y p q = p
 either body false x y p q = q
 
-said-in : (s : Section) (b : Block) → InBody b.body (said_by s b).0
-unfolding said_by
+said-in : (s : Section) (b : Block) → InBody b.body (effect_of s b).0
+unfolding effect_of
 said-in s b =
     let body = b.body in
     either body (b.kind == 0x0a0d0d0a) _ _ (new-section-in b _ refl)
@@ -211,13 +211,13 @@ packet-in bytes body (Ok (Some p)) within is (begins, ends, inside) =
 section-is : (s : Section) (bytes : List ℕ) (x : Front × Section) → next_in_section s bytes ≡ Ok x → IsFront bytes x.0
 unfolding next_in_section
 section-is s bytes x is =
-    let found = then-ok (next_block s.order bytes) (λ (b : Block). let said = said_by s b in Ok
+    let found = then-ok (next_block s.order bytes) (λ (b : Block). let said = effect_of s b in Ok
     (record { used = 12 + length b.body; packet = said.0 }, said.1)) x is in
     let b = found.0 in
     let block = next-block s.order bytes b found.1 in
-    let same : (record { used = 12 + length b.body; packet = (said_by s b).0 }, (said_by s b).1) ≡ x = cc in
+    let same : (record { used = 12 + length b.body; packet = (effect_of s b).0 }, (effect_of s b).1) ≡ x = cc in
     subst (λ (y : Front × Section). IsFront bytes y.0) same
-    (record { some = omega arith; within = block.within; packet = packet-in bytes b.body (said_by s b).0 block.within block.body (said-in s b) })
+    (record { some = omega arith; within = block.within; packet = packet-in bytes b.body (effect_of s b).0 block.within block.body (said-in s b) })
 
 -- ---- all of them
 

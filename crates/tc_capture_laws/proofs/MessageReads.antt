@@ -1,4 +1,4 @@
--- Messages that are written are read.
+-- Written messages are read.
 use Rattle.std.proofs.Common.{◌≡◌, ℕ, zero, suc, ◌+◌, ◌-◌, ◌%◌, ◌^◌, ◌<◌, ◌≤◌, List, [], ◌∷◌, ◌++◌, All, length, take, drop, map, Ok, Err, Bool, false, refl}
 use Rattle.std.proofs.Common.{sym, ap}
 use Rattle.std.proofs.Common.{ap₂, ◌∙◌, arith}
@@ -17,20 +17,20 @@ use Rattle.tc_capture_laws.specs.Files.{IsMessage, HasNoPadding, AreAligned, zer
 use Rattle.tc_capture_laws.proofs.Numbers.{are_zeros-number}
 
 -- a message that begins some bytes is read of them
-read-message : (m : Message) (bytes behind more : List ℕ) → drop 16 bytes ≡ m.payload ++ behind → drop (padding (16 + length m.payload)) behind ≡ more
+read-message : (m : Message) (bytes following more : List ℕ) → drop 16 bytes ≡ m.payload ++ following → drop (padding (16 + length m.payload)) following ≡ more
     → length_at bytes ≡ 16 + length m.payload → little_number 2 (drop 4 bytes) ≡ m.kind → little_number 2 (drop 6 bytes) ≡ m.flags
     → little_number 4 (drop 8 bytes) ≡ m.sequence → little_number 4 (drop 12 bytes) ≡ m.port → 16 + length m.payload ≤ length bytes
     → next_message bytes ≡ Ok (m, more)
 unfolding next_message
-read-message m bytes behind more after padded long kind flags sequence port within =
+read-message m bytes following more after padded long kind flags sequence port within =
     let n = length m.payload in
     let k = padding (16 + n) in
     let no_header : nat_lt (length bytes) 16 ≡ false = le-ltb (length bytes) 16 (omega arith) in
     let too_short : nat_lt (16 + n) 16 ≡ false = le-ltb (16 + n) 16 (omega arith) in
     let cut : nat_lt (length bytes) (16 + n) ≡ false = le-ltb (length bytes) (16 + n) within in
-    let payload : drop 16 (take (16 + n) bytes) ≡ m.payload = drop-take 16 n bytes ∙ ap (take n) after ∙ take_at m.payload behind n refl in
+    let payload : drop 16 (take (16 + n) bytes) ≡ m.payload = drop-take 16 n bytes ∙ ap (take n) after ∙ take_at m.payload following n refl in
     let rest : drop k (drop (16 + n) bytes) ≡ more =
-    ap (drop k) (sym (drop-drop n 16 bytes) ∙ ap (drop n) after ∙ drop_at m.payload behind n refl) ∙ padded in
+    ap (drop k) (sym (drop-drop n 16 bytes) ∙ ap (drop n) after ∙ drop_at m.payload following n refl) ∙ padded in
     let made : Message = message_of_length (16 + n) bytes in
     let same : made ≡ m = fields kind flags sequence port payload in
     ap (λ (l : ℕ). given (nat_lt (length bytes) 16) (nat_lt l 16) (nat_lt (length bytes) l) l (message_of_length l bytes)

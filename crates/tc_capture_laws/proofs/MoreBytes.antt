@@ -1,4 +1,4 @@
--- What is read at the front of some bytes stays as it is when more bytes are behind them, unless it wants them.
+-- The piece at the front of some bytes doesn't change when more bytes follow, unless it needs them.
 use Rattle.std.proofs.Common.{◌≡◌, ◌⊎◌, inl, inr, ℕ, ◌+◌, ◌-◌, ◌*◌, ◌%◌, ◌≤◌, List, ◌++◌, length, take, drop, Option, Some, None, Ok, Err, Bool, true, false}
 use Rattle.std.proofs.Common.{refl, sym, ap, ap₂, subst, ◌∙◌, arith}
 use Rattle.std.specs.Prelude.{nat_lt, nat_le, ◌==◌, ◌&&◌, if◌then◌else◌}
@@ -25,11 +25,11 @@ use Rattle.tc_capture.specs.Stream.{is_time, front_of_length, next_in_stream}
 use Rattle.tc_capture.specs.Pcap.{variant_of, in_order, magic_at, header_with, ticks_per_second, record_header_len, packet_of_length, pcap_header, next_in_pcap}
 use Rattle.tc_capture.specs.PcapNg.{Section, Block, block_order, block_of_length, block_in, next_block, next_in_section}
 use Rattle.tc_capture.specs.Capture.{State, in_stream, before_header, in_pcap, in_section, next_piece}
-use Rattle.tc_capture_laws.specs.Fronts.{WantsMore}
+use Rattle.tc_capture_laws.specs.Fronts.{NeedsMore}
 
 -- of some bytes, and of them with more behind them
 abbrev pub Stays : {X : Type 0} → Outcome X → Outcome X → Type 0
-Stays o p = WantsMore o ⊎ (p ≡ o)
+Stays o p = NeedsMore o ⊎ (p ≡ o)
 
 then-stays : {X Y : Type 0} (o p : Outcome X) (f : X → Outcome Y) → Stays o p → Stays (then_read o f) (then_read p f)
 then-stays (Ok x) p f (inl more) = absurd more

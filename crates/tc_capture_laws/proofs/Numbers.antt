@@ -1,4 +1,4 @@
--- Numbers that are written are read.
+-- Written numbers are read.
 use Rattle.std.proofs.Common.{◌≡◌, ℕ, zero, suc, ◌+◌, ◌*◌, ◌/◌, ◌%◌, ◌^◌, ◌<◌, List, [], ◌∷◌, ◌++◌, Bool, true, false, refl, ap, ◌∙◌, arith}
 use Rattle.std.specs.Prelude.{◌&&◌, ◌==◌, slice_index}
 use Rattle.std.proofs.lemmas.Bool.{eqb-true}

@@ -1,4 +1,4 @@
--- A file of pcapng that is written is read.
+-- A written pcapng file is read.
 use Rattle.std.proofs.Common.{◌≡◌, ℕ, ◌+◌, ◌-◌, ◌*◌, ◌/◌, ◌%◌, ◌^◌, ◌<◌, ◌≤◌, List, [], ◌∷◌, ◌++◌, All, length, take, drop, map, Option, Some, None, Ok, Err}
 use Rattle.std.proofs.Common.{Bool, true, false, refl, sym, ap, ap₂, ◌∙◌, arith}
 use Rattle.std.specs.Prelude.{nat_lt, nat_le, ◌==◌, replicate, if◌then◌else◌}
@@ -20,7 +20,7 @@ use Rattle.tc_capture.specs.Message.{padding}
 use Rattle.tc_capture.specs.Packet.{Captured}
 use Rattle.tc_capture.specs.Front.{Front}
 use Rattle.tc_capture.specs.PcapNg.{Block, Section, block_order, block_of_length, block_in, next_block, interface_at, time_after, held_in, timed_of}
-use Rattle.tc_capture.specs.PcapNg.{timed_packet, with_packet, said_by, next_in_section}
+use Rattle.tc_capture.specs.PcapNg.{timed_packet, with_packet, effect_of, next_in_section}
 use Rattle.tc_capture.specs.Capture.{in_section}
 use Rattle.tc_capture_laws.specs.Pieces.{pieces_up_to, pieces_in}
 use Rattle.tc_capture_laws.specs.Reading.{Read, read_in, reading}
@@ -102,19 +102,19 @@ time_after-netlink time seconds nanoseconds =
     ∙ ap (λ (s : ℕ). Some (record { seconds = s; nanoseconds = time.nanoseconds })) none
 
 -- the body of an enhanced packet block
-read-body : (order : Order) (p : Packet) (body behind : List ℕ) → number order 4 body ≡ 0 → drop 20 body ≡ packet_bytes p ++ behind
+read-body : (order : Order) (p : Packet) (body following : List ℕ) → number order 4 body ≡ 0 → drop 20 body ≡ packet_bytes p ++ following
     → (high low : ℕ) → number order 4 (drop 4 body) ≡ high → number order 4 (drop 8 body) ≡ low
     → high * 2 ^ 32 + low ≡ p.time.seconds * 1000000000 + p.time.nanoseconds
     → number order 4 (drop 12 body) ≡ length (packet_bytes p) → number order 4 (drop 16 body) ≡ length (packet_bytes p)
     → 20 + length (packet_bytes p) ≤ length body
     → p.time.seconds < 2 ^ 32 → p.time.nanoseconds < 10 ^ 9
     → timed_packet 4 (Some netlink ∷ []) order body ≡ Ok (captured p.time (packet_bytes p) 28)
-read-body order p body behind first after high low highs lows ticks here there within seconds nanoseconds =
+read-body order p body following first after high low highs lows ticks here there within seconds nanoseconds =
     let n = length (packet_bytes p) in
     let header : nat_lt (length body) 20 ≡ false = le-ltb (length body) 20 (omega arith) in
     let cut : nat_lt (length body) (20 + n) ≡ false = le-ltb (length body) (20 + n) within in
     let whole : nat_le n n ≡ true = le-leb n n (omega arith) in
-    let held : drop 20 (take (20 + n) body) ≡ packet_bytes p = drop-take 20 n body ∙ ap (take n) after ∙ take_at (packet_bytes p) behind n refl in
+    let held : drop 20 (take (20 + n) body) ≡ packet_bytes p = drop-take 20 n body ∙ ap (take n) after ∙ take_at (packet_bytes p) following n refl in
     ap (λ (b : Bool). if b then Err (BodyTooShort 20 (length body)) else then_read (interface_at (Some netlink ∷ []) (number order 4 body))
     (λ i. timed_of i order body)) header
     ∙ ap (λ (k : ℕ). then_read (interface_at (Some netlink ∷ []) k) (λ i. timed_of i order body)) first
@@ -165,7 +165,7 @@ timed-body Big p most is small =
 
 -- what a section is after a block
 abbrev pub after_block : Section → Block → Outcome (Front × Section)
-after_block s b = let said = said_by s b in Ok (record { used = 12 + length b.body; packet = said.0 }, said.1)
+after_block s b = let said = effect_of s b in Ok (record { used = 12 + length b.body; packet = said.0 }, said.1)
 
 -- blocks of these types are in the order of their section
 in_section_order : (order : Order) (body more : List ℕ) → block_order order (block order 6 body ++ more) ≡ Ok order
@@ -175,7 +175,7 @@ in_section_order Big body more = refl
 next-packet : (order : Order) (p : Packet) (most : ℕ) (more : List ℕ) → IsPacket most p → most + 35 < 2 ^ 32
     → next_in_section (described order) (enhanced_packet order p ++ more)
     ≡ Ok (record { used = 12 + length (packet_body order p); packet = Ok (Some (captured p.time (packet_bytes p) 28)) }, described order)
-unfolding next_in_section said_by
+unfolding next_in_section effect_of
 next-packet order p most more is small =
     let within = is.length in
     let len = length-packet_body order p in
@@ -214,7 +214,7 @@ interface_body order =
 
 next-section : (order : Order) (more : List ℕ)
     → next_in_section (new Little) (section_header order ++ more) ≡ Ok (record { used = 28; packet = Ok None }, new order)
-unfolding next_in_section said_by
+unfolding next_in_section effect_of
 next-section Little more =
     ap (λ (o : Outcome Block). then_read o (after_block (new Little))) (next_block-block Little Little 0x0a0d0d0a (section_body Little) more (omega arith)
     (omega arith) refl refl)
@@ -224,7 +224,7 @@ next-section Big more =
 
 next-interface : (order : Order) (more : List ℕ)
     → next_in_section (new order) (interface order ++ more) ≡ Ok (record { used = 32; packet = Ok None }, described order)
-unfolding next_in_section said_by entry_in entry_up_to
+unfolding next_in_section effect_of entry_in entry_up_to
 next-interface Little more =
     ap (λ (o : Outcome Block). then_read o (after_block (new Little))) (next_block-block Little Little 1 (interface_body Little) more (omega arith)
     (omega arith) refl refl)

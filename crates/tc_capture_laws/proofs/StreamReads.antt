@@ -1,4 +1,4 @@
--- A stream that is written is read.
+-- A written stream is read.
 use Rattle.std.proofs.Common.{◌≡◌, ◌≢◌, ℕ, ◌+◌, ◌*◌, ◌/◌, ◌%◌, ◌^◌, ◌<◌, ◌≤◌, List, [], ◌∷◌, ◌++◌, All, length, take, drop, map, Option, Some, None, Ok, Err}
 use Rattle.std.proofs.Common.{Bool}
 use Rattle.std.proofs.Common.{true, false, refl, sym, ap, ap₂, ◌∙◌, arith}
@@ -25,8 +25,8 @@ use Rattle.tc_capture.specs.Stream.{is_time, time_at_front, front_of_length, nex
 use Rattle.tc_capture.specs.Capture.{State, in_stream, before_header, in_section, capture_at}
 use Rattle.tc_capture_laws.specs.Pieces.{pieces_up_to, pieces_in}
 use Rattle.tc_capture_laws.specs.Reading as reading
-use Rattle.tc_capture_laws.specs.Reading.{Read, read_of, read_in}
-use Rattle.tc_capture_laws.specs.Files.{Packet, IsMessage, IsNoTime, HasAtMost, IsTimed, message_bytes, messages_bytes, alone_as_read, stamp}
+use Rattle.tc_capture_laws.specs.Reading.{Read, read_in}
+use Rattle.tc_capture_laws.specs.Files.{Packet, IsMessage, IsNoTime, HasAtMost, IsTimed, message_bytes, messages_bytes, single_as_read, stamp}
 use Rattle.tc_capture_laws.specs.Files.{stream_file, timed_file, timed_as_read}
 use Rattle.tc_capture_laws.proofs.MessageReads.{length-message_bytes, length_at-message_bytes, messages_in-messages_bytes}
 use Rattle.tc_capture_laws.proofs.Steps.{step, ends}
@@ -109,14 +109,14 @@ messages-read : (most : ℕ) (time : Option Time) (messages : List Message) (mor
     → All IsMessage messages → All IsNoTime messages → All (HasAtMost most) messages
     → ((k : ℕ) → length more ≤ k → read_in (pieces_up_to k most (in_stream time) more) ≡ found)
     → (n : ℕ) → length (messages_bytes messages ++ more) ≤ n
-    → read_in (pieces_up_to n most (in_stream time) (messages_bytes messages ++ more)) ≡ map (alone_as_read time) messages ++ found
+    → read_in (pieces_up_to n most (in_stream time) (messages_bytes messages ++ more)) ≡ map (single_as_read time) messages ++ found
 messages-read most time [] more found small are others short later n few = later n few
 messages-read most time (m ∷ messages) more found small are others short later n few =
     let is = All-head IsMessage m messages are in
     let fits = All-head (HasAtMost most) m messages short in
     let len = length-message_bytes m in
     let rest = messages_bytes messages ++ more in
-    let after = map (alone_as_read time) messages ++ found in
+    let after = map (single_as_read time) messages ++ found in
     let apart : messages_bytes (m ∷ messages) ++ more ≡ message_bytes m ++ rest = append_assoc (message_bytes m) (messages_bytes messages) more in
     ap (λ (b : List ℕ). read_in (pieces_up_to n most (in_stream time) b)) apart
     ∙ step most n (in_stream time) (in_stream time) (message_bytes m) rest (Ok (Some (alone time m))) after
@@ -137,18 +137,18 @@ begun most x file found small first read =
     ∙ ap (λ (r : List Read). Some r) read
 
 pub stream-read : (most : ℕ) (messages : List Message) → most < 2 ^ 24 → messages ≢ [] → All IsMessage messages → All IsNoTime messages
-    → All (HasAtMost most) messages → reading.reading most (stream_file messages) ≡ Some (map (alone_as_read None) messages)
+    → All (HasAtMost most) messages → reading.reading most (stream_file messages) ≡ Some (map (single_as_read None) messages)
 stream-read most [] small some are others short = absurd (some refl)
 stream-read most (m ∷ messages) small some are others short =
     let fits = All-head (HasAtMost most) m messages short in
     let len = length-message_bytes m in
     let file = messages_bytes (m ∷ messages) in
     let whole = append-nil file in
-    begun most (length m.payload + 16) file (map (alone_as_read None) (m ∷ messages)) (omega (arith, len)) refl
+    begun most (length m.payload + 16) file (map (single_as_read None) (m ∷ messages)) (omega (arith, len)) refl
     (ap (λ (b : List ℕ). read_in (pieces_up_to (length file) most (in_stream None) b)) (sym whole)
     ∙ messages-read most None (m ∷ messages) [] [] (omega arith) are others short (λ k less. ends k most (in_stream None)) (length file)
     (omega (arith, ap length whole))
-    ∙ append-nil (map (alone_as_read None) (m ∷ messages)))
+    ∙ append-nil (map (single_as_read None) (m ∷ messages)))
 
 -- ---- with times
 

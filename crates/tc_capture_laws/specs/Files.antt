@@ -1,4 +1,4 @@
--- The same packets as a file of each format.
+-- The bytes of the same packets in each format.
 use Rattle.std.specs.Prelude.{⊤, ◌≡◌, ◌≢◌, ◌<◌, ◌≤◌, ℕ, ◌+◌, ◌*◌, ◌/◌, ◌%◌, ◌^◌, List, [], ◌∷◌, ◌++◌, All, length, map, replicate, Option, Some, None, Ok}
 use Rattle.std.specs.List.{flat_map}
 use Rattle.byteorder.specs.Endian.{little_bytes, big_bytes}
@@ -9,7 +9,7 @@ use Rattle.tc_capture.specs.Message.{Message, padding}
 use Rattle.tc_capture.specs.Written.{in_netlink, cooked, file_header, packet_header}
 use Rattle.tc_capture_laws.specs.Reading.{Read, packet}
 
--- a packet: when it was captured, the type in its cooked header, and its messages
+-- a packet: its time, the type in its cooked header, and its messages
 pub record Packet : Type 0 where
   pub time : Time
   pub packet_type : ℕ
@@ -22,7 +22,7 @@ pub record IsMessage (m : Message) : Type 0 where
   pub sequence : m.sequence < 2 ^ 32
   pub port : m.port < 2 ^ 32
 
--- so many zeros
+-- n zeros
 abbrev pub zeros : ℕ → List ℕ
 zeros n = replicate n 0
 
@@ -30,7 +30,7 @@ zeros n = replicate n 0
 abbrev pub padded : List ℕ → List ℕ
 padded bytes = bytes ++ zeros (padding (length bytes))
 
--- a message behind its header, and its padding
+-- a message after its header, and its padding
 abbrev pub message_bytes : Message → List ℕ
 message_bytes m = padded (in_netlink m.kind m.flags m.sequence m.port m.payload)
 
@@ -41,7 +41,7 @@ messages_bytes messages = flat_map message_bytes messages
 abbrev pub packet_bytes : Packet → List ℕ
 packet_bytes p = cooked p.packet_type ++ messages_bytes p.messages
 
--- the numbers of a packet fit their fields, and it has so many bytes at most
+-- the numbers of a packet fit their fields, and it has at most this many bytes
 pub record IsPacket (most : ℕ) (p : Packet) : Type 0 where
   pub seconds : p.time.seconds < 2 ^ 32
   pub nanoseconds : p.time.nanoseconds < 10 ^ 9
@@ -49,18 +49,18 @@ pub record IsPacket (most : ℕ) (p : Packet) : Type 0 where
   pub messages : All IsMessage p.messages
   pub length : length (packet_bytes p) ≤ most
 
--- what is to be read of a packet
+-- the expected reading of a packet
 abbrev pub as_read : Packet → Read
 as_read p = packet (record { time = Some p.time; packet_type = Some p.packet_type; messages = map (λ (m : Message). Ok m) p.messages })
 
--- what is to be read of a message in a stream
-abbrev pub alone_as_read : Option Time → Message → Read
-alone_as_read time m = packet (record { time = time; packet_type = None; messages = Ok m ∷ [] })
+-- the expected reading of a message in a stream
+abbrev pub single_as_read : Option Time → Message → Read
+single_as_read time m = packet (record { time = time; packet_type = None; messages = Ok m ∷ [] })
 
 abbrev pub all_messages : List Packet → List Message
 all_messages packets = flat_map (λ (p : Packet). p.messages) packets
 
--- ---- a capture as it is written
+-- ---- a written capture
 
 -- the messages of a packet, with nothing between them
 abbrev pub written_messages : List Message → List ℕ
@@ -74,11 +74,11 @@ written_packet p =
 abbrev pub written_file : List Packet → List ℕ
 written_file packets = file_header ++ flat_map written_packet packets
 
--- a message that wants no padding
+-- a message that needs no padding
 abbrev pub HasNoPadding : Message → Type 0
 HasNoPadding m = length m.payload % 4 ≡ 0
 
--- none but the last wants it
+-- only the last message may need padding
 abbrev pub AreAligned : List Message → Type 0
 AreAligned [] = ⊤
 AreAligned (m ∷ []) = ⊤
@@ -90,7 +90,7 @@ AreAligned (m ∷ n ∷ messages) = HasNoPadding m × AreAligned (n ∷ messages
 abbrev pub IsNoTime : Message → Type 0
 IsNoTime m = m.kind ≢ 15
 
--- a message that is no longer than so many bytes
+-- a message that is no longer than this many bytes
 abbrev pub HasAtMost : ℕ → Message → Type 0
 HasAtMost most m = length (message_bytes m) ≤ most
 
@@ -111,7 +111,7 @@ stamp time = record {
 abbrev pub timed_file : List Packet → List ℕ
 timed_file packets = flat_map (λ (p : Packet). message_bytes (stamp p.time) ++ messages_bytes p.messages) packets
 
--- the time is one of whole microseconds, and each message has so many bytes at most
+-- the time is in whole microseconds, and each message has at most this many bytes
 pub record IsTimed (most : ℕ) (p : Packet) : Type 0 where
   pub seconds : p.time.seconds < 2 ^ 32
   pub nanoseconds : p.time.nanoseconds < 10 ^ 9
@@ -120,9 +120,9 @@ pub record IsTimed (most : ℕ) (p : Packet) : Type 0 where
   pub others : All IsNoTime p.messages
   pub lengths : All (HasAtMost most) p.messages
 
--- what is to be read of it
+-- the expected reading of it
 abbrev pub timed_as_read : List Packet → List Read
-timed_as_read packets = flat_map (λ (p : Packet). map (alone_as_read (Some p.time)) p.messages) packets
+timed_as_read packets = flat_map (λ (p : Packet). map (single_as_read (Some p.time)) p.messages) packets
 
 -- ---- pcap and pcapng, in either byte order
 
@@ -137,7 +137,7 @@ module _ (order : Order) where
   pcap_header most =
       number_bytes order 4 0xa1b23c4d ++ number_bytes order 2 2 ++ number_bytes order 2 4 ++ zeros 8 ++ number_bytes order 4 most ++ number_bytes order 4 253
 
-  -- seconds, nanoseconds, how many bytes there are, how many there were, and the bytes
+  -- seconds, nanoseconds, the number of bytes in the file, the number of bytes on the wire, and the bytes
   abbrev pub pcap_record : Time → List ℕ → List ℕ
   pcap_record time bytes =
       number_bytes order 4 time.seconds ++ number_bytes order 4 time.nanoseconds ++ number_bytes order 4 (length bytes)
@@ -161,7 +161,8 @@ module _ (order : Order) where
   interface =
       block 1 (number_bytes order 2 253 ++ zeros 2 ++ number_bytes order 4 0 ++ number_bytes order 2 9 ++ number_bytes order 2 1 ++ padded (9 ∷ []) ++ zeros 4)
 
-  -- an enhanced packet block of the first interface: the time, higher half first, how many bytes there are, how many there were
+  -- an enhanced packet block of the first interface: the time, higher half first, the number of bytes in the file, the
+  -- number of bytes on the wire
   abbrev pub enhanced_packet : Packet → List ℕ
   enhanced_packet p =
       let bytes = packet_bytes p in

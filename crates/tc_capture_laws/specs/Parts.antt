@@ -1,4 +1,4 @@
--- What a file holds, down to its messages.
+-- The parts of a file, down to its messages.
 use Rattle.std.specs.Prelude.{ℕ, zero, suc, ◌+◌, ◌-◌, List, [], ◌∷◌, ◌++◌, length, take, drop, Option, None, Some, Ok, Err, if◌then◌else◌}
 use Rattle.std.specs.List.{flat_map}
 use Rattle.tc_capture.specs.declared.error.CaptureError.{CaptureError}
@@ -10,19 +10,19 @@ use Rattle.tc_capture_laws.specs.Pieces as pieces
 use Rattle.tc_capture_laws.specs.Pieces.{What, Piece}
 
 pub data Kind : Type 0 where
-  -- what belongs to the format of the file: a header, a time, a block of pcapng that is no packet, padding
+  -- part of the file format: a header, a time, a pcapng block without a packet, padding
   format : Kind
   -- a netlink message and its padding
   message : Message → Kind
-  -- zeros behind the last message of a packet
+  -- zeros after the last message of a packet
   zeros : Kind
-  -- a packet of something else
+  -- a packet that isn't route netlink
   foreign : Contents → Kind
-  -- what is whole and can't be read: a block of pcapng, a packet, or the end of a packet from its first broken message on
+  -- a whole part that can't be read: a pcapng block, a packet, or the end of a packet from its first broken message on
   broken : CaptureError → Kind
   -- a piece that is too long
   skipped : Kind
-  -- all that is left where the file can be read no further
+  -- the rest, if the file can't be read further
   rest : CaptureError → Kind
 
 pub record Part : Type 0 where
@@ -32,7 +32,7 @@ pub record Part : Type 0 where
 abbrev pub part : Kind → List ℕ → List Part
 part kind bytes = record { kind = kind; bytes = bytes } ∷ []
 
--- what comes before so many last bytes
+-- the bytes before the last n
 abbrev pub before_last : ℕ → List ℕ → List ℕ
 before_last n bytes = take (length bytes - n) bytes
 
@@ -41,16 +41,16 @@ abbrev pub message_and_more : (List ℕ → List Part) → List ℕ → Outcome 
 message_and_more parts_after bytes (Ok next) = part (message next.0) (before_last (length next.1) bytes) ++ parts_after next.1
 message_and_more parts_after bytes (Err e) = part (broken e) bytes
 
--- at most so many of them
+-- at most n of them
 unfoldable pub message_parts_up_to : ℕ → List ℕ → List Part
 message_parts_up_to zero bytes = []
 message_parts_up_to (suc n) bytes = if are_zeros bytes then part zeros bytes else message_and_more (message_parts_up_to n) bytes (next_message bytes)
 
--- the messages of a packet, and what is behind them; a message takes a byte at least
+-- the messages of a packet, and the bytes after them; a message has at least one byte
 unfoldable pub message_parts : List ℕ → List Part
 message_parts bytes = message_parts_up_to (length bytes) bytes
 
--- the bytes of a packet, by what it holds: a cooked header, if it has one, and messages
+-- the parts of a packet, according to its contents: a cooked header, if any, and messages
 abbrev pub contents_parts : List ℕ → Outcome Contents → List Part
 contents_parts bytes (Ok (route packet_type messages)) = part format (before_last (length messages) bytes) ++ message_parts messages
 contents_parts bytes (Ok (family n)) = part (foreign (family n)) bytes
@@ -80,11 +80,11 @@ parts_in found = flat_map (λ (p : Piece). what_parts p.what p.bytes) found
 abbrev pub joined : List Part → List ℕ
 joined parts = flat_map (λ (p : Part). p.bytes) parts
 
--- what a part says: a message, or what is wrong in the messages
-abbrev pub said_by : Kind → List (Outcome Message)
-said_by (message m) = Ok m ∷ []
-said_by (broken e) = Err e ∷ []
-said_by _ = []
+-- the outcome of a part: a message, or the fault of the messages
+abbrev pub outcomes_of : Kind → List (Outcome Message)
+outcomes_of (message m) = Ok m ∷ []
+outcomes_of (broken e) = Err e ∷ []
+outcomes_of _ = []
 
 abbrev pub messages_of : List Part → List (Outcome Message)
-messages_of parts = flat_map (λ (p : Part). said_by p.kind) parts
+messages_of parts = flat_map (λ (p : Part). outcomes_of p.kind) parts

@@ -1,4 +1,4 @@
--- What is read of a file: its packets in order, each with its messages. The number of a packet is its place among them.
+-- The reading of a file: its packets in order, each with its messages. The number of a packet is its place among them.
 use Rattle.std.specs.Prelude.{ℕ, List, [], ◌∷◌, Option, Some, None, Ok, Err, option_map}
 use Rattle.std.specs.List.{flat_map}
 use Rattle.tc_capture.specs.declared.error.CaptureError.{CaptureError}
@@ -10,13 +10,13 @@ use Rattle.tc_capture.specs.Packet.{Captured, Contents, route, family, link_type
 use Rattle.tc_capture_laws.specs.Pieces as pieces
 use Rattle.tc_capture_laws.specs.Pieces.{What, Piece, pieces_of}
 
--- a packet of route netlink: when it was captured and the type in its cooked header, where the file has them, and its messages
+-- a packet of route netlink: its time and the type in its cooked header, if the file has them, and its messages
 pub record RoutePacket : Type 0 where
   pub time : Option Time
   pub packet_type : Option ℕ
   pub messages : List (Outcome Message)
 
--- a packet, or what is said in its place
+-- a packet, or a report in its place
 pub data Read : Type 0 where
   packet : RoutePacket → Read
   foreign : Contents → Read
@@ -39,11 +39,11 @@ read_of (pieces.rest e) = broken e ∷ []
 abbrev pub read_in : List Piece → List Read
 read_in found = flat_map (λ (p : Piece). read_of p.what) found
 
--- what a reader that keeps so many bytes reads of a file, if it is a capture
+-- the reading of a file, if it is a capture, by a reader that keeps this many bytes
 abbrev pub reading : ℕ → List ℕ → Option (List Read)
 reading most file = option_map read_in (pieces_of most file)
 
--- the messages of what is read
+-- the messages of a reading
 abbrev pub messages_of : Read → List (Outcome Message)
 messages_of (packet p) = p.messages
 messages_of (foreign contents) = []

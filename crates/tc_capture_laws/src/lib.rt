@@ -1,4 +1,4 @@
-//! Laws of captures: nothing of a file is lost, and what is written is read.
+//! Laws of captures: no byte of a file is lost, and a written file is read as it was written.
 #![tactic(auto)]
 
 pub mod files;

@@ -1,4 +1,4 @@
--- The columns and the names of each file below `kinds/`: what the constants of the code have. Written by `kinds/columns`.
+-- The columns and the names of each file below `kinds/`, as in the constants of the code. Written by `kinds/columns`.
 use Rattle.std.specs.Prelude.{List, map}
 use Rattle.tc_columns.specs.declared.tables.columns_of_action.TheConstants.{COLUMNS_OF_ACTION}
 use Rattle.tc_columns.specs.declared.tables.columns_of_actions.TheConstants.{COLUMNS_OF_ACTIONS_BPF, COLUMNS_OF_ACTIONS_CONNMARK}
@@ -11,6 +11,7 @@ use Rattle.tc_columns.specs.declared.tables.columns_of_actions.TheConstants.{COL
 use Rattle.tc_columns.specs.declared.tables.columns_of_actions.TheConstants.{COLUMNS_OF_ACTIONS_SAMPLE, COLUMNS_OF_ACTIONS_SIMPLE}
 use Rattle.tc_columns.specs.declared.tables.columns_of_actions.TheConstants.{COLUMNS_OF_ACTIONS_SKBEDIT, COLUMNS_OF_ACTIONS_SKBMOD}
 use Rattle.tc_columns.specs.declared.tables.columns_of_actions.TheConstants.{COLUMNS_OF_ACTIONS_TUNNEL_KEY, COLUMNS_OF_ACTIONS_VLAN}
+use Rattle.tc_columns.specs.declared.tables.columns_of_companions.TheConstants.{COLUMNS_OF_COMPANIONS_1250}
 use Rattle.tc_columns.specs.declared.tables.columns_of_elements.TheConstants.{COLUMNS_OF_ELEMENTS}
 use Rattle.tc_columns.specs.declared.tables.columns_of_ematch.TheConstants.{COLUMNS_OF_EMATCH}
 use Rattle.tc_columns.specs.declared.tables.columns_of_filters.TheConstants.{COLUMNS_OF_FILTERS_BASIC, COLUMNS_OF_FILTERS_BPF}
@@ -20,7 +21,6 @@ use Rattle.tc_columns.specs.declared.tables.columns_of_filters.TheConstants.{COL
 use Rattle.tc_columns.specs.declared.tables.columns_of_filters.TheConstants.{COLUMNS_OF_FILTERS_RSVP, COLUMNS_OF_FILTERS_TCINDEX}
 use Rattle.tc_columns.specs.declared.tables.columns_of_filters.TheConstants.{COLUMNS_OF_FILTERS_U32}
 use Rattle.tc_columns.specs.declared.tables.columns_of_message.TheConstants.{COLUMNS_OF_MESSAGE}
-use Rattle.tc_columns.specs.declared.tables.columns_of_partners.TheConstants.{COLUMNS_OF_PARTNERS_1250}
 use Rattle.tc_columns.specs.declared.tables.columns_of_qdiscs.TheConstants.{COLUMNS_OF_QDISCS_ATM, COLUMNS_OF_QDISCS_CAKE, COLUMNS_OF_QDISCS_CBQ}
 use Rattle.tc_columns.specs.declared.tables.columns_of_qdiscs.TheConstants.{COLUMNS_OF_QDISCS_CBS, COLUMNS_OF_QDISCS_CHOKE}
 use Rattle.tc_columns.specs.declared.tables.columns_of_qdiscs.TheConstants.{COLUMNS_OF_QDISCS_CODEL, COLUMNS_OF_QDISCS_DRR}
@@ -41,12 +41,12 @@ use Rattle.tc_columns.specs.declared.tables.columns_of_statistics.TheConstants.{
 use Rattle.tc_columns.specs.declared.tables.names_of_action.TheConstants.{NAMES_OF_ACTION}
 use Rattle.tc_columns.specs.declared.tables.names_of_actions.TheConstants.{NAMES_OF_ACTIONS_GACT, NAMES_OF_ACTIONS_MIRRED, NAMES_OF_ACTIONS_MPLS}
 use Rattle.tc_columns.specs.declared.tables.names_of_actions.TheConstants.{NAMES_OF_ACTIONS_PEDIT, NAMES_OF_ACTIONS_VLAN}
+use Rattle.tc_columns.specs.declared.tables.names_of_companions.TheConstants.{NAMES_OF_COMPANIONS_1250}
 use Rattle.tc_columns.specs.declared.tables.names_of_ematch.TheConstants.{NAMES_OF_EMATCH}
 use Rattle.tc_columns.specs.declared.tables.names_of_filters.TheConstants.{NAMES_OF_FILTERS_FLOW, NAMES_OF_FILTERS_U32}
 use Rattle.tc_columns.specs.declared.tables.names_of_message.TheConstants.{NAMES_OF_MESSAGE}
 use Rattle.tc_columns.specs.declared.tables.names_of_names.TheConstants.{NAMES_OF_NAMES_1000, NAMES_OF_NAMES_1001, NAMES_OF_NAMES_1002}
 use Rattle.tc_columns.specs.declared.tables.names_of_names.TheConstants.{NAMES_OF_NAMES_1003, NAMES_OF_NAMES_1004}
-use Rattle.tc_columns.specs.declared.tables.names_of_partners.TheConstants.{NAMES_OF_PARTNERS_1250}
 use Rattle.tc_columns.specs.declared.tables.names_of_qdiscs.TheConstants.{NAMES_OF_QDISCS_CAKE, NAMES_OF_QDISCS_FQ, NAMES_OF_QDISCS_GRED}
 use Rattle.tc_columns.specs.declared.tables.names_of_qdiscs.TheConstants.{NAMES_OF_QDISCS_MQPRIO, NAMES_OF_QDISCS_PLUG, NAMES_OF_QDISCS_TAPRIO}
 use Rattle.tc_columns.specs.declared.tables.names_of_shared.TheConstants.{NAMES_OF_SHARED}
@@ -267,8 +267,8 @@ columns_of_statistics = map (λ x. map const_column_view x.now) COLUMNS_OF_STATI
 unfoldable pub columns_of_roots_250 : List (List Column)
 columns_of_roots_250 = map (λ x. map const_column_view x.now) COLUMNS_OF_ROOTS_250
 
-unfoldable pub columns_of_partners_1250 : List (List Column)
-columns_of_partners_1250 = map (λ x. map const_column_view x.now) COLUMNS_OF_PARTNERS_1250
+unfoldable pub columns_of_companions_1250 : List (List Column)
+columns_of_companions_1250 = map (λ x. map const_column_view x.now) COLUMNS_OF_COMPANIONS_1250
 
 unfoldable pub names_of_action : List (List Name)
 names_of_action = map (λ x. map const_name_view x.now) NAMES_OF_ACTION
@@ -336,8 +336,8 @@ names_of_names_1003 = map (λ x. map const_name_view x.now) NAMES_OF_NAMES_1003
 unfoldable pub names_of_names_1004 : List (List Name)
 names_of_names_1004 = map (λ x. map const_name_view x.now) NAMES_OF_NAMES_1004
 
-unfoldable pub names_of_partners_1250 : List (List Name)
-names_of_partners_1250 = map (λ x. map const_name_view x.now) NAMES_OF_PARTNERS_1250
+unfoldable pub names_of_companions_1250 : List (List Name)
+names_of_companions_1250 = map (λ x. map const_name_view x.now) NAMES_OF_COMPANIONS_1250
 
 unfoldable pub columns_at_648 : List Column
 columns_at_648 = map const_column_view COLUMNS_AT_648

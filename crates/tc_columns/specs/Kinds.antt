@@ -1,16 +1,16 @@
--- The columns of messages that speak of one thing.
+-- The columns of messages of one object type.
 use Rattle.std.specs.Prelude.{List, None, Option, [], refl, ℕ, ◌≡◌}
 use Rattle.tc_columns.specs.Tables.{all_columns, all_names, columns_of}
 use Rattle.tc_columns.specs.declared.root.Root.{Root}
 use Rattle.tc_columns.specs.declared.root.Root.TheVariants as root
-use Rattle.tc_form_values.specs.Places.{kind_place}
-use Rattle.tc_form_values.specs.Numbers.{number_of}
-use Rattle.tc_form_values.specs.Tables.{Kinds, Names, Part}
-use Rattle.tc_kinds.specs.Table.{tc_tables}
-use Rattle.tc_lines.specs.Columns.{Given, Table, interface_in}
+use Rattle.forms_values.specs.Places.{kind_place}
+use Rattle.forms_values.specs.Numbers.{number_of}
+use Rattle.forms_values.specs.Tables.{Kinds, Names, Part}
+use Rattle.forms_kinds.specs.Table.{tc_tables}
+use Rattle.tc_lines.specs.Columns.{Options, Table, interface_in}
 use Rattle.tc_lines.specs.Lines.{NONE}
 
--- where the columns of a message are
+-- the place of a message's columns
 abbrev pub root_place : Root → ℕ
 root_place root.Qdisc = 6000
 root_place root.Class = 6001
@@ -20,17 +20,17 @@ root_place root.Chain = 6004
 root_place root.Action = 6005
 root_place root.Flush = 6006
 
--- the columns of a kind are where its rows are in the tables of all kinds
+-- the columns of a kind are at the place of its rows in the tables of all kinds
 abbrev pub under_part : Part → ℕ → List ℕ → ℕ
 under_part (Kinds common others kinds) place kind = kind_place kind others kinds
 under_part part place kind = place
 
--- the numbers of names in JSON are where the names are in the tables of all kinds
+-- the numbers of names in JSON are at the place of the names in the tables of all kinds
 abbrev pub number_in : Part → List ℕ → Option ℕ
 number_in (Names names) name = number_of names name
 number_in part name = None
 
-abbrev pub kind_table : Given → Table
+abbrev pub kind_table : Options → Table
 kind_table g =
     record {
       columns = all_columns;
@@ -41,7 +41,7 @@ kind_table g =
       all = g.all;
     }
 
--- no columns are at the place of none
+-- the place without columns has none
 pub none_there : all_columns NONE ≡ []
 unfolding all_columns columns_of
 none_there = refl

@@ -18,11 +18,11 @@ use Rattle.tc_columns.specs.Arrays.{columns_of_qdiscs_multiq, columns_of_qdiscs_
 use Rattle.tc_columns.specs.Arrays.{columns_of_qdiscs_plug, columns_of_qdiscs_prio, columns_of_qdiscs_qfq, columns_of_qdiscs_red}
 use Rattle.tc_columns.specs.Arrays.{columns_of_qdiscs_sfb, columns_of_qdiscs_sfq, columns_of_qdiscs_skbprio, columns_of_qdiscs_taprio}
 use Rattle.tc_columns.specs.Arrays.{columns_of_qdiscs_tbf, columns_of_shared, columns_of_statistics, columns_of_roots_250}
-use Rattle.tc_columns.specs.Arrays.{columns_of_partners_1250, names_of_action, names_of_actions_gact, names_of_actions_mirred}
+use Rattle.tc_columns.specs.Arrays.{columns_of_companions_1250, names_of_action, names_of_actions_gact, names_of_actions_mirred}
 use Rattle.tc_columns.specs.Arrays.{names_of_actions_mpls, names_of_actions_pedit, names_of_actions_vlan, names_of_ematch, names_of_filters_flow}
 use Rattle.tc_columns.specs.Arrays.{names_of_filters_u32, names_of_message, names_of_qdiscs_cake, names_of_qdiscs_fq, names_of_qdiscs_gred}
 use Rattle.tc_columns.specs.Arrays.{names_of_qdiscs_mqprio, names_of_qdiscs_plug, names_of_qdiscs_taprio, names_of_shared, names_of_names_1000}
-use Rattle.tc_columns.specs.Arrays.{names_of_names_1001, names_of_names_1002, names_of_names_1003, names_of_names_1004, names_of_partners_1250}
+use Rattle.tc_columns.specs.Arrays.{names_of_names_1001, names_of_names_1002, names_of_names_1003, names_of_names_1004, names_of_companions_1250}
 use Rattle.tc_columns.specs.Arrays.{columns_at_648}
 use Rattle.tc_lines.specs.Columns.{Column}
 use Rattle.tc_units.specs.Names.{Name}
@@ -120,7 +120,7 @@ columns_from_234 file =
 
 unfoldable pub columns_from_1242 : ℕ → List (List Column)
 columns_from_1242 file =
-    if file == 1250 then columns_of_partners_1250 else (
+    if file == 1250 then columns_of_companions_1250 else (
     [])
 
 unfoldable pub columns_of : ℕ → List (List Column)
@@ -180,7 +180,7 @@ names_from_990 file =
 
 unfoldable pub names_from_1242 : ℕ → List (List Name)
 names_from_1242 file =
-    if file == 1250 then names_of_partners_1250 else (
+    if file == 1250 then names_of_companions_1250 else (
     [])
 
 unfoldable pub names_of : ℕ → List (List Name)

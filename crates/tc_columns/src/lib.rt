@@ -1,5 +1,5 @@
-//! The columns of Linux's traffic control, for `tc_lines`: how each attribute and field of the kinds is named and shown to people. They are
-//! written from the files below `kinds/`, as the tables of `tc_kinds` are.
+//! The columns of Linux's traffic control, for `tc_lines`: the name and display of each attribute and field of every
+//! kind. They are generated from the files below `kinds/`, as the tables of `forms_kinds` are.
 #![tactic(auto)]
 
 mod root;

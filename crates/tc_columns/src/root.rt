@@ -1,40 +1,40 @@
-//! What messages speak of, and the columns of each.
+//! The object types of messages, and the columns of each.
 
 ghost use Rattle.std.specs.Prelude.{map, option_map, ◌≡◌};
 ghost use Rattle.tc_columns.specs.Kinds.{kind_table, none_there, root_place};
-ghost use Rattle.tc_form_values.specs.Places.{kind_place};
-ghost use Rattle.tc_form_values.specs.Numbers.{number_of};
-ghost use Rattle.tc_form_values.specs.Tables.{kinds_view, names_view};
+ghost use Rattle.forms_values.specs.Places.{kind_place};
+ghost use Rattle.forms_values.specs.Numbers.{number_of};
+ghost use Rattle.forms_values.specs.Tables.{kinds_view, names_view};
 ghost use Rattle.tc_lines.specs.Columns.{interface_in};
 
 use crate::tables;
-use tc_form_values::{Form, KindRows, Part, Tables};
-use tc_kinds::{ACTION_MESSAGE, TC_MESSAGE, TcTables};
+use forms_kinds::{ACTION_MESSAGE, TC_MESSAGE, TcTables};
+use forms_values::{Form, KindRows, Part, Tables};
 use tc_lines::{Column, Columns};
 use tc_units::Name;
 
-/// What a message speaks of: it says what the numbers of its header are.
+/// The object that a message describes; decides how its header is displayed.
 #[derive(Clone, Copy, PartialEq, Eq, Debug, Drop)]
 pub enum Root {
-    /// A queueing discipline: `info` counts its references.
+    /// A qdisc: `tcm_info` is its number of references.
     Qdisc,
-    /// A class: `info` is the handle of its qdisc.
+    /// A class: `tcm_info` is the handle of its leaf qdisc.
     Class,
-    /// A filter: `info` is a priority and a protocol.
+    /// A filter: `tcm_info` is a priority and a protocol.
     Filter,
-    /// A filter of kind u32, whose handle is shown as `tc` writes it: `800::800`.
+    /// A u32 filter, whose handle is displayed as `tc` writes it: `800::800`.
     U32Filter,
     /// A chain of filters.
     Chain,
-    /// Actions: an action message.
+    /// An action message.
     Action,
-    /// The answer to a flush of actions: what is a cookie elsewhere counts what was flushed.
+    /// The answer to a flush of actions, in which the attribute of the cookie is the number of flushed actions.
     Flush,
 }
 
 impl Root {
-    /// What messages of this `nlmsg_type` and these `nlmsg_flags` speak of, where it is traffic control; `kind` is the text of the
-    /// message's first `TCA_KIND`, or empty. An `RTM_DELACTION` with `NLM_F_ROOT` is a flush.
+    /// The object of messages with this `nlmsg_type` and these `nlmsg_flags`; `None` if they aren't traffic control.
+    /// `kind` is the text of the message's first `TCA_KIND`, or empty. An `RTM_DELACTION` with `NLM_F_ROOT` is a flush.
     pub fn of(kind_of_message: u16, flags: u16, kind: &str) -> Option<Root> {
         match kind_of_message {
             36..=38 => Some(Root::Qdisc),
@@ -48,7 +48,7 @@ impl Root {
         }
     }
 
-    /// The form of its messages.
+    /// The form of these messages.
     pub fn form(self) -> Form {
         match self {
             Root::Action | Root::Flush => ACTION_MESSAGE,
@@ -72,18 +72,18 @@ impl Root {
     }
 }
 
-/// The columns of messages that speak of one thing. They take no memory.
+/// The columns of messages of one object type. They don't allocate.
 #[derive(Clone, Copy, Drop)]
 pub struct KindColumns<'a> {
-    /// What the message speaks of.
+    /// The object type.
     pub root: Root,
-    /// The names of interfaces by their numbers, as the caller knows them.
+    /// The caller's names of interfaces, by index.
     pub interfaces: &'a [(u32, &'a str)],
-    /// Whether paddings are shown too.
+    /// True if padding is displayed.
     pub all: bool,
 }
 
-/// What the kernel calls the member of a column at a place; empty if it has no name for it.
+/// The kernel's name of the member of a column at a place; empty if there is none.
 pub fn kernel_name(place: usize, column: Column<'static>) -> &'static str {
     for (member, kernel) in tables::kernels_at(place) {
         if *member == column.key {
@@ -93,19 +93,19 @@ pub fn kernel_name(place: usize, column: Column<'static>) -> &'static str {
     column.kernel
 }
 
-// The place of the columns of a kind, or else this one.
+// The place of a kind's columns; `others` for a kind without any.
 fn kind_place(kind: &str, others: usize, kinds: &[KindRows<'_>]) -> usize
     ensures { result ≡ kind_place kind.now others (kinds_view kinds.now) }
 {
     match kinds.split_first() {
         Some((it, _)) if it.kind == kind => it.rows,
-        Some((_, behind)) => kind_place(kind, others, behind),
+        Some((_, rest)) => kind_place(kind, others, rest),
         None => others,
     }
 }
 
-// The first number of a name in JSON.
-fn number_of(names: &[tc_form_values::Name<'_>], name: &str) -> Option<u64>
+// The number of the first entry with this name in JSON.
+fn number_of(names: &[forms_values::Name<'_>], name: &str) -> Option<u64>
     ensures { result ≡ number_of (names_view names.now) name.now }
 {
     match names.split_first() {
@@ -115,7 +115,7 @@ fn number_of(names: &[tc_form_values::Name<'_>], name: &str) -> Option<u64>
     }
 }
 
-// The first name of an interface.
+// The first name of an interface index.
 fn interface_in<'a>(interfaces: &[(u32, &'a str)], number: u64) -> Option<&'a str>
     ensures { option_map (λ t. t.now) result ≡ interface_in (map (λ x. (x.0, x.1.now)) interfaces.now) number }
 {
@@ -127,9 +127,9 @@ fn interface_in<'a>(interfaces: &[(u32, &'a str)], number: u64) -> Option<&'a st
 }
 
 impl<'a> Columns for KindColumns<'a> {
-    ghost given = { λ c. record { root = root_place c.root; all = c.all; interfaces = map (λ x. (x.0, x.1.now)) c.interfaces.now } };
+    ghost options = { λ c. record { root = root_place c.root; all = c.all; interfaces = map (λ x. (x.0, x.1.now)) c.interfaces.now } };
 
-    ghost says = { kind_table };
+    ghost table = { kind_table };
 
     ghost none = { λ g. none_there };
 

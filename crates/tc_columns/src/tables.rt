@@ -10,22 +10,22 @@ ghost use Rattle.tc_units.specs.Names.{names_view};
 
 mod columns_of_action;
 mod columns_of_actions;
+mod columns_of_companions;
 mod columns_of_elements;
 mod columns_of_ematch;
 mod columns_of_filters;
 mod columns_of_message;
-mod columns_of_partners;
 mod columns_of_qdiscs;
 mod columns_of_roots;
 mod columns_of_shared;
 mod columns_of_statistics;
 mod names_of_action;
 mod names_of_actions;
+mod names_of_companions;
 mod names_of_ematch;
 mod names_of_filters;
 mod names_of_message;
 mod names_of_names;
-mod names_of_partners;
 mod names_of_qdiscs;
 mod names_of_shared;
 
@@ -163,7 +163,7 @@ fn columns_from_1242(file: usize) -> &'static [&'static [Column<'static>]]
     ensures { map (λ x. columns_view x.now) result.now ≡ columns_from_1242 file }
 {
     match file {
-        1250 => columns_of_partners::columns_of_partners_1250(),
+        1250 => columns_of_companions::columns_of_companions_1250(),
         _ => &[],
     }
 }
@@ -275,7 +275,7 @@ fn names_from_1242(file: usize) -> &'static [&'static [Name<'static>]]
     ensures { map (λ x. names_view x.now) result.now ≡ names_from_1242 file }
 {
     match file {
-        1250 => names_of_partners::names_of_partners_1250(),
+        1250 => names_of_companions::names_of_companions_1250(),
         _ => &[],
     }
 }
@@ -302,7 +302,7 @@ pub(crate) fn all_names(place: usize) -> &'static [Name<'static>]
     names_in(names_of(place / 24), place % 24)
 }
 
-/// The members of the part at a place, each with the kernel's name, of parts with so many that their columns don't have it.
+/// The members of a part with many columns, each with the kernel's name, which these columns lack.
 pub(crate) fn kernels_at(place: usize) -> &'static [(&'static str, &'static str)] {
     match place {
         648 => &columns_of_filters::KERNELS_AT_648,

@@ -1,4 +1,4 @@
--- That there was no memory.
+-- Memory ran out.
 use Rattle.std.proofs.Common.{ℕ, List, refl}
 use Rattle.tc_wire.specs.Facade.{OutOfMemory, Message, Words}
 use Rattle.tc_ffi.specs.Calls.{Refuses}

@@ -1,10 +1,10 @@
--- What the status of a call, and what it wrote, say of the bytes that it was given.
+-- Status and output of a call.
 use Rattle.std.specs.Prelude.{◌≡◌, ◌≢◌, ◌⊎◌, ℕ, List, ◌<◌, length, Some}
 use Rattle.serde_json.specs.Sent.{IsTextOf}
-use Rattle.tc_form_values.specs.declared.form.Form.{Form}
-use Rattle.tc_form_values.specs.Sent.{events}
-use Rattle.tc_forms.specs.Shown.{shown_of}
-use Rattle.tc_kinds.specs.Table.{tc_tables}
+use Rattle.forms_values.specs.declared.form.Form.{Form}
+use Rattle.forms_values.specs.Sent.{events}
+use Rattle.forms_json.specs.Shown.{shown_of}
+use Rattle.forms_kinds.specs.Table.{tc_tables}
 use Rattle.tc_wire.specs.Facade.{DecodeError, OutOfMemory, Message, Words, Writes}
 use Rattle.tc_status.specs.Status.{status_of}
 
@@ -12,56 +12,56 @@ use Rattle.tc_status.specs.Status.{status_of}
 abbrev pub Keeps : {T : Type 0} → T → T → ℕ → Type 0
 Keeps old new status = status ≢ 0 → new ≡ old
 
--- 0: these bytes are at the front of the buffer; 13: they have no room there
+-- 0: these bytes are at the front of the buffer; 13: it has no room for them
 pub record IsPlaced (bytes old new : List ℕ) (len status : ℕ) : Type 0 where
   pub counted : len ≡ length bytes
   pub placed : ((status ≡ 0) × Writes bytes old new) ⊎ ((status ≡ 13) × (length old < length bytes))
 
--- the text of what is shown of these bytes, whatever they are; 11: there was no memory
+-- the JSON text of any bytes; 11: out of memory
 abbrev pub Shows : Form → List ℕ → List ℕ → List ℕ → ℕ → ℕ → Type 0
 Shows form bytes old new len status =
     ((text : List ℕ) × IsTextOf (Some (events (shown_of tc_tables form bytes))) text × IsPlaced text old new len status) ⊎ (status ≡ 11)
 
--- what a call writes of the JSON
+-- the output of a call that writes JSON
 pub record IsShown (form : Form) (bytes old new : List ℕ) (len status : ℕ) : Type 0 where
   pub shows : Shows form bytes old new len status
   pub kept : Keeps old new status
 
 module _ (words : Words Message) (bytes : List ℕ) where
-  -- the bytes read as a message of which this holds
+  -- the bytes read as a message with this property
   pub record ReadsSome (Holds : Message → Type 0) : Type 0 where
     pub message : Message
     pub reads : words.Reads bytes message
     pub holds : Holds message
 
-  -- 1 to 10: the number of their first fault; 11: there was no memory
+  -- 1 to 10: the number of their first fault; 11: out of memory
   pub record Refuses (status : ℕ) : Type 0 where
     pub fault : DecodeError
     pub first : fault ≢ OutOfMemory → words.Fault bytes fault
     pub number : status ≡ status_of fault
 
-  -- 12: they read as a message that can't be written
+  -- 12: they read as a message that can't be encoded
   abbrev pub IsUnfit : ℕ → Type 0
   IsUnfit status = (status ≡ 12) × ReadsSome (λ m. words.Fits m → ⊥)
 
-  -- other bytes of which this holds are placed; or why there are none
+  -- other bytes with this property are placed; or the reason why there are none
   abbrev pub Places : (List ℕ → Type 0) → List ℕ → List ℕ → ℕ → ℕ → Type 0
   Places Holds old new len status = (((others : List ℕ) × Holds others × IsPlaced others old new len status) ⊎ IsUnfit status) ⊎ Refuses status
 
-  -- what is written of the message
+  -- the bytes of the message
   abbrev pub Rewrites : List ℕ → List ℕ → ℕ → ℕ → Type 0
   Rewrites = Places (λ written. ReadsSome (λ m. words.Fits m × (written ≡ words.bytes m)))
 
-  -- the canonical bytes, after so many rewrites
+  -- the canonical bytes, after this number of rewrites
   abbrev pub Settles : (List ℕ → List ℕ → ℕ → Type 0) → List ℕ → List ℕ → ℕ → ℕ → ℕ → Type 0
   Settles LeadsTo old new len rewrites = Places (λ settled. LeadsTo bytes settled rewrites) old new len
 
-  -- what a call writes of the message
+  -- the output of a call that rewrites
   pub record IsRewritten (old new : List ℕ) (len status : ℕ) : Type 0 where
     pub rewrites : Rewrites old new len status
     pub kept : Keeps old new status
 
-  -- what a call writes of the settled message, and after how many rewrites
+  -- the output of a call that settles
   pub record IsSettled (LeadsTo : List ℕ → List ℕ → ℕ → Type 0) (old new : List ℕ) (len rewrites status : ℕ) : Type 0 where
     pub settles : Settles LeadsTo old new len rewrites status
     pub kept : Keeps old new status

@@ -1,4 +1,4 @@
--- What a check says of bytes.
+-- The result of a check.
 use Rattle.std.specs.Prelude.{◌≡◌, ◌⊎◌, ℕ, List, ◌≤◌, Bool, length, if◌then◌else◌}
 use Rattle.tc_wire.specs.Facade.{Message, Words}
 use Rattle.tc_status.specs.Status.{numbers_of}
@@ -6,35 +6,35 @@ use Rattle.tc_ffi.specs.Calls.{Keeps, ReadsSome, Refuses}
 use Rattle.tc_ffi.specs.declared.verdict.VtcVerdict.{VtcVerdict}
 use Rattle.tc_ffi.specs.declared.verdict.VtcFault.{VtcFault}
 
--- 1: it holds; 0: it doesn't
+-- 1: it is true; 0: it isn't
 abbrev pub Says : ℕ → Type 0 → Type 0
 Says verdict Holds = ((verdict ≡ 1) × Holds) ⊎ ((verdict ≡ 0) × (Holds → ⊥))
 
 abbrev pub Numbers : ℕ → Bool → Type 0
 Numbers verdict holds = verdict ≡ (if holds then 1 else 0)
 
--- how many bytes a message has, if it can be written; else 0
+-- the length of the message if it can be encoded, else 0
 abbrev pub IsCounted : Type 0 → List ℕ → ℕ → Type 0
 IsCounted Fits bytes count = (Fits × (count ≡ length bytes)) ⊎ ((Fits → ⊥) × (count ≡ 0))
 
--- the verdict on a message, and on the bytes that it was read from
+-- the verdict on a message and its bytes
 pub record IsJudged (words : Words Message) (bytes : List ℕ) (m : Message) (v : VtcVerdict) : Type 0 where
   pub fits : Says v.fits (words.Fits m)
   pub settled : Says v.settled (words.Settled m)
   pub canonical : Says v.canonical (words.Canonical bytes)
   pub counted : IsCounted (words.Fits m) (words.bytes m) v.length
 
--- the first fault of the bytes, or that there was no memory; its numbers, and its place
+-- the first fault of the bytes, with its numbers and its place; or memory ran out
 pub record IsRefused (words : Words Message) (bytes : List ℕ) (f : VtcFault) (status : ℕ) : Type 0 where
   pub refuses : Refuses words bytes status
   pub numbers : (f.first, f.second) ≡ numbers_of refuses.fault
   pub place : f.offset ≤ length bytes
 
--- 0: a message, which is judged; else the fault
+-- 0: a message, with its verdict; else the fault
 abbrev pub Checks : Words Message → List ℕ → VtcVerdict → VtcFault → ℕ → Type 0
 Checks words bytes v f status = ((status ≡ 0) × ReadsSome words bytes (λ m. IsJudged words bytes m v)) ⊎ IsRefused words bytes f status
 
--- what a call says of the message, or of the fault; of the other it says nothing
+-- the output of a check: a verdict or a fault; the other struct is unchanged
 pub record IsChecked (words : Words Message) (bytes : List ℕ) (old v : VtcVerdict) (older f : VtcFault) (status : ℕ) : Type 0 where
   pub checks : Checks words bytes v f status
   pub verdict_kept : Keeps old v status

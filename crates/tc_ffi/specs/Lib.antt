@@ -1,4 +1,3 @@
 pub mod Calls
 pub mod Checks
 pub mod Makes
-pub mod Timed

@@ -1,8 +1,8 @@
-//! The calls on messages about actions.
+//! Calls on action messages.
 
 ghost use Rattle.tc_wire.specs.Facade.{action_words};
 ghost use Rattle.tc_wire.specs.Rewriting.{SettlesAct};
-ghost use Rattle.tc_kinds.specs.Table.{action_message};
+ghost use Rattle.forms_kinds.specs.Table.{action_message};
 ghost use Rattle.tc_message_json.specs.Made.{IsGiven, IsMadeOf};
 ghost use Rattle.tc_ffi.specs.Calls.{IsRewritten, IsSettled, IsShown};
 ghost use Rattle.tc_ffi.specs.Checks.{IsChecked};
@@ -10,11 +10,11 @@ ghost use Rattle.tc_ffi.specs.Makes.{IsMade};
 
 use crate::verdict::{VtcFault, VtcVerdict};
 use crate::{calls, make};
+use forms_kinds::ACTION_MESSAGE;
 use std::alloc::Global;
-use tc_kinds::ACTION_MESSAGE;
 use tc_wire::TcActionMessage;
 
-/// Judges the message that the bytes read as, or says their first fault.
+/// The verdict on a message, or its first fault.
 #[unsafe(no_mangle)]
 pub extern "C" fn vtc_action_check(
     alloc: Global,
@@ -27,7 +27,7 @@ pub extern "C" fn vtc_action_check(
     calls::check::<TcActionMessage>(alloc, bytes, verdict, fault)
 }
 
-/// Writes the message that the bytes read as at the front of the buffer, and how many bytes it takes.
+/// Rewrites a message into the buffer, and sets its length.
 #[unsafe(no_mangle)]
 pub extern "C" fn vtc_action_rewrite(
     alloc: Global,
@@ -40,7 +40,7 @@ pub extern "C" fn vtc_action_rewrite(
     calls::rewrite::<TcActionMessage>(alloc, bytes, buffer, length)
 }
 
-/// Writes the canonical bytes to which rewriting leads, how many these are, and after how many rewrites.
+/// Settles a message into the buffer, and sets its length and the number of rewrites.
 #[unsafe(no_mangle)]
 pub extern "C" fn vtc_action_settle(
     alloc: Global,
@@ -54,7 +54,7 @@ pub extern "C" fn vtc_action_settle(
     calls::settle::<TcActionMessage>(alloc, bytes, buffer, length, rewrites)
 }
 
-/// Writes the JSON of the bytes, whatever they are, and how many bytes it takes.
+/// Writes the JSON of any bytes into the buffer, and sets its length.
 #[unsafe(no_mangle)]
 pub extern "C" fn vtc_action_json(
     alloc: Global,
@@ -67,8 +67,8 @@ pub extern "C" fn vtc_action_json(
     calls::json(alloc, ACTION_MESSAGE, bytes, buffer, length)
 }
 
-/// Writes the canonical bytes of the message that this JSON stands for at the front of the buffer, and how many they are; or why
-/// there are none, as a text, into the second buffer, as much as it has room for, and how many bytes that are.
+/// Builds the canonical bytes of a JSON message in the buffer, and sets their number; or writes the reason why there are none as a
+/// text into the second buffer, cut if it is too long, and sets its length.
 #[unsafe(no_mangle)]
 pub extern "C" fn vtc_action_make(
     alloc: Global,
@@ -83,7 +83,7 @@ pub extern "C" fn vtc_action_make(
     make::make::<TcActionMessage>(alloc, json, buffer, length, why, why_length)
 }
 
-/// Writes the bytes that this JSON stands for, whatever they are, in the same way.
+/// Builds bytes from JSON without checking them. Otherwise like `vtc_action_make`.
 #[unsafe(no_mangle)]
 pub extern "C" fn vtc_action_make_as_given(
     alloc: Global,

@@ -1,4 +1,4 @@
-//! The calls on a message of either type.
+//! The calls, for both types of messages.
 
 ghost use Rattle.std.specs.Prelude.{◌≡◌};
 ghost use Rattle.tc_wire.specs.Rewriting.{Settles as LeadsTo};
@@ -7,14 +7,14 @@ ghost use Rattle.tc_ffi.specs.Checks.{Checks};
 
 use crate::place::place;
 use crate::verdict::{VtcFault, VtcVerdict, fault_of, judged};
+use forms_json::{Form, Shown};
+use forms_kinds::TcTables;
 use std::alloc::Global;
-use tc_forms::{Form, Shown};
-use tc_kinds::TcTables;
 use tc_message_json::HasForm;
 use tc_status::{DOES_NOT_FIT, NO_ROOM, OK, OUT_OF_MEMORY, status_of};
 use tc_wire::{RewriteError, WholeMessage};
 
-/// Judges the message that bytes read as, or says their first fault.
+/// The verdict on a message, or its first fault.
 pub fn check<M: WholeMessage<Global> + HasForm + Drop>(
     alloc: Global,
     bytes: &[u8],
@@ -37,7 +37,7 @@ pub fn check<M: WholeMessage<Global> + HasForm + Drop>(
     }
 }
 
-/// Writes the message that bytes read as at the front of the buffer, where it has room, and how many bytes it takes.
+/// Rewrites a message into the buffer if it fits; `length` is set in any case.
 pub fn rewrite<M: WholeMessage<Global> + Drop>(
     alloc: Global,
     bytes: &[u8],
@@ -63,7 +63,7 @@ pub fn rewrite<M: WholeMessage<Global> + Drop>(
     }
 }
 
-/// Writes the canonical bytes to which rewriting leads, in the same way, and after how many rewrites.
+/// Settles a message into the buffer, like `rewrite`; also sets the number of rewrites.
 pub fn settle<M: WholeMessage<Global>>(
     alloc: Global,
     bytes: &[u8],
@@ -85,7 +85,7 @@ pub fn settle<M: WholeMessage<Global>>(
     }
 }
 
-/// Writes the JSON of bytes in a form, in the same way.
+/// Writes the JSON of bytes of a form, like `rewrite`.
 pub fn json(alloc: Global, form: Form, bytes: &[u8], buffer: &mut [u8], length: &mut usize) -> u32
     ensures shows { Shows form bytes.now buffer.old buffer.new length.new result }
     ensures kept { Keeps buffer.old buffer.new result }

@@ -1,9 +1,9 @@
-//! The calls from C that read or make a whole message, and take memory: `malloc`, `realloc` and `free` of the program.
-//! `bindings/vtc.h` declares those that begin with `vtc_`; those that begin with `bench_` are for the benchmark alone.
+//! The calls from C that read or build a whole message. They allocate with `malloc`, `realloc` and `free` of the program, and
+//! return the status 11 if that fails.
+//! `bindings/vtc.h` declares them.
 #![tactic(auto)]
 
 mod action;
-mod bench;
 mod calls;
 mod make;
 mod place;

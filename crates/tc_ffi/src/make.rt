@@ -1,4 +1,4 @@
-//! Messages made of JSON.
+//! Messages from JSON.
 
 ghost use Rattle.std.specs.Prelude.{◌≡◌, ◌≢◌, ◌⊎◌, IfErr, IfOk, IsUtf8, None, OnOk};
 ghost use Rattle.serde_json.specs.Read.{read};
@@ -8,16 +8,16 @@ ghost use Rattle.tc_ffi.specs.Calls.{Keeps};
 ghost use Rattle.tc_ffi.specs.Makes.{IsReadAs, IsText, Makes};
 
 use crate::place::place;
+use forms_text::{ReadError, read_json};
 use serde_json::Value;
 use std::alloc::Global;
 use std::fmt::Display;
-use tc_forms_text::{ReadError, read_json};
 use tc_message_json::{HasForm, NoMessage};
 use tc_status::{NO_MESSAGE, NOT_JSON, OUT_OF_MEMORY};
 use tc_wire::WholeMessage;
 
-/// Writes the message that a text of JSON stands for at the front of the buffer, where it has room, and how many bytes it takes; or
-/// why none is made.
+/// Builds a message from a JSON text, and writes its bytes at the front of the buffer if they fit, and their number; or the reason
+/// why there are none.
 pub fn make<M: WholeMessage<Global> + HasForm + Drop>(
     alloc: Global,
     text: &[u8],
@@ -40,7 +40,7 @@ pub fn make<M: WholeMessage<Global> + HasForm + Drop>(
     }
 }
 
-/// Writes the bytes that a text of JSON stands for, whatever they are, in the same way.
+/// Builds bytes from a JSON text without checking them. Otherwise like `make`.
 pub fn make_as_given<M: HasForm>(
     alloc: Global,
     text: &[u8],
@@ -63,7 +63,7 @@ pub fn make_as_given<M: HasForm>(
     }
 }
 
-// The JSON of a text; or why there is none, and the status that says so.
+// Reads a JSON text; or writes the reason why it can't be read, and returns the status.
 fn json_of(alloc: Global, text: &[u8], why: &mut [u8], why_length: &mut usize) -> Result<Value, u32>
     ensures read { IfOk result (λ json. IsReadAs text.now (view json)) }
     ensures refused { IfErr result (λ status. ((status ≡ 15) × (IsUtf8 text.now → read text.now ≡ None))
@@ -84,7 +84,7 @@ fn json_of(alloc: Global, text: &[u8], why: &mut [u8], why_length: &mut usize) -
     }
 }
 
-// Writes why no message is made, as a text, and how many bytes that are.
+// Writes the reason why no message was built, and its length in bytes.
 fn explain_none(alloc: Global, error: &NoMessage, why: &mut [u8], why_length: &mut usize) -> u32
     requires { why_length.old ≡ 0 }
     ensures status { (result ≡ 16) ⊎ ((result ≡ 11) × (why_length.new ≡ 0)) }
@@ -96,7 +96,7 @@ fn explain_none(alloc: Global, error: &NoMessage, why: &mut [u8], why_length: &m
     }
 }
 
-/// Writes the text of an error into a buffer, as much as it has room for, and how many bytes that are.
+/// Writes the text of an error into a buffer, cut if it is too long, and its length in bytes.
 fn explain<E: Display>(
     alloc: Global,
     error: &E,
@@ -119,7 +119,7 @@ fn explain<E: Display>(
     }
 }
 
-/// Writes a text at the front of a buffer, as many of its characters as have room, and returns how many bytes these are.
+/// Writes the characters of a text that fit into a buffer, and returns their length in bytes.
 fn put_text(text: &str, buffer: &mut [u8]) -> usize
     ensures { IsText buffer.old buffer.new result }
 {

@@ -10,17 +10,17 @@ use tc_outline::{What, locate};
 use tc_status::numbers_of;
 use tc_wire::{DecodeError, WholeMessage};
 
-/// The verdict on the message that bytes read as: `struct vtc_verdict`.
+/// The verdict on a message: `struct vtc_verdict`.
 #[repr(C)]
 #[derive(Clone, Copy)]
 pub struct VtcVerdict {
-    /// How many bytes are written of it; 0 where it can't be written.
+    /// The encoded length in bytes; 0 if it can't be encoded.
     pub length: usize,
-    /// 1 if it can be written, 0 if not.
+    /// 1 if it can be encoded, else 0.
     pub fits: u8,
-    /// 1 if it reads back as itself, 0 if not.
+    /// 1 if it survives encoding and parsing, else 0.
     pub settled: u8,
-    /// 1 if the bytes are those that are written of it, 0 if not.
+    /// 1 if encoding it gives the bytes back, else 0.
     pub canonical: u8,
 }
 
@@ -28,14 +28,14 @@ pub struct VtcVerdict {
 #[repr(C)]
 #[derive(Clone, Copy)]
 pub struct VtcFault {
-    /// Its numbers; 0 in place of those that it doesn't have.
+    /// Its numbers; 0 for those that it doesn't have.
     pub first: usize,
     pub second: usize,
-    /// Where it is in the bytes.
+    /// Its offset in the bytes.
     pub offset: usize,
 }
 
-/// The verdict on a message, and on the bytes that it was read from.
+/// The verdict on a message and the bytes that it was read from.
 pub fn judged<M: WholeMessage<Global>>(message: &M, bytes: &[u8]) -> VtcVerdict
     ensures { IsJudged M.words bytes.now (M.message message.now) result }
 {
@@ -48,7 +48,7 @@ pub fn judged<M: WholeMessage<Global>>(message: &M, bytes: &[u8]) -> VtcVerdict
     }
 }
 
-// Whether a message can be written, as a number, and how many bytes it has; 0 where it can't.
+// 1 and the encoded length of a message, or 0 and 0 if it can't be encoded.
 fn fits_in<M: WholeMessage<Global>>(message: &M) -> (u8, usize)
     ensures fits { Says result.0 (M.words.Fits (M.message message.now)) }
     ensures counted { IsCounted (M.words.Fits (M.message message.now)) (M.words.bytes (M.message message.now)) result.1 }
@@ -59,7 +59,7 @@ fn fits_in<M: WholeMessage<Global>>(message: &M) -> (u8, usize)
     }
 }
 
-/// A fault of bytes.
+/// The first fault of bytes, for C.
 pub fn fault_of<M: HasForm>(fault: &DecodeError, bytes: &[u8]) -> VtcFault
     ensures numbers { (result.first, result.second) ≡ numbers_of fault.now }
     ensures place { result.offset ≤ length bytes.now }
@@ -72,7 +72,7 @@ pub fn fault_of<M: HasForm>(fault: &DecodeError, bytes: &[u8]) -> VtcFault
     }
 }
 
-// Where the first fault of bytes is in them.
+// The offset of the first fault.
 fn place_of(bytes: &[u8], what: What) -> usize
     ensures { result ≤ length bytes.now }
 {
@@ -82,7 +82,7 @@ fn place_of(bytes: &[u8], what: What) -> usize
     }
 }
 
-/// A verdict as a number.
+/// 1 if true, 0 if false.
 pub fn number(holds: bool) -> u8
     ensures { Numbers result holds }
 {

@@ -1,4 +1,4 @@
--- A frame at a place, and where the next one begins.
+-- A frame at an offset, and the offset of the next one.
 use Rattle.std.proofs.Common.{◌≡◌, ℕ, ◌+◌, ◌-◌, ◌%◌, ◌<◌, List, length, take, drop, refl, sym, ap, ◌∙◌, arith}
 use Rattle.std.proofs.lemmas.List.{length-drop, length-take-le, drop-take, drop-drop}
 use Rattle.nla_frames.specs.Fault.{read_as}

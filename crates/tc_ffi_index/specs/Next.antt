@@ -1,4 +1,4 @@
--- What a step over the attributes of a list gives.
+-- The result of `vtc_next`.
 use Rattle.std.specs.Prelude.{◌≡◌, ℕ, ◌<◌, ◌≤◌, List, length, take, drop, Ok, Err}
 use Rattle.nla_frames.specs.Fault.{Outcome}
 use Rattle.nla_frames.specs.Frame.{Frame}
@@ -6,20 +6,20 @@ use Rattle.nla_frames.specs.Cutting.{next_frame}
 use Rattle.tc_status.specs.Status.{status_of}
 use Rattle.tc_ffi_index.specs.declared.next.VtcAttr.{VtcAttr}
 
--- the frame's word, and where its value stands in the bytes
+-- the attribute has the frame's word, and offset and length of its value
 pub record Shows (bytes : List ℕ) (a : VtcAttr) (f : Frame) : Type 0 where
   pub same_word : a.word ≡ f.word
   pub same_len : a.len ≡ length f.value
   pub value : take a.len (drop a.offset bytes) ≡ f.value
 
--- this frame stands at the place, and what follows it begins at the next
+-- the frame is at offset `at`, and the bytes after it begin at `next`
 pub record Steps (bytes : List ℕ) (at next : ℕ) (a : VtcAttr) (found : Frame × List ℕ) : Type 0 where
   pub shown : Shows bytes a found.0
   pub rest : drop next bytes ≡ found.1
   pub further : at < next
   pub inside : next ≤ length bytes
 
--- 0: a frame; else the number of the fault
+-- status 0 and a frame, or the status of the fault
 abbrev pub NextsIs : List ℕ → ℕ → ℕ → VtcAttr → ℕ → Outcome (Frame × List ℕ) → Type 0
 NextsIs bytes at next a status (Ok found) = (status ≡ 0) × Steps bytes at next a found
 NextsIs bytes at next a status (Err e) = status ≡ status_of e

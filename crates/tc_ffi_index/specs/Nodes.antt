@@ -3,10 +3,10 @@ use Rattle.std.specs.Prelude.{◌≡◌, ℕ, List, [], ◌∷◌, ◌++◌, len
 use Rattle.tc_index.specs.declared.table.Table.{Table}
 use Rattle.tc_index.specs.declared.table.Table.TheVariants as the
 use Rattle.tc_index.specs.Tables.{table_of}
-use Rattle.tc_index.specs.Seen.{SeenNode}
+use Rattle.tc_index.specs.Views.{NodeView}
 use Rattle.tc_ffi_index.specs.declared.node.VtcNode.{VtcNode}
 
--- the tables by their numbers, from 0 on
+-- the tables in the order of their numbers, from 0
 abbrev pub tables : List Table
 tables =
     the.Message ∷ the.ActionMessage ∷ the.Stats2 ∷ the.Actions ∷ the.Action ∷ the.ActionOptions ∷ the.Mirror ∷ the.Nat ∷ the.TunnelKey
@@ -15,6 +15,6 @@ tables =
 abbrev pub table_at : ℕ → Option Table
 table_at n = slice_get tables n
 
--- the attribute that a slot holds, if its number is that of a table
-abbrev pub node_at : VtcNode → Option SeenNode
+-- the attribute in a slot, if its table number is valid
+abbrev pub node_at : VtcNode → Option NodeView
 node_at s = option_map (λ t. record { offset = s.offset; len = s.len; word = s.word; table = table_of t; depth = s.depth }) (table_at s.table)

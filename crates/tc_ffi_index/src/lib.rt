@@ -1,5 +1,5 @@
-//! The calls from C that take no memory: whether bytes are canonical, all attributes of a message, the next attribute of
-//! a list. `bindings/vtc.h` declares them.
+//! The calls from C that don't allocate, declared in `bindings/vtc.h`: whether bytes are canonical, all attributes of a
+//! message, the next attribute of a list.
 #![tactic(auto)]
 
 mod index;

@@ -1,4 +1,4 @@
-//! The attributes of a list, one by one; C keeps the place.
+//! `vtc_next`: the attributes of a list, one per call.
 
 ghost use Rattle.std.specs.Prelude.{◌≡◌, ◌≢◌, ◌<◌, ◌≤◌, length};
 ghost use Rattle.tc_ffi_index.specs.Next.{Nexts};
@@ -10,15 +10,15 @@ use tc_status::{END, OK, status_of};
 #[repr(C)]
 #[derive(Clone, Copy)]
 pub struct VtcAttr {
-    /// Where its value begins in the bytes.
+    /// The offset of its value in the bytes.
     pub offset: usize,
-    /// How many bytes its value has, without padding.
+    /// The length of its value in bytes, without padding.
     pub len: usize,
     /// `nla_type`: the type and the two flags.
     pub word: u16,
 }
 
-/// Takes the attribute at a place of the bytes, and moves the place behind it and its padding.
+/// Reads the attribute at offset `at` of the bytes, and moves the offset after it and its padding.
 #[unsafe(no_mangle)]
 pub extern "C" fn vtc_next(bytes: &[u8], at: &mut usize, attr: &mut VtcAttr) -> u32
     ensures steps { at.old < length bytes.now → Nexts bytes.now at.old at.new attr.new result }

@@ -1,4 +1,4 @@
-//! An attribute, as C sees it.
+//! An attribute of a message as C sees it.
 
 ghost use Rattle.std.specs.Prelude.{◌≡◌, Some};
 ghost use Rattle.tc_ffi_index.specs.Nodes.{table_at, node_at};
@@ -9,15 +9,15 @@ use tc_index::{Attribute, Slot, Table};
 #[repr(C)]
 #[derive(Clone, Copy)]
 pub struct VtcNode {
-    /// Where its value begins in the message, in bytes.
+    /// The offset of its value in the message, in bytes.
     pub offset: usize,
-    /// How many bytes its value has, without padding.
+    /// The length of its value in bytes, without padding.
     pub len: usize,
     /// `nla_type`: the type and the two flags.
     pub word: u16,
-    /// The number of the table that its type is of.
+    /// The number of its type's table: `VTC_TABLE_*`.
     pub table: u8,
-    /// In how many others it is.
+    /// The number of attributes that it is nested in.
     pub depth: u8,
 }
 

@@ -5,13 +5,13 @@ use crate::next::{VtcAttr, vtc_next};
 use crate::node::VtcNode;
 use crate::verdicts::{vtc_action_is_canonical, vtc_is_canonical};
 
-// A qdisc of the kind fq_codel with a limit of 10240 packets.
+// An fq_codel qdisc with a limit of 10240 packets.
 const FQ_CODEL: [u8; 48] = [
     0, 0, 0, 0, 2, 0, 0, 0, 0, 0, 1, 0, 255, 255, 255, 255, 0, 0, 0, 0, 13, 0, 1, 0, 102, 113, 95,
     99, 111, 100, 101, 108, 0, 0, 0, 0, 12, 0, 2, 0, 8, 0, 2, 0, 0, 40, 0, 0,
 ];
 
-// An action of the kind nat.
+// An action message with a nat action.
 const NAT: [u8; 20] = [
     0, 0, 0, 0, 16, 0, 1, 0, 12, 0, 1, 0, 8, 0, 1, 0, 110, 97, 116, 0,
 ];
@@ -25,7 +25,7 @@ const EMPTY: VtcNode = VtcNode {
 };
 
 #[test]
-fn of_a_qdisc(rt: HostRuntime) {
+fn index_of_a_qdisc(rt: HostRuntime) {
     let mut slots = [EMPTY; 4];
     assert!(rt; vtc_is_canonical(&FQ_CODEL) == 1);
     assert!(rt; vtc_index(&FQ_CODEL, &mut slots) == 3);
@@ -37,7 +37,7 @@ fn of_a_qdisc(rt: HostRuntime) {
 }
 
 #[test]
-fn of_actions(rt: HostRuntime) {
+fn index_of_actions(rt: HostRuntime) {
     let mut slots = [EMPTY; 4];
     assert!(rt; vtc_action_is_canonical(&NAT) == 1);
     assert!(rt; vtc_action_index(&NAT, &mut slots) == 3);
@@ -47,7 +47,7 @@ fn of_actions(rt: HostRuntime) {
 }
 
 #[test]
-fn one_by_one(rt: HostRuntime) {
+fn next_attributes(rt: HostRuntime) {
     let mut attr = VtcAttr {
         offset: 0,
         len: 0,

@@ -1,4 +1,4 @@
-//! Whether bytes are canonical.
+//! `vtc_is_canonical` and `vtc_action_is_canonical`.
 
 ghost use Rattle.tc_canon.specs.Canonical.{CanonTc, CanonAct};
 ghost use Rattle.tc_ffi_index.specs.Verdict.{Says};

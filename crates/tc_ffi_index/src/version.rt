@@ -1,8 +1,8 @@
-//! The version of the library.
+//! `vtc_version`.
 
 ghost use Rattle.std.specs.Prelude.{◌≡◌};
 
-/// The version of the library: the major number times 65536, the minor one times 256, and the patch.
+/// The version of the library: major * 65536 + minor * 256 + patch.
 #[unsafe(no_mangle)]
 pub extern "C" fn vtc_version() -> u32
     ensures { result ≡ 0x00_02_00 }

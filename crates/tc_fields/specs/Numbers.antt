@@ -1,4 +1,4 @@
--- What the named numbers are as fields of a record.
+-- Named numbers as fields of a record.
 use Rattle.nla_frames.specs.declared.family.AddressFamily.{AddressFamily}
 use Rattle.nla_frames.specs.declared.family.AddressFamily.TheVariants.{Other}
 use Rattle.nla_frames.specs.Family.{number_of}

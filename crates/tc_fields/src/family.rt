@@ -1,4 +1,4 @@
-//! A family of addresses as a field of a record.
+//! The address family as a field of a record.
 
 ghost use Rattle.std.specs.Prelude.{◌≡◌, ◌∷◌, [], refl};
 ghost use Rattle.tc_canon.specs.Descriptor.{named};
@@ -29,16 +29,16 @@ impl FixedRecord<1> for AddressFamily {
         }
     }
 
-    fn again(&self) -> Self {
+    fn copied(&self) -> Self {
         *self
     }
 
-    fn in_hand(self, _other: Self) {}
+    fn in_range(self, _other: Self) {}
 
     ghost whole = { refl };
 }
 
-/// True if both are one family, or `Other` of one number.
+/// True if both are the same family, or `Other` with the same number.
 pub fn same_family(one: AddressFamily, other: AddressFamily) -> bool
     ensures { result ≡ same_scalar (family_scalar one) (family_scalar other) }
 {

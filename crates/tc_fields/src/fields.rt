@@ -7,13 +7,13 @@ ghost use Rattle.nla_frames.specs.Value.{le_value, be_value};
 
 use std::net::Ipv4Addr;
 
-/// The bytes that are not read yet. Each call takes a field off their front. Numbers are little-endian unless the call
-/// says big-endian.
+/// The bytes not read yet. Each call takes a field off the front. Numbers are little-endian, except in `u16_be` and
+/// `u32_be`.
 #[derive(Drop)]
 pub struct Fields<'a>(pub &'a [u8]);
 
 impl<'a> Fields<'a> {
-    /// Bytes, or padding.
+    /// Takes `count` bytes: octets, or padding.
     pub fn octets(&mut self, count: usize) -> &'a [u8]
         requires { count ≤ length self.old.0.now }
         ensures value { result.now ≡ take count self.old.0.now }
@@ -25,7 +25,6 @@ impl<'a> Fields<'a> {
         front
     }
 
-    /// A number of one byte.
     pub fn u8(&mut self) -> u8
         requires { 1 ≤ length self.old.0.now }
         ensures value { result ≡ le_value (take 1 self.old.0.now) }
@@ -35,7 +34,6 @@ impl<'a> Fields<'a> {
         self.octets(1)[0]
     }
 
-    /// A number of two bytes.
     pub fn u16(&mut self) -> u16
         requires { 2 ≤ length self.old.0.now }
         ensures value { result ≡ le_value (take 2 self.old.0.now) }
@@ -46,7 +44,6 @@ impl<'a> Fields<'a> {
         u16::from_le_bytes([front[0], front[1]])
     }
 
-    /// A number of two bytes, big-endian.
     pub fn u16_be(&mut self) -> u16
         requires { 2 ≤ length self.old.0.now }
         ensures value { result ≡ be_value (take 2 self.old.0.now) }
@@ -57,7 +54,6 @@ impl<'a> Fields<'a> {
         u16::from_be_bytes([front[0], front[1]])
     }
 
-    /// A signed number of two bytes.
     pub fn i16(&mut self) -> i16
         requires { 2 ≤ length self.old.0.now }
         ensures value { cast_unsigned w16 result ≡ le_value (take 2 self.old.0.now) }
@@ -68,7 +64,6 @@ impl<'a> Fields<'a> {
         i16::from_le_bytes([front[0], front[1]])
     }
 
-    /// A number of four bytes.
     pub fn u32(&mut self) -> u32
         requires { 4 ≤ length self.old.0.now }
         ensures value { result ≡ le_value (take 4 self.old.0.now) }
@@ -79,7 +74,6 @@ impl<'a> Fields<'a> {
         u32::from_le_bytes([front[0], front[1], front[2], front[3]])
     }
 
-    /// A number of four bytes, big-endian.
     pub fn u32_be(&mut self) -> u32
         requires { 4 ≤ length self.old.0.now }
         ensures value { result ≡ be_value (take 4 self.old.0.now) }
@@ -90,7 +84,6 @@ impl<'a> Fields<'a> {
         u32::from_be_bytes([front[0], front[1], front[2], front[3]])
     }
 
-    /// A signed number of four bytes.
     pub fn i32(&mut self) -> i32
         requires { 4 ≤ length self.old.0.now }
         ensures value { cast_unsigned w32 result ≡ le_value (take 4 self.old.0.now) }
@@ -101,7 +94,6 @@ impl<'a> Fields<'a> {
         i32::from_le_bytes([front[0], front[1], front[2], front[3]])
     }
 
-    /// A number of eight bytes.
     pub fn u64(&mut self) -> u64
         requires { 8 ≤ length self.old.0.now }
         ensures value { result ≡ le_value (take 8 self.old.0.now) }
@@ -113,7 +105,7 @@ impl<'a> Fields<'a> {
         u64::from_le_bytes(octets)
     }
 
-    /// An IPv4 address.
+    /// Takes an IPv4 address, four bytes.
     pub fn ipv4_addr(&mut self) -> Ipv4Addr
         requires { 4 ≤ length self.old.0.now }
         ensures value { ipv4_octets result ≡ take 4 self.old.0.now }

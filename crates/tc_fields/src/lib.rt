@@ -1,5 +1,5 @@
-//! The fields of fixed records: a trait for what all records have, a cursor that reads fields, and a scratch array that
-//! they are written into.
+//! Fixed records: a trait for all of them, a cursor that reads fields, and a scratch array that fields are written
+//! into.
 #![tactic(auto)]
 
 pub mod family;

@@ -1,4 +1,4 @@
-//! A scratch array in which the bytes of a record are put together.
+//! A scratch array for the bytes of a record.
 
 ghost use Rattle.std.specs.Prelude.{◌≡◌, ◌≤◌, ◌+◌, ◌++◌, [], length, replicate};
 ghost use Rattle.std.specs.Int.{w16, w32, cast_unsigned};
@@ -9,11 +9,11 @@ ghost use Rattle.tc_fields.specs.Record.{written, filled};
 use nla_frames::{i32_bytes, u16_be_bytes, u16_bytes, u32_be_bytes, u32_bytes, u64_bytes};
 use std::net::Ipv4Addr;
 
-/// How long the longest record is, in bytes.
+/// The length of the longest record, `struct tc_stats`, in bytes.
 pub(crate) const LONGEST: usize = 40;
 
-/// The bytes of the fields that are written, and room for the others. Each call adds a field. Numbers are little-endian
-/// unless the call says big-endian.
+/// The bytes written so far, in an array for the longest record. Each call appends a field. Numbers are little-endian,
+/// except in `u16_be` and `u32_be`.
 #[derive(Drop)]
 pub struct Octets {
     bytes: [u8; LONGEST],
@@ -21,7 +21,6 @@ pub struct Octets {
 }
 
 impl Octets {
-    /// No field.
     #[tactic(auto, unfolding(crate::specs::Record::written))]
     pub fn new() -> Octets
         ensures written { written result ≡ [] }
@@ -33,7 +32,7 @@ impl Octets {
         }
     }
 
-    /// Bytes.
+    /// Appends bytes.
     #[tactic(auto, unfolding(crate::specs::Record::written))]
     pub fn octets(&mut self, octets: &[u8])
         requires { filled self.old + length octets.now ≤ 40 }
@@ -45,7 +44,7 @@ impl Octets {
         self.len = end;
     }
 
-    /// Padding, at most eight zero bytes.
+    /// Appends padding: up to eight zero bytes.
     pub fn pad(&mut self, count: usize)
         requires few { count ≤ 8 }
         requires room { filled self.old + count ≤ 40 }
@@ -55,7 +54,6 @@ impl Octets {
         self.octets(&[0; 8][..count]);
     }
 
-    /// A number of one byte.
     pub fn u8(&mut self, value: u8)
         requires { filled self.old + 1 ≤ 40 }
         ensures written { written self.new ≡ written self.old ++ le_bytes 1 value }
@@ -64,7 +62,6 @@ impl Octets {
         self.octets(&[value]);
     }
 
-    /// A number of two bytes.
     pub fn u16(&mut self, value: u16)
         requires { filled self.old + 2 ≤ 40 }
         ensures written { written self.new ≡ written self.old ++ le_bytes 2 value }
@@ -73,7 +70,6 @@ impl Octets {
         self.octets(&u16_bytes(value));
     }
 
-    /// A number of two bytes, big-endian.
     pub fn u16_be(&mut self, value: u16)
         requires { filled self.old + 2 ≤ 40 }
         ensures written { written self.new ≡ written self.old ++ be_bytes 2 value }
@@ -82,7 +78,6 @@ impl Octets {
         self.octets(&u16_be_bytes(value));
     }
 
-    /// A signed number of two bytes.
     pub fn i16(&mut self, value: i16)
         requires { filled self.old + 2 ≤ 40 }
         ensures written { written self.new
@@ -92,7 +87,6 @@ impl Octets {
         self.octets(&i16::to_le_bytes(value));
     }
 
-    /// A number of four bytes.
     pub fn u32(&mut self, value: u32)
         requires { filled self.old + 4 ≤ 40 }
         ensures written { written self.new ≡ written self.old ++ le_bytes 4 value }
@@ -101,7 +95,6 @@ impl Octets {
         self.octets(&u32_bytes(value));
     }
 
-    /// A number of four bytes, big-endian.
     pub fn u32_be(&mut self, value: u32)
         requires { filled self.old + 4 ≤ 40 }
         ensures written { written self.new ≡ written self.old ++ be_bytes 4 value }
@@ -110,7 +103,6 @@ impl Octets {
         self.octets(&u32_be_bytes(value));
     }
 
-    /// A signed number of four bytes.
     pub fn i32(&mut self, value: i32)
         requires { filled self.old + 4 ≤ 40 }
         ensures written { written self.new
@@ -120,7 +112,6 @@ impl Octets {
         self.octets(&i32_bytes(value));
     }
 
-    /// A number of eight bytes.
     pub fn u64(&mut self, value: u64)
         requires { filled self.old + 8 ≤ 40 }
         ensures written { written self.new ≡ written self.old ++ le_bytes 8 value }
@@ -129,7 +120,7 @@ impl Octets {
         self.octets(&u64_bytes(value));
     }
 
-    /// An IPv4 address.
+    /// Appends an IPv4 address, four bytes.
     pub fn ipv4_addr(&mut self, value: Ipv4Addr)
         requires { filled self.old + 4 ≤ 40 }
         ensures written { written self.new ≡ written self.old ++ ipv4_octets value }
@@ -138,7 +129,7 @@ impl Octets {
         self.octets(&value.octets());
     }
 
-    /// The bytes of the fields that are written.
+    /// The bytes written so far.
     #[tactic(auto, unfolding(crate::specs::Record::written))]
     pub fn as_slice(&self) -> &[u8]
         requires { filled self.now ≤ 40 }

@@ -1,8 +1,8 @@
--- A copy of an option that is no list is an option that contracts see as the same.
+-- A copy of an option without a list has the same abstract value.
 use Rattle.std.proofs.Common.{◌≡◌, Bool, true, false, sym, ap, ◌∙◌}
 use Rattle.tc_meaning.specs.Tree.{Attribute, known, items}
 use Rattle.tc_actions.specs.declared.actions.action.TcAction.{TcAction}
-use Rattle.tc_mpls.specs.declared.mpls.TcFilterFlowerMplsOption.{TcFilterFlowerMplsOption}
+use Rattle.tc_flower.specs.declared.filters.flower.mpls.TcFilterFlowerMplsOption.{TcFilterFlowerMplsOption}
 use Rattle.tc_flower.specs.declared.filters.flower.options.TcFilterFlowerOption.{TcFilterFlowerOption}
 use Rattle.tc_flower.specs.declared.filters.flower.options.TcFilterFlowerOption.TheVariants.{Actions, MplsOpts}
 use Rattle.tc_flower.specs.Flower.{flower_option, IsCopy}

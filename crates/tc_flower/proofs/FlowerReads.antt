@@ -1,4 +1,4 @@
--- What flower's table reads of a frame, by what an option of its type holds.
+-- The reading of a frame by flower's table, for each kind of value.
 use Rattle.std.proofs.Common.{◌≡◌, ℕ, List, true, false, Ok, Err, refl, sym, ap, subst, ◌∙◌, arith}
 use Rattle.std.specs.Prelude.{[], ◌&&◌, not, IsTrue}
 use Rattle.std.proofs.lemmas.Bool.{and_parts}
@@ -21,7 +21,7 @@ seen_twice : {X : Type 0} (after : Content → Attribute) (into : X → Content)
 seen_twice after into (Ok x) = refl
 seen_twice after into (Err e) = refl
 
--- ---- types that hold one kind of value: their rows have one class, and by that they are read
+-- ---- types with one kind of value: their rows have one class
 
 module _ (class : Class) {X : Type 0} (into : X → Content) (read : List ℕ → Outcome X)
     (reads : (v : List ℕ) → (class_codec class).read [] v ≡ seen into (read v)) where

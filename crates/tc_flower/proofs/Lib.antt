@@ -1,3 +1,5 @@
+pub mod MplsLists
+pub mod MplsBodies
 pub mod Spans
 pub mod FlowerReads
 pub mod Bodies

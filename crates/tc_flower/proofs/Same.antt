@@ -1,4 +1,4 @@
--- What contracts see of flower's options is all that they hold: the option is made of it again.
+-- Flower's options follow from their abstract values.
 use Rattle.std.proofs.Common.{◌≡◌, ℕ, List, [], ◌∷◌, Option, Some, None, refl, sym, ap, subst, ◌∙◌}
 use Rattle.std.specs.Prelude.{◌==◌, if◌then◌else◌}
 use Rattle.std.proofs.lemmas.Nat.{div-add-mod'}
@@ -23,13 +23,13 @@ segments_again : (s : List ℕ) → segments_of (octets_of s) ≡ s
 segments_again [] = refl
 segments_again (x ∷ s) = rw (div-add-mod' x 256, segments_again s) refl
 
--- what the variant of a type makes of something
+-- the variant of a type, applied to a value
 abbrev made : {X Y : Type 0} → List (ℕ × (X → Y)) → ℕ → X → Option Y
 made [] n x = None
 made (v ∷ vs) n x = if n == v.0 then Some (v.1 x) else made vs n x
 
 module _ {A : Type 0} where
-  -- the variants by what they hold, each at its type: numbers, bytes, addresses
+  -- the variants with their types, by their values: numbers, bytes, addresses
   abbrev numbers : List (ℕ × (ℕ → TcFilterFlowerOption A))
   numbers =
       (1, option.ClassId) ∷ (8, option.EthType) ∷ (9, option.IpProto) ∷ (18, option.TcpSrc) ∷ (19, option.TcpDst)
@@ -77,7 +77,7 @@ module _ {A : Type 0} where
   first None other = other
   first (Some x) other = Some x
 
-  -- the option, of what contracts see of it; none where it is a text or a list, or is kept raw
+  -- the option of an abstract value; none for a text, a list, or a raw one
   abbrev option_of : Attribute → Option (TcFilterFlowerOption A)
   option_of (known n (number m)) = made numbers n m
   option_of (known n (is_bytes v)) = first (made arrays n v) (first (made ipv4 n (ipv4_of v)) (made ipv6 n (ipv6_of v)))

@@ -1,4 +1,4 @@
--- What a table reads is what its spans say, where its rows are in order.
+-- If the rows of a table are in order, its spans say which types it reads.
 use Rattle.std.proofs.Common.{◌≡◌, ℕ, suc, ◌+◌, ◌≤◌, ◌<◌, List, [], ◌∷◌, Bool, true, false, cond, refl, arith}
 use Rattle.std.specs.Prelude.{◌==◌, ◌||◌, nat_le}
 use Rattle.std.proofs.Math.Bool.{or_assoc}
@@ -32,7 +32,7 @@ reads_above (types first last flags c rows) low n ok e = grind (arith, nat_tests
 reads_above (unread m c rows) low n ok e = grind (arith, nat_tests, reads_above rows (suc m) n)
 reads_above (options m kinds rows) low n ok e = grind (arith, nat_tests, reads_above rows (suc m) n)
 
--- ---- what a table reads at a type of a span of a class
+-- ---- the reading at a type in a span of a class
 
 pub class_read : (class : Class) (rows : Rows) (low n : ℕ) → in_order low rows ≡ true → holds class rows n ≡ true → (k : List ℕ) (f : Frame)
     → (rows_codec rows n).read k f ≡ seen (known n) ((class_codec class).read k f.value)
@@ -62,7 +62,7 @@ class_read class (options m kinds rows) low n ok e k f =
     let past : m < n = holds_above class rows (suc m) n later e in
     rw (ne_eqb n m (λ is. omega (arith, is, past))) (class_read class rows (suc m) n later e k f)
 
--- ---- what a table reads at all
+-- ---- the types that a table reads
 
 -- the first span isn't empty
 abbrev starts : List (ℕ × ℕ) → Bool

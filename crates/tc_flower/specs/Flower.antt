@@ -1,4 +1,4 @@
--- An option of flower as contracts see it.
+-- The abstract value of an option of flower.
 use Rattle.std.specs.Prelude.{◌≡◌, map, string_bytes}
 use Rattle.std.specs.List.{AllZip}
 use Rattle.std.specs.Net.Addr.{ipv4_octets, ipv6_octets}
@@ -12,10 +12,10 @@ use Rattle.tc_values.specs.declared.body.Items.{Items}
 use Rattle.tc_values.specs.declared.body.Either.{Either}
 use Rattle.tc_actions.specs.Action.{tc_action, an_action}
 use Rattle.tc_actions.specs.declared.actions.action.TcAction.{TcAction}
-use Rattle.tc_mpls.specs.declared.mpls.TcFilterFlowerMplsOption.{TcFilterFlowerMplsOption}
+use Rattle.tc_flower.specs.declared.filters.flower.mpls.TcFilterFlowerMplsOption.{TcFilterFlowerMplsOption}
 use Rattle.tc_flower.specs.declared.filters.flower.options.TcFilterFlowerOption.{TcFilterFlowerOption}
 use Rattle.tc_flower.specs.declared.filters.flower.options.TcFilterFlowerOption.TheVariants as option
-use Rattle.tc_mpls.specs.Mpls.{mpls_option}
+use Rattle.tc_flower.specs.Mpls.{mpls_option}
 
 abbrev pub flower_option : {A : Type 0} → TcFilterFlowerOption A → Attribute
 flower_option (option.ClassId n) = known 1 (number n)
@@ -128,7 +128,7 @@ SameFlower (option.MplsOpts v) (option.MplsOpts w) = map mpls_option v.items ≡
 SameFlower (option.Other x) (option.Other y) = kept_frame x ≡ kept_frame y
 SameFlower a b = a ≡ b
 
--- what is nested in the options: actions, or what MPLS is matched by
+-- nested values of the options: actions, or matches on MPLS
 abbrev pub flower_lists : {A : Type 0} → Inner (Either (Items (TcAction A)) (Items (TcFilterFlowerMplsOption A)))
 flower_lists = either (items_of tc_action an_action) (items_of mpls_option (table mpls_options))
 

@@ -1,4 +1,4 @@
--- What an option of flower holds, and the types under which it does.
+-- The value of an option of flower, and the types that have it.
 use Rattle.std.specs.Prelude.{◌≡◌, ◌&&◌, ◌==◌, not, ℕ, Bool, true, map, string_bytes}
 use Rattle.std.specs.Net.Addr.{ipv4_octets, ipv6_octets}
 use Rattle.nla_frames.specs.DefaultNla.{kept_frame}
@@ -10,14 +10,14 @@ use Rattle.tc_flower.specs.declared.filters.flower.options.TcFilterFlowerOption.
 use Rattle.tc_flower.specs.declared.filters.flower.options.TcFilterFlowerOption.TheVariants.{Actions, MplsOpts}
 use Rattle.tc_flower.specs.declared.filters.flower.options.held.Held.{Held}
 use Rattle.tc_flower.specs.declared.filters.flower.options.held.Held.TheVariants as held
-use Rattle.tc_mpls.specs.Mpls.{mpls_option}
+use Rattle.tc_flower.specs.Mpls.{mpls_option}
 use Rattle.tc_flower.specs.Spans.{holds}
 
--- the types of labels in connection tracking, which have as many bytes as an IPv6 address
+-- the types of labels of connection tracking, which have 16 bytes, as an IPv6 address has
 abbrev pub are_labels : ℕ → Bool
 are_labels n = is_within 97 98 n
 
--- the types under which an option holds it
+-- the types of options with this value
 abbrev pub is_held_at : {A : Type 0} → Held A → ℕ → Bool
 is_held_at (held.ClassId m) n = n == 1
 is_held_at (held.Name name) n = n == 2
@@ -37,7 +37,7 @@ is_held_at (held.Bits20 m) n = n == 70
 is_held_at (held.MplsOpts options) n = n == 99
 is_held_at (held.Other nla) n = true
 
--- the option of a type that holds it
+-- the abstract option of a type with this value
 abbrev pub held_at : {A : Type 0} → ℕ → Held A → Attribute
 held_at n (held.ClassId m) = known n (number m)
 held_at n (held.Name name) = known n (is_bytes (string_bytes name.now))
@@ -57,7 +57,7 @@ held_at n (held.Bits20 m) = known n (number m)
 held_at n (held.MplsOpts options) = known n (items (attributes_of (map mpls_option options.now.items)))
 held_at n (held.Other nla) = other (kept_frame nla.now).word (kept_frame nla.now).value
 
--- a list that is held is the option's own
+-- a list in the value is the option's
 abbrev pub IsListHeld : {A : Type 0} → TcFilterFlowerOption A → Held A → Type 0
 IsListHeld option (held.Actions actions) = option ≡ Actions actions.now
 IsListHeld option (held.MplsOpts options) = option ≡ MplsOpts options.now

@@ -1,3 +1,4 @@
+pub mod Mpls
 pub mod Flower
 pub mod Spans
 pub mod Held

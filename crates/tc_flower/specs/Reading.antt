@@ -1,4 +1,4 @@
--- What flower's table reads of a frame.
+-- The reading of a frame by flower's table.
 use Rattle.std.specs.Prelude.{[]}
 use Rattle.nla_frames.specs.Fault.{Outcome}
 use Rattle.nla_frames.specs.Frame.{Frame}
@@ -7,6 +7,6 @@ use Rattle.tc_canon.specs.Tables.Flower.{flower_options}
 use Rattle.tc_meaning.specs.Tree.{Attribute}
 use Rattle.tc_meaning.specs.Meaning.{table_codec}
 
--- what is read of a frame, under any kind
+-- the reading of a frame, under any kind
 unfoldable pub flower_read : Frame → Outcome Attribute
 flower_read f = (table_codec (table flower_options)).read [] f

@@ -9,14 +9,14 @@ same_class (be m) (be n) = m == n
 same_class (array m) (array n) = m == n
 same_class _ _ = false
 
--- the table reads the type by a row of this class: computed, these are the spans of the class
+-- the type has a row of this class in the table; computed, these are the spans of the class
 abbrev pub holds : Class → Rows → ℕ → Bool
 holds class others n = false
 holds class (types first last flags c rows) n = if same_class class c then (is_within first last n || holds class rows n) else holds class rows n
 holds class (unread m c rows) n = holds class rows n
 holds class (options m kinds rows) n = holds class rows n
 
--- a span before others, joined to the next one where that begins at the type after its last
+-- a span before others, joined to the next one if that begins at the type after its last
 abbrev pub join : ℕ → ℕ → List (ℕ × ℕ) → List (ℕ × ℕ)
 join first last [] = (first, last) ∷ []
 join first last (s ∷ spans) = if suc last == s.0 then (first, s.1) ∷ spans else (first, last) ∷ s ∷ spans

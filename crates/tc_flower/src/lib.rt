@@ -1,8 +1,10 @@
-//! The flower filter. The options of MPLS in it are of `tc_mpls`.
+//! The flower filter, with its matches on MPLS label stacks.
+//!
+//! Calls that take an allocator fail with `OutOfMemory` if it fails.
 #![tactic(auto)]
 
 pub mod filters;
 pub mod laws;
 
+pub use filters::flower::mpls::{TcFilterFlowerMplsLseOption, TcFilterFlowerMplsOption};
 pub use filters::flower::options::{TcFilterFlower, TcFilterFlowerOption};
-pub use tc_mpls::{TcFilterFlowerMplsLseOption, TcFilterFlowerMplsOption};

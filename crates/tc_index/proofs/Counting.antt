@@ -1,4 +1,4 @@
--- How many attributes bytes have at most: one for every four bytes.
+-- Bytes have at most one attribute for every four bytes.
 use Rattle.std.proofs.Common.{◌≡◌, ℕ, zero, suc, ◌+◌, ◌*◌, ◌<◌, ◌≤◌, List, [], ◌∷◌, ◌++◌, length, take, drop, Option, Some, None, Ok, Err, refl, sym, ap, ◌∙◌, arith}
 use Rattle.std.proofs.Common.{zero-add, ◌/◌}
 use Rattle.std.proofs.lemmas.List.{length-drop, length-take-le, drop_all}
@@ -15,11 +15,11 @@ use Rattle.tc_canon.specs.Descriptor.{Table, table}
 use Rattle.tc_canon.specs.Kind.{kind_of_frame}
 use Rattle.tc_canon.specs.Tables.Messages.{attributes, action_message_attributes}
 use Rattle.tc_index.specs.Nesting.{class_in, list_in}
-use Rattle.tc_index.specs.Attributes.{Item, Gives, each, Walk, within, with_inner, attributes_in, to_fault, message_items, tc_items, action_items}
-use Rattle.tc_index.specs.Seen.{SeenNode, node_of}
+use Rattle.tc_index.specs.Attributes.{Item, Yields, each, Walk, within, with_inner, attributes_in, to_fault, message_items, tc_items, action_items}
+use Rattle.tc_index.specs.Views.{NodeView, node_of}
 use Rattle.tc_index.specs.Nodes.{nodes_of, tc_nodes, action_nodes}
 
--- how many attributes are among items
+-- the number of attributes among items
 abbrev count : List Item → ℕ
 count [] = 0
 count (Ok p ∷ items) = suc (count items)
@@ -30,7 +30,7 @@ count-append [] ys = sym (zero-add (count ys))
 count-append (Ok p ∷ xs) ys = ap suc (count-append xs ys) ∙ omega arith
 count-append (Err broken ∷ xs) ys = count-append xs ys
 
--- those before the first broken frame are no more
+-- up to the first malformed frame there are at most as many
 nodes-count : (items : List Item) → length (nodes_of (to_fault items)) ≤ count items
 nodes-count [] = omega arith
 nodes-count (Ok p ∷ items) = omega (arith, nodes-count items)
@@ -38,7 +38,7 @@ nodes-count (Err broken ∷ items) = omega arith
 
 pub nodes-to_fault : (items : List Item) → nodes_of (to_fault items) ≡ nodes_of items
 nodes-to_fault [] = refl
-nodes-to_fault (Ok p ∷ items) = ap (λ (nodes : List SeenNode). node_of p ∷ nodes) (nodes-to_fault items)
+nodes-to_fault (Ok p ∷ items) = ap (λ (nodes : List NodeView). node_of p ∷ nodes) (nodes-to_fault items)
 nodes-to_fault (Err broken ∷ items) = refl
 
 -- a frame takes its header and its value
@@ -49,31 +49,31 @@ frame-takes bytes f after found =
     let value : length (drop 4 (take l bytes)) ≡ length f.value = ap (λ (x : Frame). length x.value) next.frame in
     let rest : length (drop (padding l) (drop l bytes)) ≡ length after = ap length next.rest in
     let front = length-take-le l bytes next.whole in
-    let behind = length-drop (padding l) (drop l bytes) in
-    omega (arith, next.whole, next.long, value, rest, front, behind, length-drop 4 (take l bytes), length-drop l bytes)
+    let skipped = length-drop (padding l) (drop l bytes) in
+    omega (arith, next.whole, next.long, value, rest, front, skipped, length-drop 4 (take l bytes), length-drop l bytes)
 
--- a list of frames
-abbrev Fewer : Gives → Sets Frame → List ℕ → Type 0
-Fewer gives sets bytes = (k : List ℕ) (at : ℕ) → 4 * count (each gives sets k at (items_of (cut bytes))) ≤ length bytes
+-- a list has at most one attribute for every four bytes
+abbrev Fewer : Yields → Sets Frame → List ℕ → Type 0
+Fewer yields sets bytes = (k : List ℕ) (at : ℕ) → 4 * count (each yields sets k at (items_of (cut bytes))) ≤ length bytes
 
-each-count : (gives : Gives) (sets : Sets Frame) → ((k : List ℕ) (at : ℕ) (f : Frame) → 4 * count (gives k at f) ≤ 4 + length f.value)
-    → (bytes : List ℕ) → Fewer gives sets bytes
-each-count gives sets few = by_frames (Fewer gives sets) none broken more
+each-count : (yields : Yields) (sets : Sets Frame) → ((k : List ℕ) (at : ℕ) (f : Frame) → 4 * count (yields k at f) ≤ 4 + length f.value)
+    → (bytes : List ℕ) → Fewer yields sets bytes
+each-count yields sets few = by_frames (Fewer yields sets) none broken more
   where
-    none : Fewer gives sets []
+    none : Fewer yields sets []
     none k at = rw items-nil (omega arith)
 
-    broken : (bytes : List ℕ) (e : DecodeError) → 0 < length bytes → next_frame bytes ≡ Err e → Fewer gives sets bytes
+    broken : (bytes : List ℕ) (e : DecodeError) → 0 < length bytes → next_frame bytes ≡ Err e → Fewer yields sets bytes
     broken bytes e some is k at = rw (cut_refused bytes e some is) (omega arith)
 
-    more : (bytes : List ℕ) (f : Frame) (after : List ℕ) → next_frame bytes ≡ Ok (f, after) → Fewer gives sets after → Fewer gives sets bytes
+    more : (bytes : List ℕ) (f : Frame) (after : List ℕ) → next_frame bytes ≡ Ok (f, after) → Fewer yields sets after → Fewer yields sets bytes
     more bytes f after is later k at =
-        let rest = each gives sets (kind_then sets k f) (at + frame_length f) (items_of (cut after)) in
+        let rest = each yields sets (kind_then sets k f) (at + frame_length f) (items_of (cut after)) in
         let taken = frame-takes bytes f after is in
         rw (items-next_frame bytes (f, after) is)
-        (omega (arith, count-append (gives k (at + 4) f) rest, few k (at + 4) f, later (kind_then sets k f) (at + frame_length f), taken))
+        (omega (arith, count-append (yields k (at + 4) f) rest, few k (at + 4) f, later (kind_then sets k f) (at + frame_length f), taken))
 
--- an attribute and those in it
+-- an attribute and those nested in it
 inner-count : (walk : Walk) → ((t : Table) (k : List ℕ) (depth at : ℕ) (bytes : List ℕ) → 4 * count (walk t k depth at bytes) ≤ length bytes)
     → (t : Table) (depth : ℕ) (k : List ℕ) (at : ℕ) (f : Frame) → 4 * count (with_inner walk t depth k at f) ≤ 4 + length f.value
 inner-count walk few t depth k at f = go (list_in (class_in t (type_of f.word) k) k f.value)
@@ -105,6 +105,6 @@ pub action-count : (bytes : List ℕ) → length (action_nodes bytes) ≤ length
 unfolding action_items
 action-count bytes = message-count 4 (table action_message_attributes) keep bytes
 
--- a header that is short
+-- bytes shorter than the header
 pub no-items : (header : ℕ) (t : Table) (sets : Sets Frame) (bytes : List ℕ) → length bytes < header → message_items 4 header t sets bytes ≡ []
 no-items header t sets bytes short = rw (drop_all header bytes (omega arith), items-nil) refl

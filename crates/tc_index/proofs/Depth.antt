@@ -1,4 +1,4 @@
--- The tables nest no deeper than a walk goes.
+-- The tables nest at most four deep.
 use Rattle.std.proofs.Common.{◌≡◌, ℕ, zero, suc, ◌+◌, ◌<◌, ◌≤◌, List, [], ◌∷◌, Option, Some, None, Ok, Err, refl, ap, arith}
 use Rattle.std.specs.Prelude.{Bool, true, false, max, ◌==◌, unwrap_or, if◌then◌else◌, drop}
 use Rattle.std.specs.Str.{bytes_eq}
@@ -9,9 +9,9 @@ use Rattle.nla_frames.specs.Reading.{keep}
 use Rattle.nla_frames.specs.Cutting.{cut, items_of}
 use Rattle.tc_canon.specs.Descriptor.{Class, raw, list_of, own_list, Table, table, every, by_kind, Rows, others, types, unread, options, Kinds, unknown, kind, is_within, is_known}
 use Rattle.tc_index.specs.Nesting.{class_at, class_in, known_table, table_under, list_in}
-use Rattle.tc_index.specs.Attributes.{Gives, each, Walk, within, with_inner, attributes_in, to_fault, message_items}
+use Rattle.tc_index.specs.Attributes.{Yields, each, Walk, within, with_inner, attributes_in, to_fault, message_items}
 
--- in how many lists an attribute of a table may hold others
+-- how deep the attributes of a table can nest others
 abbrev mutual
   pub lists_in : Class → ℕ
   lists_in (list_of t) = suc (lists_of t)
@@ -73,7 +73,7 @@ under-lists (by_kind kinds) k = known-lists kinds k (by_kind kinds) (lists_under
 under-lists (table rows) k = omega arith
 under-lists (every class) k = omega arith
 
--- a list in an attribute has one less
+-- the list in an attribute nests one level less
 list_in-lists : (class : Class) (k value : List ℕ) (list : Table × List ℕ) → list_in class k value ≡ Some list → suc (lists_of list.0) ≤ lists_in class
 list_in-lists (list_of t) k value list is =
     let same : table_under t k ≡ list.0 = cc in
@@ -85,15 +85,15 @@ list_in-lists (own_list rows) k value list is =
     omega (arith, low)
 list_in-lists _ k value list is = absurd cc
 
--- lists whose frames give the same
-each-same : (g h : Gives) (sets : Sets Frame) → ((k : List ℕ) (at : ℕ) (f : Frame) → g k at f ≡ h k at f) → (k : List ℕ) (at : ℕ) (items : List (Outcome Frame))
+-- lists whose frames yield the same
+each-same : (g h : Yields) (sets : Sets Frame) → ((k : List ℕ) (at : ℕ) (f : Frame) → g k at f ≡ h k at f) → (k : List ℕ) (at : ℕ) (items : List (Outcome Frame))
     → each g sets k at items ≡ each h sets k at items
 each-same g h sets same k at [] = refl
 each-same g h sets same k at (Ok f ∷ items) =
     rw (same k (at + 4) f, each-same g h sets same (kind_then sets k f) (at + frame_length f) items) refl
 each-same g h sets same k at (Err e ∷ items) = refl
 
--- attributes with those in them, by two walks that go deep enough
+-- two walks that go deep enough find the same attributes
 inner-same : (v w : Walk) (bound : ℕ)
     → ((t : Table) → lists_of t < bound → (k : List ℕ) (depth at : ℕ) (bytes : List ℕ) → v t k depth at bytes ≡ w t k depth at bytes)
     → (t : Table) → lists_of t ≤ bound → (depth : ℕ) (k : List ℕ) (at : ℕ) (f : Frame) → with_inner v t depth k at f ≡ with_inner w t depth k at f
@@ -117,7 +117,7 @@ enough (suc n) (suc m) t low high k depth at bytes =
     (λ k at f. inner-same (attributes_in n) (attributes_in m) (lists_of t) (λ u l. enough n m u (omega arith) (omega arith)) t (omega arith) depth k at f)
     k at (items_of (cut bytes))
 
--- a message that goes four lists deep at most
+-- a message of a table that nests at most four deep
 pub deep-enough : (n header : ℕ) (t : Table) (sets : Sets Frame) (bytes : List ℕ) → lists_of t ≤ 4
     → message_items (4 + n) header t sets bytes ≡ message_items 4 header t sets bytes
 deep-enough n header t sets bytes low =

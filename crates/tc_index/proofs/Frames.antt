@@ -9,14 +9,14 @@ use Rattle.nla_frames.specs.Buffer.{first_of}
 use Rattle.nla_frames.specs.Cutting.{next_frame}
 use Rattle.nla_frames.proofs.NextFrame.{next_frame-is}
 
--- a frame at the front takes so many bytes: it and its padding, or all that are left
+-- the frame at the front takes n bytes: with its padding, or all bytes that are left
 pub record Takes (rest : List ℕ) (f : Frame) (n : ℕ) : Type 0 where
   pub next : next_frame rest ≡ Ok (f, drop n rest)
   pub all : (n ≡ frame_length f) ⊎ (drop n rest ≡ [])
   pub within : n ≤ length rest
   pub some : 4 + length f.value ≤ n
 
--- the lesser of a length and all that is left skips the same
+-- dropping at most as many bytes as there are
 skips : (rest : List ℕ) (n m : ℕ) → m ≡ Prim.Native.Nat.min n (length rest) → drop m rest ≡ drop n rest
 skips rest n m is = go (cases_lt (length rest) n)
   where
@@ -52,7 +52,7 @@ takes rest f long n first long_is n_is = go (next_frame rest) refl first
         either (inl l) = inr (drop_all n rest (omega (arith, n_is)))
         either (inr l) = let pads : padding (4 + length f.value) ≡ padding (length f.value) = omega arith in inl (omega (arith, n_is, long_is, pads))
 
--- a frame at the front lies within the bytes
+-- the frame at the front is within the bytes
 pub first-fits : (rest : List ℕ) (f : Frame) → read_as f ≡ first_of (next_frame rest) → 4 + length f.value ≤ length rest
 first-fits rest f first =
     let t = takes rest f (4 + length f.value) (Prim.Native.Nat.min (4 + length f.value + (4 - (4 + length f.value) % 4) % 4) (length rest)) first refl refl in

@@ -4,5 +4,5 @@ pub mod Walks
 pub mod Filling
 pub mod Counting
 pub mod Putting
-pub mod Standing
+pub mod Offsets
 pub mod Depth

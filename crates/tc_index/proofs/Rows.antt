@@ -1,4 +1,4 @@
--- Which types of a table hold lists.
+-- Which types of a table nest lists.
 use Rattle.std.proofs.Common.{◌≡◌, ◌⊎◌, ℕ, ◌<◌, ◌≤◌, List, Option, Some, None, Bool, true, false, refl, ap, ◌∙◌, arith, inl, inr}
 use Rattle.std.proofs.lemmas.Bool.{cases_lt, le-leb, lt-leb}
 use Rattle.std.specs.Prelude.{◌==◌, ◌&&◌, ◌||◌, is_some, option_map, if◌then◌else◌}
@@ -11,14 +11,14 @@ use Rattle.tc_index.specs.declared.table.Table.TheVariants as the
 use Rattle.tc_index.specs.Tables.{rows_in, table_of}
 use Rattle.tc_index.specs.Nesting.{class_at, class_in, inner_table, list_in, known_table}
 
--- ---- types that hold none
+-- ---- types that nest no list
 
 abbrev pub is_list : Class → Bool
 is_list (list_of t) = true
 is_list (own_list rows) = true
 is_list _ = false
 
--- a type that may hold a list by these rows
+-- these rows may nest a list in this type
 abbrev pub may_hold : Rows → ℕ → Bool
 may_hold others n = false
 may_hold (types first last flags class rows) n = (is_list class && is_within first last n) || may_hold rows n
@@ -52,7 +52,7 @@ no_list (options m kinds rows) n k value not = go (n == m) not (no_list rows n k
     go true not rest = absurd cc
     go false not rest = rest not
 
--- a type apart from the one of a row
+-- a type that differs from a row's
 pub not_within : (m n : ℕ) → (n ≡ m → ⊥) → is_within m m n ≡ false
 not_within m n other = go (cases_lt n m)
   where
@@ -60,18 +60,18 @@ not_within m n other = go (cases_lt n m)
     go (inl below) = rw (lt-leb m n below) refl
     go (inr above) = rw (le-leb m n above, lt-leb n m (omega (arith, other))) refl
 
--- flower has two lists: its actions, and labels of MPLS
+-- flower nests two lists: actions and MPLS labels
 pub flower_no_list : (n : ℕ) (k value : List ℕ) → (n ≡ 3 → ⊥) → (n ≡ 99 → ⊥) → list_in (class_at flower_options n k) k value ≡ None
 flower_no_list n k value actions mpls = no_list flower_options n k value (rw (not_within 3 n actions, not_within 99 n mpls) refl)
 
--- a table that isn't a list of actions is by its rows
+-- a table other than a list of actions is defined by its rows
 pub class-in : (t : ListedTable) (n : ℕ) (k : List ℕ) → (t ≡ the.Actions → ⊥) → class_in (table_of t) n k ≡ class_at (rows_in t) n k
 class-in the.Actions n k other = absurd (other refl)
 class-in _ n k other = refl
 
 -- ---- kinds
 
--- a kind is known where it has a table
+-- a kind is known if it has a table
 is_known-is : (kinds : Kinds) (k : List ℕ) → is_known kinds k ≡ is_some (known_table kinds k)
 is_known-is unknown k = refl
 is_known-is (kind name rows kinds) k = go (is_known-is kinds k) (bytes_eq k name)
@@ -89,7 +89,7 @@ known_list kinds k = rw is_known-is (go (known_table kinds k) refl)
     go None is = refl
     go (Some t) is = rw is refl
 
--- a message's options keep the kind in force
+-- a message's options keep the kind
 abbrev pub with_kind : List ℕ → Table → Table × List ℕ
 with_kind k t = (t, k)
 

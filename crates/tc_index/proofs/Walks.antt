@@ -1,4 +1,4 @@
--- The steps of a walk: what lists have left as one is entered, stepped through and left.
+-- The steps of the iterator: the items left when a list is entered, stepped through and finished.
 use Rattle.std.proofs.Common.{◌≡◌, ◌⊎◌, ℕ, suc, ◌+◌, ◌-◌, ◌<◌, ◌≤◌, List, [], ◌∷◌, ◌++◌, length, take, drop, get_or, set, Option, Some, None, Ok, Err, refl, sym, ap, ap₂, subst, ◌∙◌, arith, inl, inr}
 use Rattle.std.proofs.Common.{append_assoc, add-zero, zero-add, add-one, false}
 use Rattle.std.specs.Prelude.{◌==◌}
@@ -15,59 +15,59 @@ use Rattle.nla_frames.proofs.Items.{items-nil, items-next_frame, items_refused}
 use Rattle.tc_canon.specs.Descriptor.{Table}
 use Rattle.tc_index.specs.declared.level.Level.{Level}
 use Rattle.tc_index.specs.declared.attributes.Attributes.{Attributes}
-use Rattle.tc_index.specs.Attributes.{Placed, Item, Gives, each, within, with_inner, attributes_in}
-use Rattle.tc_index.specs.Seen.{inner_of, left_in, levels_left, items_left}
+use Rattle.tc_index.specs.Attributes.{Placed, Item, Yields, each, within, with_inner, attributes_in}
+use Rattle.tc_index.specs.Views.{inner_of, left_in, levels_left, items_left}
 use Rattle.tc_index.proofs.Frames.{Takes}
 
--- nothing is left
-none-left : (gives : Gives) (sets : Sets Frame) (k : List ℕ) (at : ℕ) (rest : List ℕ) → rest ≡ [] → each gives sets k at (items_of (cut rest)) ≡ []
-none-left gives sets k at rest none = rw (none, items-nil) refl
+-- an empty list
+none-left : (yields : Yields) (sets : Sets Frame) (k : List ℕ) (at : ℕ) (rest : List ℕ) → rest ≡ [] → each yields sets k at (items_of (cut rest)) ≡ []
+none-left yields sets k at rest none = rw (none, items-nil) refl
 
--- so the place doesn't matter
-place : (gives : Gives) (sets : Sets Frame) (k : List ℕ) (a b : ℕ) (rest : List ℕ) → (a ≡ b) ⊎ (rest ≡ [])
-    → each gives sets k a (items_of (cut rest)) ≡ each gives sets k b (items_of (cut rest))
-place gives sets k a b rest (inl same) = rw same refl
-place gives sets k a b rest (inr none) = none-left gives sets k a rest none ∙ sym (none-left gives sets k b rest none)
+-- so its offset doesn't matter
+place : (yields : Yields) (sets : Sets Frame) (k : List ℕ) (a b : ℕ) (rest : List ℕ) → (a ≡ b) ⊎ (rest ≡ [])
+    → each yields sets k a (items_of (cut rest)) ≡ each yields sets k b (items_of (cut rest))
+place yields sets k a b rest (inl same) = rw same refl
+place yields sets k a b rest (inr none) = none-left yields sets k a rest none ∙ sym (none-left yields sets k b rest none)
 
 -- the first frame, and those after it
-pub first-given : (gives : Gives) (sets : Sets Frame) (k : List ℕ) (at : ℕ) (rest : List ℕ) (f : Frame) (n : ℕ) → Takes rest f n
-    → each gives sets k at (items_of (cut rest)) ≡ gives k (at + 4) f ++ each gives sets (kind_then sets k f) (at + n) (items_of (cut (drop n rest)))
-first-given gives sets k at rest f n takes =
+pub first-yielded : (yields : Yields) (sets : Sets Frame) (k : List ℕ) (at : ℕ) (rest : List ℕ) (f : Frame) (n : ℕ) → Takes rest f n
+    → each yields sets k at (items_of (cut rest)) ≡ yields k (at + 4) f ++ each yields sets (kind_then sets k f) (at + n) (items_of (cut (drop n rest)))
+first-yielded yields sets k at rest f n takes =
     rw (items-next_frame rest (f, drop n rest) takes.next)
-    (ap (λ (items : List Item). gives k (at + 4) f ++ items)
-    (place gives sets (kind_then sets k f) (at + frame_length f) (at + n) (drop n rest) (where_is takes.all)))
+    (ap (λ (items : List Item). yields k (at + 4) f ++ items)
+    (place yields sets (kind_then sets k f) (at + frame_length f) (at + n) (drop n rest) (where_is takes.all)))
   where
     where_is : (n ≡ frame_length f) ⊎ (drop n rest ≡ []) → (at + frame_length f ≡ at + n) ⊎ (drop n rest ≡ [])
     where_is (inl same) = inl (ap (λ (x : ℕ). at + x) (sym same))
     where_is (inr none) = inr none
 
--- bytes that are left
+-- a list that isn't empty
 some-not : (rest : List ℕ) → 0 < length rest → false ≡ (length rest == 0)
 some-not [] some = absurd (omega arith)
 some-not (b ∷ rest) some = sym (ne_eqb (suc (length rest)) 0 (λ e. omega arith))
 
--- a broken frame
-pub fault-given : (gives : Gives) (sets : Sets Frame) (k : List ℕ) (at : ℕ) (rest : List ℕ) (e : DecodeError) → 0 < length rest
-    → refused {X = Frame} e ≡ first_of (next_frame rest) → each gives sets k at (items_of (cut rest)) ≡ Err (record { offset = at; fault = e }) ∷ []
-fault-given gives sets k at rest e some first = go (next_frame rest) refl first
+-- a malformed frame
+pub fault-yielded : (yields : Yields) (sets : Sets Frame) (k : List ℕ) (at : ℕ) (rest : List ℕ) (e : DecodeError) → 0 < length rest
+    → refused {X = Frame} e ≡ first_of (next_frame rest) → each yields sets k at (items_of (cut rest)) ≡ Err (record { offset = at; fault = e }) ∷ []
+fault-yielded yields sets k at rest e some first = go (next_frame rest) refl first
   where
     go : (o : Outcome (Frame × List ℕ)) → next_frame rest ≡ o → refused {X = Frame} e ≡ first_of o
-        → each gives sets k at (items_of (cut rest)) ≡ Err (record { offset = at; fault = e }) ∷ []
+        → each yields sets k at (items_of (cut rest)) ≡ Err (record { offset = at; fault = e }) ∷ []
     go (Ok next) found same = absurd cc
     go (Err d) found same =
         let front : e ≡ d = cc in
         rw (items_refused rest false e (some-not rest some) refl (found ∙ ap (λ (x : DecodeError). refused x) (sym front))) refl
 
--- ---- lists within one another
+-- ---- nested lists
 
--- one list more, innermost
+-- one more innermost list
 levels-more : (depth : ℕ) (ls : List Level) (l : Level) → levels_left depth (ls ++ l ∷ []) ≡ left_in (depth + length ls) l ++ levels_left depth ls
 levels-more depth [] l = rw add-zero (sym (append-nil (left_in depth l)))
 levels-more depth (m ∷ ls) l =
     let same : suc depth + length ls ≡ depth + suc (length ls) = omega arith in
     rw (levels-more (suc depth) ls l, same) (append_assoc (left_in (depth + suc (length ls)) l) (levels_left (suc depth) ls) (left_in depth m))
 
--- a list that is left for the one around it
+-- from a finished list to the enclosing one
 pub leaves : (outer : List Level) (d : ℕ) (level l : Level) → level.rest.now ≡ [] → (d ≡ 0 → ⊥) → d ≤ length outer → l ≡ get_or outer (d - 1) l
     → left_in (d - 1) l ++ levels_left 0 (take (d - 1) outer) ≡ left_in d level ++ levels_left 0 (take d outer)
 leaves outer d level l none some inside is =
@@ -77,7 +77,7 @@ leaves outer d level l none some inside is =
     ap (λ (n : ℕ). take n outer) more ∙ take_more outer (d - 1) l (omega arith) ∙ ap (λ (x : Level). take (d - 1) outer ++ x ∷ []) (sym is) in
     rw (none, items-nil, taken, levels-more 0 (take (d - 1) outer) l, counted, zero-add) refl
 
--- a list that is entered
+-- entering a list
 attributes-some : (d : ℕ) (t : Table) (k : List ℕ) (at : ℕ) (bytes : List ℕ) → d < 4
     → attributes_in (4 - d) t k (suc d) at bytes ≡ each (with_inner (attributes_in (4 - (d + 1))) t (d + 1)) keep k at (items_of (cut bytes))
 unfolding attributes_in
@@ -98,18 +98,18 @@ enters before after d level inner items low four kept is =
     ap (levels_left 0) taken ∙ levels-more 0 (take d before) level ∙ rw (counted, zero-add) refl in
     ap₂ (λ (xs ys : List Item). xs ++ ys) (sym is) around
 
--- one that would be too deep
+-- a list that is too deep
 pub too-deep : (d : ℕ) (o : Option (Table × List ℕ)) (at : ℕ) (bytes : List ℕ) → 4 ≤ d → within (attributes_in (4 - d)) o (suc d) at bytes ≡ []
 unfolding attributes_in
 too-deep d None at bytes deep = refl
 too-deep d (Some list) at bytes deep = let fuel : 4 - d ≡ 0 = omega arith in rw fuel refl
 
--- an attribute by its place
+-- an attribute is determined by its abstract value
 pub takes-one : (p q : Placed) (depth : ℕ) (list left : List Item) → p ≡ q → list ≡ (Ok q ∷ inner_of depth q) ++ left → list ≡ (Ok p ∷ inner_of depth p) ++ left
 takes-one p q depth list left same first = subst (λ (x : Placed). list ≡ (Ok x ∷ inner_of depth x) ++ left) (sym same) first
 
--- ---- what an iterator has left
+-- ---- the items that an iterator has left
 
--- nothing, where no list has anything left
+-- none if every list is finished
 pub nothing-left : (it : Attributes) → it.level.rest.now ≡ [] → it.depth ≡ 0 → items_left it ≡ []
 nothing-left it none first = rw (none, first, items-nil) refl

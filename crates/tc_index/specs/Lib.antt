@@ -1,6 +1,6 @@
 pub mod Tables
 pub mod Nesting
 pub mod Attributes
-pub mod Seen
+pub mod Views
 pub mod Nodes
-pub mod Standing
+pub mod Offsets

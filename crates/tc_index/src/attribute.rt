@@ -1,66 +1,66 @@
-//! An attribute where it stands in a message.
+//! An attribute with its offset in the message.
 
 ghost use Rattle.std.specs.Prelude.{◌≡◌};
 ghost use Rattle.nla_frames.specs.Frame.{type_of};
-ghost use Rattle.tc_index.specs.Seen.{placed_of, node_seen, node_of};
+ghost use Rattle.tc_index.specs.Views.{placed_of, node_view, node_of};
 
 use crate::table::Table;
 use nla_frames::{DecodeError, NLA_TYPE_MASK};
 use thiserror::Error;
 
-/// An attribute of a message.
+/// An attribute of a message, with its value.
 #[derive(Clone, Copy)]
 pub struct Attribute<'a> {
-    /// Where its value begins in the message, in bytes.
+    /// The offset of its value in the message, in bytes.
     pub offset: usize,
     /// `nla_type`: the type and the two flags.
     pub word: u16,
-    /// Its value, without padding.
+    /// The payload, without padding.
     pub value: &'a [u8],
-    /// The table that its type is of.
+    /// The table that its type belongs to.
     pub table: Table,
-    /// The kind in force where it stands: of a message the `TCA_KIND` before it, of an action its own.
+    /// The kind at this place: in a message the last `TCA_KIND` before it, in an action the action's own.
     pub kind: &'a [u8],
-    /// In how many others it is.
+    /// The number of attributes that it is nested in.
     pub depth: u8,
 }
 
-/// An attribute of a message, by places.
+/// An attribute of a message, with offset and length of its value.
 #[derive(Clone, Copy)]
 pub struct Node {
-    /// Where its value begins in the message, in bytes.
+    /// The offset of its value in the message, in bytes.
     pub offset: usize,
-    /// How many bytes its value has, without padding.
+    /// The length of its value in bytes, without padding.
     pub len: usize,
     /// `nla_type`: the type and the two flags.
     pub word: u16,
-    /// The table that its type is of.
+    /// The table that its type belongs to.
     pub table: Table,
-    /// In how many others it is.
+    /// The number of attributes that it is nested in.
     pub depth: u8,
 }
 
-/// Where the attributes of a message end early.
+/// The first malformed frame of a message, where iteration ends.
 #[derive(Drop, PartialEq, Eq, Error, Debug)]
 #[error("byte {offset}: {fault}")]
 pub struct BrokenFrame {
-    /// Where the frame begins in the message, in bytes.
+    /// The offset of the frame in the message, in bytes.
     pub offset: usize,
-    /// How it is broken.
+    /// What is wrong with it.
     pub fault: DecodeError,
 }
 
 impl<'a> Attribute<'a> {
-    /// The type: the word without its two flags.
+    /// The attribute type: `nla_type` without its two flags.
     pub fn number(&self) -> u16
         ensures { result ≡ type_of (placed_of self.now).frame.word }
     {
         self.word & NLA_TYPE_MASK
     }
 
-    /// The attribute by places.
+    /// The attribute with offset and length instead of its value.
     pub fn node(&self) -> Node
-        ensures { node_seen result ≡ node_of (placed_of self.now) }
+        ensures { node_view result ≡ node_of (placed_of self.now) }
     {
         Node {
             offset: self.offset,

@@ -1,4 +1,4 @@
-//! All attributes of a message, one by one.
+//! An iterator over all attributes of a message.
 
 ghost use Rattle.std.specs.Prelude.{◌≡◌, ◌≤◌};
 
@@ -7,12 +7,12 @@ use crate::level::Level;
 use crate::table::Table;
 use nla_frames::{DecodeError, Res};
 
-/// The attributes of a message, each before those in it; then the first broken frame if there is one, then nothing.
+/// Iterates over the attributes of a message, each before those nested in it. A malformed frame is the last item.
 #[derive(Drop)]
 pub struct Attributes<'a> {
-    /// The list that is walked.
+    /// The current list.
     level: Level<'a>,
-    /// The lists around it, as many as its depth, the outermost first.
+    /// The enclosing lists, as many as the current depth, outermost first.
     first: Level<'a>,
     second: Level<'a>,
     third: Level<'a>,
@@ -26,16 +26,17 @@ impl<'a> Attributes<'a> {
     ghost use Rattle.nla_frames.specs.Fault.{seen};
     ghost use Rattle.tc_index.specs.Tables.{table_of};
     ghost use Rattle.tc_index.specs.Attributes.{after_header, message_items, tc_items, action_items};
-    ghost use Rattle.tc_index.specs.Seen.{placed_of, sets_if, inner_of, outer_of, lists_left, items_left};
+    ghost use Rattle.tc_index.specs.Views.{placed_of, sets_if, inner_of, outer_of, lists_left, items_left};
 
-    /// The attributes of a traffic control message. `BufferTooSmall` where its header is short.
+    /// The attributes of a traffic control message. Fails with `BufferTooSmall` if the bytes are shorter than the
+    /// header.
     pub fn of_tc(bytes: &'a [u8]) -> Res<Self>
         ensures { seen items_left result ≡ after_header 20 tc_items bytes.now }
     {
         Attributes::after_header(bytes, 20, Table::Message, true)
     }
 
-    /// The attributes of an action message. `BufferTooSmall` where its header is short.
+    /// The attributes of an action message. Fails with `BufferTooSmall` if the bytes are shorter than the header.
     pub fn of_action(bytes: &'a [u8]) -> Res<Self>
         ensures { seen items_left result ≡ after_header 4 action_items bytes.now }
     {
@@ -63,7 +64,7 @@ impl<'a> Attributes<'a> {
         })
     }
 
-    /// Leaves lists of which nothing is left.
+    /// Returns from finished lists to the nearest unfinished one.
     fn leave(&mut self)
         ensures same { lists_left self.new ≡ lists_left self.old }
         ensures all { self.new.level.rest.now ≡ [] → self.new.depth ≡ 0 }
@@ -78,7 +79,7 @@ impl<'a> Attributes<'a> {
         }
     }
 
-    /// A list around the one that is walked.
+    /// The enclosing list at this depth.
     fn outer(&self, depth: usize) -> Level<'a>
         requires { depth < 4 }
         ensures { result ≡ slice_index_or (outer_of self.now) depth result }
@@ -91,7 +92,7 @@ impl<'a> Attributes<'a> {
         }
     }
 
-    /// Enters the list in an attribute.
+    /// Enters the list nested in an attribute, if there is one.
     fn enter(&mut self, attribute: &Attribute<'a>)
         requires { attribute.now.offset + length attribute.now.value.now < 2 ^ 64 }
         ensures { lists_left self.new
@@ -107,7 +108,7 @@ impl<'a> Attributes<'a> {
         }
     }
 
-    /// Keeps the list that is walked, to come back to it.
+    /// Stores the current list, to return to it.
     fn keep_level(&mut self)
         requires { self.old.depth < 4 }
         ensures { outer_of self.new
@@ -121,7 +122,7 @@ impl<'a> Attributes<'a> {
         }
     }
 
-    /// Leaves all lists.
+    /// Ends the iteration.
     fn end(&mut self)
         ensures { lists_left self.new ≡ [] }
     {
@@ -138,7 +139,7 @@ impl<'a> Attributes<'a> {
 
 impl<'a> Iterator for Attributes<'a> {
     ghost use Rattle.std.specs.Iterator.{YieldsFirstBy, item_count};
-    ghost use Rattle.tc_index.specs.Seen.{item_of, items_left};
+    ghost use Rattle.tc_index.specs.Views.{item_of, items_left};
 
     type Item = Result<Attribute<'a>, BrokenFrame>;
 

@@ -1,35 +1,35 @@
-//! All attributes of a message, into an array.
+//! All attributes of a message, written into an array.
 
 ghost use Rattle.std.specs.Prelude.{◌≡◌, ◌+◌, ◌<◌, ◌^◌, Option, Some, length, map, slice_set};
 ghost use Rattle.tc_index.specs.Tables.{table_of};
 ghost use Rattle.tc_index.specs.Attributes.{message_items};
-ghost use Rattle.tc_index.specs.Seen.{SeenNode, placed_of, node_of, node_seen, left_in, sets_if};
-ghost use Rattle.tc_index.specs.Nodes.{nodes_of, tc_nodes, action_nodes, Fills, FillsBy, KeepsBehind, Puts};
+ghost use Rattle.tc_index.specs.Views.{NodeView, placed_of, node_of, node_view, left_in, sets_if};
+ghost use Rattle.tc_index.specs.Nodes.{nodes_of, tc_nodes, action_nodes, Fills, FillsBy, KeepsAfter, Puts};
 
 use crate::attribute::{Attribute, Node};
 use crate::level::Level;
 use crate::table::Table;
 
-/// What an array holds of an attribute.
+/// The element type of an array of attributes.
 pub trait Slot: Copy {
-    /// The attribute that it holds.
-    ghost seen: { Self → Option SeenNode };
+    /// The attribute in this slot.
+    ghost seen: { Self → Option NodeView };
 
-    /// What is held of an attribute.
+    /// The slot for an attribute.
     fn of(attribute: &Attribute<'_>) -> Self
         ensures { seen result ≡ Some (node_of (placed_of attribute.now)) };
 }
 
 impl Slot for Node {
-    ghost seen = { λ node. Some (node_seen node) };
+    ghost seen = { λ node. Some (node_view node) };
 
     fn of(attribute: &Attribute<'_>) -> Node {
         attribute.node()
     }
 }
 
-/// Writes the attributes of a traffic control message, each before those in it, as many as have room, and returns how
-/// many there are: those before the first broken frame, and none where the header is short.
+/// Writes the attributes of a traffic control message, each before those nested in it, into as many slots as there are,
+/// and returns the number of attributes before the first malformed frame; 0 if the bytes are shorter than the header.
 #[tactic(auto, using(crate::proofs::Filling::fills_nodes))]
 pub fn index_tc(bytes: &[u8], slots: &mut [Node]) -> usize
     ensures count { result ≡ length (tc_nodes bytes.now) }
@@ -38,7 +38,7 @@ pub fn index_tc(bytes: &[u8], slots: &mut [Node]) -> usize
     fill_tc(bytes, slots)
 }
 
-/// The same of an action message.
+/// Like [`index_tc`], for an action message.
 #[tactic(auto, using(crate::proofs::Filling::fills_nodes))]
 pub fn index_action(bytes: &[u8], slots: &mut [Node]) -> usize
     ensures count { result ≡ length (action_nodes bytes.now) }
@@ -47,22 +47,22 @@ pub fn index_action(bytes: &[u8], slots: &mut [Node]) -> usize
     fill_action(bytes, slots)
 }
 
-/// Writes the attributes of a traffic control message in the same way, into slots of any type.
+/// Like [`index_tc`], with slots of any type.
 #[tactic(auto, unfolding(crate::specs::Attributes::tc_items))]
 pub fn fill_tc<S: Slot>(bytes: &[u8], slots: &mut [S]) -> usize
     ensures count { result ≡ length (tc_nodes bytes.now) }
     ensures slots { FillsBy S.seen (tc_nodes bytes.now) slots.old slots.new }
-    ensures behind { KeepsBehind (tc_nodes bytes.now) slots.old slots.new }
+    ensures after { KeepsAfter (tc_nodes bytes.now) slots.old slots.new }
 {
     fill(bytes, 20, Table::Message, true, slots)
 }
 
-/// The same of an action message.
+/// Like [`index_action`], with slots of any type.
 #[tactic(auto, unfolding(crate::specs::Attributes::action_items))]
 pub fn fill_action<S: Slot>(bytes: &[u8], slots: &mut [S]) -> usize
     ensures count { result ≡ length (action_nodes bytes.now) }
     ensures slots { FillsBy S.seen (action_nodes bytes.now) slots.old slots.new }
-    ensures behind { KeepsBehind (action_nodes bytes.now) slots.old slots.new }
+    ensures after { KeepsAfter (action_nodes bytes.now) slots.old slots.new }
 {
     fill(bytes, 4, Table::ActionMessage, false, slots)
 }
@@ -78,8 +78,8 @@ fn fill<S: Slot>(
         result ≡ length nodes }
     ensures slots { let nodes = nodes_of (message_items 4 header (table_of table) (sets_if sets_kind) bytes.now) in
         FillsBy S.seen nodes slots.old slots.new }
-    ensures behind { let nodes = nodes_of (message_items 4 header (table_of table) (sets_if sets_kind) bytes.now) in
-        KeepsBehind nodes slots.old slots.new }
+    ensures after { let nodes = nodes_of (message_items 4 header (table_of table) (sets_if sets_kind) bytes.now) in
+        KeepsAfter nodes slots.old slots.new }
 {
     let mut count = 0;
     if header <= bytes.len() {
@@ -89,8 +89,7 @@ fn fill<S: Slot>(
     count
 }
 
-/// Puts the attributes of a list at this depth behind those that are there, up to the first broken frame; true where
-/// there is none.
+/// Appends the attributes of a list at this depth to the slots, up to the first malformed frame; true if there is none.
 fn put_list<S: Slot>(list: &Level<'_>, depth: u8, slots: &mut [S], count: &mut usize) -> bool
     requires { count.old + length (nodes_of (left_in depth list.now)) < 2 ^ 64 }
     ensures { Puts S.seen (left_in depth list.now) count.old slots.old count.new slots.new result }
@@ -115,7 +114,7 @@ fn put_list<S: Slot>(list: &Level<'_>, depth: u8, slots: &mut [S], count: &mut u
     true
 }
 
-/// Writes what is held of an attribute into its slot, where there is one.
+/// Writes a slot, if the index is in the array.
 fn put<S: Slot>(slots: &mut [S], index: usize, slot: S)
     ensures put { slots.new ≡ slice_set slots.old index slot }
     ensures seen { map S.seen slots.new ≡ slice_set (map S.seen slots.old) index (S.seen slot) }

@@ -1,4 +1,4 @@
-//! A list of attributes that is walked.
+//! A list of attributes during iteration.
 
 ghost use Rattle.std.specs.Prelude.{◌≡◌, ◌+◌, ◌<◌, ◌≤◌, ◌^◌, length};
 
@@ -7,16 +7,16 @@ use crate::nesting::list_in;
 use crate::table::Table;
 use nla_frames::{NLA_HEADER_SIZE, NlaBuffer, strip_nul};
 
-/// What is left of a list of attributes.
+/// The rest of a list of attributes.
 #[derive(Clone, Copy)]
 pub(crate) struct Level<'a> {
     pub rest: &'a [u8],
-    /// Where it begins in the message.
+    /// Its offset in the message, in bytes.
     pub offset: usize,
-    /// The kind in force there.
+    /// The kind at this place.
     pub kind: &'a [u8],
     pub table: Table,
-    /// A frame of type 1 sets the kind for those after it.
+    /// True if a frame of type 1 sets the kind for the frames after it.
     pub sets_kind: bool,
     ghost within: { offset + length rest.now < 2 ^ 64 },
 }
@@ -29,9 +29,9 @@ impl<'a> Level<'a> {
     ghost use Rattle.nla_frames.specs.Place.{kind_then};
     ghost use Rattle.tc_index.specs.Tables.{table_of};
     ghost use Rattle.tc_index.specs.Attributes.{with_inner, attributes_in, to_fault, message_items};
-    ghost use Rattle.tc_index.specs.Seen.{placed_of, sets_if, inner_of, left_in, left_in_some, GivesFirst};
+    ghost use Rattle.tc_index.specs.Views.{placed_of, sets_if, inner_of, left_in, left_in_some, YieldsFirst};
 
-    /// The attributes of a message, behind its header.
+    /// The attributes of a message, after its header.
     pub(crate) fn of_message(bytes: &'a [u8], header: usize, table: Table, sets_kind: bool) -> Self
         requires { header ≤ length bytes.now }
         ensures { to_fault (left_in 0 result)
@@ -46,7 +46,7 @@ impl<'a> Level<'a> {
         }
     }
 
-    /// The list in an attribute.
+    /// The list nested in an attribute, if there is one.
     pub(crate) fn in_attribute(attribute: &Attribute<'a>) -> Option<Self>
         requires { attribute.now.offset + length attribute.now.value.now < 2 ^ 64 }
         ensures { (depth : ℕ) → depth < 4
@@ -69,10 +69,10 @@ impl<'a> Level<'a> {
         }
     }
 
-    /// Takes the first attribute, which stands at this depth; or tells how its frame is broken.
+    /// Takes the first attribute, at this depth. Fails if its frame is malformed.
     pub(crate) fn take_first(&mut self, depth: u8) -> Result<Attribute<'a>, BrokenFrame>
         requires { 0 < length self.old.rest.now }
-        ensures gives { GivesFirst depth self.old self.new result }
+        ensures yields { YieldsFirst depth self.old self.new result }
         ensures within { IfOk result (λ a. a.offset + length a.value.now < 2 ^ 64) }
     {
         match NlaBuffer::new_checked(self.rest) {
@@ -88,7 +88,7 @@ impl<'a> Level<'a> {
         }
     }
 
-    /// The first attribute, whose frame this is.
+    /// The attribute of the first frame.
     fn attribute(&self, frame: &NlaBuffer<'a>, depth: u8) -> Attribute<'a>
         requires { read_as (frame_of frame.now) ≡ first_of (next_frame self.now.rest.now) }
         ensures placed { placed_of result ≡ record {
@@ -110,7 +110,7 @@ impl<'a> Level<'a> {
         }
     }
 
-    /// Goes on behind the first frame.
+    /// Skips the first frame.
     fn pass(&mut self, frame: &NlaBuffer<'a>)
         requires { read_as (frame_of frame.now) ≡ first_of (next_frame self.old.rest.now) }
         ensures { (depth : ℕ) → left_in depth self.old
@@ -125,7 +125,7 @@ impl<'a> Level<'a> {
         self.kind = self.kind_after(frame);
     }
 
-    /// The kind in force after a frame.
+    /// The kind after this frame.
     fn kind_after(&self, frame: &NlaBuffer<'a>) -> &'a [u8]
         ensures { result.now
             ≡ kind_then (sets_if self.now.sets_kind) self.now.kind.now (frame_of frame.now) }

@@ -1,4 +1,4 @@
-//! All attributes of a message of traffic control, each before those in it, without memory.
+//! All attributes of a traffic control message, each before those nested in it, without allocating.
 #![tactic(auto)]
 
 mod attribute;

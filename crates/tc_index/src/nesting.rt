@@ -1,4 +1,4 @@
-//! Which attributes hold attributes.
+//! Which attributes nest others, and with which table.
 
 ghost use Rattle.std.specs.Prelude.{◌≡◌, List, ℕ, option_map};
 ghost use Rattle.nla_frames.specs.Cutting.{cut, items_of};
@@ -7,12 +7,12 @@ ghost use Rattle.tc_canon.specs.Tables.Actions.{action_option_kinds};
 ghost use Rattle.tc_canon.specs.Tables.Options.{option_kinds};
 ghost use Rattle.tc_index.specs.Tables.{table_of, rows_in};
 ghost use Rattle.tc_index.specs.Nesting.{class_at, class_in, list_in, first_kind, known_table, table_under};
-ghost use Rattle.tc_index.specs.Seen.{list_found};
+ghost use Rattle.tc_index.specs.Views.{list_found};
 
 use crate::table::Table;
 use nla_frames::{NlasIterator, strip_nul};
 
-/// The list of attributes in an attribute, and the kind in force there; `None` where its value is no list.
+/// The table of the attributes nested in an attribute, and the kind there; `None` if its value isn't a list.
 pub fn list_in<'a>(
     table: Table,
     number: u16,
@@ -31,7 +31,7 @@ pub fn list_in<'a>(
     }
 }
 
-/// The table of the attributes in an attribute of a table's rows.
+/// The table of the attributes nested in an attribute of this type.
 #[tactic(auto, using(crate::proofs::Rows::no_list, crate::proofs::Rows::flower_no_list, crate::proofs::Rows::options_list))]
 fn inner_table(table: Table, number: u16, kind: &[u8]) -> Option<Table>
     ensures { (value : List ℕ) → option_map (λ t. (table_of t, kind.now)) result
@@ -73,7 +73,7 @@ fn inner_table(table: Table, number: u16, kind: &[u8]) -> Option<Table>
     }
 }
 
-/// The table of a message's options; `None` under an unknown kind.
+/// The table of a message's options; `None` for an unknown kind.
 fn options_table(kind: &[u8]) -> Option<Table>
     ensures { option_map table_of result ≡ known_table option_kinds kind.now }
 {
@@ -94,7 +94,7 @@ fn options_table(kind: &[u8]) -> Option<Table>
     }
 }
 
-/// The table of an action's options.
+/// The table of an action's options; `ActionOptions`, without rows, for an unknown kind.
 fn action_options_table(kind: &[u8]) -> Table
     ensures { table_of result ≡ table_under (by_kind action_option_kinds) kind.now }
 {
@@ -109,7 +109,7 @@ fn action_options_table(kind: &[u8]) -> Table
     }
 }
 
-/// The kind that the first `TCA_ACT_KIND` of an action tells; empty where none does.
+/// The kind in the first `TCA_ACT_KIND` of an action; empty if there is none.
 fn first_kind(value: &[u8]) -> &[u8]
     ensures { result.now ≡ first_kind (items_of (cut value.now)) }
 {

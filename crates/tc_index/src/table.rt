@@ -1,42 +1,42 @@
-//! The tables of attributes.
+//! The attribute tables.
 
-/// A table: which attributes a list holds.
+/// An attribute table: the attribute types of a list, and the enum that has them.
 #[derive(Clone, Copy)]
 pub enum Table {
-    /// `TcAttribute`, the attributes of a traffic control message.
+    /// `TcAttribute`: a traffic control message.
     Message,
-    /// `TcActionMessageAttribute`, the attributes of an action message.
+    /// `TcActionMessageAttribute`: an action message.
     ActionMessage,
-    /// `TcStats2`.
+    /// `TcStats2`: statistics, in `TCA_STATS2` and `TCA_ACT_STATS`.
     Stats2,
-    /// `TcAction`: each attribute is an action, whatever its type, and its payload a list of [`Table::Action`].
+    /// `TcAction`: each attribute, of any type, is an action, and its payload a list of [`Table::Action`].
     Actions,
-    /// `TcActionAttribute`, the attributes of an action.
+    /// `TcActionAttribute`: an action.
     Action,
-    /// `TcActionOption`, by the kind of the action.
+    /// `TcActionOption`: the options of an action of an unknown kind.
     ActionOptions,
-    /// `TcActionMirrorOption`.
+    /// `TcActionMirrorOption`: the action mirred.
     Mirror,
-    /// `TcActionNatOption`.
+    /// `TcActionNatOption`: the action nat.
     Nat,
-    /// `TcActionTunnelKeyOption`.
+    /// `TcActionTunnelKeyOption`: the action tunnel_key.
     TunnelKey,
-    /// `TcOption`, by the kind of the message.
+    /// `TcOption`: not the table of any attribute, since options have the table of their kind.
     Options,
-    /// `TcQdiscFqCodelOption`.
+    /// `TcQdiscFqCodelOption`: the qdisc fq_codel.
     FqCodel,
-    /// `TcQdiscIngressOption`.
+    /// `TcQdiscIngressOption`: the qdisc ingress.
     Ingress,
-    /// `TcFilterFlowerOption`.
+    /// `TcFilterFlowerOption`: the filter flower.
     Flower,
-    /// `TcFilterU32Option`.
+    /// `TcFilterU32Option`: the filter u32.
     U32,
-    /// `TcFilterMatchAllOption`.
+    /// `TcFilterMatchAllOption`: the filter matchall.
     MatchAll,
-    /// `TcFilterBpfOption`.
+    /// `TcFilterBpfOption`: the filter bpf.
     Bpf,
-    /// `TcFilterFlowerMplsOption`.
+    /// `TcFilterFlowerMplsOption`: MPLS labels in flower.
     Mpls,
-    /// `TcFilterFlowerMplsLseOption`.
+    /// `TcFilterFlowerMplsLseOption`: one MPLS label stack entry.
     Lse,
 }

@@ -1,4 +1,4 @@
--- The walk over a value's frames finds the attributes that the value reads as, class by class and table by table.
+-- Walking the frames of a message finds the attributes of its value: by induction over classes and tables.
 use Rattle.std.proofs.Common.{◌≡◌, ℕ, zero, suc, ◌+◌, ◌≤◌, List, [], ◌∷◌, ◌++◌, map, drop, Some, None, Result, Ok, Err, refl, sym, ap, ap₂, subst, ◌∙◌, arith}
 use Rattle.std.specs.Prelude.{Bool, true, false, ◌==◌, nat_lt, take, length, unwrap_or, if◌then◌else◌}
 use Rattle.std.specs.Str.{bytes_eq, is_utf8}
@@ -20,7 +20,7 @@ use Rattle.tc_meaning.specs.Own.{read_kinds, only_kind, read_own}
 use Rattle.tc_meaning.specs.Meaning.{a_list, by_type, choose, row_frames, unread_frames, options_frames, class_codec, table_codec, rows_codec, kinds_codec}
 use Rattle.tc_index.specs.declared.attribute.BrokenFrame.{BrokenFrame}
 use Rattle.tc_index.specs.Nesting.{class_at, class_in, known_table, table_under, first_kind, list_in}
-use Rattle.tc_index.specs.Attributes.{Item, Gives, each, within, with_inner, attributes_in, to_fault, message_items}
+use Rattle.tc_index.specs.Attributes.{Item, Yields, each, within, with_inner, attributes_in, to_fault, message_items}
 use Rattle.tc_index.proofs.Depth.{lists_in, lists_of, lists_at, lists_under}
 use Rattle.tc_index_laws.specs.Spots.{Spot, spots_of, spots_within, spots_in, spot_of, found, AreAt}
 
@@ -43,11 +43,11 @@ before-ok x (Err d) xs e = absurd cc
 at-append : (xs ys : List Item) (a b : List Spot) → AreAt xs a → AreAt ys b → AreAt (xs ++ ys) (a ++ b)
 at-append xs ys a b p q = map-append spot_of xs ys ∙ ap₂ (λ s t. s ++ t) p q ∙ sym (map-append found a b)
 
-module _ (gives : Gives) (sets : Sets Frame) (reads : Reads Attribute) (depth : ℕ) (K : List ℕ → Type 0)
+module _ (yields : Yields) (sets : Sets Frame) (reads : Reads Attribute) (depth : ℕ) (K : List ℕ → Type 0)
     (goes_on : (k : List ℕ) (f : Frame) → K k → K (kind_then sets k f))
-    (one : (k : List ℕ) (at : ℕ) (f : Frame) (x : Attribute) → K k → reads k f ≡ Ok x → AreAt (gives k at f) (spots_of depth x)) where
+    (one : (k : List ℕ) (at : ℕ) (f : Frame) (x : Attribute) → K k → reads k f ≡ Ok x → AreAt (yields k at f) (spots_of depth x)) where
   each-at : (frames : List (Outcome Frame)) (k : List ℕ) (at : ℕ) (xs : List Attribute) → K k → read_each reads sets k frames ≡ Ok xs
-      → AreAt (each gives sets k at frames) (spots_in depth (attributes_of xs))
+      → AreAt (each yields sets k at frames) (spots_in depth (attributes_of xs))
   unfolding read_each
   each-at [] k at [] here e = refl
   each-at [] k at (x ∷ xs) here e = absurd cc
@@ -55,13 +55,13 @@ module _ (gives : Gives) (sets : Sets Frame) (reads : Reads Attribute) (depth : 
   each-at (Ok f ∷ frames) k at xs here e =
       let first = then-ok (reads k f) (λ x. before (x ∷ []) (read_each reads sets (kind_then sets k f) frames)) xs e in
       let rest = before-ok first.0 (read_each reads sets (kind_then sets k f) frames) xs first.2 in
-      let later = each gives sets (kind_then sets k f) (at + frame_length f) frames in
-      subst (λ (ys : List Attribute). AreAt (gives k (at + 4) f ++ later) (spots_in depth (attributes_of ys))) rest.2
-      (at-append (gives k (at + 4) f) later (spots_of depth first.0) (spots_in depth (attributes_of rest.0))
+      let later = each yields sets (kind_then sets k f) (at + frame_length f) frames in
+      subst (λ (ys : List Attribute). AreAt (yields k (at + 4) f ++ later) (spots_in depth (attributes_of ys))) rest.2
+      (at-append (yields k (at + 4) f) later (spots_of depth first.0) (spots_in depth (attributes_of rest.0))
       (one k (at + 4) f first.0 here first.1)
       (each-at frames (kind_then sets k f) (at + frame_length f) rest.0 (goes_on k f here) rest.1))
 
--- what is claimed of a table's frames and of a class's values
+-- the claims about a table's frames and about a class's values
 abbrev TableAt : Table → ℕ → Type 0
 TableAt t n = (k : List ℕ) (f : Frame) (x : Attribute) → (table_codec t).read k f ≡ Ok x → (depth at : ℕ)
     → AreAt (with_inner (attributes_in n) (table_under t k) depth k at f) (spots_of depth x)
@@ -86,7 +86,7 @@ nested-at t n one k v content e depth at =
     let r = seen-ok a_list.into (read_list (table_codec t).read keep k v) content e in
     subst (λ (c : Content). AreAt (attributes_in (suc n) (table_under t k) k depth at v) (spots_within depth c)) r.2 (list-at t n one k v r.0 r.1 depth at)
 
--- a list that tells its own kind
+-- a list that sets its own kind
 text-is : (v t : List ℕ) → plain_values.text v ≡ Ok t → strip v ≡ t
 text-is v t e = go (is_utf8 (strip v)) e
   where
@@ -130,7 +130,7 @@ own-at rows n one k v content e depth at =
     (subst (λ (c : Content). AreAt (attributes_in (suc n) (table rows) s.0 depth at v) (spots_within depth c)) r.2
     (list-at (table rows) n one s.0 v r.0 s.2 depth at))
 
--- ---- values that are no lists
+-- ---- values other than lists
 
 plain : {X : Type 0} (into : X → Content) (o : Outcome X) (content : Content) → ((x : X) (depth : ℕ) → spots_within depth (into x) ≡ [])
     → seen into o ≡ Ok content → (depth : ℕ) → AreAt [] (spots_within depth content)
@@ -160,7 +160,7 @@ xstats-at k v content e depth = by_kind_of (is_fq_codel k) e
 
 -- ---- everything
 
--- an attribute of a class, and those in its value
+-- an attribute of a class, and those nested in it
 abbrev InnerAt : Class → ℕ → List ℕ → Frame → Attribute → Type 0
 InnerAt c n k f x = (depth at : ℕ)
     → found (depth, type_of f.word) ∷ map spot_of (within (attributes_in n) (list_in c k f.value) (suc depth) at f.value) ≡ map found (spots_of depth x)
@@ -185,13 +185,13 @@ module _ (n m : ℕ) (k : List ℕ) (f : Frame) (x : Attribute) (same : m ≡ ty
   types-at true flags class rows one rest e = one e
   types-at false flags class rows one rest e = rest e
 
-  -- one that is never read
+  -- a row that is never read
   unread-at : (b : Bool) (l : ℕ) (class : Class) (rows : Rows) → ((rows_codec rows m).read k f ≡ Ok x → InnerAt (class_at rows m k) n k f x)
       → (choose b (unread_frames l (class_codec class)) (rows_codec rows m)).read k f ≡ Ok x → InnerAt (if b then raw else class_at rows m k) n k f x
   unread-at true l class rows rest e = let is : other f.word f.value ≡ x = cc in raw-at n k f x (λ depth. rw (← is) refl)
   unread-at false l class rows rest e = rest e
 
-  -- a message's options, under a known kind and under any other
+  -- a message's options, under a known and under an unknown kind
   known-options : (b : Bool) (l : ℕ) (kinds : Kinds) → l ≡ m → ClassAt (list_of (by_kind kinds)) n
       → (if b then seen (known l) ((class_codec (list_of (by_kind kinds))).read k f.value) else Ok (kept l f.word f.value)) ≡ Ok x
       → InnerAt (if b then list_of (by_kind kinds) else raw) n k f x
@@ -217,7 +217,7 @@ own-class : (rows : Rows) (n : ℕ) → suc (lists_at rows) ≤ n → ((p : ℕ)
 own-class rows zero low one = absurd (omega arith)
 own-class rows (suc p) low one = own-at rows p (one p (omega arith))
 
--- an option of a kind, or of those after it
+-- an option of a kind, or of a later kind of the list
 kind-at : (b : Bool) (name : List ℕ) (rows : Rows) (kinds : Kinds) (n : ℕ) (t : Table) (k : List ℕ) (f : Frame) (x : Attribute) (depth at : ℕ)
     → ((y : Attribute) → (by_type (rows_codec rows)).read k f ≡ Ok y → AreAt (with_inner (attributes_in n) (table rows) depth k at f) (spots_of depth y))
     → ((kinds_codec kinds).read k f ≡ Ok x → AreAt (with_inner (attributes_in n) (unwrap_or (known_table kinds k) t) depth k at f) (spots_of depth x))
@@ -274,7 +274,7 @@ mutual
 
 -- ---- messages
 
--- where no frame is broken, nothing is cut off
+-- if no frame is malformed, nothing is cut off
 to_fault-at : (xs : List Item) (spots : List Spot) → AreAt xs spots → to_fault xs ≡ xs
 to_fault-at [] spots e = refl
 to_fault-at (Ok p ∷ xs) [] e = absurd cc

@@ -1,4 +1,4 @@
-//! Laws of the attributes of a message: they are those of the value that it reads as.
+//! The attributes that `tc_index` finds in a message are those of the value that it reads as.
 #![tactic(auto)]
 
 ghost use Rattle.nla_frames.specs.Reading.{keep};
@@ -9,14 +9,14 @@ ghost use Rattle.tc_meaning.specs.Message.{Message, ReadsMessage, ReadsWith};
 ghost use Rattle.tc_index.specs.Attributes.{tc_items, action_items};
 ghost use Rattle.tc_index_laws.specs.Spots.{AreAt, spots_in};
 
-/// The attributes of a traffic control message that can be read are those of the value that it reads as: each before
-/// those in it, of the same types and as deep; and no frame is broken.
+/// If a traffic control message can be read, its attributes are those of the value: in order, each before those nested
+/// in it, of the same types and depths; and no frame is malformed.
 pub fn tc_tree(bytes: &[u8])
     ensures { (m : Message) → ReadsMessage tc_header attributes bytes.now m
         → AreAt (tc_items bytes.now) (spots_in 0 (attributes_of m.body)) }
 {}
 
-/// The same of an action message.
+/// If an action message can be read, its attributes are those of the value, as in `tc_tree`.
 pub fn action_tree(bytes: &[u8])
     ensures { (m : Message)
         → ReadsWith keep action_message_header action_message_attributes bytes.now m

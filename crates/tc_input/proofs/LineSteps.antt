@@ -153,8 +153,8 @@ pub no_feed_all : (bytes : List ℕ) (n : ℕ) → length bytes ≤ n → HasNoF
 no_feed_all bytes n whole none = All-same (λ b. b ≢ 10) bytes (take n bytes) (sym (whole_taken bytes n whole)) none
 
 -- the front has none, and the first of the others is here
-pub feed_behind : (bytes : List ℕ) (n place : ℕ) → n ≤ length bytes → HasNoFeed (take n bytes) → EndsLine (drop n bytes) place → EndsLine bytes (n + place)
-feed_behind bytes n place inside front ends = (
+pub feed_after : (bytes : List ℕ) (n place : ℕ) → n ≤ length bytes → HasNoFeed (take n bytes) → EndsLine (drop n bytes) place → EndsLine bytes (n + place)
+feed_after bytes n place inside front ends = (
   All-same (λ b. b ≢ 10) (take (n + place) bytes) (take n bytes ++ take place (drop n bytes)) (take_both n place bytes inside)
       (All-append (λ b. b ≢ 10) (take n bytes) (take place (drop n bytes)) front ends.0),
   sym (drop-drop place n bytes) ∙ ends.1 ∙ ap (λ l. 10 ∷ l) (drop-drop (place + 1) n bytes ∙ ap (λ (j : ℕ). drop j bytes) (sym (add_assoc n place 1))),
@@ -174,7 +174,7 @@ ends_line bytes place reader ends = gives_line bytes (take place bytes) (drop (p
 pub first_here : (rest now after : List ℕ) (n place : ℕ) → n ≤ length rest → HasNoFeed (take n rest) → now ≡ rest → after ≡ drop n now → EndsLine after place
     → EndsLine rest (n + place)
 first_here rest now after n place inside front same is ends =
-    feed_behind rest n place inside front (subst (λ (l : List ℕ). EndsLine l place) (is ∙ ap (drop n) same) ends)
+    feed_after rest n place inside front (subst (λ (l : List ℕ). EndsLine l place) (is ∙ ap (drop n) same) ends)
 
 pub none_here : (rest now after : List ℕ) (n : ℕ) → HasNoFeed (take n rest) → now ≡ rest → after ≡ drop n now → HasNoFeed after → HasNoFeed rest
 none_here rest now after n front same is none =

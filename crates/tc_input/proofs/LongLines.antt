@@ -2,11 +2,11 @@
 use Rattle.std.proofs.Common.{◌≡◌, ◌<◌, ℕ, Bool, List, length, ap}
 use Rattle.std.specs.Prelude.{if◌then◌else◌}
 use Rattle.std.proofs.lemmas.Bool.{lt-ltb}
-use Rattle.tc_words.specs.Pasted.{bytes_of_hex}
+use Rattle.tc_select.specs.Pasted.{bytes_of_hex}
 use Rattle.tc_input.specs.Dumps.{apart, placed, place_at}
 use Rattle.tc_input.specs.Lines.{most_line}
 use Rattle.tc_input.specs.Text.{too_long, before_comment, said_by, on_line}
-use Rattle.tc_words.specs.Hex.{line_of}
+use Rattle.tc_select.specs.Dump.{line_of}
 
 module _ (line : List ℕ) (long : most_line < length line) where
   pub long_is_said : on_line line ≡ too_long

@@ -21,7 +21,7 @@ use Rattle.tc_capture.specs.PcapNg.{next_block, next_in_section}
 use Rattle.tc_capture.specs.declared.piece.Piece.{Piece as CodePiece}
 use Rattle.tc_capture.specs.Front.{Front, front_of}
 use Rattle.tc_capture.specs.Capture.{State, in_stream, before_header, in_pcap, in_section, next_piece}
-use Rattle.tc_capture_laws.specs.Fronts.{IsShort, WantsMore}
+use Rattle.tc_capture_laws.specs.Fronts.{IsShort, NeedsMore}
 use Rattle.tc_capture_laws.specs.Pieces.{What, Piece, read, skipped, rest, passed, left_over, unread, piece_and_more, pieces_up_to, pieces_in}
 use Rattle.tc_capture_laws.proofs.FrontPieces.{front-is}
 use Rattle.tc_capture_laws.proofs.MoreBytes.{next_piece-stays}
@@ -30,24 +30,24 @@ use Rattle.tc_input.specs.Pieces.{found_in, pieces_left, IsGap, IsSeen}
 use Rattle.tc_input.specs.declared.pieces.Gap.{Gap}
 use Rattle.tc_input.specs.declared.pieces.Gap.TheVariants.{More, Skipped, Broken, Cut, End}
 
-settled-stays : {X : Type 0} {o p : Outcome X} → WantsMore o ⊎ (p ≡ o) → (WantsMore o → ⊥) → p ≡ o
+settled-stays : {X : Type 0} {o p : Outcome X} → NeedsMore o ⊎ (p ≡ o) → (NeedsMore o → ⊥) → p ≡ o
 settled-stays (inl wants) settled = absurd (settled wants)
 settled-stays (inr same) settled = same
 
-then-wants : {X Y : Type 0} (o : Outcome X) (f : X → Outcome Y) → WantsMore o → WantsMore (then_read o f)
+then-wants : {X Y : Type 0} (o : Outcome X) (f : X → Outcome Y) → NeedsMore o → NeedsMore (then_read o f)
 then-wants (Ok x) f wants = absurd wants
 then-wants (Err e) f wants = wants
 
 -- nothing is there to be read
-first-wants : {X : Type 0} (n : ℕ) (o : Outcome X) → 0 < n → WantsMore (if nat_lt 0 n then Err (Short n 0) else o)
-first-wants n o some = subst (λ (t : Bool). WantsMore (if t then Err (Short n 0) else o)) (sym (lt-ltb 0 n some)) tt
+first-wants : {X : Type 0} (n : ℕ) (o : Outcome X) → 0 < n → NeedsMore (if nat_lt 0 n then Err (Short n 0) else o)
+first-wants n o some = subst (λ (t : Bool). NeedsMore (if t then Err (Short n 0) else o)) (sym (lt-ltb 0 n some)) tt
 
 header-some : (v : Variant) → 0 < record_header_len v
 header-some Microseconds = omega arith
 header-some Nanoseconds = omega arith
 header-some Modified = omega arith
 
-nothing-wants : (s : State) → WantsMore (next_piece s [])
+nothing-wants : (s : State) → NeedsMore (next_piece s [])
 unfolding next_in_stream pcap_header next_in_pcap next_in_section next_block
 nothing-wants (in_stream time) = tt
 nothing-wants before_header = tt
@@ -131,11 +131,11 @@ module _ (most : ℕ) where
       let enough : most ≤ length xs = ltb-false (length xs) most long in
       ([], take-append-le most xs ys enough ∙ sym (append-nil (take most xs)))
 
-  still : (s : State) (xs ys : List ℕ) (found : Outcome (Front × State)) → next_piece s (take most xs) ≡ found → (WantsMore found → ⊥)
+  still : (s : State) (xs ys : List ℕ) (found : Outcome (Front × State)) → next_piece s (take most xs) ≡ found → (NeedsMore found → ⊥)
       → next_piece s (take most (xs ++ ys)) ≡ found
   still s xs ys found is settled =
       let w = window xs ys (nat_lt (length xs) most) refl in
-      let wants : WantsMore (next_piece s (take most xs)) → ⊥ = λ x. settled (subst (λ (o : Outcome (Front × State)). WantsMore o) is x) in
+      let wants : NeedsMore (next_piece s (take most xs)) → ⊥ = λ x. settled (subst (λ (o : Outcome (Front × State)). NeedsMore o) is x) in
       ap (next_piece s) w.1 ∙ settled-stays (next_piece-stays (take most xs) w.0 s) wants ∙ is
 
   -- the first piece is there, and more bytes are behind it
@@ -171,7 +171,7 @@ module _ (most : ℕ) where
       → pieces_in most s (xs ++ ys) ≡ left_over e (xs ++ ys)
   broken-is s [] ys e is other =
       let nothing : next_piece s [] ≡ Err e = ap (next_piece s) (sym (all-taken [] (omega arith))) ∙ is in
-      absurd (other (subst (λ (o : Outcome (Front × State)). WantsMore o) nothing (nothing-wants s)))
+      absurd (other (subst (λ (o : Outcome (Front × State)). NeedsMore o) nothing (nothing-wants s)))
   broken-is s (b ∷ xs) ys e is other =
       pieces-one s b (xs ++ ys) ∙ ap (piece_and_more most (pieces_in most) s (b ∷ (xs ++ ys))) (still s (b ∷ xs) ys (Err e) is other)
       ∙ unread-broken (pieces_in most s) (b ∷ (xs ++ ys)) e other

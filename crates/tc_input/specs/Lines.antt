@@ -1,4 +1,4 @@
--- The lines of what is left of a text.
+-- The lines in the rest of a text.
 use Rattle.std.specs.Prelude.{◌≡◌, ◌≢◌, ◌<◌, ◌≤◌, ◌+◌, ◌*◌, ℕ, Bool, true, false, Option, Some, option_map}
 use Rattle.std.specs.Prelude.{List, [], ◌∷◌, ◌++◌, ◌==◌, if◌then◌else◌, All, length, take, drop}
 use Rattle.std.specs.Io.KnownBytes.{Keeps, Consumes, IsAtEnd}
@@ -16,7 +16,7 @@ unfoldable pub lines_of : List ℕ → List (List ℕ)
 lines_of [] = [] ∷ []
 lines_of (b ∷ bytes) = if b == 10 then [] ∷ lines_of bytes else on_first b (lines_of bytes)
 
--- and of what is left of it, where that is known
+-- and of its rest, if known
 abbrev pub lines_left : Option (List ℕ) → Option (List (List ℕ))
 lines_left left = option_map lines_of left
 
@@ -31,13 +31,13 @@ most_line = 3 * 1048576
 abbrev pub EndsLine : List ℕ → ℕ → Type 0
 EndsLine bytes place = HasNoFeed (take place bytes) × (drop place bytes ≡ 10 ∷ drop (place + 1) bytes)
 
--- a line of at least so many bytes is passed over, and whether a line feed ends it
+-- a line of at least `n` bytes is skipped; the last argument says whether a line feed ends it
 abbrev pub PassesLine : ℕ → Option (List ℕ) → Option (List ℕ) → Bool → Type 0
 PassesLine n before after true = (line : List ℕ) × (n ≤ length line) × HasNoFeed line × Consumes before after (line ++ 10 ∷ [])
 PassesLine n before after false = (line : List ℕ) × (n ≤ length line) × HasNoFeed line × Consumes before after line × IsAtEnd after
 
--- where no line ends in what was read, the rest: more is read; a line is passed over that is too long, and whether the text goes on after it;
--- or the rest is the last line
+-- if no line ends in the unused bytes: more is read; a line that is too long is skipped, and the text continues or not; or the unused bytes
+-- are the last line
 abbrev pub IsLineGap : LineGap → List ℕ → Option (List ℕ) → Option (List ℕ) → Type 0
 IsLineGap More rest before after = Keeps before after
 IsLineGap (Long n true) rest before after = (line : List ℕ) × (most_line < length line) × Gives (lines_left before) (line ∷ []) (lines_left after)

@@ -1,19 +1,19 @@
--- What a line of hex says.
+-- The content of a line of hex.
 use Rattle.std.specs.Prelude.{ℕ, Bool, not, List, [], ◌∷◌, ◌==◌, if◌then◌else◌, length, nat_lt, Option, Some, None}
 use Rattle.std.specs.List.{take_while}
-use Rattle.tc_words.specs.Pasted.{bytes_of_hex}
+use Rattle.tc_select.specs.Pasted.{bytes_of_hex}
 use Rattle.tc_input.specs.Lines.{most_line}
 use Rattle.tc_input.specs.declared.text.OnLine.{OnLine as CodeOnLine}
 use Rattle.tc_input.specs.declared.text.OnLine.TheVariants as code
 
--- nothing; what is no hex; more than is read; or bytes
+-- nothing, not hex, too long, or bytes
 pub data OnLine : Type 0 where
   nothing : OnLine
   no_hex : OnLine
   too_long : OnLine
   octets : List ℕ → OnLine
 
--- what isn't the number sign that begins a comment
+-- not the number sign that begins a comment
 abbrev pub is_before_comment : ℕ → Bool
 is_before_comment b = not (b == 35)
 
@@ -25,11 +25,11 @@ said_by None = no_hex
 said_by (Some []) = nothing
 said_by (Some (b ∷ bytes)) = octets (b ∷ bytes)
 
--- what a line says
+-- the content of a line
 abbrev pub on_line : List ℕ → OnLine
 on_line line = if nat_lt most_line (length line) then too_long else said_by (bytes_of_hex (before_comment line))
 
--- what contracts see of it
+-- its abstract value
 abbrev pub seen_on_line : {A : Type 0} → CodeOnLine A → OnLine
 seen_on_line code.Nothing = nothing
 seen_on_line code.NoHex = no_hex

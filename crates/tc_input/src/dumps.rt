@@ -1,4 +1,4 @@
-//! The lines of a dump.
+//! Dumps with offsets.
 
 ghost use Rattle.std.specs.Prelude.{◌≡◌, IfOk};
 ghost use Rattle.tc_input.specs.Dumps.{place_at, seen_place};
@@ -6,21 +6,21 @@ ghost use Rattle.tc_input.specs.Dumps.{place_at, seen_place};
 use crate::lines::MOST_LINE;
 use crate::text::{before_comment, bytes_of};
 use std::alloc::{AllocError, Allocator};
-use tc_words::dump_line;
+use tc_select::dump_line;
 
-/// What a line is of a dump.
+/// The role of a line in a dump.
 #[derive(Drop)]
 pub enum Place<A: Allocator> {
     /// The first line of a dump, with these bytes.
     Begins(Vec<u8, A>),
     /// The next line of the dump, with these bytes.
     GoesOn(Vec<u8, A>),
-    /// No line of it.
+    /// Not a line of the dump.
     Apart,
 }
 
-/// What a line is of a dump of which these bytes were read: a line at offset 0 begins one, and one at the offset where the
-/// bytes end goes on.
+/// The role of a line after these bytes of a dump: at offset 0 it begins one; at the offset where the bytes end it continues
+/// it.
 pub fn place_of<A: Allocator + Copy>(
     alloc: A,
     dump: &[u8],

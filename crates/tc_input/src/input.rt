@@ -1,32 +1,28 @@
-//! The input, a part at a time.
+//! Input, read in parts.
 
-ghost use Rattle.std.specs.Prelude.{◌≡◌, ◌+◌, ◌≤◌, ◌<◌, All, ◌≢◌, drop, take, length, IfOk};
-ghost use Rattle.std.specs.Io.KnownBytes.{Consumes, IsAtEnd};
+ghost use Rattle.std.specs.Prelude.{◌+◌, ◌≤◌, ◌<◌, All, ◌≢◌, drop, take, length};
 
+use program_io::{Stop, read_some};
 use std::alloc::{AllocError, Allocator};
-use std::io::{ErrorKind, Read};
-use tc_streams::Stop;
+use std::io::Read;
 
-/// The longest piece of an input that is read as a whole, in bytes.
+/// The longest piece that is read whole, in bytes.
 pub const MOST_PIECE: usize = 1_048_576;
 
-// The most bytes that one read asks for.
+// The size of one read, in bytes.
 const PART: usize = 65_536;
 
-// How often a read that was interrupted is tried again.
-const MOST_TRIES: u16 = 1024;
-
-/// What was read of an input and isn't used yet.
+/// Bytes that were read and aren't used yet.
 #[derive(Drop)]
 pub struct Input<A: Allocator> {
     pub(crate) bytes: Vec<u8, A>,
-    // How many of them are used.
+    // The number of used bytes.
     pub(crate) used: usize,
-    // How many after them have no line feed.
+    // The number of bytes after them without a line feed.
     pub(crate) searched: usize,
-    // Where the first of them is in the input.
+    // The offset of the first byte in the input.
     offset: u64,
-    // Where a read puts its bytes.
+    // The buffer for one read.
     part: Vec<u8, A>,
     ghost inside: { used + searched ≤ length bytes.items },
     ghost no_feed: { All (λ b. b ≢ 10) (take searched (drop used bytes.items)) },
@@ -38,7 +34,7 @@ impl<A: Allocator + Copy> Input<A> {
     ghost use Rattle.std.specs.Io.KnownBytes.{Keeps};
     ghost use Rattle.tc_input.specs.Left.{rest_of, left_of, ReadsMore, PassesOver};
 
-    /// An input of which nothing was read.
+    /// An empty buffer.
     pub fn new(alloc: A) -> Result<Input<A>, AllocError>
         ensures { IfOk result (λ input. rest_of input ≡ []) }
     {
@@ -51,14 +47,14 @@ impl<A: Allocator + Copy> Input<A> {
         })
     }
 
-    /// What was read and isn't used.
+    /// The unused bytes.
     pub fn rest(&self) -> &[u8]
         ensures { result.now ≡ rest_of self.now }
     {
         self.bytes.as_slice().split_at(self.used).1
     }
 
-    /// The first four bytes of it, or all.
+    /// The first four unused bytes, or all if there are fewer.
     pub fn first(&self) -> &[u8]
         ensures { result.now ≡ take 4 (rest_of self.now) }
     {
@@ -66,12 +62,12 @@ impl<A: Allocator + Copy> Input<A> {
         rest.split_at(rest.len().min(4)).0
     }
 
-    /// Where the rest begins in the input.
+    /// The offset of the unused bytes in the input.
     pub fn offset(&self) -> u64 {
         self.offset.saturating_add(self.used as u64)
     }
 
-    /// The next bytes are used, so many of them at most.
+    /// Uses at most `count` bytes.
     pub fn use_up(&mut self, count: usize)
         ensures { rest_of self.new ≡ drop count (rest_of self.old) }
     {
@@ -79,7 +75,7 @@ impl<A: Allocator + Copy> Input<A> {
         self.used = self.used.saturating_add(count).min(self.bytes.len());
     }
 
-    /// All that was read is used.
+    /// Uses all bytes.
     pub fn use_all(&mut self)
         ensures { rest_of self.new ≡ [] }
     {
@@ -87,7 +83,7 @@ impl<A: Allocator + Copy> Input<A> {
         self.use_up(all);
     }
 
-    // Moves the rest to the front.
+    // Drops the used bytes.
     fn forget(&mut self)
         ensures { rest_of self.new ≡ rest_of self.old }
     {
@@ -102,12 +98,12 @@ impl<A: Allocator + Copy> Input<A> {
         self.used = 0;
     }
 
-    /// Reads once. False at the end of the input.
+    /// Reads more bytes. False at the end of the input.
     pub fn more<R: Read>(&mut self, reader: &mut R) -> Result<bool, Stop>
         ensures { IfOk result (λ some. ReadsMore (rest_of self.old) (rest_of self.new) (R.remaining reader.old) (R.remaining reader.new) some) }
     {
         self.forget();
-        let count = read_part(self.part.as_mut_slice(), reader)?;
+        let count = read_some(reader, self.part.as_mut_slice())?;
         if count == 0 {
             return Ok(false);
         }
@@ -115,7 +111,7 @@ impl<A: Allocator + Copy> Input<A> {
         Ok(true)
     }
 
-    /// Passes over the next bytes. False where the input ends before them.
+    /// Skips `count` bytes. False if the input ends before them.
     pub fn skip<R: Read>(&mut self, count: usize, reader: &mut R) -> Result<bool, Stop>
         ensures { IfOk result (λ is_whole. PassesOver (left_of self.old (R.remaining reader.old)) (left_of self.new (R.remaining reader.new)) count is_whole) }
     {
@@ -141,7 +137,7 @@ impl<A: Allocator + Copy> Input<A> {
     ghost use Rattle.std.specs.Io.KnownBytes.{Keeps, IsAtEnd};
     ghost use Rattle.tc_input.specs.Left.{rest_of, left_of};
 
-    /// The first bytes of an input: four, where there are so many.
+    /// Starts an input, and reads its first four bytes, or all.
     pub fn begin<R: Read>(alloc: A, reader: &mut R) -> Result<Input<A>, Stop>
         ensures kept { IfOk result (λ input. Keeps (R.remaining reader.old) (left_of input (R.remaining reader.new))) }
         ensures first { IfOk result (λ input. IfSome (R.remaining reader.old) (λ file. take 4 (rest_of input) ≡ take 4 file)) }
@@ -154,25 +150,4 @@ impl<A: Allocator + Copy> Input<A> {
         }
         Ok(input)
     }
-}
-
-// Reads bytes once, and returns how many: none at the end of the input alone.
-#[tactic(auto, using(crate::proofs::Left::kept_then, crate::proofs::Left::kept_consumes))]
-fn read_part<R: Read>(part: &mut [u8], reader: &mut R) -> Result<usize, Stop>
-    requires { 0 < length part.old }
-    ensures inside { IfOk result (λ count. count ≤ length part.new) }
-    ensures taken { IfOk result (λ count. Consumes (R.remaining reader.old) (R.remaining reader.new) (take count part.new)) }
-    ensures none { IfOk result (λ count. count ≡ 0 → IsAtEnd (R.remaining reader.new)) }
-{
-    'tries: for _ in 0..MOST_TRIES {
-        match reader.read(part) {
-            Ok(count) => return Ok(count),
-            Err(fault) => {
-                if fault.kind() != ErrorKind::Interrupted {
-                    return Err(Stop::Read);
-                }
-            }
-        }
-    }
-    Err(Stop::Read)
 }

@@ -1,7 +1,7 @@
-//! An input that is read a part at a time: the pieces of a capture, and lines of hex, of which several may be a dump.
+//! Reads an input in parts: the pieces of a capture, or lines of hex, several of which can form a dump with offsets.
 //!
-//! What a contract says of an input is said of all its bytes, where it is known what the reader has: which pieces they
-//! have, and which lines, whatever the parts are in which they come.
+//! Contracts are about all bytes of the input, if those of the reader are known: the result doesn't depend on the parts.
+//! Calls that take an allocator fail with `AllocError` or `Stop::Memory` if it fails.
 #![tactic(auto)]
 
 mod dumps;

@@ -4,25 +4,25 @@ ghost use Rattle.std.specs.Prelude.{◌<◌, length, MatchOption, IfSome};
 ghost use Rattle.tc_input.specs.Lines.{HasNoFeed, EndsLine};
 
 use crate::input::{Input, MOST_PIECE};
+use program_io::Stop;
 use std::alloc::Allocator;
 use std::io::Read;
-use tc_streams::Stop;
 
 /// The longest line that is read, in bytes of text: two digits and a blank for each byte of the longest piece.
 pub const MOST_LINE: usize = 3 * MOST_PIECE;
 
-/// What comes where no line ends in what was read.
+/// The result of reading on if no line ends in the unused bytes.
 #[derive(Clone, Copy)]
 pub enum LineGap {
-    /// More was read.
+    /// More bytes were read.
     More,
-    /// A line was passed over that is too long: so many bytes, and whether the text goes on.
+    /// A line that is too long was skipped: its length in bytes, and whether the text continues.
     Long(u64, bool),
-    /// What was read is the last line.
+    /// The unused bytes are the last line.
     Last,
 }
 
-// Where the first line feed is.
+// The offset of the first line feed.
 #[tactic(auto, using(crate::proofs::LineSteps::feed_at, crate::proofs::LineSteps::no_feed_more, crate::proofs::LineSteps::no_feed_all))]
 fn feed_in(bytes: &[u8]) -> Option<usize>
     ensures found { MatchOption result (HasNoFeed bytes.now) (EndsLine bytes.now) }
@@ -42,7 +42,7 @@ impl<A: Allocator + Copy> Input<A> {
     ghost use Rattle.tc_input.specs.Left.{rest_of, left_of, Gives};
     ghost use Rattle.tc_input.specs.Lines.{HasNoFeed, EndsLine, PassesLine, IsLineGap, lines_left, most_line};
 
-    /// Where the first line ends in what was read.
+    /// The end of the first line in the unused bytes, if any.
     pub fn line_end(&mut self) -> Option<usize>
         ensures same { rest_of self.new ≡ rest_of self.old }
         ensures inside { IfSome result (λ end. end < length (rest_of self.new)) }
@@ -61,7 +61,7 @@ impl<A: Allocator + Copy> Input<A> {
         }
     }
 
-    /// The line is used that ends there, and the line feed.
+    /// Uses the line that ends there, and its line feed.
     pub fn use_line(&mut self, end: usize)
         requires { end < length (rest_of self.old) }
         ensures { rest_of self.new ≡ drop (end + 1) (rest_of self.old) }
@@ -69,7 +69,7 @@ impl<A: Allocator + Copy> Input<A> {
         self.use_up(end + 1);
     }
 
-    /// Reads more of a text where no line ends in what was read, or passes over a line that is too long.
+    /// Reads more, if no line ends in the unused bytes, or skips a line that is too long.
     pub fn read_line<R: Read>(&mut self, reader: &mut R) -> Result<LineGap, Stop>
         requires { HasNoFeed (rest_of self.old) }
         ensures { IfOk result (λ gap. IsLineGap gap (rest_of self.new) (left_of self.old (R.remaining reader.old))
@@ -84,7 +84,7 @@ impl<A: Allocator + Copy> Input<A> {
         Ok(LineGap::Last)
     }
 
-    // Passes over a line that is too long.
+    // Skips a line that is too long.
     fn pass_over_line<R: Read>(&mut self, reader: &mut R) -> Result<LineGap, Stop>
         requires none { HasNoFeed (rest_of self.old) }
         requires long { most_line < length (rest_of self.old) }
@@ -100,7 +100,7 @@ impl<A: Allocator + Copy> Input<A> {
         Ok(LineGap::Long(long, goes_on))
     }
 
-    // Passes over a line, and the line feed that ends it. False where the input ends in it.
+    // Skips a line and its line feed. False if the input ends in the line.
     fn skip_line<R: Read>(&mut self, reader: &mut R) -> Result<bool, Stop>
         requires { HasNoFeed (rest_of self.old) }
         ensures { IfOk result (PassesLine (length (rest_of self.old)) (left_of self.old (R.remaining reader.old)) (left_of self.new (R.remaining reader.new))) }

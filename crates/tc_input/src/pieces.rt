@@ -10,27 +10,27 @@ ghost use Rattle.tc_input.specs.Left.{rest_of, left_of, Gives};
 ghost use Rattle.tc_input.specs.Pieces.{pieces_left, IsGap, IsSeen};
 
 use crate::input::{Input, MOST_PIECE};
+use program_io::Stop;
 use std::alloc::Allocator;
 use std::io::Read;
 use tc_capture::{Capture, CaptureError, Piece, Res};
-use tc_streams::Stop;
 
-/// What comes where no piece is at the front of what was read.
+/// The result of reading on if the unused bytes don't begin with a whole piece.
 #[derive(Clone, Copy)]
 pub enum Gap {
-    /// More was read.
+    /// More bytes were read.
     More,
-    /// A piece was passed over that is too long: so many bytes.
+    /// A piece that is too long was skipped: its length in bytes.
     Skipped(usize),
-    /// It can't be read on.
+    /// The capture can't be read any further.
     Broken(CaptureError),
-    /// It ends within a piece.
+    /// The capture ends within a piece.
     Cut(CaptureError),
-    /// It ends.
+    /// The capture ends.
     End,
 }
 
-// The first bytes, of which no more are looked at.
+// The leading bytes in which a piece is searched.
 fn front_of_rest(bytes: &[u8]) -> &[u8]
     ensures { result.now ≡ take 1048576 bytes.now }
 {
@@ -40,7 +40,7 @@ fn front_of_rest(bytes: &[u8]) -> &[u8]
     bytes.split_at(MOST_PIECE).0
 }
 
-/// The piece at the front of what was read of a capture.
+/// The piece at the front of the unused bytes.
 pub fn next_piece<'a, A: Allocator + Copy>(
     capture: &mut Capture,
     input: &'a Input<A>,
@@ -55,8 +55,7 @@ pub fn next_piece<'a, A: Allocator + Copy>(
     capture.next(front_of_rest(input.rest()))
 }
 
-/// Reads more of a capture where no piece is at the front of what was read, for this fault, or passes over a piece that is
-/// too long.
+/// Reads more of a capture after `next_piece` failed with this fault, or skips a piece that is too long.
 pub fn read_on<A: Allocator + Copy, R: Read>(
     capture: &Capture,
     input: &mut Input<A>,
@@ -72,7 +71,7 @@ pub fn read_on<A: Allocator + Copy, R: Read>(
     }
 }
 
-// The same where so many bytes are wanted, and so many are there.
+// `read_on` for a piece of `needed` bytes of which `left` are there.
 fn read_more<A: Allocator + Copy, R: Read>(
     capture: &Capture,
     input: &mut Input<A>,
@@ -92,7 +91,7 @@ fn read_more<A: Allocator + Copy, R: Read>(
     pass_over(capture, input, needed, left, reader)
 }
 
-// Passes over a piece that is too long, or says how the capture ends, where no more is read of what is at its front.
+// Skips a piece that is too long, or returns how the capture ends.
 fn pass_over<A: Allocator + Copy, R: Read>(
     capture: &Capture,
     input: &mut Input<A>,

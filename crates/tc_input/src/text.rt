@@ -1,27 +1,27 @@
-//! A line of hex.
+//! Lines of hex.
 
 ghost use Rattle.std.specs.Prelude.{◌≡◌, IfOk, option_map};
-ghost use Rattle.tc_words.specs.Pasted.{bytes_of_hex};
+ghost use Rattle.tc_select.specs.Pasted.{bytes_of_hex};
 ghost use Rattle.tc_input.specs.Text.{is_before_comment, before_comment, on_line, seen_on_line};
 
 use crate::lines::MOST_LINE;
 use std::alloc::{AllocError, Allocator};
-use tc_words::push_hex;
+use tc_select::push_hex;
 
-/// What a line says.
+/// The content of a line.
 #[derive(Drop)]
 pub enum OnLine<A: Allocator> {
-    /// Nothing: it has blanks and a comment at most.
+    /// Nothing but blanks and a comment.
     Nothing,
-    /// It isn't hex.
+    /// Not hex.
     NoHex,
-    /// It is too long.
+    /// Longer than [`MOST_LINE`](crate::MOST_LINE).
     TooLong,
-    /// These bytes.
+    /// Bytes.
     Bytes(Vec<u8, A>),
 }
 
-/// What a line of hex says: digits with blanks, colons and `0x` among them, and a comment behind them.
+/// Reads a line of hex: digits with blanks, colons and `0x` among them, then a comment.
 pub fn on_line<A: Allocator + Copy>(alloc: A, line: &[u8]) -> Result<OnLine<A>, AllocError>
     ensures { IfOk result (λ said. seen_on_line said ≡ on_line line.now) }
 {
@@ -40,7 +40,7 @@ pub fn on_line<A: Allocator + Copy>(alloc: A, line: &[u8]) -> Result<OnLine<A>, 
     }
 }
 
-/// The bytes of hex.
+/// Reads hex; `None` if it isn't.
 #[tactic(auto, using(crate::proofs::Alone::hex_alone, crate::proofs::Alone::no_hex_alone))]
 pub(crate) fn bytes_of<A: Allocator>(
     alloc: A,
@@ -56,7 +56,7 @@ pub(crate) fn bytes_of<A: Allocator>(
     Ok(None)
 }
 
-/// What comes before the comment of a line.
+/// The part of a line before its comment.
 pub(crate) fn before_comment(line: &[u8]) -> &[u8]
     ensures { result.now ≡ before_comment line.now }
 {

@@ -1,4 +1,4 @@
--- What version 1 reads, and what is read now, of the same bytes.
+-- Both readings of the same bytes: version 1, and now.
 use Rattle.std.proofs.Common.{◌≡◌, ◌↔◌, ℕ, Bool, true, false, List, [], ◌∷◌, ◌≤◌, length, take, drop, Ok, Err, cond, ltb, refl, sym, ap, subst, ◌∙◌, arith}
 use Rattle.std.specs.List.{AllByRecursion}
 use Rattle.nla_frames.specs.declared.error.DecodeError.{DecodeError}

@@ -71,7 +71,7 @@ AreFrames-InFull bytes (f ∷ fs) c = CutsUp-Begins bytes f c.0 fs None c.1 (Are
 cut-InFull : (bytes : List ℕ) (fs : List Frame) → InFull bytes fs → cut bytes ≡ record { frames = fs; fault = None }
 cut-InFull bytes fs full = cut-is bytes fs None (AreFrames-InFull bytes fs full)
 
--- a list of such frames reads as values exactly if the frames read as them in turn
+-- a list of such frames reads as values exactly when the frames read as them in turn
 module _ {X : Type 0} (reads : Reads X) (sets : Sets Frame) (first bytes : List ℕ) (fs : List Frame) (full : InFull bytes fs) (xs : List X) where
   pub ReadInTurn-ListReads : ListReads reads sets first bytes xs → ReadInTurn reads sets first fs xs
   ReadInTurn-ListReads (gs, frames, each) =

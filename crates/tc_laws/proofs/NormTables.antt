@@ -30,8 +30,8 @@ use Rattle.tc_meaning.proofs.Texts.{strip-none}
 use Rattle.tc_meaning.proofs.Selectors.{settled-fields}
 use Rattle.tc_meaning.proofs.Rows.{RowLaws}
 use Rattle.tc_meaning.proofs.KindLaws.{KindLaws, bytes_eq-refl}
-use Rattle.tc_meaning.proofs.OwnLaws.{TellsKind, read_own-ok, told-set}
-use Rattle.tc_meaning.proofs.TableLaws.{rows_laws, kinds_laws, tells_rows}
+use Rattle.tc_meaning.proofs.OwnLaws.{ReadsKinds, read_own-ok, frames-set}
+use Rattle.tc_meaning.proofs.TableLaws.{rows_laws, kinds_laws, rows_read_kinds}
 use Rattle.tc_laws.proofs.TrailingNuls.{without-ends}
 use Rattle.tc_laws.proofs.RewriteValues.{counted, mask-below}
 use Rattle.tc_laws.proofs.RewriteRows.{of_row, wire_value}
@@ -41,7 +41,7 @@ use Rattle.tc_laws.proofs.RewriteTables.{settled-presence, settled-record, settl
 abbrev pub NormSettled : {W X : Type 0} → (W → Type 0) → Codec W X → (X → X) → Type 0
 NormSettled {W = W} {X = X} IsWire c all = (k : List ℕ) (w : W) (x : X) → IsWire w → c.read k w ≡ Ok x → c.Settled k (all x)
 
--- the same of what stands in a row at the type n
+-- the same for an attribute of a row at the type n
 abbrev NormRow : ℕ → Codec Frame Attribute → (Content → Content) → Type 0
 NormRow n c all = (k : List ℕ) (f : Frame) (x : Attribute) → IsWireFrame f → type_of f.word ≡ n → c.read k f ≡ Ok x → c.Settled k (of_row all x)
 
@@ -73,7 +73,7 @@ module _ {X : Type 0} (c : Codec Frame X) (all : X → X) (law : NormSettled IsW
   pub norm_list : NormSettled IsWireBytes (list_codec by_frame by_value c) (map all)
   norm_list k bytes xs w e = norm-each k (cut bytes).frames xs (IsWireFrame-cut bytes w.are_bytes) (ReadInTurn-read_list c.read by_frame k bytes xs e).1
 
-module _ (c : Codec Frame Attribute) (tells : TellsKind c) (all : Attribute → Attribute) (law : NormSettled IsWireFrame c all)
+module _ (c : Codec Frame Attribute) (reads_kinds : ReadsKinds c) (all : Attribute → Attribute) (law : NormSettled IsWireFrame c all)
     (stays : (x : Attribute) → kind_of_attribute (all x) ≡ kind_of_attribute x) where
   kinds-norm : (xs : List Attribute) → kinds_set kind_of_attribute (map all xs) ≡ kinds_set kind_of_attribute xs
   kinds-norm [] = refl
@@ -86,9 +86,9 @@ module _ (c : Codec Frame Attribute) (tells : TellsKind c) (all : Attribute → 
   norm_own : NormSettled IsWireBytes (own_codec c) (map all)
   norm_own k bytes xs w e =
       let own = read_own-ok c bytes xs e in
-      let told = sym (told-set c tells own.own bytes xs own.is_read) ∙ own.tells in
+      let same_kinds = sym (frames-set c reads_kinds own.own bytes xs own.is_read) ∙ own.one_kind in
       let each = norm_list c all law keep keep (λ kind f x v h. refl) (λ x. refl) own.own bytes xs w own.is_read in
-      (own.own, kinds-norm xs ∙ told, each-all own.own (map all xs) each)
+      (own.own, kinds-norm xs ∙ same_kinds, each-all own.own (map all xs) each)
 
 -- ---- rows
 
@@ -123,7 +123,7 @@ norm_by_type : (at : ℕ → Codec Frame Attribute) (Canon : ℕ → IsCanonAt) 
     → ((n : ℕ) → NormRow n (at n) (all n))
     → NormSettled IsWireFrame (by_type at) (in_known all)
 norm_by_type at Canon laws all rows k f x w e =
-    let number = (laws (type_of f.word)).stands k f x refl e in
+    let number = (laws (type_of f.word)).numbered k f x refl e in
     let here = rows (type_of f.word) k f x w refl e in
     go x (subst (λ (m : ℕ). (at m).Settled k (of_row (all m) x)) (sym number) here)
   where
@@ -189,7 +189,7 @@ mutual
   class_norm (own_list rows) sound =
       let s = and_parts (starts_with_kind rows) (is_sound_rows rows) sound in
       norm_items (own_codec (by_type (rows_codec rows))) (map (in_known (trimmed_rows without_nuls rows)))
-      (norm_own (by_type (rows_codec rows)) (tells_rows rows s.0 (λ n. rows_laws rows s.1 n)) (in_known (trimmed_rows without_nuls rows))
+      (norm_own (by_type (rows_codec rows)) (rows_read_kinds rows s.0 (λ n. rows_laws rows s.1 n)) (in_known (trimmed_rows without_nuls rows))
       (norm_by_type (rows_codec rows) (CanonRows rows) (λ n. rows_laws rows s.1 n) (trimmed_rows without_nuls rows) (λ n. rows_norm rows s.1 n))
       (same_kind without_nuls rows s.0))
 

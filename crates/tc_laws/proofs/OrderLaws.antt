@@ -1,4 +1,4 @@
--- Exchanging neighbouring frames exchanges what they read as.
+-- Exchanging neighbouring frames exchanges their readings.
 use Rattle.std.proofs.Common.{◌≡◌, ◌↔◌, ℕ, zero, suc, ◌≤◌, List, [], ◌∷◌, ◌++◌, length, Option, Some, None, Ok, refl, sym, ap, ◌∙◌, arith}
 use Rattle.nla_frames.specs.Fault.{Outcome, seen, read_as, ◌>>=◌}
 use Rattle.nla_frames.specs.Value.{IsBytes}
@@ -18,7 +18,7 @@ use Rattle.tc_meaning.proofs.OwnGrammarLaws.{after_look, read_own-look, one_own}
 use Rattle.tc_laws.proofs.FramesInFull.{InFull-append, ReadInTurn-ListReads, ListReads-ReadInTurn, ListReads-function}
 use Rattle.tc_meaning.proofs.Trees.{attributes_again}
 
--- the two after the first so many
+-- the two after the first n
 pub exchanged-is : {X : Type 0} (l r : List X) (x y : X) → exchanged (length l) (l ++ x ∷ y ∷ r) ≡ l ++ y ∷ x ∷ r
 exchanged-is [] r x y = refl
 exchanged-is (z ∷ l) r x y = ap (λ (t : List _). z ∷ t) (exchanged-is l r x y)
@@ -76,7 +76,7 @@ list-exchanges reads kind front one two back fs f g gs a b c d xs is =
 
 -- ---- lists under their own kind
 
--- a list that tells its kind
+-- a list that sets its own kind
 pub own-exchanges : {X : Type 0} (reads : Reads X) → Exchanges (OwnReads reads)
 own-exchanges reads front one two back fs f g gs a b c d xs is = record {
   looks = exchanged (length fs) is.looks;

@@ -73,7 +73,7 @@ module _ (name : List ℕ) (own rest : Codec Frame Attribute) (CanonRest : IsCan
   abbrev parts_of : List ℕ → Attribute → List Part
   parts_of m x = cond (bytes_eq m name) (parts x) (parts' m x)
 
-  -- the reading, where it is known whether the kind is the first
+  -- the reading, if it is known whether the kind is the first
   kind_by : Bool → List ℕ → Frame → Outcome Attribute
   kind_by b k f = cond b (seen (of_kind name) (own.read k f)) (rest.read k f)
 
@@ -134,7 +134,7 @@ module _ (name : List ℕ) (own rest : Codec Frame Attribute) (CanonRest : IsCan
   fits-kind (kept n word value) f = rest_next.fits (kept n word value) f
   fits-kind (other word value) f = rest_next.fits (other word value) f
 
-  -- an attribute of a kind as it is written, where it is known whether the kind is the first
+  -- an attribute of a kind as it is written, if it is known whether the kind is the first
   abbrev written_by : Bool → List ℕ → Attribute → Frame
   written_by b m x = cond b (own.write x) (rest.write (of_kind m x))
 

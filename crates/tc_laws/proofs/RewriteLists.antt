@@ -15,7 +15,7 @@ use Rattle.nla_frames.proofs.FrameBytes.{length_frame_bytes}
 use Rattle.tc_meaning.specs.Tree.{Attribute}
 use Rattle.tc_meaning.specs.Own.{kind_of_attribute, kind_before, kinds_set, read_own, SettledOwn, own_codec}
 use Rattle.tc_laws.specs.Loose.{Part}
-use Rattle.tc_meaning.proofs.OwnLaws.{TellsKind, read_own-ok, told-set, read_own-is, settled-all}
+use Rattle.tc_meaning.proofs.OwnLaws.{ReadsKinds, read_own-ok, frames-set, read_own-is, settled-all}
 use Rattle.tc_laws.proofs.TrimLaws.{IsWhole, all-append, append-all}
 use Rattle.tc_laws.proofs.RewriteValues.{RewriteLaws, IsSettledPart}
 
@@ -135,9 +135,9 @@ module _ {X : Type 0} (c : Codec Frame X) (Canon : IsCanonAt) (laws : Laws IsWir
       whole = whole-next;
     }
 
--- ---- a list that tells its kind
+-- ---- a list that sets its own kind
 
-module _ (c : Codec Frame Attribute) (Canon : IsCanonAt) (laws : Laws IsWireFrame c Canon) (tells : TellsKind c) (next : Attribute → Attribute)
+module _ (c : Codec Frame Attribute) (Canon : IsCanonAt) (laws : Laws IsWireFrame c Canon) (reads_kinds : ReadsKinds c) (next : Attribute → Attribute)
     (parts : Attribute → List Part)
     (r : RewriteLaws IsWireFrame frame_size c next parts) (stays : (x : Attribute) → kind_of_attribute (next x) ≡ kind_of_attribute x) where
   list_laws : RewriteLaws IsWireBytes length (list_codec keep keep c) (map next) (flat_map parts)
@@ -152,14 +152,14 @@ module _ (c : Codec Frame Attribute) (Canon : IsCanonAt) (laws : Laws IsWireFram
       → SettledOwn c.Settled xs ↔ AllByRecursion IsSettledPart (flat_map parts xs)
   settled-own k bytes xs w e =
       let own = read_own-ok c bytes xs e in
-      let told = sym (told-set c tells own.own bytes xs own.is_read) ∙ own.tells in
+      let same_kinds = sym (frames-set c reads_kinds own.own bytes xs own.is_read) ∙ own.one_kind in
       let law = list_laws.settled own.own bytes xs w own.is_read in
-      let each = settled-all c tells Canon laws own.own xs in (
+      let each = settled-all c reads_kinds Canon laws own.own xs in (
         (λ s.
-            let one : s.0 ∷ [] ≡ own.own ∷ [] = sym s.1 ∙ told in
+            let one : s.0 ∷ [] ≡ own.own ∷ [] = sym s.1 ∙ same_kinds in
             let is : s.0 ≡ own.own = cc one in
             law.0 (each.1 (subst (λ (name : List ℕ). AllByRecursion (c.Settled name) xs) is s.2))),
-        (λ all. (own.own, told, each.0 (law.1 all))),
+        (λ all. (own.own, same_kinds, each.0 (law.1 all))),
       )
 
   again-own : (k bytes : List ℕ) (xs : List Attribute) → IsWireBytes bytes → read_own c.read bytes ≡ Ok xs → ListFits c.Fits c.write xs
@@ -167,9 +167,9 @@ module _ (c : Codec Frame Attribute) (Canon : IsCanonAt) (laws : Laws IsWireFram
   again-own k bytes xs w e f =
       let own = read_own-ok c bytes xs e in
       let is_read = list_laws.again own.own bytes xs w own.is_read f in
-      let told = told-set c tells own.own (list_bytes c.write xs) (map next xs) is_read ∙ kinds-next xs ∙ sym (told-set c tells own.own bytes xs own.is_read)
-      ∙ own.tells in
-      read_own-is c tells own.own (list_bytes c.write xs) (map next xs) is_read told
+      let same_kinds = frames-set c reads_kinds own.own (list_bytes c.write xs) (map next xs) is_read ∙ kinds-next xs ∙ sym (frames-set c reads_kinds own.own bytes xs own.is_read)
+      ∙ own.one_kind in
+      read_own-is c reads_kinds own.own (list_bytes c.write xs) (map next xs) is_read same_kinds
 
   pub next_own : RewriteLaws IsWireBytes length (own_codec c) (map next) (flat_map parts)
   next_own = record {

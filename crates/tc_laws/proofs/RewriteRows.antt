@@ -16,7 +16,7 @@ use Rattle.tc_laws.proofs.TrimLaws.{IsWhole}
 use Rattle.tc_laws.proofs.RewriteValues.{RewriteLaws, IsSettledPart}
 use Rattle.tc_laws.proofs.RewriteLists.{frame_size}
 
--- a change and parts of a content, whatever type it stands under
+-- a change and parts of a content, whatever its type
 abbrev pub of_row : (Content → Content) → Attribute → Attribute
 of_row next = in_known (λ n. next)
 
@@ -26,7 +26,7 @@ row_parts parts = parts_in_known (λ n. parts)
 pub wire_value : (f : Frame) → IsWireFrame f → IsWireValue f.value
 wire_value f w = record { are_bytes = w.bytes; short = w.frame.value }
 
--- what rewriting makes of what stands in a row at the type n
+-- the effect of rewriting on an attribute of a row at the type n
 pub record RowRewriteLaws (n : ℕ) (c : Codec Frame Attribute) (next : Content → Content) (parts : Content → List Part) : Type 0 where
   pub settled : (k : List ℕ) (f : Frame) (x : Attribute) → IsWireFrame f → type_of f.word ≡ n → c.read k f ≡ Ok x
       → c.Settled k x ↔ AllByRecursion IsSettledPart (row_parts parts x)
@@ -40,7 +40,7 @@ pub record RowRewriteLaws (n : ℕ) (c : Codec Frame Attribute) (next : Content 
   pub same : (x : Attribute) → c.Typed x → c.Fits x → c.write (of_row next x) ≡ c.write x → AllByRecursion IsWhole (row_parts parts x)
   pub whole : (x : Attribute) → AllByRecursion IsWhole (row_parts parts x) → c.write (of_row next x) ≡ c.write x
 
--- ---- kept as it stands
+-- ---- kept raw
 
 pub raw_next : (n : ℕ) → RowRewriteLaws n raw_frames (λ x. x) (λ x. [])
 raw_next n = record {
@@ -259,7 +259,7 @@ module _ (at : ℕ → Codec Frame Attribute) (Canon : ℕ → IsCanonAt) (laws 
   settled-table : (k : List ℕ) (f : Frame) (x : Attribute) → IsWireFrame f → (by_type at).read k f ≡ Ok x
       → (by_type at).Settled k x ↔ AllByRecursion IsSettledPart (parts_in_known parts x)
   settled-table k f x w e =
-      let number = (laws (type_of f.word)).stands k f x refl e in
+      let number = (laws (type_of f.word)).numbered k f x refl e in
       let here = (rows (type_of f.word)).settled k f x w refl e in
       subst (λ (ps : List Part). (by_type at).Settled k x ↔ AllByRecursion IsSettledPart ps) (same_parts x)
       (subst (λ (m : ℕ). (at m).Settled k x ↔ AllByRecursion IsSettledPart (row_parts (parts m) x)) (sym number) here)
@@ -269,7 +269,7 @@ module _ (at : ℕ → Codec Frame Attribute) (Canon : ℕ → IsCanonAt) (laws 
   again-table k f x w e fits =
       let n = type_of f.word in
       let row = rows (type_of f.word) in
-      let number = (laws (type_of f.word)).stands k f x refl e in
+      let number = (laws (type_of f.word)).numbered k f x refl e in
       let here = row.again k f x w refl e (subst (λ (m : ℕ). (at m).Fits x) number fits) in
       let under = row.under k f x refl e in
       let there = subst (λ (m : ℕ). (at m).read k ((at (type_of f.word)).write x) ≡ Ok (of_row (next (type_of f.word)) x)) (sym under) here in

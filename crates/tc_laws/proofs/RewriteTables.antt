@@ -26,7 +26,7 @@ use Rattle.tc_meaning.proofs.Outcomes.{seen-ok, kept-ok}
 use Rattle.tc_meaning.proofs.Fields.{read_record-ok}
 use Rattle.tc_meaning.proofs.Selectors.{settled-fields}
 use Rattle.tc_meaning.proofs.Rows.{by_type_laws}
-use Rattle.tc_meaning.proofs.TableLaws.{class_laws, table_laws, rows_laws, kinds_laws, tells_rows, row_word, type_word}
+use Rattle.tc_meaning.proofs.TableLaws.{class_laws, table_laws, rows_laws, kinds_laws, rows_read_kinds, row_word, type_word}
 use Rattle.tc_laws.proofs.RewriteValues.{RewriteLaws, still, next_masked, next_warning, next_items}
 use Rattle.tc_laws.proofs.RewriteLists.{frame_size, next_list, next_own}
 use Rattle.tc_laws.proofs.RewriteRows.{RowRewriteLaws, raw_next, row_next, unread_next, options_next, choose_next, by_type_next, every_next}
@@ -124,7 +124,7 @@ mutual
       next_items (own_codec (by_type (rows_codec rows))) (map (in_known (trimmed_rows strip rows))) (flat_map (parts_in_known (rows_parts rows)))
       (next_own (by_type (rows_codec rows)) (λ k f. CanonRows rows (type_of f.word) k f)
       (by_type_laws (rows_codec rows) (CanonRows rows) (λ n. rows_laws rows s.1 n))
-      (tells_rows rows s.0 (λ n. rows_laws rows s.1 n)) (in_known (trimmed_rows strip rows)) (parts_in_known (rows_parts rows))
+      (rows_read_kinds rows s.0 (λ n. rows_laws rows s.1 n)) (in_known (trimmed_rows strip rows)) (parts_in_known (rows_parts rows))
       (by_type_next (rows_codec rows) (CanonRows rows) (λ n. rows_laws rows s.1 n) (trimmed_rows strip rows) (rows_parts rows) (λ n. rows_next rows s.1 n))
       (same_kind strip rows s.0))
 

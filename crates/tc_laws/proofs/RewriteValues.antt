@@ -26,15 +26,15 @@ IsSettledPart p = is_loose_part p ≡ false
 
 -- what rewriting makes of the values of a codec
 pub record RewriteLaws {W X : Type 0} (IsWire : W → Type 0) (size : W → ℕ) (c : Codec W X) (next : X → X) (parts : X → List Part) : Type 0 where
-  -- what was read is settled exactly if no part of it is loose
+  -- what was read is settled exactly when no part of it is loose
   pub settled : (k : List ℕ) (w : W) (x : X) → IsWire w → c.read k w ≡ Ok x → c.Settled k x ↔ AllByRecursion IsSettledPart (parts x)
   -- what was read, and is written, is read as the next value
   pub again : (k : List ℕ) (w : W) (x : X) → IsWire w → c.read k w ≡ Ok x → c.Fits x → c.read k (c.write x) ≡ Ok (next x)
-  -- the next value is one in hand, fits, and is no longer
+  -- the next value is typed, fits, and is no longer
   pub typed : (x : X) → c.Typed x → c.Typed (next x)
   pub fits : (x : X) → c.Fits x → c.Fits (next x)
   pub smaller : (x : X) → size (c.write (next x)) ≤ size (c.write x)
-  -- it is written the same exactly if no NUL was taken off
+  -- it is written the same exactly when no NUL was taken off
   pub same : (x : X) → c.Typed x → c.Fits x → c.write (next x) ≡ c.write x → AllByRecursion IsWhole (parts x)
   pub whole : (x : X) → AllByRecursion IsWhole (parts x) → c.write (next x) ≡ c.write x
 
@@ -104,7 +104,7 @@ next_warning laws = record {
     less : (t : List ℕ) → IsText t → IsText (strip t)
     less t h = record { is_bytes = IsBytes-strip t h.is_bytes; is_text = utf8-strip t h.is_text }
 
--- a value that can stand in a frame can be counted
+-- the length of a frame's value is a `usize`
 pub counted : (v : List ℕ) → IsWireValue v → IsWireBytes v
 counted v w = record { are_bytes = w.are_bytes; long = omega (arith, w.short) }
 

@@ -13,7 +13,7 @@ use Rattle.tc_laws.specs.Loose.{message_parts, is_loose_tc, is_loose_act, nuls, 
 use Rattle.tc_laws.specs.Norm.{next, norm_tc, norm_act}
 use Rattle.tc_laws.specs.Rewriting.{Rewriting}
 use Rattle.tc_meaning.proofs.TableLaws.{table_laws}
-use Rattle.tc_meaning.proofs.MessageTheorems.{sound_attributes, sound_actions, tells_attributes, tc_laws, act_laws, tc_correspond, action_correspond}
+use Rattle.tc_meaning.proofs.MessageTheorems.{sound_attributes, sound_actions, attributes_read_kinds, tc_laws, act_laws, tc_correspond, action_correspond}
 use Rattle.tc_laws.proofs.TrimLaws.{message_trims, whole-most}
 use Rattle.tc_laws.proofs.NoWarnings.{tc_whole}
 use Rattle.tc_laws.proofs.RewriteValues.{RewriteLaws}
@@ -41,7 +41,7 @@ action-rewriting =
 pub tc_next : RewriteLaws IsWireBytes length (message_codec kind_of_frame kind_of_attribute tc_header attributes) (next attributes) (message_parts attributes)
 tc_next =
     message_next kind_of_frame kind_of_attribute tc_header attributes sound_attributes (table_laws (table attributes) sound_attributes)
-    (λ kind f x w e. tells_attributes.agree kind f x e) (λ change. same_kind change attributes refl)
+    (λ kind f x w e. attributes_read_kinds.agree kind f x e) (λ change. same_kind change attributes refl)
 
 -- no warning is in it
 tc_nuls : (m : Message) → nuls attributes m ≡ 0
@@ -51,7 +51,7 @@ pub tc-rewriting : (bytes : List ℕ) → IsWireBytes bytes → Rewriting tc_wor
 tc-rewriting =
     rewriting kind_of_frame kind_of_attribute tc_header attributes CanonTc tc_laws tc_next (λ m. 1) (λ m. let none = tc_nuls m in omega (arith, none))
     (λ bytes w m g. message_norm kind_of_frame kind_of_attribute tc_header attributes sound_attributes (table_laws (table attributes) sound_attributes)
-    (λ kind f x w e. tells_attributes.agree kind f x e) (λ change. same_kind change attributes refl) bytes m w (((tc_correspond bytes w).reading m).1 g))
+    (λ kind f x w e. attributes_read_kinds.agree kind f x e) (λ change. same_kind change attributes refl) bytes m w (((tc_correspond bytes w).reading m).1 g))
 
 -- what is written of it is canonical, and reads as its norm
 pub tc-written : (bytes : List ℕ) → IsWireBytes bytes → (m : Message) → ReadsTc bytes m → FitsTc m → CanonTc (tc_bytes m)

@@ -64,7 +64,7 @@ module _ (by_frame : Sets Frame) (by_value : Sets Attribute) (layout : List Fiel
   bytes_after bytes m zero = bytes
   bytes_after bytes m (suc n) = c.write (after m n)
 
-  -- bytes in hand that read as a message that fits
+  -- the bytes of a slice that read as a message that fits
   record IsRead (bytes : List ℕ) (m : Message) : Type 0 where
     pub wire : IsWireBytes bytes
     pub reads : c.read [] bytes ≡ Ok m
@@ -99,7 +99,7 @@ module _ (by_frame : Sets Frame) (by_value : Sets Attribute) (layout : List Fiel
   norm-after m zero = refl
   norm-after m (suc n) = trims.twice (after m n) ∙ norm-after m n
 
-  -- written bytes are canonical exactly if no warning ends in NUL
+  -- written bytes are canonical exactly when no warning ends in NUL
   canon-whole : (bytes : List ℕ) (m : Message) → IsRead bytes m → Canon (c.write m) ↔ (most (parts m) ≡ 0)
   canon-whole bytes m is =
       let there = is_read-next bytes m is in
@@ -137,7 +137,7 @@ module _ (by_frame : Sets Frame) (by_value : Sets Attribute) (layout : List Fiel
   unfolding last
   last-read bytes m is = subst (IsRead (last bytes m)) (last-norm m) (is_read-after bytes m is (suc (most (parts m))))
 
-  -- the norm is one in hand where the message is, and fits where it does
+  -- the norm is typed if the message is, and fits if the message does
   norm-typed : (m : Message) → c.Typed m → c.Typed (norm m)
   unfolding after
   norm-typed m t = subst c.Typed (last-norm m) (go (suc (most (parts m))))
@@ -234,7 +234,7 @@ module _ (by_frame : Sets Frame) (by_value : Sets Attribute) (layout : List Fiel
       let whole = (laws.same [] (bytes_after bytes m s.count) (after m s.count) here.wire here.reads here.fits).1 canon in
       record { reads = ap (c.read []) same ∙ here.reads ∙ ap (λ (y : Message). read_as y) own; whole = ap c.write (sym own) ∙ whole ∙ sym same }
 
-  -- two byte lists settle as the same bytes exactly if their readings have the same norm
+  -- two byte lists settle as the same bytes exactly when their readings have the same norm
   pub same-norm : (bytes bytes' : List ℕ) → IsWireBytes bytes → IsWireBytes bytes' → (m m' : Message) (final final' : List ℕ)
       → Ends words bytes m final → Ends words bytes' m' final'
       → (final ≡ final') ↔ (norm m ≡ norm m')
@@ -251,7 +251,7 @@ module _ (by_frame : Sets Frame) (by_value : Sets Attribute) (layout : List Fiel
       let there = is_read-next bytes m (is_read bytes m w g f) in
       (reads-is (c.write m) (next m) there.wire).0 there.reads
 
-  -- it is canonical exactly if no warning ended in NUL
+  -- it is canonical exactly when no warning ended in NUL
   pub canonical-next : (bytes : List ℕ) → IsWireBytes bytes → (m : Message) → words.Reads bytes m → c.Fits m → Canon (c.write m) ↔ (most (parts m) ≡ 0)
   canonical-next bytes w m g f = canon-whole bytes m (is_read bytes m w g f)
 

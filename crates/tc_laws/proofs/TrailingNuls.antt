@@ -86,7 +86,7 @@ strip-shorter text = go (ends_in_nul text) refl
     go true e = omega (arith, length-strip text e)
     go false e = rw (strip-none text e) (omega arith)
 
--- a text ends in no NUL exactly if none is at its end
+-- a text ends in no NUL exactly when none is at its end
 pub none-ends : (text : List ℕ) → ends_in_nul text ≡ false → trailing_nuls text ≡ 0
 none-ends text e = rw (without-none text e) (omega arith)
 

@@ -1,4 +1,4 @@
--- What one rewriting and all rewritings make of a value: one NUL less at the end of each warning, and none.
+-- The effect of one rewrite and of all rewrites on a value: one NUL less at the end of each warning, and none.
 use Rattle.std.proofs.Common.{◌≡◌, ◌⊎◌, ℕ, ◌-◌, ◌%◌, ◌^◌, ◌<◌, ◌≤◌, Bool, true, false, List, [], ◌∷◌, ◌++◌, map, cond, eqb, refl, sym, ap, ap₂, ◌∙◌, arith, inl}
 use Rattle.std.proofs.Common.{inr, pow_pos, mod-eq_of_lt}
 use Rattle.std.specs.List.{flat_map, AllByRecursion}
@@ -42,7 +42,7 @@ abbrev pub IsWhole : Part → Type 0
 IsWhole (masked_number bits x) = Unit {0}
 IsWhole (warning_text t) = ends_in_nul t ≡ false
 
--- no NUL is left exactly if each is whole
+-- no NUL is left exactly when each is whole
 pub most-whole : (ps : List Part) → most ps ≡ 0 → AllByRecursion IsWhole ps
 most-whole [] e = tt
 most-whole (p ∷ ps) e = go (λ h. most-whole ps h) (greater-cases (part_nuls p) (most ps))
@@ -65,7 +65,7 @@ whole-most (p ∷ ps) all = rw (whole-most ps all.1) (greater-nothing (part_nuls
     one (masked_number bits x) h = refl
     one (warning_text t) h = none-ends t h
 
--- what holds of all of two lists
+-- a property of all elements of two lists
 pub all-append : {X : Type 0} (P : X → Type 0) (xs ys : List X) → AllByRecursion P (xs ++ ys) → AllByRecursion P xs × AllByRecursion P ys
 all-append P [] ys all = (tt, all)
 all-append P (x ∷ xs) ys all = let others = all-append P xs ys all.1 in ((all.0, others.0), others.1)

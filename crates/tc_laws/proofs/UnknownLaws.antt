@@ -1,4 +1,4 @@
--- A frame of an unknown type that is put in among others is read as it stands, and sets no kind.
+-- An inserted frame of an unknown type is kept raw, and sets no kind.
 use Rattle.std.proofs.Common.{◌≡◌, ℕ, Bool, true, false, List, [], ◌∷◌, ◌++◌, length, None, Ok, refl, sym, ap, subst, ◌∙◌, arith}
 use Rattle.std.specs.Prelude.{◌==◌, ◌&&◌, not}
 use Rattle.std.proofs.lemmas.Bool.{ne_eqb}
@@ -28,7 +28,7 @@ not_here : (here : Bool) (rest : Bool) → (not here && rest) ≡ true → (here
 not_here true rest e = absurd cc
 not_here false rest e = (refl, e)
 
--- as it stands
+-- a type that no row has reads as `Other`
 outside_reads : (rows : Rows) (n : ℕ) → is_outside n rows ≡ true → (kind : List ℕ) (f : Frame)
     → (rows_codec rows n).read kind f ≡ Ok (other f.word f.value)
 outside_reads others n out kind f = refl

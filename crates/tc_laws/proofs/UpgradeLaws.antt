@@ -1,4 +1,4 @@
--- The upgrade of one attribute, of a list and of a message, and what version 1 reads, and what is read now, of the same bytes.
+-- The upgrade of one attribute, of a list and of a message, and both readings of the same bytes.
 use Rattle.std.proofs.Common.{◌≡◌, ◌⊎◌, ◌↔◌, ℕ, zero, suc, ◌≤◌, Bool, true, false, not, List, [], ◌∷◌, ◌++◌, length, take, slice_get, Some, Ok, Err, cond, eqb}
 use Rattle.std.proofs.Common.{refl, sym, ap, ap₂, subst, ◌∙◌, arith, inl, inr}
 use Rattle.std.proofs.lemmas.Bool.{and_parts, eqb-true, not-true}
@@ -26,7 +26,7 @@ use Rattle.tc_meaning.specs.Whole.{TypedTc, FitsTc, SettledTc}
 use Rattle.tc_laws.specs.FirstVersion.{are_unknown_options, lone_option, read_attribute1, upgrade_attribute, upgrade_each, upgrade, WasRead, IsUpgrade}
 use Rattle.tc_meaning.proofs.Outcomes.{ok-same}
 use Rattle.tc_meaning.proofs.TableLaws.{rows_laws}
-use Rattle.tc_meaning.proofs.MessageTheorems.{tells_attributes}
+use Rattle.tc_meaning.proofs.MessageTheorems.{attributes_read_kinds}
 
 -- an attribute of a message, as it is read and written now
 abbrev pub attribute : Codec Frame Attribute
@@ -141,9 +141,9 @@ read-unknown kind f is =
     let u = changed-unknown kind f.word is in
     read-options kind f u.0 ∙ rw u.1 refl
 
--- what is read stands under the type of its frame
+-- an attribute that was read has the type of its frame
 number-read : (kind : List ℕ) (f : Frame) (x : Attribute) → attribute.read kind f ≡ Ok x → number_of x ≡ type_of f.word
-number-read kind f x e = (rows_laws attributes refl (type_of f.word)).stands kind f x refl e
+number-read kind f x e = (rows_laws attributes refl (type_of f.word)).numbered kind f x refl e
 
 -- what is read now is its own upgrade
 pub upgrade-read : (kind : List ℕ) (f : Frame) (x : Attribute) → attribute.read kind f ≡ Ok x → upgrade_attribute kind x ≡ x
@@ -193,7 +193,7 @@ stays-or-read kind x = go (stays_or_changes kind x)
 pub first-agree : (kind : List ℕ) (f : Frame) (x : Attribute) → read_attribute1 kind f ≡ Ok x → kind_of_frame f ≡ kind_of_attribute x
 first-agree kind f x e =
     let now : attribute.read kind f ≡ read_as (upgrade_attribute kind x) = sym (both-read kind f) ∙ ap (seen (upgrade_attribute kind)) e in
-    tells_attributes.agree kind f (upgrade_attribute kind x) now ∙ upgrade-sets kind x
+    attributes_read_kinds.agree kind f (upgrade_attribute kind x) now ∙ upgrade-sets kind x
 
 -- ---- the attributes of a message
 

@@ -1,4 +1,4 @@
--- What is loose, the norms and the rewrites of some messages, computed.
+-- Looseness, norms and rewrites of some messages, computed.
 use Rattle.std.proofs.Common.{◌≡◌, ℕ, List, [], ◌∷◌, true, false, Ok, refl}
 use Rattle.std.specs.Prelude.{codes}
 use Rattle.nla_frames.specs.Value.{strip}
@@ -50,7 +50,7 @@ lse_bos_is_not_loose = refl
 lse_bos_stays : norm_tc lse_bos ≡ lse_bos
 lse_bos_stays = refl
 
--- options under an unknown kind stay as they stand
+-- options under an unknown kind are unchanged
 options_before_any_kind_stay : norm_tc (tc (kept 2 2 (hex (codes "050044000f000000")) ∷ [])) ≡ tc (kept 2 2 (hex (codes "050044000f000000")) ∷ [])
 options_before_any_kind_stay = refl
 

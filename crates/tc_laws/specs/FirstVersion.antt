@@ -1,5 +1,5 @@
 -- Version 1 of a traffic control message, which reads options under an unknown kind as a list of one option, and the
--- upgrade, which makes of its messages those that are read now. In all else the two are the same.
+-- upgrade, which turns its messages into those that are read now. All else is the same.
 use Rattle.std.specs.Prelude.{◌≡◌, ℕ, zero, suc, Bool, List, [], ◌∷◌, length, take, slice_get, Some, Ok, ◌==◌, ◌&&◌, not, if◌then◌else◌}
 use Rattle.nla_frames.specs.declared.error.DecodeError.{DecodeError}
 use Rattle.nla_frames.specs.Fault.{Outcome}
@@ -15,17 +15,17 @@ use Rattle.tc_meaning.specs.Own.{kind_of_frame, kind_of_attribute}
 use Rattle.tc_meaning.specs.Meaning.{table_codec}
 use Rattle.tc_meaning.specs.Message.{Message, ReadsBy, FaultBy, read_by}
 
--- a frame with this word is one of options, and no table knows their kind
+-- a frame with this word holds options of an unknown kind
 abbrev pub are_unknown_options : List ℕ → ℕ → Bool
 are_unknown_options kind word = type_of word == 2 && not (is_known option_kinds kind)
 
--- options that are this one option alone, kept raw
+-- options that are only this option, kept raw
 abbrev pub lone_option : ℕ → List ℕ → Attribute
 lone_option word value = known 2 (items (and (other word value) none))
 
 -- ---- the reading of version 1
 
--- one attribute: options whose kind no table knows are one option, with the word and the value of the frame itself
+-- one attribute: options of an unknown kind are one option, with the word and the value of the frame itself
 abbrev pub read_attribute1 : Reads Attribute
 read_attribute1 kind f =
     if are_unknown_options kind f.word then Ok (lone_option f.word f.value) else
@@ -42,14 +42,14 @@ read_tc1 bytes = read_by read_attribute1 kind_of_frame tc_header bytes
 
 -- ---- the upgrade
 
--- one attribute under a kind: options that are one `Other` of type 2, under a kind that no table knows, are kept as that
--- word and value; every other attribute stays
+-- one attribute under a kind: options that are one `Other` of type 2 under an unknown kind become that word and value,
+-- kept raw; every other attribute is unchanged
 abbrev pub upgrade_attribute : List ℕ → Attribute → Attribute
 upgrade_attribute kind (known (suc (suc zero)) (items (and (other word value) none))) =
     if are_unknown_options kind word then kept 2 word value else lone_option word value
 upgrade_attribute kind x = x
 
--- a frame that version 1 reads as this attribute, and which is read now as its upgrade
+-- a frame that version 1 reads as this attribute, and that is now read as its upgrade
 pub record WasRead (kind : List ℕ) (x : Attribute) : Type 0 where
   pub frame : Frame
   pub first : read_attribute1 kind frame ≡ Ok x
@@ -63,13 +63,13 @@ upgrade_each kind (x ∷ xs) = upgrade_attribute kind x ∷ upgrade_each (kind_t
 abbrev pub upgrade : Message → Message
 upgrade m = record { header = m.header; body = upgrade_each [] m.body }
 
--- after these attributes, under the kind that is set last among them, the one is the upgrade of the other
+-- after these attributes, under the kind that is set last among them, one is the upgrade of the other
 pub record UpgradedAfter (before : List Attribute) (x y : Attribute) : Type 0 where
   pub kind : List ℕ
   pub in_force : InForce kind_of_attribute [] before kind
   pub is_upgraded : y ≡ upgrade_attribute kind x
 
--- the upgrade said place by place
+-- the upgrade, stated for each place by itself
 pub record IsUpgrade (m n : Message) : Type 0 where
   pub header : n.header ≡ m.header
   pub as_many : length n.body ≡ length m.body

@@ -1,5 +1,5 @@
--- What a value holds that is written otherwise than it may have been read: numbers that are written masked, and
--- texts of warnings, which are written without a NUL. A value is loose where one of them would not come back.
+-- Loose values: encoding would change them. Numbers are written masked, and the texts of warnings without a NUL; a
+-- value is loose if one of these would not read back.
 use Rattle.std.specs.Prelude.{ℕ, ◌-◌, ◌^◌, Bool, List, [], ◌∷◌, length, map, not, nat_lt, ◌==◌, if◌then◌else◌}
 use Rattle.std.specs.Str.{bytes_eq}
 use Rattle.std.specs.List.{flat_map, list_any}
@@ -13,19 +13,19 @@ use Rattle.tc_meaning.specs.Meaning.{a_list}
 use Rattle.tc_meaning.specs.Message.{Message}
 
 pub data Part : Type 0 where
-  -- a number of which so many bits are written
+  -- a number, and how many of its bits are written
   masked_number : ℕ → ℕ → Part
   -- a text that is written without a NUL
   warning_text : List ℕ → Part
 
 -- ---- the parts of a value
 
--- of the content of an attribute of a type; what is kept raw has none
+-- of the content of an attribute of a type; an attribute that is kept raw has none
 abbrev pub parts_in_known : (ℕ → Content → List Part) → Attribute → List Part
 parts_in_known parts (known n content) = parts n content
 parts_in_known parts x = []
 
--- of an attribute in the variant of a kind
+-- of an attribute under a kind
 abbrev pub parts_in_kind : (List ℕ → Attribute → List Part) → Attribute → List Part
 parts_in_kind parts (of_kind name x) = parts name x
 parts_in_kind parts x = []
@@ -50,7 +50,7 @@ abbrev mutual
   rows_parts (unread m class rows) n x = if n == m then class_parts class x else rows_parts rows n x
   rows_parts (options m kinds rows) n x = if n == m then flat_map (parts_in_kind (kinds_parts kinds)) (a_list.out x) else rows_parts rows n x
 
-  -- of an attribute in the variant of one of these kinds
+  -- of an attribute under one of these kinds
   pub kinds_parts : Kinds → List ℕ → Attribute → List Part
   kinds_parts unknown name x = []
   kinds_parts (kind own rows kinds) name x = if bytes_eq name own then parts_in_known (rows_parts rows) x else kinds_parts kinds name x
@@ -87,7 +87,7 @@ abbrev pub without_nuls : List ℕ → List ℕ
 without_nuls [] = []
 without_nuls (b ∷ text) = before_text b (without_nuls text)
 
--- how many they are
+-- the number of NULs at the end
 abbrev pub trailing_nuls : List ℕ → ℕ
 trailing_nuls text = length text - length (without_nuls text)
 
@@ -98,12 +98,12 @@ part_nuls (warning_text t) = trailing_nuls t
 abbrev pub greater : ℕ → ℕ → ℕ
 greater m n = if nat_lt m n then n else m
 
--- the greatest of some numbers, and 0 of none
+-- the greatest of some numbers, and 0 if there are none
 abbrev pub greatest : List ℕ → ℕ
 greatest [] = 0
 greatest (n ∷ ns) = greater n (greatest ns)
 
--- the most NULs that end a warning of the message
+-- the longest run of trailing NULs in a warning of the message
 abbrev pub nuls : Rows → Message → ℕ
 nuls rows m = greatest (map part_nuls (message_parts rows m))
 

@@ -1,4 +1,4 @@
--- A value with its masked numbers masked and the ends of its warnings trimmed.
+-- The norm of a value: its masked numbers are masked, and its warnings end in no NUL.
 use Rattle.std.specs.Prelude.{ℕ, ◌%◌, ◌^◌, List, map, ◌==◌, if◌then◌else◌}
 use Rattle.std.specs.Str.{bytes_eq}
 use Rattle.nla_frames.specs.Value.{strip}
@@ -13,16 +13,16 @@ use Rattle.tc_laws.specs.Loose.{without_nuls}
 
 -- ---- a change of one part of a value
 
--- of what a content holds
+-- of the parts of a content
 abbrev pub on : {X : Type 0} → Shape X → (X → X) → Content → Content
 on shape change x = shape.into (change (shape.out x))
 
--- of the content of an attribute of a type; what is kept raw stays
+-- of the content of an attribute of a type; an attribute that is kept raw is unchanged
 abbrev pub in_known : (ℕ → Content → Content) → Attribute → Attribute
 in_known change (known n content) = known n (change n content)
 in_known change x = x
 
--- of an attribute in the variant of a kind
+-- of an attribute under a kind
 abbrev pub in_kind : (List ℕ → Attribute → Attribute) → Attribute → Attribute
 in_kind change (of_kind name x) = of_kind name (change name x)
 in_kind change x = x
@@ -50,7 +50,7 @@ module _ (trim : List ℕ → List ℕ) where
     trimmed_rows (unread m class rows) n x = if n == m then trimmed_class class x else trimmed_rows rows n x
     trimmed_rows (options m kinds rows) n x = if n == m then on a_list (map (in_kind (trimmed_kinds kinds))) x else trimmed_rows rows n x
 
-    -- an attribute in the variant of one of these kinds
+    -- an attribute under one of these kinds
     pub trimmed_kinds : Kinds → List ℕ → Attribute → Attribute
     trimmed_kinds unknown name x = x
     trimmed_kinds (kind own rows kinds) name x = if bytes_eq name own then in_known (trimmed_rows rows) x else trimmed_kinds kinds name x
@@ -64,7 +64,7 @@ module _ (trim : List ℕ → List ℕ) where
 abbrev pub norm : Rows → Message → Message
 norm = trimmed_message without_nuls
 
--- the same with one NUL less at the end of each warning: what the message's bytes are read as
+-- the message with one NUL less at the end of each warning: the reading of the message's bytes
 abbrev pub next : Rows → Message → Message
 next = trimmed_message strip
 

@@ -1,4 +1,4 @@
--- Two neighbouring frames of a list exchanged, where all frames are padded in full.
+-- Exchanging two neighbouring frames of a list in which all frames are padded in full.
 use Rattle.std.specs.Prelude.{◌≡◌, ℕ, zero, suc, List, [], ◌∷◌, ◌++◌, length, Ok}
 use Rattle.nla_frames.specs.Frame.{Frame, type_of}
 use Rattle.nla_frames.specs.Grammar.{AreFramesAndRest}
@@ -8,7 +8,7 @@ use Rattle.tc_canon.specs.Tables.Actions.{action_attributes}
 use Rattle.tc_meaning.specs.Tree.{items, Attribute, known, attributes_of}
 use Rattle.tc_meaning.specs.Meaning.{table_codec, by_type, rows_codec}
 
--- the bytes are these frames, each with its padding in full, whatever it holds
+-- the bytes are these frames, each with its full padding, of any content
 abbrev pub InFull : List ℕ → List Frame → Type 0
 InFull bytes fs = AreFramesAndRest bytes fs []
 
@@ -18,14 +18,14 @@ exchanged zero (x ∷ y ∷ xs) = y ∷ x ∷ xs
 exchanged (suc n) (x ∷ xs) = x ∷ exchanged n xs
 exchanged _ xs = xs
 
--- neighbouring frames that are exchanged, with their padding, leave the bytes readable, and exchange what they read as
+-- if neighbouring frames are exchanged with their padding, the bytes still read, with the two readings exchanged
 abbrev pub Exchanges : {X : Type 0} → (List ℕ → List X → Type 0) → Type 0
 Exchanges ReadsAs =
     (front one two back : List ℕ) (fs : List Frame) (f g : Frame) (gs : List Frame)
     → InFull front fs → InFull one (f ∷ []) → InFull two (g ∷ []) → InFull back gs
     → (xs : List _) → ReadsAs (front ++ (one ++ (two ++ back))) xs → ReadsAs (front ++ (two ++ (one ++ back))) (exchanged (length fs) xs)
 
--- how an action is read of a frame of any type, and how an attribute of an action is
+-- the reading of an action from a frame of any type, and of an attribute of an action
 abbrev pub read_action : Reads Attribute
 read_action = (table_codec (every (own_list action_attributes))).read
 

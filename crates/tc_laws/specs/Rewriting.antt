@@ -1,4 +1,4 @@
--- Rewriting: bytes are read and written again, once or many times.
+-- Rewriting: reading bytes and writing the value, once or several times.
 use Rattle.std.specs.Prelude.{◌≡◌, ◌↔◌, ℕ, zero, suc, ◌<◌, List, Bool, false}
 use Rattle.tc_meaning.specs.Message.{Message}
 use Rattle.tc_meaning.specs.Whole.{Words, tc_words, action_words}
@@ -11,35 +11,36 @@ module _ (w : Words Message) where
     pub fits : w.Fits message
     pub is : written ≡ w.bytes message
 
-  -- so many times, one after the other
+  -- n times, one after the other
   abbrev pub RewritesTimes : ℕ → List ℕ → List ℕ → Type 0
   RewritesTimes zero bytes written = written ≡ bytes
   RewritesTimes (suc n) bytes written = (between : List ℕ) × RewritesTimes n bytes between × Rewrites between written
 
-  -- after some rewrites the bytes are canonical, and these are they
+  -- after some rewrites the bytes are these, which are canonical
   pub record SettlesAs (bytes final : List ℕ) : Type 0 where
     pub count : ℕ
     pub reached : RewritesTimes count bytes final
     pub canonical : w.Canonical final
 
-  -- after so many rewrites, and no sooner, the bytes are canonical; these are they, and they read as this message
+  -- after exactly n rewrites the bytes are these, which are canonical and read as this message
   pub record SettlesIn (count : ℕ) (bytes final : List ℕ) (m : Message) : Type 0 where
     pub reached : RewritesTimes count bytes final
     pub canonical : w.Canonical final
     pub no_sooner : (n : ℕ) (written : List ℕ) → n < count → RewritesTimes n bytes written → w.Canonical written → ⊥
     pub reads : w.Reads final m
 
-  -- the bytes read as this message, which fits, and by rewriting they end as those
+  -- the bytes read as this message, which fits, and rewriting ends with those bytes
   pub record Ends (bytes : List ℕ) (m : Message) (final : List ℕ) : Type 0 where
     pub reads : w.Reads bytes m
     pub fits : w.Fits m
     pub settles : SettlesAs bytes final
 
-  -- what rewriting promises of any bytes: what is loose, the norm, and after how many rewrites bytes that aren't canonical are so
+  -- the laws of rewriting for any bytes: which messages are loose, their norm, and the number of rewrites until the
+  -- bytes are canonical
   pub record Rewriting (is_loose : Message → Bool) (norm : Message → Message) (count : Message → ℕ) (bytes : List ℕ) : Type 0 where
-    -- what is read is unsettled if and only if it is loose
+    -- a message that was read is unsettled if and only if it is loose
     pub loose : (m : Message) → w.Reads bytes m → w.Settled m ↔ (is_loose m ≡ false)
-    -- the norm can be written and read back where the message fits, and is the message itself where the bytes are canonical
+    -- the norm fits and reads back if the message fits, and is the message itself if the bytes are canonical
     pub norm_typed : (m : Message) → w.Typed m → w.Typed (norm m)
     pub norm_fits : (m : Message) → w.Fits m → w.Fits (norm m)
     pub norm_settled : (m : Message) → w.Reads bytes m → w.Settled (norm m)
@@ -47,7 +48,7 @@ module _ (w : Words Message) where
     pub canonical : (m : Message) → w.Reads bytes m → w.Fits m → w.Canonical bytes → norm m ≡ m
     -- bytes are rewritten in at most one way
     pub one_way : (c d : List ℕ) → Rewrites bytes c → Rewrites bytes d → c ≡ d
-    -- canonical bytes are settled, and those that aren't become so after that many rewrites, and no sooner: they read as the norm
+    -- bytes that aren't canonical become so after exactly n rewrites, and then read as the norm
     pub at_once : (m : Message) → w.Reads bytes m → w.Fits m → w.Canonical bytes → SettlesIn 0 bytes bytes (norm m)
     pub settles : (m : Message) → w.Reads bytes m → w.Fits m → (w.Canonical bytes → ⊥)
         → (c : List ℕ) × SettlesIn (count m) bytes c (norm m)

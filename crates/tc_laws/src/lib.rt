@@ -1,5 +1,5 @@
-//! Laws of whole messages that only the calls of whole messages need: what rewriting does, frames at other places, and
-//! the step from version 1 of the reading to the one of now. Each is the contract of a function that does nothing.
+//! Laws of whole messages that only `tc_wire` needs: rewriting, frames at other places, and the upgrade from version 1
+//! of reading. Each is the contract of an empty function.
 #![tactic(auto)]
 
 pub mod places;

@@ -1,4 +1,4 @@
-//! Laws of frames at other places: neighbours exchanged, and a frame of an unknown type put in.
+//! Laws of frames at other places: exchanged neighbours, and inserted frames of an unknown type.
 
 ghost use Rattle.std.specs.Prelude.{◌≡◌, ◌↔◌, ◌⊎◌, ◌≤◌, ℕ, List, [], ◌∷◌, ◌++◌, length, Ok, true};
 ghost use Rattle.nla_frames.specs.Frame.{Frame, type_of};
@@ -12,7 +12,7 @@ ghost use Rattle.tc_laws.specs.Unknown.{is_outside, put_in, KeepsUnknown};
 
 use nla_frames::FrameMeaning;
 
-/// Bytes that are frames, each padded in full, can be cut behind any of them, and put together again.
+/// Bytes that are frames, each padded in full, can be split after any of them and joined again.
 pub fn frames_in_full()
     ensures joined { (front back : List ℕ) (fs gs : List Frame) → InFull front fs → InFull back gs
         → InFull (front ++ back) (fs ++ gs) }
@@ -20,16 +20,16 @@ pub fn frames_in_full()
         → (front back : List ℕ) × (bytes ≡ front ++ back) × InFull front fs × InFull back gs }
 {}
 
-/// Order doesn't matter in a list of frames that tell their kind themselves: where all of them are padded in full,
-/// two neighbours can be exchanged, and what they read as is exchanged with them.
+/// Order doesn't matter in a list of frames that set their own kind: if all of them are padded in full, two neighbours
+/// can be exchanged, and their readings are exchanged with them.
 pub fn own_order<T: FrameMeaning>()
     ensures order { Exchanges (OwnReads T.codec.read) }
     ensures exchanged { (l r : List T.Seen) (x y : T.Seen)
         → exchanged (length l) (l ++ x ∷ y ∷ r) ≡ l ++ y ∷ x ∷ r }
 {}
 
-/// Nor does it in an action, whose frame's value is such a list: it reads as those attributes under the frame's type, and
-/// as nothing else.
+/// Order doesn't matter in an action: its frame's value is a list that sets its own kind, and it reads as those
+/// attributes under the frame's type, and as nothing else.
 pub fn order_in_an_action()
     ensures order { (kind : List ℕ) (word : ℕ) → Exchanges (ReadsAction kind word) }
     ensures grammar { (kind : List ℕ) (word : ℕ) (value : List ℕ) (xs : List Attribute)
@@ -38,8 +38,8 @@ pub fn order_in_an_action()
         → (xs : List Attribute) × (x ≡ known (type_of f.word) (items (attributes_of xs))) }
 {}
 
-/// A frame of a type that the message's table doesn't have can be put at any place among the attributes of either
-/// message, where all of them are padded in full: it is kept raw there, and all else is read as before.
+/// A frame of a type that the message's table doesn't have can be inserted at any place among the attributes of either
+/// message, if all of them are padded in full: it is kept raw there, and everything else is read as before.
 pub fn unknown_types()
     ensures tc { KeepsUnknown 20 attributes ReadsTc }
     ensures action { KeepsUnknown 4 action_message_attributes ReadsAct }

@@ -1,4 +1,4 @@
-//! The laws of rewriting, reading bytes and writing what was read, as contracts of functions that do nothing.
+//! The laws of rewriting (reading bytes and writing the value), as contracts of empty functions.
 
 ghost use Rattle.std.specs.Prelude.{◌≡◌, ◌↔◌, List, ℕ, ◌+◌, ◌-◌};
 ghost use Rattle.tc_canon.specs.Canonical.{CanonTc, CanonAct};
@@ -8,13 +8,14 @@ ghost use Rattle.tc_laws.specs.Loose.{is_loose_tc, is_loose_act, nuls_act};
 ghost use Rattle.tc_laws.specs.Norm.{norm_tc, norm_act, next_act};
 ghost use Rattle.tc_laws.specs.Rewriting.{Rewriting, Ends};
 
-/// Rewriting of bytes as a traffic control message: those that aren't canonical are so after one rewrite.
+/// Rewriting bytes as a traffic control message: after one rewrite they are canonical.
 pub fn tc_rewriting(bytes: &[u8])
     ensures { Rewriting tc_words is_loose_tc norm_tc (λ m. 1) bytes.now }
 {}
 
-/// Rewriting of bytes as an action message. Each rewrite takes one NUL off the end of each warning, so that bytes which
-/// aren't canonical are so after one rewrite more than the longest run of NULs that ends a warning as read.
+/// Rewriting bytes as an action message. Each rewrite takes one NUL off the end of each warning, so bytes that aren't
+/// canonical become canonical after exactly n + 1 rewrites, where n is the longest run of trailing NULs in a warning
+/// as read.
 pub fn action_rewriting(bytes: &[u8])
     ensures { Rewriting action_words is_loose_act norm_act (λ m. nuls_act m + 1) bytes.now }
 {}
@@ -45,7 +46,8 @@ pub fn tc_same_norm(first: &[u8], second: &[u8])
         → Ends tc_words second.now n d → (c ≡ d) ↔ (norm_tc m ≡ norm_tc n) }
 {}
 
-/// The same law of two byte lists as action messages.
+/// Two byte lists become the same canonical bytes by rewriting as action messages if and only if their readings have
+/// the same norm.
 pub fn action_same_norm(first: &[u8], second: &[u8])
     ensures { (m n : Message) (c d : List ℕ) → Ends action_words first.now m c
         → Ends action_words second.now n d → (c ≡ d) ↔ (norm_act m ≡ norm_act n) }

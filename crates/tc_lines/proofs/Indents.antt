@@ -1,4 +1,4 @@
--- Two blanks for each level.
+-- Two blanks per level.
 use Rattle.std.proofs.Common.{◌≡◌, ℕ, suc, ◌++◌, refl, subst, sym}
 use Rattle.std.specs.Prelude.{codes}
 use Rattle.tc_lines.specs.Leaves.{indent}

@@ -1,5 +1,4 @@
--- The texts of leaves.
-use Rattle.std.specs.Char.{digit_char}
+-- The values of leaves as text.
 use Rattle.std.specs.Fmt.{signed_decimal}
 use Rattle.std.specs.Int.{from_le_bytes, w32}
 use Rattle.std.specs.List.{list_all}
@@ -9,12 +8,13 @@ use Rattle.std.specs.Prelude.{zero, ℕ, ℤ, ◌%◌, negsuc, ◌&&◌, ◌*◌
 use Rattle.hex.specs.Hex.{decode_sized}
 use Rattle.serde.specs.Event as event
 use Rattle.serde.specs.Event.{Event}
-use Rattle.tc_form_values.specs.Raw.{decoded}
+use Rattle.forms_values.specs.Raw.{decoded}
 use Rattle.tc_lines.specs.Columns.{Table, is_hidden}
-use Rattle.tc_lines.specs.declared.column.How.{How}
-use Rattle.tc_lines.specs.declared.column.How.TheVariants as how
+use Rattle.tc_lines.specs.declared.column.Display.{Display}
+use Rattle.tc_lines.specs.declared.column.Display.TheVariants as display
 use Rattle.tc_lines.specs.declared.column.InfoOf.{InfoOf}
 use Rattle.tc_lines.specs.declared.column.InfoOf.TheVariants as info
+use Rattle.tc_texts.specs.Escape.{escaped_byte}
 use Rattle.tc_texts.specs.Handle.{handle_of, handle_text}
 use Rattle.tc_units.specs.Flags.{flags_text}
 use Rattle.tc_units.specs.Names.{Name, name_of, named_text, number_of}
@@ -22,14 +22,6 @@ use Rattle.tc_units.specs.Units.{number_text, signed_text}
 use Rattle.tc_units.specs.Values.{verdict_text}
 use Rattle.tc_units.specs.declared.unit.Unit.{Unit}
 use Rattle.tc_units.specs.declared.unit.Unit.TheVariants.{LongHex, Plain}
-
--- printable ASCII
-abbrev pub is_printable : ℕ → Bool
-is_printable b = nat_le 0x20 b && nat_le b 0x7e
-
--- a byte as it is, or escaped where it isn't printable
-abbrev pub escaped_byte : ℕ → List ℕ
-escaped_byte b = if is_printable b then b ∷ [] else 92 ∷ 120 ∷ digit_char (b / 16) ∷ digit_char (b % 16) ∷ []
 
 -- a letter, a digit, or one of `-`, `.`, `:` and `_`
 abbrev pub is_plain : ℕ → Bool
@@ -46,16 +38,16 @@ quoted_byte b = if b == 34 || b == 92 then 92 ∷ b ∷ [] else escaped_byte b
 abbrev pub quoted : List ℕ → List ℕ
 quoted text = if is_word text then text else 34 ∷ (flat_map quoted_byte text ++ 34 ∷ [])
 
--- two blanks for each level
+-- two blanks per level
 abbrev pub indent : ℕ → List ℕ
 indent zero = []
 indent (suc n) = codes "  " ++ indent n
 
--- a line begins: a line feed, its depth, a name
+-- the beginning of a line: line feed, indentation and name
 abbrev pub line : ℕ → List ℕ → List ℕ
 line n name = codes "\n" ++ (indent n ++ name)
 
--- a text that is a name of a number, by the names for people
+-- the name for people of a number, and the number; or the text, if it isn't a name in JSON
 abbrev pub with_number : List Name → List ℕ → Option ℕ → List ℕ
 with_number names text None = quoted text
 with_number names text (Some n) = named_text Plain names n
@@ -79,12 +71,12 @@ abbrev pub family_or : List Name → List ℕ → Option ℕ → List ℕ
 family_or names text None = codes " family " ++ quoted text
 family_or names text (Some n) = if n == 0 then [] else codes " family " ++ named_text Plain names n
 
--- a mask: the length of its prefix, or else a line of its own
+-- a mask: its prefix length, or a line of its own
 abbrev pub slash_or : ℕ → List ℕ → List ℕ → Option ℕ → List ℕ
 slash_or n name text None = line n name ++ (codes " " ++ quoted text)
 slash_or n name text (Some len) = codes "/" ++ decimal len
 
--- the name of an interface in brackets, if there is one
+-- the name of an interface in parentheses, if there is one
 abbrev pub called : Option (List ℕ) → List ℕ
 called None = []
 called (Some name) = codes " (" ++ (quoted name ++ codes ")")
@@ -97,69 +89,69 @@ abbrev pub truth : Bool → List ℕ
 truth b = if b then codes " true" else codes " false"
 
 module _ (t : Table) where
-  -- the name at a place that has no other
+  -- the name of 0 at a place with only that name
   abbrev pub name_at : ℕ → List ℕ
   name_at p = unwrap_or (name_of (t.names p) 0) []
 
-  -- the number of an interface
+  -- an interface index, with the interface's name if known
   abbrev pub interface_text : ℕ → List ℕ
   interface_text n = decimal n ++ called (t.interface n)
 
-  -- the last number of a header, if it isn't 0
+  -- `tcm_info`, unless it is 0
   abbrev pub info_text : InfoOf → ℕ → List ℕ
   info_text info.Refcnt n = codes " refcnt " ++ decimal n
   info_text info.Leaf n = codes " leaf " ++ handle_text (n % 0x100000000)
   info_text (info.Pref p) n =
       codes " pref " ++ (decimal (n / 0x10000) ++ (codes " protocol " ++ named_text LongHex (t.names p) (n % 0x100 * 0x100 + n / 0x100 % 0x100)))
 
-  -- a number by its column, behind a blank
-  abbrev pub number_behind : How → ℕ → List ℕ
-  number_behind (how.Number u) n = number_text u n
-  number_behind (how.Named u p) n = named_text u (t.names p) n
-  number_behind (how.Verdict p) n = verdict_text (n % 0x100000000)
-  number_behind how.Interface n = interface_text n
-  number_behind (how.From p) n = decimal n ++ codes "-"
-  number_behind h n = decimal n
+  -- a number as its column says, without the blank
+  abbrev pub bare_number : Display → ℕ → List ℕ
+  bare_number (display.Number u) n = number_text u n
+  bare_number (display.Named u p) n = named_text u (t.names p) n
+  bare_number (display.Verdict p) n = verdict_text (n % 0x100000000)
+  bare_number display.Interface n = interface_text n
+  bare_number (display.From p) n = decimal n ++ codes "-"
+  bare_number h n = decimal n
 
-  -- a number by its column
-  abbrev pub number_in : How → ℕ → List ℕ
-  number_in (how.Flags p) n = flags_text (t.names p) n
-  number_in (how.To p) n = decimal n
-  number_in (how.Info i) n = if n == 0 then [] else info_text i n
-  number_in (how.Index p) n = codes " index " ++ interface_text n
-  number_in (how.Family p) n = codes " family " ++ decimal n
-  number_in h n = codes " " ++ number_behind h n
+  -- a number as its column says
+  abbrev pub number_in : Display → ℕ → List ℕ
+  number_in (display.Flags p) n = flags_text (t.names p) n
+  number_in (display.To p) n = decimal n
+  number_in (display.Info i) n = if n == 0 then [] else info_text i n
+  number_in (display.Index p) n = codes " index " ++ interface_text n
+  number_in (display.Family p) n = codes " family " ++ decimal n
+  number_in h n = codes " " ++ bare_number h n
 
-  -- a number below zero by its column; an interface of -1 stands for a block, which is named elsewhere
-  abbrev pub signed_in : How → ℤ → List ℕ
-  signed_in (how.Index p) z = if is_block z then [] else codes " index " ++ signed_decimal z
-  signed_in (how.Number u) z = codes " " ++ signed_text u z
+  -- a negative number as its column says; an interface index of -1 means a block, which is displayed elsewhere
+  abbrev pub signed_in : Display → ℤ → List ℕ
+  signed_in (display.Index p) z = if is_block z then [] else codes " index " ++ signed_decimal z
+  signed_in (display.Number u) z = codes " " ++ signed_text u z
   signed_in h z = codes " " ++ signed_decimal z
 
-  -- a text by its column, behind a blank
-  abbrev pub text_behind : How → List ℕ → List ℕ
-  text_behind (how.Text p) s = with_number (t.names p) s (t.number p s)
-  text_behind (how.Verdict p) s = verdict_or s (t.number p s)
-  text_behind (how.Handle u) s = handle_or u s (handle_of s)
-  text_behind how.Count s = count_or s (decoded (decode_sized s 4))
-  text_behind (how.From p) s = quoted s ++ codes "-"
-  text_behind h s = quoted s
+  -- a text as its column says, without the blank
+  abbrev pub bare_text : Display → List ℕ → List ℕ
+  bare_text (display.Text p) s = with_number (t.names p) s (t.number p s)
+  bare_text (display.Verdict p) s = verdict_or s (t.number p s)
+  bare_text (display.Handle u) s = handle_or u s (handle_of s)
+  bare_text display.Count s = count_or s (decoded (decode_sized s 4))
+  bare_text (display.From p) s = quoted s ++ codes "-"
+  bare_text h s = quoted s
 
-  -- a text by its column
-  abbrev pub text_in : ℕ → How → List ℕ → List ℕ
-  text_in n (how.To p) s = quoted s
-  text_in n (how.Slash p q) s = slash_or n (name_at q) s (number_of (t.names p) s)
-  text_in n (how.Family p) s = family_or (t.names p) s (t.number p s)
-  text_in n h s = codes " " ++ text_behind h s
+  -- a text as its column says
+  abbrev pub text_in : ℕ → Display → List ℕ → List ℕ
+  text_in n (display.To p) s = quoted s
+  text_in n (display.Slash p q) s = slash_or n (name_at q) s (number_of (t.names p) s)
+  text_in n (display.Family p) s = family_or (t.names p) s (t.number p s)
+  text_in n h s = codes " " ++ bare_text h s
 
-  -- a leaf at this depth, by its column and its event
-  abbrev pub shown_leaf : ℕ → How → Event → List ℕ
+  -- a leaf at this depth, given its column and its event
+  abbrev pub shown_leaf : ℕ → Display → Event → List ℕ
   shown_leaf n h (event.boolean b) = truth b
   shown_leaf n h (event.unsigned x) = number_in h x
   shown_leaf n h (event.signed z) = signed_in h z
   shown_leaf n h (event.text s) = text_in n h s
   shown_leaf n h e = codes " null"
 
-  -- padding isn't shown
-  abbrev pub leaf : ℕ → How → Event → List ℕ
+  -- a leaf; nothing for hidden padding
+  abbrev pub leaf : ℕ → Display → Event → List ℕ
   leaf n h e = if is_hidden t.all h then [] else shown_leaf n h e

@@ -1,8 +1,8 @@
--- What a note makes of the events so far.
+-- The log of events.
 use Rattle.std.specs.Prelude.{List, None, Option, Some, [], option_and_then, option_map, ℕ, ◌++◌, ◌∷◌}
 use Rattle.serde.specs.Event.{Event, Log, boolean, field_key, map_begins, map_ends, nothing, seq_begins, seq_ends, signed, text, unsigned}
 use Rattle.serde_json.specs.Logged.{then}
-use Rattle.tc_lines.specs.Columns.{Given}
+use Rattle.tc_lines.specs.Columns.{Options}
 use Rattle.tc_lines.specs.declared.log.Note.{Note}
 use Rattle.tc_lines.specs.declared.log.Note.TheVariants as note
 
@@ -22,13 +22,13 @@ event_of note.Lost = None
 abbrev pub noted : Log → Note → Log
 noted log n = option_and_then (then log) (event_of n)
 
--- what is known of a format that writes lines: what the caller gave, marked as events, and behind it the events of the lines
+-- the caller's options, encoded as events, before the events of the lines
 abbrev pub interface_marks : List (ℕ × List ℕ) → List Event
 interface_marks [] = nothing ∷ []
 interface_marks (x ∷ xs) = unsigned x.0 ∷ text x.1 ∷ interface_marks xs
 
-abbrev pub marks : Given → List Event
+abbrev pub marks : Options → List Event
 marks g = unsigned g.root ∷ boolean g.all ∷ interface_marks g.interfaces
 
-abbrev pub marked : Given → Log → Log
+abbrev pub marked : Options → Log → Log
 marked g log = option_map (λ es. marks g ++ es) log

@@ -1,20 +1,20 @@
-//! Columns: how the values of attributes and fields are shown, by their places and their names in JSON.
+//! Columns: how the values of attributes and fields are displayed, given their place and their name in JSON.
 
 ghost use Rattle.std.specs.Prelude.{[], option_map, ◌≡◌};
-ghost use Rattle.tc_lines.specs.Columns.{Given, Table, columns_view};
+ghost use Rattle.tc_lines.specs.Columns.{Options, Table, columns_view};
 ghost use Rattle.tc_lines.specs.Lines.{NONE};
 ghost use Rattle.tc_units.specs.Names.{names_view};
 
 use tc_units::{Name, Unit};
 
-/// How a value is shown.
+/// How a value is displayed. A number in a variant is the place of columns or of names.
 #[derive(Clone, Copy)]
-pub enum How {
-    /// As it is.
+pub enum Display {
+    /// Unchanged.
     Plain,
-    /// Padding: shown where the caller asks for it, or where it doesn't follow its form.
+    /// Padding: displayed only on request, or if it is malformed.
     Hidden,
-    /// A kind: it selects the columns of the items after it in its list.
+    /// A kind. It selects the columns of the items after it in its list.
     Kind,
     /// A number in this unit.
     Number(Unit),
@@ -22,50 +22,50 @@ pub enum How {
     Named(Unit, usize),
     /// A flag word whose bits have the names at this place.
     Flags(usize),
-    /// One of the names in JSON at this place; shown as the name of the same number at this place, and the number.
+    /// A name in JSON at this place, displayed as the number's name for people and the number.
     Text(usize),
-    /// The verdict of an action, by its name in JSON at this place.
+    /// The verdict of an action, whose names in JSON are at this place.
     Verdict(usize),
-    /// The number of an interface, with the name that the caller knows.
+    /// An interface index, with the name that the caller has for it.
     Interface,
-    /// The number of an interface in a header, behind the word `index`. Of a block (-1) nothing is shown, and the members after it are looked
-    /// up in the columns at this place first.
+    /// The interface index of a header, after the word `index`. For a block (-1) nothing is displayed, and the columns
+    /// at this place apply to the following members first.
     Index(usize),
     /// A handle, as a number in this unit.
     Handle(Unit),
-    /// Four bytes in hex, as a little-endian number.
+    /// Four bytes in hex, displayed as a little-endian number.
     Count,
-    /// An address family behind its own name, or nothing if it is 0. The place is as in `Text`.
+    /// An address family after its name, or nothing if it is 0. The place is as in `Text`.
     Family(usize),
-    /// The last number of a header behind its own name, or nothing if it is 0.
+    /// `tcm_info` after its name, or nothing if it is 0.
     Info(InfoOf),
-    /// As it is. The members after it are looked up in the columns at this place first, and are in the same line.
+    /// Unchanged. The columns at this place apply to the following members first, which are on the same line.
     First(usize),
-    /// The least of a range, as it is, with `-` behind it. The members after it are looked up in the columns at this place first, and are in
-    /// the same line.
+    /// The minimum of a range, with `-` after it. The columns at this place apply to the following members first, which
+    /// are on the same line.
     From(usize),
-    /// A mask behind its address: `/` and the length of its prefix, by the names at the first place. A mask of no prefix has a line of its
-    /// own, with the name of 0 at the second place.
+    /// The mask after an address: `/` and the prefix length, given the names at the first place. A mask that isn't a
+    /// prefix is on a line of its own, named as 0 is at the second place.
     Slash(usize, usize),
-    /// The greatest of a range, behind `-`. Where it is no leaf, it has a line of its own, with the name of 0 at this place.
+    /// The maximum of a range, after `-`. If it isn't a leaf, it is on a line of its own, named as 0 is at this place.
     To(usize),
-    /// What is within has lines of its own below this one, by the columns at this place.
-    Within(usize),
-    /// What is within has lines of its own in place of this one, by the columns at this place.
-    Through(usize),
-    /// What is within has lines of its own one level deeper, by the columns at this place; this line isn't written.
+    /// The contents are on lines below this one, with the columns at this place.
+    Nested(usize),
+    /// The contents are on lines instead of this one, with the columns at this place.
+    Inline(usize),
+    /// The contents are on lines one level deeper, with the columns at this place; this line isn't written.
     Below(usize),
-    /// What is within has lines of its own below this one, by the columns at this place; each element begins with a line, the name of 0 at
-    /// this place.
+    /// The elements are below this line, with the columns at this place; each begins with a line of its own, named as 0
+    /// is at this place.
     Elements(usize),
-    /// What is within has words in the line before this one, by the columns at this place.
-    InLine(usize),
+    /// The contents continue the line before this one, with the columns at this place.
+    SameLine(usize),
 }
 
-/// What the last number of a header is.
+/// The meaning of `tcm_info`.
 #[derive(Clone, Copy)]
 pub enum InfoOf {
-    /// Of a qdisc: how many refer to it.
+    /// Of a qdisc: its number of references.
     Refcnt,
     /// Of a class: the handle of its qdisc.
     Leaf,
@@ -73,57 +73,54 @@ pub enum InfoOf {
     Pref(usize),
 }
 
-/// A column: the name of a member in JSON, its name for people, and how its value is shown. It is generic in its texts: specs can cite a
-/// constant of a generic type, and of none that has a lifetime.
+/// A column: the name of a member in JSON, its name for people, and how its value is displayed. Generic in the text
+/// type, since specs can cite a constant only if its type has no lifetime.
 #[derive(Clone, Copy)]
 pub struct ColumnOf<N> {
-    /// The name in JSON.
     pub key: N,
-    /// The name for people.
     pub name: N,
-    /// How the value is shown.
-    pub how: How,
-    /// The kernel's name of the member, for explanations; empty if there is none. A line is the same whatever it is.
+    pub display: Display,
+    /// The kernel's name of the member, which `--explain` prints; empty if there is none. Lines don't depend on it.
     pub kernel: N,
 }
 
-/// A column of texts.
+/// A column of borrowed texts.
 pub type Column<'a> = ColumnOf<&'a str>;
 
-/// Columns, by places, and the place where a message begins: by what the caller gives.
+/// Tables of columns and names, at numbered places, with the caller's options.
 pub trait Columns: Copy {
-    ghost given: { Self → Given };
+    ghost options: { Self → Options };
 
-    ghost says: { Given → Table };
+    ghost table: { Options → Table };
 
-    /// The place of the columns of a message.
+    /// The place of a message's columns.
     fn root(self) -> usize
-        ensures { result ≡ (given self).root };
+        ensures { result ≡ (options self).root };
 
     /// The columns at a place.
     fn columns(self, place: usize) -> &'static [Column<'static>]
-        ensures { columns_view result.now ≡ (says (given self)).columns place };
+        ensures { columns_view result.now ≡ (table (options self)).columns place };
 
-    /// The place of a list's columns under a kind.
+    /// The place of a list's columns under this kind.
     fn under(self, place: usize, kind: &str) -> usize
-        ensures { result ≡ (says (given self)).under place kind.now };
+        ensures { result ≡ (table (options self)).under place kind.now };
 
-    /// The names at a place.
+    /// The names of numbers at a place.
     fn names(self, place: usize) -> &'static [Name<'static>]
-        ensures { names_view result.now ≡ (says (given self)).names place };
+        ensures { names_view result.now ≡ (table (options self)).names place };
 
-    /// The number that a name at a place stands for in JSON.
+    /// The number of a name in JSON, given the place of the names.
     fn number(self, place: usize, name: &str) -> Option<u64>
-        ensures { result ≡ (says (given self)).number place name.now };
+        ensures { result ≡ (table (options self)).number place name.now };
 
-    /// What the caller calls an interface.
+    /// The caller's name for an interface index.
     fn interface(&self, number: u64) -> Option<&str>
-        ensures { option_map (λ t. t.now) result ≡ (says (given self.now)).interface number };
+        ensures { option_map (λ t. t.now) result ≡ (table (options self.now)).interface number };
 
-    /// Whether paddings are shown.
+    /// True if padding is displayed.
     fn all(self) -> bool
-        ensures { result ≡ (says (given self)).all };
+        ensures { result ≡ (table (options self)).all };
 
     // The place 65535 has no columns.
-    ghost none: { (g : Given) → (says g).columns NONE ≡ [] };
+    ghost none: { (g : Options) → (table g).columns NONE ≡ [] };
 }

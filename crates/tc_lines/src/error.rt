@@ -1,13 +1,12 @@
-//! Why no lines are written.
+//! The errors of writing lines.
 
 use std::alloc::AllocError;
 
-/// Why no lines are written.
+/// Why lines can't be written.
 #[derive(Debug, Clone, Copy, Drop)]
 pub enum LinesError {
-    /// Memory ran out.
     OutOfMemory,
-    /// What was sent is no JSON.
+    /// The events aren't JSON.
     NotJson,
 }
 

@@ -1,53 +1,27 @@
-//! The texts of leaves, each behind a blank.
+//! The values of leaves, each after a blank.
 
 ghost use Rattle.serde.specs.Event.{boolean, nothing, signed, text, unsigned};
-ghost use Rattle.std.specs.Char.{digit_char};
 ghost use Rattle.std.specs.List.{list_all};
 ghost use Rattle.hex.specs.Hex.{decode_sized};
 ghost use Rattle.std.specs.Fmt.{signed_decimal};
 ghost use Rattle.std.specs.Prelude.{OnOk, Option, codes, decimal, flat_map, option_map, ◌%◌, ◌*◌, ◌+◌, ◌++◌, ◌/◌, ◌<◌, ◌≡◌};
-ghost use Rattle.tc_form_values.specs.Raw.{decoded};
+ghost use Rattle.forms_values.specs.Raw.{decoded};
 ghost use Rattle.tc_texts.specs.Handle.{handle_text};
 ghost use Rattle.tc_lines.specs.Columns.{is_hidden};
 ghost use Rattle.tc_units.specs.Names.{named_text, names_view};
-ghost use Rattle.tc_lines.specs.Leaves.{called, count_or, escaped_byte, family_or, handle_or, indent, info_text, interface_text, is_block, is_plain};
-ghost use Rattle.tc_lines.specs.Leaves.{is_printable, is_word, leaf, line, name_at, number_behind, number_in, quoted, quoted_byte, slash_or};
-ghost use Rattle.tc_lines.specs.Leaves.{text_behind, text_in, verdict_or, with_number};
+ghost use Rattle.tc_lines.specs.Leaves.{called, count_or, family_or, handle_or, indent, info_text, interface_text, is_block, is_plain};
+ghost use Rattle.tc_lines.specs.Leaves.{is_word, leaf, line, name_at, bare_number, number_in, quoted, quoted_byte, slash_or};
+ghost use Rattle.tc_lines.specs.Leaves.{bare_text, text_in, verdict_or, with_number};
 
-use crate::column::{Columns, How, InfoOf};
+use crate::column::{Columns, Display, InfoOf};
 use hex::FromHex;
 use itoa::Buffer;
 use std::alloc::{AllocError, Allocator};
-use tc_texts::{handle_from_tc_text, handle_text};
+use tc_texts::{handle_from_tc_text, handle_text, put_escaped_byte};
 use tc_units::{
     Name, Unit, name_of, number_of, put_decimal, put_flags, put_named, put_number,
     put_signed as put_signed_number, put_verdict,
 };
-
-// True for printable ASCII.
-fn is_printable(b: u8) -> bool
-    ensures { result ≡ is_printable b }
-{
-    0x20 <= b && b <= 0x7e
-}
-
-// The lower-case hex digit.
-fn digit(n: u8) -> u8
-    requires { n < 16 }
-    ensures { result ≡ digit_char n }
-{
-    if n < 10 { b'0' + n } else { b'a' + (n - 10) }
-}
-
-// Puts a byte as it is, or escaped.
-fn put_byte<A: Allocator>(out: &mut Vec<u8, A>, b: u8) -> Result<(), AllocError>
-    ensures { OnOk result (out.new.items ≡ out.old.items ++ escaped_byte b) }
-{
-    if is_printable(b) {
-        return out.extend_from_slice(&[b]);
-    }
-    out.extend_from_slice(&[b'\\', b'x', digit(b / 16), digit(b % 16)])
-}
 
 // True for a letter, a digit, or one of `-`, `.`, `:` and `_`.
 fn is_plain(b: u8) -> bool
@@ -71,24 +45,24 @@ fn are_plain(text: &[u8]) -> bool
     }
 }
 
-// True for a word.
+// True if a text needs no quotes.
 fn is_word(text: &[u8]) -> bool
     ensures { result ≡ is_word text.now }
 {
     text.len() > 0 && are_plain(text)
 }
 
-// Puts a byte that is in quotes.
+// Appends a byte of a quoted text.
 fn put_quoted_byte<A: Allocator>(out: &mut Vec<u8, A>, b: u8) -> Result<(), AllocError>
     ensures { OnOk result (out.new.items ≡ out.old.items ++ quoted_byte b) }
 {
     if b == 34 || b == 92 {
         return out.extend_from_slice(&[92, b]);
     }
-    put_byte(out, b)
+    put_escaped_byte(out, b)
 }
 
-// Puts bytes that are in quotes.
+// Appends the bytes of a quoted text.
 fn put_quoted_bytes<A: Allocator>(out: &mut Vec<u8, A>, text: &[u8]) -> Result<(), AllocError>
     ensures { OnOk result (out.new.items ≡ out.old.items ++ flat_map quoted_byte text.now) }
 {
@@ -98,7 +72,7 @@ fn put_quoted_bytes<A: Allocator>(out: &mut Vec<u8, A>, text: &[u8]) -> Result<(
     Ok(())
 }
 
-// Puts a text, in quotes unless it is a word.
+// Appends a text, in quotes unless it is a word.
 fn put_quoted<A: Allocator>(out: &mut Vec<u8, A>, text: &[u8]) -> Result<(), AllocError>
     ensures { OnOk result (out.new.items ≡ out.old.items ++ quoted text.now) }
 {
@@ -110,7 +84,7 @@ fn put_quoted<A: Allocator>(out: &mut Vec<u8, A>, text: &[u8]) -> Result<(), All
     out.extend_from_slice(&[34])
 }
 
-// Puts two blanks for each level.
+// Appends two blanks per level.
 fn put_indent<A: Allocator>(out: &mut Vec<u8, A>, depth: usize) -> Result<(), AllocError>
     ensures { OnOk result (out.new.items ≡ out.old.items ++ indent depth) }
 {
@@ -122,7 +96,7 @@ fn put_indent<A: Allocator>(out: &mut Vec<u8, A>, depth: usize) -> Result<(), Al
     Ok(())
 }
 
-// Puts a line feed and two blanks for each level.
+// Appends a line feed and two blanks per level.
 #[inline(always)]
 fn put_margin<A: Allocator>(out: &mut Vec<u8, A>, depth: usize) -> Result<(), AllocError>
     ensures { OnOk result (out.new.items ≡ out.old.items ++ (codes "\n" ++ indent depth)) }
@@ -142,7 +116,7 @@ fn put_margin<A: Allocator>(out: &mut Vec<u8, A>, depth: usize) -> Result<(), Al
     }
 }
 
-/// Puts the beginning of a line.
+/// Appends the beginning of a line: line feed, indentation and name.
 pub(crate) fn put_line<A: Allocator>(
     out: &mut Vec<u8, A>,
     depth: usize,
@@ -154,9 +128,9 @@ pub(crate) fn put_line<A: Allocator>(
     out.extend_from_slice(name)
 }
 
-/// The name at a place that has no other.
+/// The name of 0 at a place with only that name.
 pub(crate) fn name_at<C: Columns>(columns: &C, place: usize) -> &'static str
-    ensures { result.now ≡ name_at (C.says (C.given columns.now)) place }
+    ensures { result.now ≡ name_at (C.table (C.options columns.now)) place }
 {
     match name_of(columns.names(place), 0) {
         Some(name) => name,
@@ -164,19 +138,19 @@ pub(crate) fn name_at<C: Columns>(columns: &C, place: usize) -> &'static str
     }
 }
 
-// Puts the number of an interface.
+// Appends an interface index, with the interface's name if known.
 fn put_interface<C: Columns, A: Allocator>(
     columns: &C,
     out: &mut Vec<u8, A>,
     n: u64,
 ) -> Result<(), AllocError>
-    ensures { OnOk result (out.new.items ≡ out.old.items ++ interface_text (C.says (C.given columns.now)) n) }
+    ensures { OnOk result (out.new.items ≡ out.old.items ++ interface_text (C.table (C.options columns.now)) n) }
 {
     put_decimal(out, n)?;
     put_called(out, columns.interface(n))
 }
 
-// Puts a name in brackets, if there is one.
+// Appends a name in parentheses, if there is one.
 fn put_called<A: Allocator>(out: &mut Vec<u8, A>, name: Option<&str>) -> Result<(), AllocError>
     ensures { OnOk result (out.new.items ≡ out.old.items ++ called (option_map (λ t. t.now) name.entry)) }
 {
@@ -189,7 +163,7 @@ fn put_called<A: Allocator>(out: &mut Vec<u8, A>, name: Option<&str>) -> Result<
     out.extend_from_slice(b")")
 }
 
-// Puts a header's priority and its protocol, big-endian in the lower half.
+// Appends `tcm_info` of a filter: priority and protocol, which is big-endian in the lower half.
 fn put_pref<A: Allocator>(
     out: &mut Vec<u8, A>,
     names: &[Name<'_>],
@@ -209,21 +183,21 @@ fn put_pref<A: Allocator>(
     )
 }
 
-// Puts the handle of a qdisc.
+// Appends the handle of a qdisc.
 fn put_handle<A: Allocator>(out: &mut Vec<u8, A>, n: u64) -> Result<(), AllocError>
     ensures { OnOk result (out.new.items ≡ out.old.items ++ handle_text (n % 0x100000000)) }
 {
     out.extend_from_slice(handle_text((n % 0x1_0000_0000) as u32).as_bytes())
 }
 
-// Puts the last number of a header.
+// Appends `tcm_info`.
 fn put_info<C: Columns, A: Allocator>(
     columns: &C,
     out: &mut Vec<u8, A>,
     of: &InfoOf,
     n: u64,
 ) -> Result<(), AllocError>
-    ensures { OnOk result (out.new.items ≡ out.old.items ++ info_text (C.says (C.given columns.now)) of.now n) }
+    ensures { OnOk result (out.new.items ≡ out.old.items ++ info_text (C.table (C.options columns.now)) of.now n) }
 {
     match of {
         InfoOf::Pref(names) => put_pref(out, columns.names(*names), n),
@@ -238,50 +212,50 @@ fn put_info<C: Columns, A: Allocator>(
     }
 }
 
-// Puts a number by its column.
+// Appends a number as its column says.
 fn put_number_in<C: Columns, A: Allocator>(
     columns: &C,
     out: &mut Vec<u8, A>,
-    how: &How,
+    display: &Display,
     n: u64,
 ) -> Result<(), AllocError>
-    ensures { OnOk result (out.new.items ≡ out.old.items ++ number_in (C.says (C.given columns.now)) how.now n) }
+    ensures { OnOk result (out.new.items ≡ out.old.items ++ number_in (C.table (C.options columns.now)) display.now n) }
 {
-    match how {
-        How::Flags(place) => put_flags(out, columns.names(*place), n),
-        How::To(_) => put_decimal(out, n),
-        How::Info(_) if n == 0 => Ok(()),
-        How::Info(of) => put_info(columns, out, of, n),
-        How::Index(_) => {
+    match display {
+        Display::Flags(place) => put_flags(out, columns.names(*place), n),
+        Display::To(_) => put_decimal(out, n),
+        Display::Info(_) if n == 0 => Ok(()),
+        Display::Info(of) => put_info(columns, out, of, n),
+        Display::Index(_) => {
             out.extend_from_slice(b" index ")?;
             put_interface(columns, out, n)
         }
-        How::Family(_) => {
+        Display::Family(_) => {
             out.extend_from_slice(b" family ")?;
             put_decimal(out, n)
         }
         _ => {
             out.extend_from_slice(b" ")?;
-            put_number_behind(columns, out, how, n)
+            put_bare_number(columns, out, display, n)
         }
     }
 }
 
-// Puts a number behind a blank.
-fn put_number_behind<C: Columns, A: Allocator>(
+// Appends a number as its column says, without the blank.
+fn put_bare_number<C: Columns, A: Allocator>(
     columns: &C,
     out: &mut Vec<u8, A>,
-    how: &How,
+    display: &Display,
     n: u64,
 ) -> Result<(), AllocError>
-    ensures { OnOk result (out.new.items ≡ out.old.items ++ number_behind (C.says (C.given columns.now)) how.now n) }
+    ensures { OnOk result (out.new.items ≡ out.old.items ++ bare_number (C.table (C.options columns.now)) display.now n) }
 {
-    match how {
-        How::Number(unit) => put_number(out, *unit, n),
-        How::Named(unit, place) => put_named(out, *unit, columns.names(*place), n),
-        How::Verdict(_) => put_verdict(out, (n % 0x1_0000_0000) as u32),
-        How::Interface => put_interface(columns, out, n),
-        How::From(_) => {
+    match display {
+        Display::Number(unit) => put_number(out, *unit, n),
+        Display::Named(unit, place) => put_named(out, *unit, columns.names(*place), n),
+        Display::Verdict(_) => put_verdict(out, (n % 0x1_0000_0000) as u32),
+        Display::Interface => put_interface(columns, out, n),
+        Display::From(_) => {
             put_decimal(out, n)?;
             out.extend_from_slice(b"-")
         }
@@ -289,7 +263,7 @@ fn put_number_behind<C: Columns, A: Allocator>(
     }
 }
 
-// Puts the name for people of a number, and the number; or else a text.
+// Appends the name for people of a number, and the number; or the text, if it isn't a name in JSON.
 fn put_with_number<A: Allocator>(
     out: &mut Vec<u8, A>,
     names: &[Name<'_>],
@@ -304,7 +278,7 @@ fn put_with_number<A: Allocator>(
     }
 }
 
-// Puts the verdict of a number, or else a text.
+// Appends a verdict, or the text if it isn't a name in JSON.
 fn put_verdict_or<A: Allocator>(
     out: &mut Vec<u8, A>,
     text: &str,
@@ -318,7 +292,7 @@ fn put_verdict_or<A: Allocator>(
     }
 }
 
-// Puts a handle as a number in a unit, or else a text.
+// Appends a handle as a number in a unit, or the text if it isn't a handle.
 fn put_handle_or<A: Allocator>(
     out: &mut Vec<u8, A>,
     unit: Unit,
@@ -333,7 +307,7 @@ fn put_handle_or<A: Allocator>(
     }
 }
 
-// Puts four bytes in hex as a number, or else a text.
+// Appends four bytes in hex as a number, or the text if it isn't four bytes.
 fn put_count<A: Allocator>(out: &mut Vec<u8, A>, text: &str) -> Result<(), AllocError>
     ensures { OnOk result (out.new.items ≡ out.old.items ++ count_or text.now (decoded (decode_sized text.now 4))) }
 {
@@ -343,7 +317,7 @@ fn put_count<A: Allocator>(out: &mut Vec<u8, A>, text: &str) -> Result<(), Alloc
     }
 }
 
-// Puts an address family, if it isn't number 0.
+// Appends an address family, unless it is 0.
 fn put_family_or<A: Allocator>(
     out: &mut Vec<u8, A>,
     names: &[Name<'_>],
@@ -365,7 +339,7 @@ fn put_family_or<A: Allocator>(
     }
 }
 
-// Puts the length of a prefix, or else a line of its own.
+// Appends a mask: its prefix length, or a line of its own.
 fn put_slash_or<A: Allocator>(
     out: &mut Vec<u8, A>,
     depth: usize,
@@ -388,26 +362,26 @@ fn put_slash_or<A: Allocator>(
     }
 }
 
-// Puts a text by its column.
+// Appends a text as its column says.
 fn put_text_in<C: Columns, A: Allocator>(
     columns: &C,
     out: &mut Vec<u8, A>,
     depth: usize,
-    how: &How,
+    display: &Display,
     text: &str,
 ) -> Result<(), AllocError>
-    ensures { OnOk result (out.new.items ≡ out.old.items ++ text_in (C.says (C.given columns.now)) depth how.now text.now) }
+    ensures { OnOk result (out.new.items ≡ out.old.items ++ text_in (C.table (C.options columns.now)) depth display.now text.now) }
 {
-    match how {
-        How::To(_) => put_quoted(out, text.as_bytes()),
-        How::Slash(masks, own) => put_slash_or(
+    match display {
+        Display::To(_) => put_quoted(out, text.as_bytes()),
+        Display::Slash(masks, own) => put_slash_or(
             out,
             depth,
             name_at(columns, *own),
             text,
             number_of(columns.names(*masks), text),
         ),
-        How::Family(place) => put_family_or(
+        Display::Family(place) => put_family_or(
             out,
             columns.names(*place),
             text,
@@ -415,31 +389,31 @@ fn put_text_in<C: Columns, A: Allocator>(
         ),
         _ => {
             out.extend_from_slice(b" ")?;
-            put_text_behind(columns, out, how, text)
+            put_bare_text(columns, out, display, text)
         }
     }
 }
 
-// Puts a text behind a blank.
-fn put_text_behind<C: Columns, A: Allocator>(
+// Appends a text as its column says, without the blank.
+fn put_bare_text<C: Columns, A: Allocator>(
     columns: &C,
     out: &mut Vec<u8, A>,
-    how: &How,
+    display: &Display,
     text: &str,
 ) -> Result<(), AllocError>
-    ensures { OnOk result (out.new.items ≡ out.old.items ++ text_behind (C.says (C.given columns.now)) how.now text.now) }
+    ensures { OnOk result (out.new.items ≡ out.old.items ++ bare_text (C.table (C.options columns.now)) display.now text.now) }
 {
-    match how {
-        How::Text(place) => put_with_number(
+    match display {
+        Display::Text(place) => put_with_number(
             out,
             columns.names(*place),
             text,
             columns.number(*place, text),
         ),
-        How::Verdict(place) => put_verdict_or(out, text, columns.number(*place, text)),
-        How::Handle(unit) => put_handle_or(out, *unit, text, handle_from_tc_text(text)),
-        How::Count => put_count(out, text),
-        How::From(_) => {
+        Display::Verdict(place) => put_verdict_or(out, text, columns.number(*place, text)),
+        Display::Handle(unit) => put_handle_or(out, *unit, text, handle_from_tc_text(text)),
+        Display::Count => put_count(out, text),
+        Display::From(_) => {
             put_quoted(out, text.as_bytes())?;
             out.extend_from_slice(b"-")
         }
@@ -447,14 +421,14 @@ fn put_text_behind<C: Columns, A: Allocator>(
     }
 }
 
-// True for the number that stands for a block.
+// True for `TCM_IFINDEX_MAGIC_BLOCK`.
 pub(crate) fn is_block(n: i64) -> bool
     ensures { result ≡ is_block n }
 {
     n == -1
 }
 
-// Puts a number below zero.
+// Appends a negative number.
 fn put_negative<A: Allocator>(out: &mut Vec<u8, A>, before: &[u8], n: i64) -> Result<(), AllocError>
     ensures { OnOk result (out.new.items ≡ out.old.items ++ (before.now ++ signed_decimal n)) }
 {
@@ -463,27 +437,27 @@ fn put_negative<A: Allocator>(out: &mut Vec<u8, A>, before: &[u8], n: i64) -> Re
     out.extend_from_slice(buffer.format(n).as_bytes())
 }
 
-// True for padding that isn't shown.
-pub(crate) fn is_hidden(all: bool, how: &How) -> bool
-    ensures { result ≡ is_hidden all how.now }
+// True for padding that isn't displayed.
+pub(crate) fn is_hidden(all: bool, display: &Display) -> bool
+    ensures { result ≡ is_hidden all display.now }
 {
-    match how {
-        How::Hidden => !all,
+    match display {
+        Display::Hidden => !all,
         _ => false,
     }
 }
 
-/// Puts the leaf of a boolean.
+/// Appends the leaf of a boolean.
 pub(crate) fn put_boolean<C: Columns, A: Allocator>(
     columns: &C,
     out: &mut Vec<u8, A>,
     _depth: usize,
-    how: &How,
+    display: &Display,
     b: bool,
 ) -> Result<(), AllocError>
-    ensures { OnOk result (out.new.items ≡ out.old.items ++ leaf (C.says (C.given columns.now)) _depth how.now (boolean b)) }
+    ensures { OnOk result (out.new.items ≡ out.old.items ++ leaf (C.table (C.options columns.now)) _depth display.now (boolean b)) }
 {
-    if is_hidden(columns.all(), how) {
+    if is_hidden(columns.all(), display) {
         return Ok(());
     }
     if b {
@@ -493,39 +467,39 @@ pub(crate) fn put_boolean<C: Columns, A: Allocator>(
     }
 }
 
-/// Puts the leaf of a number.
+/// Appends the leaf of an unsigned number.
 pub(crate) fn put_unsigned<C: Columns, A: Allocator>(
     columns: &C,
     out: &mut Vec<u8, A>,
     _depth: usize,
-    how: &How,
+    display: &Display,
     n: u64,
 ) -> Result<(), AllocError>
-    ensures { OnOk result (out.new.items ≡ out.old.items ++ leaf (C.says (C.given columns.now)) _depth how.now (unsigned n)) }
+    ensures { OnOk result (out.new.items ≡ out.old.items ++ leaf (C.table (C.options columns.now)) _depth display.now (unsigned n)) }
 {
-    if is_hidden(columns.all(), how) {
+    if is_hidden(columns.all(), display) {
         return Ok(());
     }
-    put_number_in(columns, out, how, n)
+    put_number_in(columns, out, display, n)
 }
 
-/// Puts the leaf of a number that may be negative.
+/// Appends the leaf of a signed number.
 pub(crate) fn put_signed<C: Columns, A: Allocator>(
     columns: &C,
     out: &mut Vec<u8, A>,
     _depth: usize,
-    how: &How,
+    display: &Display,
     n: i64,
 ) -> Result<(), AllocError>
-    ensures { OnOk result (out.new.items ≡ out.old.items ++ leaf (C.says (C.given columns.now)) _depth how.now (signed n)) }
+    ensures { OnOk result (out.new.items ≡ out.old.items ++ leaf (C.table (C.options columns.now)) _depth display.now (signed n)) }
 {
-    if is_hidden(columns.all(), how) {
+    if is_hidden(columns.all(), display) {
         return Ok(());
     }
-    match how {
-        How::Index(_) if is_block(n) => Ok(()),
-        How::Index(_) => put_negative(out, b" index ", n),
-        How::Number(unit) => {
+    match display {
+        Display::Index(_) if is_block(n) => Ok(()),
+        Display::Index(_) => put_negative(out, b" index ", n),
+        Display::Number(unit) => {
             out.extend_from_slice(b" ")?;
             put_signed_number(out, *unit, n)
         }
@@ -533,32 +507,32 @@ pub(crate) fn put_signed<C: Columns, A: Allocator>(
     }
 }
 
-/// Puts the leaf of a text.
+/// Appends the leaf of a text.
 pub(crate) fn put_string<C: Columns, A: Allocator>(
     columns: &C,
     out: &mut Vec<u8, A>,
     depth: usize,
-    how: &How,
+    display: &Display,
     value: &str,
 ) -> Result<(), AllocError>
-    ensures { OnOk result (out.new.items ≡ out.old.items ++ leaf (C.says (C.given columns.now)) depth how.now (text value.now)) }
+    ensures { OnOk result (out.new.items ≡ out.old.items ++ leaf (C.table (C.options columns.now)) depth display.now (text value.now)) }
 {
-    if is_hidden(columns.all(), how) {
+    if is_hidden(columns.all(), display) {
         return Ok(());
     }
-    put_text_in(columns, out, depth, how, value)
+    put_text_in(columns, out, depth, display, value)
 }
 
-/// Puts the leaf of nothing.
+/// Appends the leaf of `null`.
 pub(crate) fn put_null<C: Columns, A: Allocator>(
     columns: &C,
     out: &mut Vec<u8, A>,
     _depth: usize,
-    how: &How,
+    display: &Display,
 ) -> Result<(), AllocError>
-    ensures { OnOk result (out.new.items ≡ out.old.items ++ leaf (C.says (C.given columns.now)) _depth how.now nothing) }
+    ensures { OnOk result (out.new.items ≡ out.old.items ++ leaf (C.table (C.options columns.now)) _depth display.now nothing) }
 {
-    if is_hidden(columns.all(), how) {
+    if is_hidden(columns.all(), display) {
         return Ok(());
     }
     out.extend_from_slice(b" null")

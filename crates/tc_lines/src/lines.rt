@@ -1,11 +1,11 @@
-//! Lines, as a format of serde.
+//! A serde format that writes lines.
 
 ghost use Rattle.serde.specs.Event.{Logs, field_key};
 ghost use Rattle.serde.specs.declared.name.Case.TheVariants.{AsIs};
 ghost use Rattle.serde_json.specs.Data.{Data};
 ghost use Rattle.std.specs.Prelude.{IfOk, IfSome, None, OnOk, Some, [], ◌≡◌, ℕ};
 ghost use Rattle.tc_lines.specs.Columns.{Table, columns_view};
-ghost use Rattle.tc_form_values.specs.Sent.{events};
+ghost use Rattle.forms_values.specs.Sent.{events};
 ghost use Rattle.tc_lines.specs.Lines.{lines};
 ghost use Rattle.tc_lines.specs.Log.{event_of, marked};
 ghost use Rattle.tc_lines.specs.Walk.{Follows, State, state_of, step};
@@ -17,23 +17,23 @@ use crate::walk::Walk;
 use serde::{Case, Serializer};
 use std::alloc::Global;
 
-/// Takes the events of JSON, and writes it as lines: each leaf in one of them, named and shown by its column.
+/// A serializer that writes JSON as lines: each leaf on one line, with the name and display of its column.
 #[derive(Drop)]
 pub(crate) struct Lines<C: Columns + Drop> {
     columns: C,
     walk: Walk,
-    // The place whose columns were looked up last, and these.
+    // The place of the last lookup, and its columns.
     place: usize,
     own: &'static [Column<'static>],
     log: Log,
-    ghost looked_up: { columns_view own.now ≡ (C.says (C.given columns)).columns place },
-    ghost follows: { Follows (C.says (C.given columns)) (C.given columns).root log.events (state_of walk) },
+    ghost looked_up: { columns_view own.now ≡ (C.table (C.options columns)).columns place },
+    ghost follows: { Follows (C.table (C.options columns)) (C.options columns).root log.events (state_of walk) },
 }
 
 impl<C: Columns + Drop> Lines<C> {
-    /// No lines yet, and room for so many bytes.
+    /// An empty text, with capacity for `room` bytes.
     pub(crate) fn new(alloc: Global, columns: C, room: usize) -> Result<Lines<C>, LinesError>
-        ensures { IfOk result (λ l. marked (C.given l.columns) l.log.events ≡ marked (C.given columns) (Some [])) }
+        ensures { IfOk result (λ l. marked (C.options l.columns) l.log.events ≡ marked (C.options columns) (Some [])) }
     {
         let place = columns.root();
         let walk = Walk::new(alloc, place, room)?;
@@ -46,9 +46,8 @@ impl<C: Columns + Drop> Lines<C> {
         })
     }
 
-    /// The text.
     pub(crate) fn into_text(self) -> Vec<u8>
-        ensures { (d : Data) → self.log.events ≡ Some (events d) → result.items ≡ lines (C.says (C.given self.columns)) (C.given self.columns).root d }
+        ensures { (d : Data) → self.log.events ≡ Some (events d) → result.items ≡ lines (C.table (C.options self.columns)) (C.options self.columns).root d }
     {
         let Lines { walk, .. } = self;
         walk.out
@@ -58,7 +57,7 @@ impl<C: Columns + Drop> Lines<C> {
 impl<C: Columns + Drop> Serializer for Lines<C> {
     type Error = LinesError;
 
-    ghost written = { λ s. marked (C.given s.columns) s.log.events };
+    ghost written = { λ s. marked (C.options s.columns) s.log.events };
 
     #[inline(always)]
     fn bool(&mut self, v: bool) -> Result<(), LinesError> {
@@ -222,10 +221,10 @@ impl<C: Columns + Drop> Serializer for Lines<C> {
 }
 
 impl<C: Columns + Drop> Lines<C> {
-    // The name of a member, as it is.
+    // Looks up the column of a member's name.
     fn key_as_is(&mut self, name: &str) -> Result<(), LinesError>
-        ensures log { OnOk result (Logs (marked (C.given self.old.columns) self.old.log.events)
-            (marked (C.given self.old.columns) self.new.log.events) (field_key name.now AsIs)) }
+        ensures log { OnOk result (Logs (marked (C.options self.old.columns) self.old.log.events)
+            (marked (C.options self.old.columns) self.new.log.events) (field_key name.now AsIs)) }
         ensures columns { self.new.columns ≡ self.old.columns }
     {
         let place = self.walk.place();
@@ -244,7 +243,7 @@ impl<C: Columns + Drop> Lines<C> {
 
 #[inline(always)]
 fn after<C: Columns>(_columns: &C, log: &Log, note: Note<'_>) -> Log
-    ensures logs { IfSome (event_of note.entry) (Logs (marked (C.given _columns.now) log.now.events) (marked (C.given _columns.now) result.events)) }
+    ensures logs { IfSome (event_of note.entry) (Logs (marked (C.options _columns.now) log.now.events) (marked (C.options _columns.now) result.events)) }
     ensures follows { (t : Table) (root : ℕ) (old new : State) → Follows t root log.now.events old
         → IfSome (event_of note.entry) (λ e. step t e old ≡ Some new) → Follows t root result.events new }
     ensures lost { note.entry ≡ Note.Lost → result.events ≡ None }

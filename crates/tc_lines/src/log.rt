@@ -1,4 +1,4 @@
-//! The events that lines were sent. They exist only in proofs.
+//! The events that were serialized. They exist only in proofs.
 
 ghost use base.Fml.{ftrue};
 ghost use Rattle.serde.specs.Event.{Log as Events};
@@ -8,7 +8,7 @@ ghost use Rattle.std.specs.Prelude.{Some, [], ◌≡◌};
 use serde::Case;
 use std::marker::Model;
 
-/// The events that lines were sent.
+/// The events that were serialized.
 #[derive(Drop)]
 pub(crate) struct Log {
     ghost events: { Events } by { log_code },
@@ -18,7 +18,7 @@ impl Model for Log {
     ghost also_owns = { λ _. ftrue };
 }
 
-/// One call of a method, or `Lost` where what was written is not known.
+/// One call of a serializer's method; `Lost` if what was written isn't known.
 #[derive(Clone, Copy, Drop)]
 pub(crate) enum Note<'a> {
     Bool(bool),

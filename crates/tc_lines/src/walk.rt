@@ -1,4 +1,4 @@
-//! The walk: what each event adds to the text, and where it is in the tree.
+//! What each event of JSON appends to the text, and the state between events.
 
 ghost use Rattle.serde.specs.Event.{boolean, field_key, map_begins, map_ends, nothing, seq_begins, seq_ends, signed, text, unsigned};
 ghost use Rattle.serde.specs.declared.name.Case.TheVariants.{AsIs};
@@ -6,11 +6,11 @@ ghost use Rattle.std.specs.Prelude.{IfOk, IfSome, MatchOption, None, OnOk, Optio
 ghost use Rattle.std.specs.Prelude.{reverse, ◌+◌, ◌++◌, ◌∷◌, ◌≡◌};
 ghost use Rattle.tc_lines.specs.Columns.{column_view, columns_view, depth_in, find, has_elements, has_name, in_line, or};
 ghost use Rattle.tc_lines.specs.Columns.{is_nested, opened, place_in, unnamed};
-ghost use Rattle.tc_lines.specs.Lines.{NONE, element, inside_name, name_text, opening, partner_by};
+ghost use Rattle.tc_lines.specs.Lines.{NONE, element, inside_name, name_text, opening, companion_by};
 ghost use Rattle.tc_lines.specs.Walk.{between, close_map, close_seq, deeper, done, first_of, go_inside, key_in, leaf_done, map_in, named, note};
 ghost use Rattle.tc_lines.specs.Walk.{open_map, open_seq, place_of, settle, start, state_of, step};
 
-use crate::column::{Column, Columns, How};
+use crate::column::{Column, Columns, Display};
 use crate::error::LinesError;
 use crate::leaves::{
     is_block, name_at, put_boolean, put_line, put_null, put_signed, put_string, put_unsigned,
@@ -18,34 +18,36 @@ use crate::leaves::{
 use std::alloc::{AllocError, Global};
 use tc_units::Unit;
 
-/// An object or a list that is open.
+/// An open object or list.
 #[derive(Clone, Copy, Drop)]
 pub(crate) enum Frame {
-    // An object: the depth of its lines, the place of its list under no kind, its place, and whether it stands in one line.
+    // An object: the depth of its lines, the place of its list without a kind, its place, and whether it is on one
+    // line.
     InMembers(usize, usize, usize, bool),
-    // A list: the depth of its lines, its place under no kind, its place, and whether each element has a line of its own.
+    // A list: the depth of its lines, its place without a kind, its place, and whether each element has a line of its
+    // own.
     InItems(usize, usize, usize, bool),
 }
 
-/// A walk.
+/// The state while the lines of a value are written: the text so far, and the open objects and lists.
 #[derive(Drop)]
 pub(crate) struct Walk {
     pub out: Vec<u8>,
-    // The place of the columns that are looked up first.
-    pub partner: usize,
-    // The innermost is last.
+    // The place of the columns that are looked up first: those of the last leaf's companion.
+    pub companion: usize,
+    // Innermost last.
     pub frames: Vec<Frame>,
-    pub how: How,
+    pub display: Display,
     pub depth: usize,
     pub inside: usize,
-    // True where the name of a word has come within a line.
+    // True after the name of an `nla_type` on one line.
     pub word: bool,
 }
 
-// The place of no columns.
+// The place without columns.
 const NONE: usize = 65535;
 
-// The column of a name in JSON. It looks at four names at a time for speed alone.
+// The column of a name in JSON. It compares four names at a time, only for speed.
 fn find(columns: &'static [Column<'static>], key: &str) -> Option<&'static Column<'static>>
     ensures { option_map (λ c. column_view c.now) result ≡ find (columns_view columns.now) key.now }
 {
@@ -74,33 +76,33 @@ fn find(columns: &'static [Column<'static>], key: &str) -> Option<&'static Colum
     None
 }
 
-// The column of a name in JSON, among those of a partner; mostly there is none.
+// The column of a name in JSON among those of a companion; usually there is none.
 #[inline(always)]
-fn find_behind<C: Columns>(
+fn find_companion<C: Columns>(
     columns: &C,
-    partner: usize,
+    companion: usize,
     key: &str,
 ) -> Option<&'static Column<'static>>
-    ensures { option_map (λ c. column_view c.now) result ≡ find ((C.says (C.given columns.now)).columns partner) key.now }
+    ensures { option_map (λ c. column_view c.now) result ≡ find ((C.table (C.options columns.now)).columns companion) key.now }
 {
-    if partner == NONE {
+    if companion == NONE {
         return None;
     }
-    find(columns.columns(partner), key)
+    find(columns.columns(companion), key)
 }
 
-// The column of a name in JSON, among those of a partner, of a kind or of every kind.
+// The column of a name in JSON, among those of a companion, of the kind or of every kind.
 fn column_of<C: Columns>(
     columns: &C,
-    partner: usize,
+    companion: usize,
     own: &'static [Column<'static>],
     others: usize,
     key: &str,
 ) -> Option<&'static Column<'static>>
-    ensures { option_map (λ c. column_view c.now) result ≡ or (find ((C.says (C.given columns.now)).columns partner) key.now)
-        (or (find (columns_view own.now) key.now) (find ((C.says (C.given columns.now)).columns others) key.now)) }
+    ensures { option_map (λ c. column_view c.now) result ≡ or (find ((C.table (C.options columns.now)).columns companion) key.now)
+        (or (find (columns_view own.now) key.now) (find ((C.table (C.options columns.now)).columns others) key.now)) }
 {
-    if let Some(column) = find_behind(columns, partner, key) {
+    if let Some(column) = find_companion(columns, companion, key) {
         return Some(column);
     }
     if let Some(column) = find(own, key) {
@@ -109,7 +111,7 @@ fn column_of<C: Columns>(
     find(columns.columns(others), key)
 }
 
-// The column of a name that has none.
+// The column for a name without one.
 fn unnamed(key: &str) -> Column<'_>
     ensures { column_view result ≡ unnamed key.now }
 {
@@ -117,7 +119,7 @@ fn unnamed(key: &str) -> Column<'_>
         return Column {
             key,
             name: key,
-            how: How::Number(Unit::LongHex),
+            display: Display::Number(Unit::LongHex),
             kernel: "",
         };
     }
@@ -125,14 +127,14 @@ fn unnamed(key: &str) -> Column<'_>
         return Column {
             key,
             name: "other",
-            how: How::Plain,
+            display: Display::Plain,
             kernel: "",
         };
     }
     Column {
         key,
         name: key,
-        how: How::Plain,
+        display: Display::Plain,
         kernel: "",
     }
 }
@@ -144,7 +146,7 @@ fn is_same(a: &str, b: &str) -> bool
     a.len() == b.len() && is_equal(a, b)
 }
 
-// The same of texts that are as long as each other.
+// The same for texts of equal length.
 #[inline(never)]
 fn is_equal(a: &str, b: &str) -> bool
     ensures { result ≡ bytes_eq a.now b.now }
@@ -152,103 +154,110 @@ fn is_equal(a: &str, b: &str) -> bool
     a == b
 }
 
-// True where what is within has lines of its own.
-fn is_nested(how: &How) -> bool
-    ensures { result ≡ is_nested how.now }
+// True if the contents have lines of their own.
+fn is_nested(display: &Display) -> bool
+    ensures { result ≡ is_nested display.now }
 {
-    match how {
-        How::Within(_) | How::Through(_) | How::Below(_) | How::Elements(_) | How::InLine(_) =>
-            true,
+    match display {
+        Display::Nested(_)
+        | Display::Inline(_)
+        | Display::Below(_)
+        | Display::Elements(_)
+        | Display::SameLine(_) => true,
         _ => false,
     }
 }
 
-// The place of the columns of what is within.
-fn place_in(how: &How) -> usize
-    ensures { result ≡ place_in how.now }
+// The place of the columns of the contents.
+fn place_in(display: &Display) -> usize
+    ensures { result ≡ place_in display.now }
 {
-    match how {
-        How::Within(place)
-        | How::Through(place)
-        | How::Below(place)
-        | How::Elements(place)
-        | How::InLine(place) => *place,
+    match display {
+        Display::Nested(place)
+        | Display::Inline(place)
+        | Display::Below(place)
+        | Display::Elements(place)
+        | Display::SameLine(place) => *place,
         _ => 0,
     }
 }
 
-// The depth of the lines within.
-fn depth_in(how: &How, depth: usize) -> Option<usize>
-    ensures { IfSome result (λ n. n ≡ depth_in how.now depth) }
+// The depth of the contents' lines.
+fn depth_in(display: &Display, depth: usize) -> Option<usize>
+    ensures { IfSome result (λ n. n ≡ depth_in display.now depth) }
 {
-    match how {
-        How::Through(_) | How::InLine(_) => Some(depth),
+    match display {
+        Display::Inline(_) | Display::SameLine(_) => Some(depth),
         _ => depth.checked_add(1),
     }
 }
 
-// True where each element has a line of its own.
-fn has_elements(how: &How) -> bool
-    ensures { result ≡ has_elements how.now }
+// True if each element has a line of its own.
+fn has_elements(display: &Display) -> bool
+    ensures { result ≡ has_elements display.now }
 {
-    matches!(how, How::Elements(_))
+    matches!(display, Display::Elements(_))
 }
 
-// True where what is within stands in one line.
-fn in_line(how: &How) -> bool
-    ensures { result ≡ in_line how.now }
+// True if the contents are on one line.
+fn in_line(display: &Display) -> bool
+    ensures { result ≡ in_line display.now }
 {
-    matches!(how, How::InLine(_))
+    matches!(display, Display::SameLine(_))
 }
 
-// True where the name is shown.
-fn has_name(all: bool, how: &How) -> bool
-    ensures { result ≡ has_name all how.now }
+// True if the name is written.
+fn has_name(all: bool, display: &Display) -> bool
+    ensures { result ≡ has_name all display.now }
 {
-    match how {
-        How::Hidden => all,
-        How::Through(_)
-        | How::Below(_)
-        | How::InLine(_)
-        | How::Slash(_, _)
-        | How::To(_)
-        | How::Family(_)
-        | How::Info(_)
-        | How::Index(_) => false,
+    match display {
+        Display::Hidden => all,
+        Display::Inline(_)
+        | Display::Below(_)
+        | Display::SameLine(_)
+        | Display::Slash(_, _)
+        | Display::To(_)
+        | Display::Family(_)
+        | Display::Info(_)
+        | Display::Index(_) => false,
         _ => true,
     }
 }
 
-// How what is in an object or a list is shown, all within one line.
-fn opened(how: &How) -> How
-    ensures { result ≡ opened how.now }
+// The display of the contents of an object or a list on one line.
+fn opened(display: &Display) -> Display
+    ensures { result ≡ opened display.now }
 {
-    match how {
-        How::Hidden | How::First(_) | How::From(_) | How::Slash(_, _) | How::To(_) => How::Plain,
-        _ => *how,
+    match display {
+        Display::Hidden
+        | Display::First(_)
+        | Display::From(_)
+        | Display::Slash(_, _)
+        | Display::To(_) => Display::Plain,
+        _ => *display,
     }
 }
 
-// Puts the line of a value without a name so far that is no leaf.
+// Begins the line of a value that isn't a leaf, if its name wasn't written.
 fn put_opening<C: Columns>(
     columns: &C,
     out: &mut Vec<u8>,
     depth: usize,
-    how: &How,
+    display: &Display,
 ) -> Result<(), AllocError>
-    ensures { OnOk result (out.new.items ≡ out.old.items ++ opening (C.says (C.given columns.now)) depth how.now) }
+    ensures { OnOk result (out.new.items ≡ out.old.items ++ opening (C.table (C.options columns.now)) depth display.now) }
 {
-    match how {
-        How::Hidden if columns.all() => Ok(()),
-        How::Hidden => put_line(out, depth, b"pad"),
-        How::Slash(_, own) | How::To(own) => {
+    match display {
+        Display::Hidden if columns.all() => Ok(()),
+        Display::Hidden => put_line(out, depth, b"pad"),
+        Display::Slash(_, own) | Display::To(own) => {
             put_line(out, depth, name_at(columns, *own).as_bytes())
         }
         _ => Ok(()),
     }
 }
 
-// Puts a name, which is a word of a line, or begins one.
+// Appends a name, which continues a line or begins one.
 #[inline(always)]
 fn put_name(out: &mut Vec<u8>, depth: usize, inline: bool, name: &[u8]) -> Result<(), AllocError>
     ensures { OnOk result (out.new.items ≡ out.old.items ++ name_text depth inline name.now) }
@@ -260,19 +269,19 @@ fn put_name(out: &mut Vec<u8>, depth: usize, inline: bool, name: &[u8]) -> Resul
     put_line(out, depth, name)
 }
 
-// The partner behind a leaf.
-fn partner_by(how: &How, block: bool, partner: usize) -> usize
-    ensures { result ≡ partner_by how.now block partner }
+// The companion after a leaf.
+fn companion_by(display: &Display, block: bool, companion: usize) -> usize
+    ensures { result ≡ companion_by display.now block companion }
 {
-    match how {
-        How::First(place) | How::From(place) => *place,
-        How::Index(place) if block => *place,
-        How::Slash(_, _) | How::To(_) => NONE,
-        _ => partner,
+    match display {
+        Display::First(place) | Display::From(place) => *place,
+        Display::Index(place) if block => *place,
+        Display::Slash(_, _) | Display::To(_) => NONE,
+        _ => companion,
     }
 }
 
-// Puts the beginning of an element.
+// Begins an element.
 fn put_element<C: Columns>(
     columns: &C,
     out: &mut Vec<u8>,
@@ -280,7 +289,7 @@ fn put_element<C: Columns>(
     base: usize,
     each: bool,
 ) -> Result<(), AllocError>
-    ensures { OnOk result (out.new.items ≡ out.old.items ++ element (C.says (C.given columns.now)) depth base each) }
+    ensures { OnOk result (out.new.items ≡ out.old.items ++ element (C.table (C.options columns.now)) depth base each) }
 {
     if each {
         return put_line(out, depth, name_at(columns, base).as_bytes());
@@ -288,7 +297,7 @@ fn put_element<C: Columns>(
     Ok(())
 }
 
-// Puts a name within a line.
+// Appends a name within a line.
 fn put_inside_name(out: &mut Vec<u8>, key: &str) -> Result<(), AllocError>
     ensures { OnOk result (out.new.items ≡ out.old.items ++ inside_name key.now) }
 {
@@ -299,28 +308,28 @@ fn put_inside_name(out: &mut Vec<u8>, key: &str) -> Result<(), AllocError>
     out.extend_from_slice(key.as_bytes())
 }
 
-// Notes a kind for what is behind it.
+// Records a kind for the items after it.
 fn note<C: Columns>(
     columns: &C,
-    how: &How,
+    display: &Display,
     value: &str,
     frames: &mut Vec<Frame>,
 ) -> Result<(), AllocError>
-    ensures { OnOk result (reverse frames.new.items ≡ note (C.says (C.given columns.now)) (text value.now) how.now (reverse frames.old.items)) }
+    ensures { OnOk result (reverse frames.new.items ≡ note (C.table (C.options columns.now)) (text value.now) display.now (reverse frames.old.items)) }
 {
-    match how {
-        How::Kind => note_kind(columns, value, frames),
+    match display {
+        Display::Kind => note_kind(columns, value, frames),
         _ => Ok(()),
     }
 }
 
-// Notes a kind.
+// Records a kind.
 fn note_kind<C: Columns>(
     columns: &C,
     value: &str,
     frames: &mut Vec<Frame>,
 ) -> Result<(), AllocError>
-    ensures { OnOk result (reverse frames.new.items ≡ note (C.says (C.given columns.now)) (text value.now) How.Kind (reverse frames.old.items)) }
+    ensures { OnOk result (reverse frames.new.items ≡ note (C.table (C.options columns.now)) (text value.now) Display.Kind (reverse frames.old.items)) }
 {
     let top = match pop(frames) {
         Some(top) => top,
@@ -335,7 +344,7 @@ fn note_kind<C: Columns>(
     }
 }
 
-// The items behind an object are those of the kind that it says.
+// After an object, the items of its list have the columns of the kind in it.
 fn settle(place: usize, frames: &mut Vec<Frame>) -> Result<(), AllocError>
     ensures { OnOk result (reverse frames.new.items ≡ settle place (reverse frames.old.items)) }
 {
@@ -349,7 +358,7 @@ fn settle(place: usize, frames: &mut Vec<Frame>) -> Result<(), AllocError>
 }
 
 impl Walk {
-    /// A walk that begins at the columns of a place, with room for a text of so many bytes.
+    /// The state before a value with the columns of `root`, with capacity for `room` bytes.
     pub(crate) fn new(alloc: Global, root: usize, room: usize) -> Result<Walk, AllocError>
         ensures { IfOk result (λ w. state_of w ≡ start root) }
     {
@@ -358,99 +367,94 @@ impl Walk {
         push(&mut frames, Frame::InMembers(0, root, root, false))?;
         Ok(Walk {
             out,
-            partner: NONE,
+            companion: NONE,
             frames,
-            how: How::Through(root),
+            display: Display::Inline(root),
             depth: 0,
             inside: 0,
             word: false,
         })
     }
 
-    // Between values.
+    // Returns to the state between values.
     fn rest(&mut self)
-        ensures { state_of self.new ≡ between self.old.out.items self.old.partner (reverse self.old.frames.items) }
+        ensures { state_of self.new ≡ between self.old.out.items self.old.companion (reverse self.old.frames.items) }
     {
-        self.how = How::Plain;
+        self.display = Display::Plain;
         self.depth = 0;
         self.inside = 0;
         self.word = false;
     }
 
-    // A leaf that is no kind is done.
+    // After a leaf that isn't a kind.
     fn leaf_done(&mut self, block: bool)
         ensures { state_of self.new ≡ leaf_done self.old.inside block (state_of self.old) }
     {
         match self.inside.checked_sub(1) {
             Some(_) => self.word = false,
             None => {
-                self.partner = partner_by(&self.how, block, self.partner);
+                self.companion = companion_by(&self.display, block, self.companion);
                 self.rest();
             }
         }
     }
 
-    /// A truth value.
     pub(crate) fn boolean<C: Columns>(&mut self, columns: &C, b: bool) -> Result<(), LinesError>
-        ensures { OnOk result (step (C.says (C.given columns.now)) (boolean b) (state_of self.old) ≡ Some (state_of self.new)) }
+        ensures { OnOk result (step (C.table (C.options columns.now)) (boolean b) (state_of self.old) ≡ Some (state_of self.new)) }
     {
-        put_boolean(columns, &mut self.out, self.depth, &self.how, b)?;
+        put_boolean(columns, &mut self.out, self.depth, &self.display, b)?;
         self.leaf_done(false);
         Ok(())
     }
 
-    /// A number.
     pub(crate) fn unsigned<C: Columns>(&mut self, columns: &C, n: u64) -> Result<(), LinesError>
-        ensures { OnOk result (step (C.says (C.given columns.now)) (unsigned n) (state_of self.old) ≡ Some (state_of self.new)) }
+        ensures { OnOk result (step (C.table (C.options columns.now)) (unsigned n) (state_of self.old) ≡ Some (state_of self.new)) }
     {
         if self.word && self.inside > 0 {
-            let how = How::Number(Unit::LongHex);
-            put_unsigned(columns, &mut self.out, self.depth, &how, n)?;
+            let display = Display::Number(Unit::LongHex);
+            put_unsigned(columns, &mut self.out, self.depth, &display, n)?;
         } else {
-            put_unsigned(columns, &mut self.out, self.depth, &self.how, n)?;
+            put_unsigned(columns, &mut self.out, self.depth, &self.display, n)?;
         }
         self.leaf_done(false);
         Ok(())
     }
 
-    /// A number that may be negative.
     pub(crate) fn signed<C: Columns>(&mut self, columns: &C, n: i64) -> Result<(), LinesError>
-        ensures { OnOk result (step (C.says (C.given columns.now)) (signed n) (state_of self.old) ≡ Some (state_of self.new)) }
+        ensures { OnOk result (step (C.table (C.options columns.now)) (signed n) (state_of self.old) ≡ Some (state_of self.new)) }
     {
-        put_signed(columns, &mut self.out, self.depth, &self.how, n)?;
+        put_signed(columns, &mut self.out, self.depth, &self.display, n)?;
         self.leaf_done(is_block(n));
         Ok(())
     }
 
-    /// Nothing.
     pub(crate) fn null<C: Columns>(&mut self, columns: &C) -> Result<(), LinesError>
-        ensures { OnOk result (step (C.says (C.given columns.now)) nothing (state_of self.old) ≡ Some (state_of self.new)) }
+        ensures { OnOk result (step (C.table (C.options columns.now)) nothing (state_of self.old) ≡ Some (state_of self.new)) }
     {
-        put_null(columns, &mut self.out, self.depth, &self.how)?;
+        put_null(columns, &mut self.out, self.depth, &self.display)?;
         self.leaf_done(false);
         Ok(())
     }
 
-    /// A text.
     pub(crate) fn text<C: Columns>(&mut self, columns: &C, value: &str) -> Result<(), LinesError>
-        ensures { OnOk result (step (C.says (C.given columns.now)) (text value.now) (state_of self.old) ≡ Some (state_of self.new)) }
+        ensures { OnOk result (step (C.table (C.options columns.now)) (text value.now) (state_of self.old) ≡ Some (state_of self.new)) }
     {
-        put_string(columns, &mut self.out, self.depth, &self.how, value)?;
+        put_string(columns, &mut self.out, self.depth, &self.display, value)?;
         match self.inside.checked_sub(1) {
             Some(_) => {
                 self.word = false;
                 Ok(())
             }
             None => {
-                note(columns, &self.how, value, &mut self.frames)?;
-                self.partner = partner_by(&self.how, false, self.partner);
+                note(columns, &self.display, value, &mut self.frames)?;
+                self.companion = companion_by(&self.display, false, self.companion);
                 self.rest();
                 Ok(())
             }
         }
     }
 
-    /// The place of the columns of what is open.
+    /// The place of the columns of the innermost object or list.
     #[inline(always)]
     pub(crate) fn place(&self) -> usize
         ensures { result ≡ place_of (first_of (state_of self.now).frames) }
@@ -461,15 +465,15 @@ impl Walk {
         }
     }
 
-    /// The name of a member, with the columns of what is open.
+    /// The name of a member; `own` are the columns of the innermost object.
     pub(crate) fn key<C: Columns>(
         &mut self,
         columns: &C,
         own: &'static [Column<'static>],
         name: &str,
     ) -> Result<(), LinesError>
-        requires { columns_view own.now ≡ (C.says (C.given columns.now)).columns (place_of (first_of (state_of self.old).frames)) }
-        ensures { OnOk result (step (C.says (C.given columns.now)) (field_key name.now AsIs) (state_of self.old) ≡ Some (state_of self.new)) }
+        requires { columns_view own.now ≡ (C.table (C.options columns.now)).columns (place_of (first_of (state_of self.old).frames)) }
+        ensures { OnOk result (step (C.table (C.options columns.now)) (field_key name.now AsIs) (state_of self.old) ≡ Some (state_of self.new)) }
     {
         match self.inside.checked_sub(1) {
             Some(_) => {
@@ -484,7 +488,7 @@ impl Walk {
         }
     }
 
-    // The name of a member of what is open.
+    // The name of a member of the innermost object.
     fn key_in<C: Columns>(
         &mut self,
         columns: &C,
@@ -492,12 +496,12 @@ impl Walk {
         name: &str,
         top: Option<Frame>,
     ) -> Result<(), LinesError>
-        requires { columns_view own.now ≡ (C.says (C.given columns.now)).columns (place_of top) }
-        ensures { OnOk result (key_in (C.says (C.given columns.now)) name.now (state_of self.old) top ≡ Some (state_of self.new)) }
+        requires { columns_view own.now ≡ (C.table (C.options columns.now)).columns (place_of top) }
+        ensures { OnOk result (key_in (C.table (C.options columns.now)) name.now (state_of self.old) top ≡ Some (state_of self.new)) }
     {
         match top {
             Some(Frame::InMembers(depth, base, _, inline)) => {
-                match column_of(columns, self.partner, own, base, name) {
+                match column_of(columns, self.companion, own, base, name) {
                     Some(column) => self.at_column(columns, depth, inline, column),
                     None => self.at_unnamed(columns, depth, inline, name),
                 }
@@ -506,7 +510,7 @@ impl Walk {
         }
     }
 
-    // At the value of a name that has no column.
+    // Before the value of a name without a column.
     #[inline(never)]
     fn at_unnamed<C: Columns>(
         &mut self,
@@ -515,12 +519,12 @@ impl Walk {
         inline: bool,
         name: &str,
     ) -> Result<(), LinesError>
-        ensures { OnOk result (state_of self.new ≡ named (C.says (C.given columns.now)) depth inline (unnamed name.now) (state_of self.old)) }
+        ensures { OnOk result (state_of self.new ≡ named (C.table (C.options columns.now)) depth inline (unnamed name.now) (state_of self.old)) }
     {
         self.at_column(columns, depth, inline, &unnamed(name))
     }
 
-    // At the value of a column.
+    // Before the value of a column.
     #[inline(always)]
     fn at_column<C: Columns>(
         &mut self,
@@ -529,31 +533,31 @@ impl Walk {
         inline: bool,
         column: &Column<'_>,
     ) -> Result<(), LinesError>
-        ensures { OnOk result (state_of self.new ≡ named (C.says (C.given columns.now)) depth inline (column_view column.now) (state_of self.old)) }
+        ensures { OnOk result (state_of self.new ≡ named (C.table (C.options columns.now)) depth inline (column_view column.now) (state_of self.old)) }
     {
-        if has_name(columns.all(), &column.how) {
+        if has_name(columns.all(), &column.display) {
             put_name(&mut self.out, depth, inline, column.name.as_bytes())?;
             if !inline {
-                self.partner = NONE;
+                self.companion = NONE;
             }
         }
-        self.how = column.how;
+        self.display = column.display;
         self.depth = depth;
         Ok(())
     }
 
-    // Within a line.
+    // Continues within one line.
     fn go_inside<C: Columns>(&mut self, columns: &C) -> Result<(), LinesError>
-        ensures { OnOk result (state_of self.new ≡ go_inside (C.says (C.given columns.now)) (state_of self.old)) }
+        ensures { OnOk result (state_of self.new ≡ go_inside (C.table (C.options columns.now)) (state_of self.old)) }
     {
-        put_opening(columns, &mut self.out, self.depth, &self.how)?;
-        self.partner = NONE;
-        self.how = opened(&self.how);
+        put_opening(columns, &mut self.out, self.depth, &self.display)?;
+        self.companion = NONE;
+        self.display = opened(&self.display);
         self.inside = 1;
         Ok(())
     }
 
-    // One deeper within a line.
+    // One level deeper within a line.
     fn deeper(&mut self) -> Result<(), LinesError>
         ensures { OnOk result (state_of self.new ≡ deeper (state_of self.old)) }
     {
@@ -567,13 +571,12 @@ impl Walk {
         }
     }
 
-    /// An object begins.
     pub(crate) fn begin_map<C: Columns>(
         &mut self,
         columns: &C,
         _len: Option<usize>,
     ) -> Result<(), LinesError>
-        ensures { OnOk result (step (C.says (C.given columns.now)) (map_begins _len) (state_of self.old) ≡ Some (state_of self.new)) }
+        ensures { OnOk result (step (C.table (C.options columns.now)) (map_begins _len) (state_of self.old) ≡ Some (state_of self.new)) }
     {
         match self.inside.checked_sub(1) {
             Some(_) => self.deeper(),
@@ -584,9 +587,9 @@ impl Walk {
         }
     }
 
-    // An object begins in what is open.
+    // Begins an object in the innermost object or list.
     fn map_in<C: Columns>(&mut self, columns: &C, top: Option<Frame>) -> Result<(), LinesError>
-        ensures { OnOk result (state_of self.new ≡ map_in (C.says (C.given columns.now)) (state_of self.old) top) }
+        ensures { OnOk result (state_of self.new ≡ map_in (C.table (C.options columns.now)) (state_of self.old) top) }
     {
         match top {
             Some(Frame::InItems(depth, base, place, each)) => {
@@ -596,7 +599,7 @@ impl Walk {
         }
     }
 
-    // An object of a list begins.
+    // Begins an object in a list.
     fn begin_element<C: Columns>(
         &mut self,
         columns: &C,
@@ -605,28 +608,28 @@ impl Walk {
         place: usize,
         each: bool,
     ) -> Result<(), LinesError>
-        ensures { OnOk result (state_of self.new ≡ between (self.old.out.items ++ element (C.says (C.given columns.now)) depth base each)
-            (if each then NONE else self.old.partner) (Frame.InMembers depth base place each ∷ reverse self.old.frames.items)) }
+        ensures { OnOk result (state_of self.new ≡ between (self.old.out.items ++ element (C.table (C.options columns.now)) depth base each)
+            (if each then NONE else self.old.companion) (Frame.InMembers depth base place each ∷ reverse self.old.frames.items)) }
     {
         put_element(columns, &mut self.out, depth, base, each)?;
         if each {
-            self.partner = NONE;
+            self.companion = NONE;
         }
         push(&mut self.frames, Frame::InMembers(depth, base, place, each))?;
         self.rest();
         Ok(())
     }
 
-    // An object of a column begins.
+    // Begins an object that is the value of a column.
     fn open_map<C: Columns>(&mut self, columns: &C) -> Result<(), LinesError>
-        ensures { OnOk result (state_of self.new ≡ open_map (C.says (C.given columns.now)) (state_of self.old)) }
+        ensures { OnOk result (state_of self.new ≡ open_map (C.table (C.options columns.now)) (state_of self.old)) }
     {
-        if !is_nested(&self.how) {
+        if !is_nested(&self.display) {
             return self.go_inside(columns);
         }
-        let place = place_in(&self.how);
-        let inline = in_line(&self.how);
-        let depth = match depth_in(&self.how, self.depth) {
+        let place = place_in(&self.display);
+        let inline = in_line(&self.display);
+        let depth = match depth_in(&self.display, self.depth) {
             Some(depth) => depth,
             None => return Err(LinesError::NotJson),
         };
@@ -638,16 +641,16 @@ impl Walk {
         Ok(())
     }
 
-    // A list of a column begins.
+    // Begins a list that is the value of a column.
     fn open_seq<C: Columns>(&mut self, columns: &C) -> Result<(), LinesError>
-        ensures { OnOk result (state_of self.new ≡ open_seq (C.says (C.given columns.now)) (state_of self.old)) }
+        ensures { OnOk result (state_of self.new ≡ open_seq (C.table (C.options columns.now)) (state_of self.old)) }
     {
-        if !is_nested(&self.how) {
+        if !is_nested(&self.display) {
             return self.go_inside(columns);
         }
-        let place = place_in(&self.how);
-        let each = has_elements(&self.how);
-        let depth = match depth_in(&self.how, self.depth) {
+        let place = place_in(&self.display);
+        let each = has_elements(&self.display);
+        let depth = match depth_in(&self.display, self.depth) {
             Some(depth) => depth,
             None => return Err(LinesError::NotJson),
         };
@@ -656,13 +659,12 @@ impl Walk {
         Ok(())
     }
 
-    /// A list begins.
     pub(crate) fn begin_seq<C: Columns>(
         &mut self,
         columns: &C,
         _len: Option<usize>,
     ) -> Result<(), LinesError>
-        ensures { OnOk result (step (C.says (C.given columns.now)) (seq_begins _len) (state_of self.old) ≡ Some (state_of self.new)) }
+        ensures { OnOk result (step (C.table (C.options columns.now)) (seq_begins _len) (state_of self.old) ≡ Some (state_of self.new)) }
     {
         match self.inside.checked_sub(1) {
             Some(_) => self.deeper(),
@@ -670,7 +672,7 @@ impl Walk {
         }
     }
 
-    // What is within one line ends.
+    // Ends an object or list within one line.
     fn end_inside(&mut self, inside: usize)
         ensures { state_of self.new ≡ done inside (state_of self.old) }
     {
@@ -680,9 +682,8 @@ impl Walk {
         }
     }
 
-    /// An object ends.
     pub(crate) fn end_map<C: Columns>(&mut self, _columns: &C) -> Result<(), LinesError>
-        ensures { OnOk result (step (C.says (C.given _columns.now)) map_ends (state_of self.old) ≡ Some (state_of self.new)) }
+        ensures { OnOk result (step (C.table (C.options _columns.now)) map_ends (state_of self.old) ≡ Some (state_of self.new)) }
     {
         match self.inside.checked_sub(1) {
             Some(inside) => {
@@ -693,7 +694,7 @@ impl Walk {
         }
     }
 
-    // What is open ends.
+    // Closes the innermost object.
     fn close_map(&mut self) -> Result<(), LinesError>
         ensures { OnOk result (close_map (state_of self.old) (reverse self.old.frames.items) ≡ Some (state_of self.new)) }
     {
@@ -707,9 +708,8 @@ impl Walk {
         }
     }
 
-    /// A list ends.
     pub(crate) fn end_seq<C: Columns>(&mut self, _columns: &C) -> Result<(), LinesError>
-        ensures { OnOk result (step (C.says (C.given _columns.now)) seq_ends (state_of self.old) ≡ Some (state_of self.new)) }
+        ensures { OnOk result (step (C.table (C.options _columns.now)) seq_ends (state_of self.old) ≡ Some (state_of self.new)) }
     {
         match self.inside.checked_sub(1) {
             Some(inside) => {
@@ -720,7 +720,7 @@ impl Walk {
         }
     }
 
-    // What is open ends.
+    // Closes the innermost list.
     fn close_seq(&mut self) -> Result<(), LinesError>
         ensures { OnOk result (close_seq (state_of self.old) (reverse self.old.frames.items) ≡ Some (state_of self.new)) }
     {
@@ -734,7 +734,7 @@ impl Walk {
     }
 }
 
-// One more.
+// Opens an object or a list.
 #[tactic(auto, using(crate::proofs::Stacks::reverse_snoc))]
 fn push(frames: &mut Vec<Frame>, frame: Frame) -> Result<(), AllocError>
     ensures { OnOk result (reverse frames.new.items ≡ frame ∷ reverse frames.old.items) }
@@ -743,7 +743,7 @@ fn push(frames: &mut Vec<Frame>, frame: Frame) -> Result<(), AllocError>
     Ok(())
 }
 
-// The innermost, without it.
+// Removes and returns the innermost.
 #[tactic(auto, using(crate::proofs::Stacks::reverse_snoc))]
 fn pop(frames: &mut Vec<Frame>) -> Option<Frame>
     ensures { MatchOption result ((reverse frames.old.items ≡ []) × (reverse frames.new.items ≡ []))

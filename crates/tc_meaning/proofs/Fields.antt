@@ -64,7 +64,7 @@ typed-field (named n names) v w = typed_name n names (le_value v) (has_name name
 typed-field (octets n) v w = (w.1, w.0)
 typed-field (pad n) v w = tt
 
--- what a field is written as reads back exactly if it is settled
+-- what a field is written as reads back exactly when it is settled
 name_back : (names : List ℕ) (x y : ℕ) (b : Bool) → has_name names y ≡ b → y ≡ x → (cond b (plain y) (unnamed y) ≡ unnamed x) ↔ (has_name names x ≡ false)
 name_back names x y true e same = (λ h. absurd cc, λ s. let h : false ≡ true = sym s ∙ ap (has_name names) (sym same) ∙ e in absurd cc)
 name_back names x y false e same = (λ h. rw same at e, λ s. ap unnamed same)
@@ -78,7 +78,7 @@ back-field (octets n) (octets_of v) t = (λ e. tt, λ s. refl)
 back-field (pad n) blank t = (λ e. tt, λ s. refl)
 back-field f x t = elim t [ ]
 
--- what is read of a field is written as it was exactly if its padding was zero
+-- what is read of a field is written as it was exactly when its padding was zero
 name_bytes : (n : ℕ) (names : List ℕ) (x : ℕ) (b : Bool) → field_bytes (named n names) (cond b (plain x) (unnamed x)) ≡ le_bytes n x
 name_bytes n names x true = refl
 name_bytes n names x false = refl
@@ -122,7 +122,7 @@ typed-fields (f ∷ fs) v w long = (
 cons-parts : {X : Type 0} (x y : X) (xs ys : List X) → x ∷ xs ≡ y ∷ ys → (x ≡ y) × (xs ≡ ys)
 cons-parts x y xs ys e = (cc, cc)
 
--- fields that are written in front of other bytes read back exactly if they are settled
+-- fields that are written in front of other bytes read back exactly when they are settled
 pub back-fields : (fs : List Field) (xs : List Scalar) (more : List ℕ) → TypedFields fs xs
     → (read_fields fs (fields_bytes fs xs ++ more) ≡ xs) ↔ SettledFields fs xs
 back-fields [] [] more t = (λ e. tt, λ s. refl)
@@ -166,7 +166,7 @@ pads (named n names) fs v = (λ c. (tt, c), λ c. c.1)
 pads (octets n) fs v = (λ c. (tt, c), λ c. c.1)
 pads (pad n) fs v = (λ c. c, λ c. c)
 
--- what is read of bytes of the layout's size is written as they were exactly if all padding was zero
+-- what is read of bytes of the layout's size is written as they were exactly when all padding was zero
 pub same-fields : (fs : List Field) (v : List ℕ) → IsBytes v → length v ≡ size_of fs → (fields_bytes fs (read_fields fs v) ≡ v) ↔ PadsZero fs v
 same-fields [] v w len = (λ e. tt, λ c. sym (nil_from_length v len))
 same-fields (f ∷ fs) v w len = go (same-field f front front_wire) (same-fields fs rest (IsBytes-drop (width f) v w) rest_length)

@@ -8,7 +8,7 @@ use Rattle.nla_frames.specs.Frame.{Frame, IsWireFrame}
 use Rattle.nla_frames.specs.CanonList.{IsCanonAt}
 use Rattle.nla_frames.specs.Codec.{Codec, Laws}
 use Rattle.tc_meaning.specs.Tree.{Attribute, known, kept, other, of_kind}
-use Rattle.tc_meaning.specs.Meaning.{raw_frames, kind_frames, as_it_stands}
+use Rattle.tc_meaning.specs.Meaning.{raw_frames, kind_frames, raw_frame}
 use Rattle.tc_meaning.proofs.Outcomes.{seen-ok, ok-seen, ok-same}
 
 -- texts that the test finds equal
@@ -32,7 +32,7 @@ unknown_kind Canon all = record {
   settled_kind = λ k m x t s. elim t [ ];
 }
   where
-    makes_raw : (x : Attribute) → raw_frames.Typed x → raw_frames.Fits x → IsWireFrame (as_it_stands x)
+    makes_raw : (x : Attribute) → raw_frames.Typed x → raw_frames.Fits x → IsWireFrame (raw_frame x)
     makes_raw (other word value) t f = record { frame = record { word = t.0; value = f }; bytes = t.1 }
     makes_raw x t f = elim t [ ]
 
@@ -40,13 +40,13 @@ unknown_kind Canon all = record {
     typed_raw k f x w e = subst raw_frames.Typed (ok-same (other f.word f.value) x e) (w.frame.word, w.bytes)
 
     back_raw : (k : List ℕ) (x : Attribute) → raw_frames.Typed x → raw_frames.Fits x
-        → (read_as (other (as_it_stands x).word (as_it_stands x).value) ≡ Ok x) ↔ Unit {0}
+        → (read_as (other (raw_frame x).word (raw_frame x).value) ≡ Ok x) ↔ Unit {0}
     back_raw k (other word value) t f = (λ e. tt, λ s. refl)
     back_raw k x t f = elim t [ ]
 
     same_raw : (k : List ℕ) (f : Frame) (x : Attribute) → IsWireFrame f → read_as (other f.word f.value) ≡ Ok x → raw_frames.Fits x
-        → (as_it_stands x ≡ f) ↔ Canon k f
-    same_raw k f x w e fits = (λ s. all k f, λ c. ap as_it_stands (sym (ok-same (other f.word f.value) x e)))
+        → (raw_frame x ≡ f) ↔ Canon k f
+    same_raw k f x w e fits = (λ s. all k f, λ c. ap raw_frame (sym (ok-same (other f.word f.value) x e)))
 
 -- a kind before the others
 module _ (name : List ℕ) (own rest : Codec Frame Attribute) (CanonOwn CanonRest : IsCanonAt) (own_laws : Laws IsWireFrame own CanonOwn)
@@ -90,7 +90,7 @@ module _ (name : List ℕ) (own rest : Codec Frame Attribute) (CanonOwn CanonRes
   read-elsewhere k f (kept n word value) h e = tt
   read-elsewhere k f (other word value) h e = tt
 
-  -- the reading, where it is known whether the kind is the first
+  -- the reading, if it is known whether the kind is the first
   kind_by : Bool → List ℕ → Frame → Outcome Attribute
   kind_by b k f = cond b (seen (of_kind name) (own.read k f)) (rest.read k f)
 

@@ -16,7 +16,7 @@ pub mod MessageLaws
 pub mod MessageTheorems
 pub mod MessageReading
 pub mod Trees
-pub mod Telling
+pub mod Decidable
 pub mod FitTests
 pub mod SettledTests
 pub mod KnownMessages

@@ -151,7 +151,7 @@ module _ (by_frame : Sets Frame) (by_value : Sets Attribute) (layout : List Fiel
     body = body_laws.typed [] (drop (size_of layout) bytes) m.body (wire-body bytes w) is.body;
   }
 
-  -- a header in front of nothing reads back exactly if it is settled
+  -- a header in front of nothing reads back exactly when it is settled
   pub header-back : (xs : List Scalar) → TypedFields layout xs → (read_fields layout (fields_bytes layout xs) ≡ xs) ↔ SettledFields layout xs
   header-back xs t =
       let law = back-fields layout xs [] t in

@@ -2,11 +2,11 @@
 use Rattle.std.proofs.Common.{◌≡◌, List, ℕ, [], drop, refl, sym, ◌∙◌}
 use Rattle.std.proofs.lemmas.Bool.{le-ltb}
 use Rattle.nla_frames.specs.declared.error.DecodeError.{DecodeError}
-use Rattle.nla_frames.specs.Fault.{Gives, read_as, refused}
+use Rattle.nla_frames.specs.Fault.{Returns, read_as, refused}
 use Rattle.nla_frames.specs.Frame.{Frame}
 use Rattle.nla_frames.specs.Place.{Sets}
 use Rattle.nla_frames.specs.Reading.{read_list}
-use Rattle.nla_frames.proofs.Outcomes.{Gives-err}
+use Rattle.nla_frames.proofs.Outcomes.{Returns-err}
 use Rattle.tc_canon.specs.Descriptor.{Field, Rows, table}
 use Rattle.tc_canon.specs.Layouts.{size_of}
 use Rattle.tc_meaning.specs.Tree.{Scalar, Attribute}
@@ -31,10 +31,10 @@ module _ (sets : Sets Frame) (layout : List Field) (rows : Rows) (bytes : List �
 
   -- its list is refused
   pub message_refused : (e : DecodeError)
-      → Gives (refused {X = List Attribute} e) (read_list (table_codec (table rows)).read sets [] (drop (size_of layout) bytes))
-      → Gives (refused {X = Message} e) (read_with sets layout rows bytes)
+      → Returns (refused {X = List Attribute} e) (read_list (table_codec (table rows)).read sets [] (drop (size_of layout) bytes))
+      → Returns (refused {X = Message} e) (read_with sets layout rows bytes)
   unfolding read_with
   message_refused e given =
       let record_is = read_record-ok layout bytes header (sym header-is) in
-      Gives-err e (read_list (table_codec (table rows)).read sets [] (drop (size_of layout) bytes)) (read_with sets layout rows bytes) given
+      Returns-err e (read_list (table_codec (table rows)).read sets [] (drop (size_of layout) bytes)) (read_with sets layout rows bytes) given
       (λ is. rw (le-ltb _ _ record_is.0, is) refl)

@@ -1,4 +1,4 @@
--- The two messages: reading is the grammar, and settled values and canonical bytes are one another's inverse.
+-- Theorems of both messages: reading is the grammar, and settled values correspond one to one to canonical bytes.
 use Rattle.std.proofs.Common.{◌≡◌, ◌↔◌, ◌⊎◌, ℕ, true, List, [], ◌∷◌, Ok, Err, length, get_or, drop, ◌^◌, ◌<◌, refl, sym, ap, ◌∙◌, inl, inr, Fits, w8}
 use Rattle.nla_frames.specs.Frame.{Frame}
 use Rattle.nla_frames.specs.Place.{Sets, kind_then}
@@ -17,12 +17,12 @@ use Rattle.tc_meaning.specs.Meaning.{table_codec}
 use Rattle.tc_meaning.specs.Message.{Message, ReadsWith, read_with, message_bytes, FitsMessage, TypedMessage, SettledWith, SettledByPlace, OneMessage}
 use Rattle.tc_meaning.specs.Message.{CanonWith, message_codec}
 use Rattle.tc_meaning.proofs.Outcomes.{ok-same}
-use Rattle.tc_meaning.proofs.OwnLaws.{TellsKind}
+use Rattle.tc_meaning.proofs.OwnLaws.{ReadsKinds}
 use Rattle.tc_meaning.proofs.NoMemory.{message-memory}
 use Rattle.nla_frames.specs.declared.error.DecodeError.{DecodeError}
 use Rattle.nla_frames.specs.declared.error.DecodeError.TheVariants.{OutOfMemory}
 use Rattle.nla_frames.specs.Fault.{Outcome}
-use Rattle.tc_meaning.proofs.TableLaws.{table_laws, rows_laws, tells_rows}
+use Rattle.tc_meaning.proofs.TableLaws.{table_laws, rows_laws, rows_read_kinds}
 use Rattle.tc_meaning.specs.Whole.{Words, words_of, Correspond, OneOutcome, tc_words, action_words}
 use Rattle.nla_frames.proofs.Bytes.{IsBytes-slice}
 use Rattle.tc_meaning.proofs.MessageLaws.{one_message, message_laws}
@@ -49,7 +49,7 @@ in_words c Canon Other words laws = record {
 
 module _ (by_frame : Sets Frame) (by_value : Sets Attribute) (layout : List Field) (rows : Rows) (Canon : List ℕ → Type 0)
     (laws : Laws IsWireBytes (message_codec by_frame by_value layout rows) (λ kind bytes. Canon bytes)) where
-  -- what fits reads back exactly if it is settled
+  -- what fits reads back exactly when it is settled
   back : (m : Message) → TypedMessage layout rows m → FitsMessage layout rows m
       → ReadsWith by_frame layout rows (message_bytes layout rows m) m ↔ SettledWith layout rows by_value m
   back m t f =
@@ -131,13 +131,13 @@ canon-places Canon sets first bytes = (from, to)
 pub sound_attributes : is_sound_rows attributes ≡ true
 sound_attributes = refl
 
--- the same of an action message
+-- the same for an action message
 pub sound_actions : is_sound_rows action_message_attributes ≡ true
 sound_actions = refl
 
 -- a frame and what it reads as set the same kind
-pub tells_attributes : TellsKind (table_codec (table attributes))
-tells_attributes = tells_rows attributes refl (λ n. rows_laws attributes sound_attributes n)
+pub attributes_read_kinds : ReadsKinds (table_codec (table attributes))
+attributes_read_kinds = rows_read_kinds attributes refl (λ n. rows_laws attributes sound_attributes n)
 
 -- the canonical grammars in their own words
 canon-tc : (bytes : List ℕ) → CanonWith kind_of_frame tc_header attributes bytes ↔ CanonTc bytes
@@ -152,7 +152,7 @@ canon-act bytes = (λ c. record { header = c.header; body = c.body }, λ c. reco
 pub tc_laws : Laws IsWireBytes (message_codec kind_of_frame kind_of_attribute tc_header attributes) (λ kind bytes. CanonTc bytes)
 tc_laws = in_words (message_codec kind_of_frame kind_of_attribute tc_header attributes) _ CanonTc canon-tc
     (message_laws kind_of_frame kind_of_attribute tc_header attributes (table_laws (table attributes) sound_attributes)
-    (λ kind f x w e. tells_attributes.agree kind f x e))
+    (λ kind f x w e. attributes_read_kinds.agree kind f x e))
 
 -- the laws of an action message
 pub act_laws : Laws IsWireBytes (message_codec keep keep action_message_header action_message_attributes) (λ kind bytes. CanonAct bytes)
@@ -161,7 +161,7 @@ act_laws = in_words (message_codec keep keep action_message_header action_messag
 
 -- ---- their contracts
 
--- a slice in hand
+-- the bytes of a slice
 pub wire_slice : (bytes : List ℕ) → ((i : ℕ) → Fits w8 (get_or bytes i 0)) → length bytes < 2 ^ 64 → IsWireBytes bytes
 wire_slice bytes fits long = record { are_bytes = IsBytes-slice bytes fits; long = long }
 

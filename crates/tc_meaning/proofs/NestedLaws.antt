@@ -1,4 +1,4 @@
--- What is read of the value of a nested list is what the grammar of lists says.
+-- The value of a nested list is read as the grammar of lists says.
 use Rattle.std.proofs.Common.{◌≡◌, ◌↔◌, ℕ, Bool, true, false, cond, List, Ok, Err, refl, sym, ap, ◌∙◌, eq-eqb}
 use Rattle.std.specs.Prelude.{MatchBool}
 use Rattle.nla_frames.specs.declared.error.DecodeError.{DecodeError}
@@ -10,11 +10,11 @@ use Rattle.nla_frames.proofs.ListGrammarLaws.{one_outcome}
 use Rattle.tc_canon.specs.Descriptor.{Table, table, Rows, Kinds, is_known}
 use Rattle.tc_meaning.specs.Tree.{Content, Attribute}
 use Rattle.tc_meaning.specs.Meaning.{table_codec, a_list}
-use Rattle.tc_meaning.specs.Nested.{Holds, GivesList, ReadsNested, ReadsOwn, ReadsOptions}
+use Rattle.tc_meaning.specs.Nested.{Holds, IsListOutcome, ReadsNested, ReadsOwn, ReadsOptions}
 use Rattle.tc_meaning.proofs.Outcomes.{seen-ok, ok-seen, err-same}
 use Rattle.tc_meaning.proofs.OwnGrammarLaws.{one_own}
 
--- attributes that are read as the grammar says are given as a value that holds them
+-- attributes that are read as the grammar says are the outcome, as the content that holds them
 module _ (Reads : List Attribute → Type 0) (Fault : DecodeError → Type 0) (outcome : Outcome (List Attribute))
     (reading : (xs : List Attribute) → (outcome ≡ Ok xs) ↔ Reads xs) (fault : (e : DecodeError) → (outcome ≡ Err e) ↔ Fault e) where
   held : (content : Content) → seen a_list.into outcome ≡ Ok content → Holds Reads content
@@ -23,7 +23,7 @@ module _ (Reads : List Attribute → Type 0) (Fault : DecodeError → Type 0) (o
   holds : (content : Content) → Holds Reads content → seen a_list.into outcome ≡ Ok content
   holds content h = ok-seen a_list.into outcome h.0 ((reading h.0).1 h.2) ∙ ap (λ (c : Content). read_as c) (sym h.1)
 
-  gives : GivesList Reads Fault (seen a_list.into outcome)
+  gives : IsListOutcome Reads Fault (seen a_list.into outcome)
   gives = record {
     reading = λ content. (held content, holds content);
     fault = λ e. (λ h. (fault e).0 (was outcome e h), λ f. still outcome e ((fault e).1 f));
@@ -40,11 +40,11 @@ module _ (Reads : List Attribute → Type 0) (Fault : DecodeError → Type 0) (o
 pub nested : (t : Table) (kind bytes : List ℕ) → IsBytes bytes → ReadsNested t kind bytes
 nested t kind bytes w = let one = one_outcome (table_codec t).read keep kind bytes w in gives _ _ _ one.reading one.fault
 
--- a list that tells its own kind
+-- a list that sets its own kind
 pub own : (rows : Rows) (kind bytes : List ℕ) → IsBytes bytes → ReadsOwn rows kind bytes
 own rows kind bytes w = let one = one_own (table_codec (table rows)).read bytes w in gives _ _ _ one.reading one.fault
 
--- one of two, as a test tells
+-- one of two, selected by a test
 one_of : (b : Bool) (x y : Outcome Attribute) → MatchBool b (cond b x y ≡ x) (cond b x y ≡ y)
 one_of true x y = refl
 one_of false x y = refl

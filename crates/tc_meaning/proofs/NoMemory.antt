@@ -1,4 +1,4 @@
--- No reading is refused for want of memory: that is the answer of a call, never of the grammar.
+-- `OutOfMemory` is never a fault of the grammar; only calls return it.
 use Rattle.std.proofs.Common.{◌≡◌, ℕ, zero, suc, ◌+◌, ◌*◌, Bool, true, false, List, [], ◌∷◌, length, take, drop, Some, None, Ok, Err, cond, eqb, ltb, sym, ap}
 use Rattle.std.proofs.Common.{◌∙◌}
 use Rattle.std.specs.Prelude.{◌==◌, not}
@@ -13,7 +13,7 @@ use Rattle.nla_frames.specs.Place.{Sets}
 use Rattle.nla_frames.specs.Reading.{Reads, keep, read_list}
 use Rattle.nla_frames.specs.Codec.{Codec}
 use Rattle.nla_frames.proofs.ListGrammarLaws.{read_list_not_memory}
-use Rattle.tc_canon.specs.Kind.{tells_kind}
+use Rattle.tc_canon.specs.Kind.{is_kind_frame}
 use Rattle.tc_canon.specs.Layouts.{size_of, fq_codel_qd_stats, fq_codel_cl_stats, selector_head}
 use Rattle.tc_canon.specs.Descriptor.{Field, Class, le, be, masked, array, raw, text, warning, presence, truth, fields, selector, pair, xstats, list_of}
 use Rattle.tc_canon.specs.Descriptor.{own_list, Table, table, every, by_kind, Rows, others, types, unread, options, Kinds, unknown, kind, is_within, is_known}
@@ -27,7 +27,7 @@ use Rattle.tc_meaning.specs.Meaning.{a_list, choose, by_type, class_codec, table
 use Rattle.tc_meaning.specs.Message.{Message, read_with}
 use Rattle.tc_meaning.proofs.OwnGrammarLaws.{read_own-look}
 
--- the outcome isn't want of memory
+-- the outcome isn't `OutOfMemory`
 abbrev pub NotMemory : {X : Type 0} → Outcome X → Type 0
 NotMemory {X = X} r = ◌≡◌ {A = Outcome X} r (refused OutOfMemory) → ⊥
 
@@ -100,7 +100,7 @@ only_kind-memory (a ∷ b ∷ kinds) e = cc e
 
 -- the first look at a frame
 look-memory : (k : List ℕ) (f : Frame) → NotMemory (first_look k f)
-look-memory k f = either-memory (tells_kind f) (seen Some (plain_values.text f.value)) (read_as None)
+look-memory k f = either-memory (is_kind_frame f) (seen Some (plain_values.text f.value)) (read_as None)
     (seen-memory Some (plain_values.text f.value) (text-memory f.value)) (value-memory None)
 
 -- a list that tells its kind

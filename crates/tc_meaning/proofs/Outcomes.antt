@@ -1,4 +1,4 @@
--- What follows from a reading that succeeded.
+-- Consequences of a reading that succeeded.
 use Rattle.std.proofs.Common.{◌≡◌, Bool, true, false, Ok, Err, cond, refl}
 use Rattle.nla_frames.specs.declared.error.DecodeError.{DecodeError}
 use Rattle.nla_frames.specs.Fault.{Outcome, seen, read_as, refused, ◌>>=◌}

@@ -1,4 +1,4 @@
--- Reading a list of frames that tell their kind is the grammar.
+-- Reading a list of frames that set their own kind is the grammar.
 use Rattle.std.proofs.Common.{◌≡◌, ◌↔◌, ℕ, Bool, true, false, List, [], ◌∷◌, Option, Some, None, Ok, Err, cond, refl, sym, ap, subst, ◌∙◌, inl, inr}
 use Rattle.nla_frames.specs.declared.error.DecodeError.{DecodeError}
 use Rattle.nla_frames.specs.declared.error.DecodeError.TheVariants.{MissingKind, DuplicateKind}
@@ -9,7 +9,7 @@ use Rattle.nla_frames.specs.Cutting.{cut, items_of}
 use Rattle.nla_frames.specs.Reading.{Reads, keep, before, read_each, read_list}
 use Rattle.nla_frames.specs.ListGrammar.{ListReads, HasOneOutcome}
 use Rattle.nla_frames.proofs.ListGrammarLaws.{one_outcome}
-use Rattle.tc_canon.specs.Kind.{tells_kind}
+use Rattle.tc_canon.specs.Kind.{is_kind_frame}
 use Rattle.tc_meaning.specs.Own.{read_kinds, only_kind, read_own}
 use Rattle.tc_meaning.specs.OwnGrammar.{first_look, kinds_found, OwnReads, KindFault, OwnFault, OneOwn}
 use Rattle.tc_meaning.proofs.Outcomes.{err-same, ok-same}
@@ -28,7 +28,7 @@ read_kinds-look : (items : List (Outcome Frame)) → read_kinds items ≡ seen k
 unfolding read_kinds read_each
 read_kinds-look [] = refl
 read_kinds-look (Err e ∷ items) = refl
-read_kinds-look (Ok f ∷ items) = look-before (tells_kind f) (text f.value) (read_kinds items) (read_each first_look keep [] items) (read_kinds-look items)
+read_kinds-look (Ok f ∷ items) = look-before (is_kind_frame f) (text f.value) (read_kinds items) (read_each first_look keep [] items) (read_kinds-look items)
 
 module _ {X : Type 0} (reads : Reads X) (bytes : List ℕ) where
   -- what is read after the first look

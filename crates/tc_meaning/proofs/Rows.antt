@@ -9,15 +9,15 @@ use Rattle.nla_frames.specs.CanonList.{IsCanonAt}
 use Rattle.nla_frames.specs.Codec.{Codec, Laws, IsWireValue}
 use Rattle.tc_canon.specs.Descriptor.{Kinds, is_known}
 use Rattle.tc_meaning.specs.Tree.{Content, Attribute, known, kept, other, of_kind, number_of}
-use Rattle.tc_meaning.specs.Meaning.{short, raw_frames, row_frames, unread_frames, options_frames, every_frame, choose, by_type, as_it_stands, IsShort}
+use Rattle.tc_meaning.specs.Meaning.{short, raw_frames, row_frames, unread_frames, options_frames, every_frame, choose, by_type, raw_frame, IsShort}
 use Rattle.tc_meaning.proofs.Outcomes.{seen-ok, ok-seen, ok-same}
 
 -- the laws of a row's codec at the type n
 pub record RowLaws (n : ℕ) (c : Codec Frame Attribute) (Canon : IsCanonAt) : Type 0 where
   pub makes : (x : Attribute) → c.Typed x → number_of x ≡ n → c.Fits x → IsWireFrame (c.write x)
   pub typed : (k : List ℕ) (f : Frame) (x : Attribute) → IsWireFrame f → type_of f.word ≡ n → c.read k f ≡ Ok x → c.Typed x
-  -- what is read stands under the type of its frame
-  pub stands : (k : List ℕ) (f : Frame) (x : Attribute) → type_of f.word ≡ n → c.read k f ≡ Ok x → number_of x ≡ n
+  -- an attribute that was read has the type of its frame
+  pub numbered : (k : List ℕ) (f : Frame) (x : Attribute) → type_of f.word ≡ n → c.read k f ≡ Ok x → number_of x ≡ n
   pub back : (k : List ℕ) (x : Attribute) → c.Typed x → number_of x ≡ n → c.Fits x → type_of (c.write x).word ≡ n
       → (c.read k (c.write x) ≡ Ok x) ↔ c.Settled k x
   -- what is written under another type isn't settled
@@ -29,19 +29,19 @@ pub record RowLaws (n : ℕ) (c : Codec Frame Attribute) (Canon : IsCanonAt) : T
 same_frame : (f : Frame) (word : ℕ) (value : List ℕ) → word ≡ f.word → value ≡ f.value → record { word = word; value = value } ≡ f
 same_frame f word value p q = ap₂ (λ (a : ℕ) (b : List ℕ). let g : Frame = record { word = a; value = b } in g) p q
 
--- a word and a value in hand that is short
+-- a word in range and a short value
 wire_raw : (word : ℕ) (value : List ℕ) → word < 2 ^ 16 → IsBytes value → IsShort value → IsWireFrame (record { word = word; value = value })
 wire_raw word value small bytes short = record { frame = record { word = small; value = short }; bytes = bytes }
 
 wire_value : (f : Frame) → IsWireFrame f → IsWireValue f.value
 wire_value f w = record { are_bytes = w.bytes; short = w.frame.value }
 
--- every type kept as it stands
+-- every type kept raw
 pub raw_rows : (n : ℕ) (Canon : IsCanonAt) → ((k : List ℕ) (f : Frame) → Canon k f) → RowLaws n raw_frames Canon
 raw_rows n Canon all = record {
   makes = makes_raw;
   typed = typed_raw;
-  stands = stands_raw;
+  numbered = numbered_raw;
   back = back_raw;
   away = away_raw;
   same = same_raw;
@@ -49,28 +49,28 @@ raw_rows n Canon all = record {
       λ k f w at c. (other f.word f.value, refl, w.frame.value);
 }
   where
-    makes_raw : (x : Attribute) → raw_frames.Typed x → number_of x ≡ n → raw_frames.Fits x → IsWireFrame (as_it_stands x)
+    makes_raw : (x : Attribute) → raw_frames.Typed x → number_of x ≡ n → raw_frames.Fits x → IsWireFrame (raw_frame x)
     makes_raw (other word value) t at f = wire_raw word value t.0 t.1 f
     makes_raw x t at f = elim t [ ]
 
     typed_raw : (k : List ℕ) (f : Frame) (x : Attribute) → IsWireFrame f → type_of f.word ≡ n → read_as (other f.word f.value) ≡ Ok x → raw_frames.Typed x
     typed_raw k f x w at e = subst raw_frames.Typed (ok-same (other f.word f.value) x e) (w.frame.word, w.bytes)
 
-    stands_raw : (k : List ℕ) (f : Frame) (x : Attribute) → type_of f.word ≡ n → read_as (other f.word f.value) ≡ Ok x → number_of x ≡ n
-    stands_raw k f x at e = subst (λ (y : Attribute). number_of y ≡ n) (ok-same (other f.word f.value) x e) at
+    numbered_raw : (k : List ℕ) (f : Frame) (x : Attribute) → type_of f.word ≡ n → read_as (other f.word f.value) ≡ Ok x → number_of x ≡ n
+    numbered_raw k f x at e = subst (λ (y : Attribute). number_of y ≡ n) (ok-same (other f.word f.value) x e) at
 
-    back_raw : (k : List ℕ) (x : Attribute) → raw_frames.Typed x → number_of x ≡ n → raw_frames.Fits x → type_of (as_it_stands x).word ≡ n
-        → (read_as (other (as_it_stands x).word (as_it_stands x).value) ≡ Ok x) ↔ Unit {0}
+    back_raw : (k : List ℕ) (x : Attribute) → raw_frames.Typed x → number_of x ≡ n → raw_frames.Fits x → type_of (raw_frame x).word ≡ n
+        → (read_as (other (raw_frame x).word (raw_frame x).value) ≡ Ok x) ↔ Unit {0}
     back_raw k (other word value) t at f under = (λ e. tt, λ s. refl)
     back_raw k x t at f under = elim t [ ]
 
-    away_raw : (k : List ℕ) (x : Attribute) → raw_frames.Typed x → number_of x ≡ n → (type_of (as_it_stands x).word ≡ n → ⊥) → Unit {0} → ⊥
+    away_raw : (k : List ℕ) (x : Attribute) → raw_frames.Typed x → number_of x ≡ n → (type_of (raw_frame x).word ≡ n → ⊥) → Unit {0} → ⊥
     away_raw k (other word value) t at far s = far at
     away_raw k x t at far s = elim t [ ]
 
     same_raw : (k : List ℕ) (f : Frame) (x : Attribute) → IsWireFrame f → type_of f.word ≡ n → read_as (other f.word f.value) ≡ Ok x → raw_frames.Fits x
-        → (as_it_stands x ≡ f) ↔ Canon k f
-    same_raw k f x w at e fits = (λ s. all k f, λ c. ap as_it_stands (sym (ok-same (other f.word f.value) x e)))
+        → (raw_frame x ≡ f) ↔ Canon k f
+    same_raw k f x w at e fits = (λ s. all k f, λ c. ap raw_frame (sym (ok-same (other f.word f.value) x e)))
 
 -- a row: one type with its word and its class
 module _ (word n : ℕ) (c : Codec (List ℕ) Content) (Canon : List ℕ → List ℕ → Type 0) (laws : Laws IsWireValue (short c) Canon) (small : word < 2 ^ 16)
@@ -86,8 +86,8 @@ module _ (word n : ℕ) (c : Codec (List ℕ) Content) (Canon : List ℕ → Lis
       let r = seen-ok (known n) (c.read k f.value) x e in
       subst (row_frames word n c).Typed r.2 (refl, laws.typed k f.value r.0 (wire_value f w) r.1)
 
-  stands-row : (k : List ℕ) (f : Frame) (x : Attribute) → seen (known n) (c.read k f.value) ≡ Ok x → number_of x ≡ n
-  stands-row k f x e =
+  numbered-row : (k : List ℕ) (f : Frame) (x : Attribute) → seen (known n) (c.read k f.value) ≡ Ok x → number_of x ≡ n
+  numbered-row k f x e =
       let r = seen-ok (known n) (c.read k f.value) x e in
       subst (λ (y : Attribute). number_of y ≡ n) r.2 refl
 
@@ -141,7 +141,7 @@ module _ (word n : ℕ) (c : Codec (List ℕ) Content) (Canon : List ℕ → Lis
   row_rows = record {
     makes = λ x t at f. makes-row x t f;
     typed = λ k f x w at e. typed-row k f x w e;
-    stands = λ k f x at e. stands-row k f x e;
+    numbered = λ k f x at e. numbered-row k f x e;
     back = λ k x t at f here. back-row k x t f;
     away = λ k x t at far s. away-row k x t far s;
     same = λ k f x w at e fits. same-row k f x w e fits;
@@ -155,7 +155,7 @@ pub unread_rows : (n : ℕ) (c : Codec (List ℕ) Content) (Canon : List ℕ →
 unread_rows n c Canon Any laws small under all = record {
   makes = λ x t at f. makes-row n n c Canon laws small under x t f;
   typed = λ k f x w at e. subst (unread_frames n c).Typed (ok-same (other f.word f.value) x e) (w.frame.word, w.bytes);
-  stands = λ k f x at e. subst (λ (y : Attribute). number_of y ≡ n) (ok-same (other f.word f.value) x e) at;
+  numbered = λ k f x at e. subst (λ (y : Attribute). number_of y ≡ n) (ok-same (other f.word f.value) x e) at;
   back = λ k x t at f here. back_unread k x t;
   away = λ k x t at far s. away_unread k x at far s;
   same = λ k f x w at e fits. (λ s. all k f, λ q. ap (unread_frames n c).write (sym (ok-same (other f.word f.value) x e)));
@@ -200,10 +200,10 @@ module _ (n : ℕ) (ks : Kinds) (c : Codec (List ℕ) Content) (Canon : List ℕ
   typed-options true k f x w e = typed_row-options x (typed-row n n c Canon laws small under k f x w e)
   typed-options false k f x w e = subst (options_frames n ks c).Typed (ok-same (kept n f.word f.value) x e) (refl, (w.frame.word, w.bytes))
 
-  stands-options : (b : Bool) (k : List ℕ) (f : Frame) (x : Attribute) → options_by b k f ≡ Ok x → number_of x ≡ n
+  numbered-options : (b : Bool) (k : List ℕ) (f : Frame) (x : Attribute) → options_by b k f ≡ Ok x → number_of x ≡ n
   unfolding options_by
-  stands-options true k f x e = stands-row n n c Canon laws small under k f x e
-  stands-options false k f x e = subst (λ (y : Attribute). number_of y ≡ n) (ok-same (kept n f.word f.value) x e) refl
+  numbered-options true k f x e = numbered-row n n c Canon laws small under k f x e
+  numbered-options false k f x e = subst (λ (y : Attribute). number_of y ≡ n) (ok-same (kept n f.word f.value) x e) refl
 
   back-options : (b : Bool) (k : List ℕ) → is_known ks k ≡ b → (x : Attribute) → (options_frames n ks c).Typed x → (options_frames n ks c).Fits x
       → type_of ((options_frames n ks c).write x).word ≡ n
@@ -245,7 +245,7 @@ module _ (n : ℕ) (ks : Kinds) (c : Codec (List ℕ) Content) (Canon : List ℕ
   options_rows = record {
     makes = λ x t at f. makes-options x t f;
     typed = λ k f x w at e. typed-options (is_known ks k) k f x w e;
-    stands = λ k f x at e. stands-options (is_known ks k) k f x e;
+    numbered = λ k f x at e. numbered-options (is_known ks k) k f x e;
     back = λ k x t at f here. back-options (is_known ks k) k refl x t f here;
     away = λ k x t at far s. away-options k x t far s;
     same = λ k f x w at e fits. same-options (is_known ks k) k f x w e fits;
@@ -275,7 +275,7 @@ by_type_laws at Canon rows = record { makes = makes_table; typed = typed_table; 
     typed_table : (k : List ℕ) (f : Frame) (x : Attribute) → IsWireFrame f → (by_type at).read k f ≡ Ok x → (by_type at).Typed x
     typed_table k f x w e =
         let row = rows (type_of f.word) in
-        subst (λ (m : ℕ). (at m).Typed x) (sym (row.stands k f x refl e)) (row.typed k f x w refl e)
+        subst (λ (m : ℕ). (at m).Typed x) (sym (row.numbered k f x refl e)) (row.typed k f x w refl e)
 
     back_table : (k : List ℕ) (x : Attribute) → (by_type at).Typed x → (by_type at).Fits x
         → ((by_type at).read k ((by_type at).write x) ≡ Ok x) ↔ (by_type at).Settled k x
@@ -290,7 +290,7 @@ by_type_laws at Canon rows = record { makes = makes_table; typed = typed_table; 
             subst (λ (i : ℕ). ((at i).read k ((at (number_of x)).write x) ≡ Ok x) ↔ (at (number_of x)).Settled k x) (sym same)
             (row.back k x t refl f (is ∙ same))
         go m is (inr far) = (
-          (λ e. absurd (far (sym ((rows m).stands k ((at (number_of x)).write x) x is e)))),
+          (λ e. absurd (far (sym ((rows m).numbered k ((at (number_of x)).write x) x is e)))),
           (λ s. absurd (row.away k x t refl (λ here. far (sym is ∙ here)) s)),
         )
 
@@ -298,7 +298,7 @@ by_type_laws at Canon rows = record { makes = makes_table; typed = typed_table; 
         → ((by_type at).write x ≡ f) ↔ Canon (type_of f.word) k f
     same_table k f x w e fits =
         let row = rows (type_of f.word) in
-        let number = row.stands k f x refl e in
+        let number = row.numbered k f x refl e in
         subst (λ (m : ℕ). ((at m).write x ≡ f) ↔ Canon (type_of f.word) k f) (sym number)
         (row.same k f x w refl e (subst (λ (m : ℕ). (at m).Fits x) number fits))
 
@@ -306,7 +306,7 @@ by_type_laws at Canon rows = record { makes = makes_table; typed = typed_table; 
     reads_table k f w canon =
         let row = rows (type_of f.word) in
         let r = row.reads k f w refl canon in
-        (r.0, r.1, subst (λ (m : ℕ). (at m).Fits r.0) (sym (row.stands k f r.0 refl r.1)) r.2)
+        (r.0, r.1, subst (λ (m : ℕ). (at m).Fits r.0) (sym (row.numbered k f r.0 refl r.1)) r.2)
 
 -- a table whose types all mean the same
 module _ (c : Codec (List ℕ) Content) (Canon : List ℕ → List ℕ → Type 0) (laws : Laws IsWireValue (short c) Canon) where

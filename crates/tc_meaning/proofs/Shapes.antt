@@ -1,4 +1,4 @@
--- The laws of a type's contents, and of a value that has to be short, from those of the type.
+-- The laws of a type's contents, and of values that have to be short, from the laws of the type.
 use Rattle.std.proofs.Common.{◌≡◌, ◌↔◌, ℕ, List, Ok, sym, ap, ◌∙◌}
 use Rattle.nla_frames.specs.Fault.{seen, read_as}
 use Rattle.nla_frames.specs.Value.{IsBytes}

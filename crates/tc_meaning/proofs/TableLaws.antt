@@ -12,7 +12,7 @@ use Rattle.nla_frames.specs.Reading.{keep}
 use Rattle.nla_frames.specs.CanonList.{IsCanonAt, IsCanonList}
 use Rattle.nla_frames.specs.Codec.{Codec, Laws, IsWireValue, IsWireBytes, list_codec}
 use Rattle.nla_frames.proofs.ListLaws.{list_laws}
-use Rattle.tc_canon.specs.Kind.{tells_kind}
+use Rattle.tc_canon.specs.Kind.{is_kind_frame}
 use Rattle.tc_canon.specs.Descriptor.{Class, le, be, masked, array, raw, text, warning, presence, truth, fields, selector, pair, xstats, list_of, own_list}
 use Rattle.tc_canon.specs.Descriptor.{Table, table, every, by_kind, Rows, others, types, unread, options, Kinds, unknown, kind, is_within, is_known}
 use Rattle.tc_canon.specs.Canonical.{CanonClass, CanonTable, CanonRows, CanonKinds, IsCanonOwn}
@@ -32,7 +32,7 @@ use Rattle.tc_meaning.proofs.Selectors.{pair_laws, selector_laws}
 use Rattle.tc_meaning.proofs.Xstats.{xstats_laws}
 use Rattle.tc_meaning.proofs.Rows.{RowLaws, raw_rows, row_rows, unread_rows, options_rows, choose_rows, choose_same, by_type_laws, every_laws}
 use Rattle.tc_meaning.proofs.KindLaws.{KindLaws, unknown_kind, kind_laws}
-use Rattle.tc_meaning.proofs.OwnLaws.{TellsKind, own_laws}
+use Rattle.tc_meaning.proofs.OwnLaws.{ReadsKinds, own_laws}
 
 -- ---- contents
 
@@ -47,7 +47,7 @@ plain_laws : {X : Type 0} (shape : Shape X) (c : Codec (List ℕ) X) (Canon : Li
     → Laws IsWireValue (short (via shape c)) Canon
 plain_laws shape c Canon again laws = short_laws IsBytes (via shape c) Canon (λ v w. w.are_bytes) (λ v w. w) (via_laws shape IsBytes c Canon again laws)
 
--- a value that can stand in a frame can be counted
+-- the length of a frame's value is a `usize`
 counted : (v : List ℕ) → IsWireValue v → IsWireBytes v
 counted v w = record { are_bytes = w.are_bytes; long = omega (arith, w.short) }
 
@@ -62,7 +62,7 @@ list_items_laws c Canon laws = items_laws (list_codec keep keep c) (λ k v. IsCa
 
 -- ---- rows
 
--- a type that no row has is canonical as it stands
+-- an unknown type is canonical with any value
 canon-free : (n : ℕ) (rows : Rows) → is_free n rows ≡ true → (k : List ℕ) (f : Frame) → CanonRows rows n k f
 canon-free n others free k f = tt
 canon-free n (types first last flags class rows) free k f =
@@ -91,7 +91,7 @@ row_word first last flags n l fl within =
 pub type_word : (n : ℕ) → is_type n ≡ true → (n < 2 ^ 16) × (type_of n ≡ n)
 type_word n e = let below = ltb-true n 0x4000 e in (omega arith, omega arith)
 
--- ---- the kind that attributes tell
+-- ---- the kind that attributes set
 
 pub not_kind : (x : Attribute) → (number_of x ≡ 1 → ⊥) → kind_of_attribute x ≡ None
 not_kind (known zero content) far = refl
@@ -112,10 +112,10 @@ read-kind n word k f x one e =
     ap (λ (i : ℕ). known i (is_bytes (strip f.value))) (sym one) ∙ ap (λ (u : List ℕ). known n (is_bytes u)) t.1 ∙ ap (known n) q.2 ∙ r.2 in
     (t.0, ap kind_of_attribute (sym is))
 
--- rows that begin with the kind's tell the kind of their frames
-pub tells_rows : (rows : Rows) → starts_with_kind rows ≡ true → ((n : ℕ) → RowLaws n (rows_codec rows n) (CanonRows rows n))
-    → TellsKind (by_type (rows_codec rows))
-tells_rows (types first last flags text rows) starts laws = record { agree = agree; has_text = has_text }
+-- rows that begin with the kind read the kinds of their frames
+pub rows_read_kinds : (rows : Rows) → starts_with_kind rows ≡ true → ((n : ℕ) → RowLaws n (rows_codec rows n) (CanonRows rows n))
+    → ReadsKinds (by_type (rows_codec rows))
+rows_read_kinds (types first last flags text rows) starts laws = record { agree = agree; has_text = has_text }
   where
     is_row : (n : ℕ) (k : List ℕ) (f : Frame) (x : Attribute) → n ≡ 1
         → (choose (is_within first last n) (row_frames (flags + n) n (class_codec text)) (rows_codec rows n)).read k f ≡ Ok x
@@ -131,12 +131,12 @@ tells_rows (types first last flags text rows) starts laws = record { agree = agr
       where
         go : (type_of f.word ≡ 1) ⊎ (type_of f.word ≡ 1 → ⊥) → cond (eqb (type_of f.word) 1) (Some (strip f.value)) None ≡ kind_of_attribute x
         go (inl one) = rw (eq-eqb (type_of f.word) 1 one) (sym (is_row (type_of f.word) k f x one e).1)
-        go (inr far) = rw (ne_eqb (type_of f.word) 1 far) (sym (not_kind x (λ at. far (sym ((laws (type_of f.word)).stands k f x refl e) ∙ at))))
+        go (inr far) = rw (ne_eqb (type_of f.word) 1 far) (sym (not_kind x (λ at. far (sym ((laws (type_of f.word)).numbered k f x refl e) ∙ at))))
 
-    has_text : (k : List ℕ) (f : Frame) (x : Attribute) → (by_type (rows_codec (types first last flags text rows))).read k f ≡ Ok x → tells_kind f ≡ true
+    has_text : (k : List ℕ) (f : Frame) (x : Attribute) → (by_type (rows_codec (types first last flags text rows))).read k f ≡ Ok x → is_kind_frame f ≡ true
         → is_utf8 (strip f.value) ≡ true
     has_text k f x e tells = (is_row (type_of f.word) k f x (eqb-true (type_of f.word) 1 tells) e).0
-tells_rows _ starts laws = absurd cc
+rows_read_kinds _ starts laws = absurd cc
 
 -- ---- one row before others
 
@@ -170,12 +170,12 @@ options_then m kinds rows n ty laws rest =
     (list_items_laws (kinds_codec kinds) (CanonKinds kinds) laws) word.0 word.1))
     (λ outside. rest)
 
--- the contents of a list that tells its kind
+-- the contents of a list that sets its own kind
 own_items : (rows : Rows) → starts_with_kind rows ≡ true → ((n : ℕ) → RowLaws n (rows_codec rows n) (CanonRows rows n))
     → Laws IsWireValue (short (class_codec (own_list rows))) (CanonClass (own_list rows))
 own_items rows starts laws =
     items_laws (own_codec (by_type (rows_codec rows))) (λ k v. IsCanonOwn (λ own f. CanonRows rows (type_of f.word) own f) v)
-    (own_laws (by_type (rows_codec rows)) (tells_rows rows starts laws) (λ own f. CanonRows rows (type_of f.word) own f)
+    (own_laws (by_type (rows_codec rows)) (rows_read_kinds rows starts laws) (λ own f. CanonRows rows (type_of f.word) own f)
     (by_type_laws (rows_codec rows) (CanonRows rows) laws))
 
 -- ---- everything

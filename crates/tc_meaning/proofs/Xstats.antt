@@ -42,7 +42,7 @@ module _ (n : ℕ) (small : n < 256 ^ 4) (layout : List Field) (none : has_no_na
   numbered-back : (xs : List Scalar) → TypedFields layout xs → read_record layout (drop 4 (le_bytes 4 n ++ fields_bytes layout xs)) ≡ Ok xs
   numbered-back xs t = ap (read_record layout) (numbered-rest xs) ∙ ((fields_laws layout).back [] xs t tt).1 (settled-fields layout xs none)
 
-  -- and is written as it was exactly if it was canonical
+  -- and is written as it was exactly when it was canonical
   numbered-same : (v : List ℕ) (xs : List Scalar) → IsBytes v → 4 ≤ length v → le_value (take 4 v) ≡ n → read_record layout (drop 4 v) ≡ Ok xs
       → (le_bytes 4 n ++ fields_bytes layout xs ≡ v) ↔ CanonFields layout (drop 4 v)
   numbered-same v xs w long is e = (from, to)
@@ -184,7 +184,7 @@ fq-reads v w c = go (number_cases (le_value (take 4 v)))
 
 -- ---- under any kind
 
--- the reading, where it is known whether the kind is fq_codel
+-- the reading, if it is known whether the kind is fq_codel
 by_test : Bool → List ℕ → Outcome Content
 by_test b v = cond b (read_fq v) (read_as (is_bytes v))
 

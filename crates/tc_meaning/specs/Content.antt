@@ -1,4 +1,4 @@
--- Contents that hold no attributes, class by class.
+-- Contents without attributes, class by class.
 use Rattle.std.specs.Prelude.{◌≡◌, ℕ, ◌<◌, ◌≤◌, ◌^◌, ◌%◌, Bool, true, false, List, [], ◌∷◌, length, not, Ok, Err, nat_lt, ◌==◌, if◌then◌else◌, zero, suc, ◌+◌}
 use Rattle.std.specs.Prelude.{◌*◌, ◌++◌, take, drop, codes}
 use Rattle.std.specs.Str.{bytes_eq}
@@ -14,12 +14,12 @@ use Rattle.tc_canon.specs.Layouts.{fq_codel_qd_stats, fq_codel_cl_stats, selecto
 use Rattle.tc_meaning.specs.Tree.{Scalar, plain, Content, number, is_bytes, flag, record_of, keyed, statistics, unknown_statistics}
 use Rattle.tc_meaning.specs.Layout.{size_of, read_fields, fields_bytes, TypedFields, SettledFields}
 
--- the values of a type among all contents: `out` takes apart what `into` made
+-- the values of a type among all contents: `out` is the inverse of `into`
 pub record Shape (X : Type 0) : Type 0 where
   pub into : X → Content
   pub out : Content → X
 
--- the codec of a type, as one of contents
+-- the codec of a type, as a codec of contents
 abbrev pub via : {X : Type 0} → Shape X → Codec (List ℕ) X → Codec (List ℕ) Content
 via shape c = record {
   read = λ kind value. seen shape.into (c.read kind value);
@@ -29,7 +29,7 @@ via shape c = record {
   Settled = λ kind x. c.Settled kind (shape.out x);
 }
 
--- a value that is read the same under every kind, and always fits
+-- a codec that ignores the kind and whose values always fit
 abbrev pub plainly : {X : Type 0} → (List ℕ → Outcome X) → (X → List ℕ) → (X → Type 0) → (X → Type 0) → Codec (List ℕ) X
 plainly read write Typed Settled = record {
   read = λ kind value. read value;
@@ -82,7 +82,7 @@ raw_codec = plainly Ok (λ v. v) IsBytes always
 abbrev pub text_codec : Codec (List ℕ) (List ℕ)
 text_codec = plainly plain_values.text terminated IsText always
 
--- written without a NUL, so that one at its end is taken for the end's when read again
+-- written without a NUL, so that a NUL at its end is stripped when it is read again
 abbrev pub warning_codec : Codec (List ℕ) (List ℕ)
 warning_codec = plainly plain_values.text (λ t. t) IsText (λ t. strip t ≡ t)
 
@@ -110,7 +110,7 @@ a_record = record { into = record_of; out = record_in }
     record_in (record_of xs) = xs
     record_in _ = []
 
--- a record's fields stand in front, and what follows is dropped
+-- a record's fields are at the front, and what follows is dropped
 abbrev pub read_record : List Field → List ℕ → Outcome (List Scalar)
 read_record layout value = if nat_lt (length value) (size_of layout) then Err (BufferTooSmall (length value) (size_of layout)) else Ok
     (read_fields layout value)
@@ -140,17 +140,17 @@ a_selector = record { into = λ s. keyed s.head s.keys; out = selector_in }
     selector_in (keyed head keys) = record { head = head; keys = keys }
     selector_in _ = record { head = []; keys = [] }
 
--- the number of keys that a head has
+-- the number of keys in a head
 abbrev pub key_count : List Scalar → ℕ
 key_count (flags ∷ offshift ∷ plain nkeys ∷ rest) = nkeys
 key_count _ = 0
 
--- so many keys, one after the other
+-- n keys, one after the other
 abbrev pub read_keys : ℕ → List ℕ → List (List Scalar)
 read_keys zero bytes = []
 read_keys (suc n) bytes = read_fields selector_key bytes ∷ read_keys n (drop 16 bytes)
 
--- a head and the keys that it counts, and what follows is dropped
+-- a head and as many keys as it says; what follows is dropped
 abbrev pub read_selector : List ℕ → Outcome Selector
 read_selector value =
     let head = read_fields selector_head value in
@@ -170,17 +170,17 @@ selector_codec = record {
 
 -- ---- statistics by kind
 
--- the kind whose statistics are known
+-- true for the kind whose statistics are known
 abbrev pub is_fq_codel : List ℕ → Bool
 is_fq_codel kind = bytes_eq kind (codes "fq_codel")
 
--- statistics of a number, after that number
+-- the statistics that a number selects, after that number
 abbrev pub read_statistics : ℕ → List ℕ → List ℕ → Outcome Content
 read_statistics zero after value = seen (statistics 0) (read_record fq_codel_qd_stats after)
 read_statistics (suc zero) after value = seen (statistics 1) (read_record fq_codel_cl_stats after)
 read_statistics _ after value = Ok (unknown_statistics value)
 
--- fq_codel's begin with the number of their record; those of any other kind are kept as they stand
+-- fq_codel's statistics begin with the number of their record; those of any other kind are kept raw
 abbrev pub read_xstats : List ℕ → List ℕ → Outcome Content
 read_xstats kind value =
     if is_fq_codel kind then

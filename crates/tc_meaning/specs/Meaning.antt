@@ -1,4 +1,4 @@
--- What the tables mean: each is a codec of frames.
+-- The meaning of the tables: each is a codec of frames.
 use Rattle.std.specs.Prelude.{◌≡◌, ℕ, ◌+◌, ◌<◌, ◌≤◌, ◌^◌, Bool, true, false, List, [], length, Ok, ◌==◌, if◌then◌else◌, MatchBool}
 use Rattle.std.specs.Str.{bytes_eq}
 use Rattle.nla_frames.specs.Fault.{Outcome, seen}
@@ -21,12 +21,12 @@ a_list = record { into = λ xs. items (attributes_of xs); out = list_in }
     list_in _ = []
 
 -- the frame of an attribute that is kept raw, and of any other whose type is in no row
-abbrev pub as_it_stands : Attribute → Frame
-as_it_stands (other word value) = record { word = word; value = value }
-as_it_stands (kept n word value) = record { word = word; value = value }
-as_it_stands _ = record { word = 0; value = [] }
+abbrev pub raw_frame : Attribute → Frame
+raw_frame (other word value) = record { word = word; value = value }
+raw_frame (kept n word value) = record { word = word; value = value }
+raw_frame _ = record { word = 0; value = [] }
 
--- any value in hand that is kept raw
+-- an attribute that is kept raw, in the range of its types
 abbrev pub IsRaw : ℕ → List ℕ → Type 0
 IsRaw word value = (word < 2 ^ 16) × IsBytes value
 
@@ -47,9 +47,9 @@ short c = record {
 abbrev pub raw_frames : Codec Frame Attribute
 raw_frames = record {
   read = λ k f. Ok (other f.word f.value);
-  write = as_it_stands;
+  write = raw_frame;
   Typed = TypedRaw;
-  Fits = λ x. IsShort (as_it_stands x).value;
+  Fits = λ x. IsShort (raw_frame x).value;
   Settled = λ k x. Unit {0};
 }
   where
@@ -69,7 +69,7 @@ row_frames word n c = record {
   where
     write_row : Attribute → Frame
     write_row (known m content) = record { word = word; value = c.write content }
-    write_row x = as_it_stands x
+    write_row x = raw_frame x
 
     TypedRow : Attribute → Type 0
     TypedRow (known m content) = (m ≡ n) × c.Typed content
@@ -78,18 +78,18 @@ row_frames word n c = record {
 
     FitsRow : Attribute → Type 0
     FitsRow (known m content) = c.Fits content × IsShort (c.write content)
-    FitsRow x = IsShort (as_it_stands x).value
+    FitsRow x = IsShort (raw_frame x).value
 
     SettledRow : List ℕ → Attribute → Type 0
     SettledRow k (known m content) = c.Settled k content
     SettledRow k _ = ⊥
 
--- one of two, by a test
+-- one of two codecs, selected by a test
 abbrev pub choose : {W X : Type 0} → Bool → Codec W X → Codec W X → Codec W X
 choose true chosen rest = chosen
 choose false chosen rest = rest
 
--- the meaning at each type: frames by the type of their word, values by the type that they stand under
+-- the codec of each type: frames by the type of their word, values by the type that they have
 abbrev pub by_type : (ℕ → Codec Frame Attribute) → Codec Frame Attribute
 by_type at = record {
   read = λ k f. (at (type_of f.word)).read k f;
@@ -99,7 +99,7 @@ by_type at = record {
   Settled = λ k x. (at (number_of x)).Settled k x;
 }
 
--- a message's options: a list under a known kind, kept as they stand under any other
+-- a message's options: a list under a known kind, kept raw under any other
 abbrev pub options_frames : ℕ → Kinds → Codec (List ℕ) Content → Codec Frame Attribute
 options_frames n kinds c = record {
   read = read_options;
@@ -124,7 +124,7 @@ options_frames n kinds c = record {
     SettledOptions k (kept m word value) = (is_known kinds k ≡ false) × (type_of word ≡ n)
     SettledOptions k _ = ⊥
 
--- a type that is written and never read: in bytes it is kept raw
+-- a type that is written and never read: a frame of it is kept raw
 abbrev pub unread_frames : ℕ → Codec (List ℕ) Content → Codec Frame Attribute
 unread_frames n c = record {
   read = λ k f. Ok (other f.word f.value);
@@ -141,7 +141,7 @@ unread_frames n c = record {
     SettledUnread k (other word value) = Unit {0}
     SettledUnread k _ = ⊥
 
--- every type means the same, and the attribute keeps the type that was read; its word is written whole
+-- every type has the same class; the attribute keeps the type that was read, and its word is written whole
 abbrev pub every_frame : Codec (List ℕ) Content → Codec Frame Attribute
 every_frame c = record {
   read = λ k f. seen (known (type_of f.word)) (c.read k f.value);
@@ -153,7 +153,7 @@ every_frame c = record {
   where
     write_any : Attribute → Frame
     write_any (known word content) = record { word = word; value = c.write content }
-    write_any x = as_it_stands x
+    write_any x = raw_frame x
 
     TypedAny : Attribute → Type 0
     TypedAny (known word content) = (word < 2 ^ 16) × c.Typed content
@@ -167,7 +167,7 @@ every_frame c = record {
     SettledAny k (known word content) = (word ≤ 0x3FFF) × c.Settled k content
     SettledAny k _ = ⊥
 
--- an attribute of a kind, beside those of other kinds
+-- the attributes of a kind, before those of other kinds
 abbrev pub kind_frames : List ℕ → Codec Frame Attribute → Codec Frame Attribute → Codec Frame Attribute
 kind_frames name own rest = record {
   read = λ k f. if bytes_eq k name then seen (of_kind name) (own.read k f) else rest.read k f;
@@ -194,7 +194,7 @@ kind_frames name own rest = record {
     SettledKind k x = MatchBool (bytes_eq k name) ⊥ (rest.Settled k x)
 
 abbrev mutual
-  -- the meaning of a class, of the bytes of a value
+  -- the codec of a class, on the bytes of a value
   pub class_codec : Class → Codec (List ℕ) Content
   class_codec (le n) = via a_number (le_codec n)
   class_codec (be n) = via a_number (be_codec n)
@@ -212,20 +212,20 @@ abbrev mutual
   class_codec (list_of t) = via a_list (list_codec keep keep (table_codec t))
   class_codec (own_list rows) = via a_list (own_codec (by_type (rows_codec rows)))
 
-  -- the meaning of a table
+  -- the codec of a table
   pub table_codec : Table → Codec Frame Attribute
   table_codec (table rows) = by_type (rows_codec rows)
   table_codec (every class) = every_frame (class_codec class)
   table_codec (by_kind kinds) = kinds_codec kinds
 
-  -- the meaning of a table's rows at a type
+  -- the codec of a table's rows at a type
   pub rows_codec : Rows → ℕ → Codec Frame Attribute
   rows_codec others n = raw_frames
   rows_codec (types first last flags class rows) n = choose (is_within first last n) (row_frames (flags + n) n (class_codec class)) (rows_codec rows n)
   rows_codec (unread m class rows) n = choose (n == m) (unread_frames m (class_codec class)) (rows_codec rows n)
   rows_codec (options m kinds rows) n = choose (n == m) (options_frames m kinds (via a_list (list_codec keep keep (kinds_codec kinds)))) (rows_codec rows n)
 
-  -- the meaning of an option under the kinds
+  -- the codec of an option under the kinds
   pub kinds_codec : Kinds → Codec Frame Attribute
   kinds_codec unknown = raw_frames
   kinds_codec (kind name rows kinds) = kind_frames name (by_type (rows_codec rows)) (kinds_codec kinds)

@@ -1,4 +1,4 @@
--- Whole messages: their reading and their first fault in the words of the grammar, and their bytes.
+-- Whole messages: the grammar of their readings and first faults, and their bytes.
 use Rattle.std.specs.Prelude.{◌≡◌, ◌⊎◌, ℕ, ◌+◌, ◌<◌, ◌≤◌, ◌^◌, List, [], ◌++◌, length, take, drop, Ok, Err, nat_lt, if◌then◌else◌, ◌↔◌}
 use Rattle.std.specs.List.{AllByRecursion}
 use Rattle.nla_frames.specs.declared.error.DecodeError.{DecodeError}
@@ -23,8 +23,8 @@ pub record Message : Type 0 where
   pub header : List Scalar
   pub body : List Attribute
 
--- a message, by the reading of one attribute: its header by this layout, then a list of frames, each read under the
--- kind that is set last before its place
+-- a message, for a reading of one attribute: a header of this layout, then a list of frames, each read under the kind
+-- that is set last before its place
 module _ (reads : Reads Attribute) (sets : Sets Frame) (layout : List Field) where
   pub record ReadsBy (bytes : List ℕ) (m : Message) : Type 0 where
     pub long : size_of layout ≤ length bytes
@@ -37,14 +37,14 @@ module _ (reads : Reads Attribute) (sets : Sets Frame) (layout : List Field) whe
       ((length bytes < size_of layout) × (e ≡ BufferTooSmall (length bytes) (size_of layout)))
       ⊎ ((size_of layout ≤ length bytes) × IsListFault reads sets [] (drop (size_of layout) bytes) e)
 
-  -- the same as a function
+  -- the reading as a function
   abbrev pub read_by : List ℕ → Outcome Message
   read_by bytes =
       if nat_lt (length bytes) (size_of layout) then Err (BufferTooSmall (length bytes) (size_of layout)) else
       read_list reads sets [] (drop (size_of layout) bytes) >>= λ body.
       Ok (record { header = read_fields layout (take (size_of layout) bytes); body = body })
 
--- of a table of attributes
+-- the same for a table of attributes
 module _ (sets : Sets Frame) (layout : List Field) (rows : Rows) where
   abbrev pub ReadsWith : List ℕ → Message → Type 0
   ReadsWith = ReadsBy (table_codec (table rows)).read sets layout
@@ -64,12 +64,12 @@ module _ (layout : List Field) (rows : Rows) where
   unfoldable pub message_bytes : Message → List ℕ
   message_bytes m = fields_bytes layout m.header ++ list_bytes (table_codec (table rows)).write m.body
 
-  -- each attribute fits, and the whole can be counted
+  -- each attribute fits, and the length of the message is a `usize`
   pub record FitsMessage (m : Message) : Type 0 where
     pub body : ListFits (table_codec (table rows)).Fits (table_codec (table rows)).write m.body
     pub whole : size_of layout + length (list_bytes (table_codec (table rows)).write m.body) < 2 ^ 64
 
-  -- as any message in hand: numbers lie in their types and texts are UTF-8
+  -- as in any message of a program: numbers are in the range of their types and texts are UTF-8
   pub record TypedMessage (m : Message) : Type 0 where
     pub header : TypedFields layout m.header
     pub body : AllByRecursion (table_codec (table rows)).Typed m.body
@@ -79,7 +79,7 @@ module _ (layout : List Field) (rows : Rows) where
     pub header : SettledFields layout m.header
     pub body : SettledEach (table_codec (table rows)).Settled sets [] m.body
 
-  -- the same said place by place
+  -- the same, stated for each place by itself
   pub record SettledByPlace (sets : Sets Attribute) (m : Message) : Type 0 where
     pub header : SettledFields layout m.header
     pub body : SettledAtEach (table_codec (table rows)).Settled sets [] m.body
@@ -97,7 +97,7 @@ pub record CanonWith (sets : Sets Frame) (layout : List Field) (rows : Rows) (by
   pub header : CanonFields layout (take (size_of layout) bytes)
   pub body : IsCanonList (CanonTable (table rows)) sets [] (drop (size_of layout) bytes)
 
--- a message as it is read and written, whatever frames and values set a kind
+-- the codec of a message, whatever frames and values set a kind
 abbrev pub message_codec : Sets Frame → Sets Attribute → List Field → Rows → Codec (List ℕ) Message
 message_codec by_frame by_value layout rows = record {
   read = λ kind bytes. read_with by_frame layout rows bytes;

@@ -1,5 +1,5 @@
--- What the value of an attribute that holds a list reads as, in the words of the grammar of lists. `tables` in
--- src/laws.rt says that the interpreters of the tables read just this.
+-- The reading of an attribute whose value is a list, as the grammar of lists says. `tables` in src/laws.rt proves that
+-- the codecs of the tables read exactly this.
 use Rattle.std.specs.Prelude.{◌≡◌, ℕ, List, Ok, Err, ◌↔◌, MatchBool}
 use Rattle.nla_frames.specs.declared.error.DecodeError.{DecodeError}
 use Rattle.nla_frames.specs.Fault.{Outcome, seen}
@@ -11,12 +11,12 @@ use Rattle.tc_meaning.specs.Tree.{Content, items, Attribute, known, kept, attrib
 use Rattle.tc_meaning.specs.OwnGrammar.{OwnReads, OwnFault}
 use Rattle.tc_meaning.specs.Meaning.{class_codec, table_codec}
 
--- the value is a list, and this is said of its attributes
+-- the content is a list whose attributes satisfy `Reads`
 abbrev pub Holds : (List Attribute → Type 0) → Content → Type 0
 Holds Reads content = (xs : List Attribute) × (content ≡ items (attributes_of xs)) × Reads xs
 
--- a value is given if and only if it is a list that reads so, and a fault if and only if it is this one
-pub record GivesList (Reads : List Attribute → Type 0) (Fault : DecodeError → Type 0) (outcome : Outcome Content) : Type 0 where
+-- the outcome is a content if and only if that is a list that reads so, and a fault if and only if it is this one
+pub record IsListOutcome (Reads : List Attribute → Type 0) (Fault : DecodeError → Type 0) (outcome : Outcome Content) : Type 0 where
   pub reading : (content : Content) → (outcome ≡ Ok content) ↔ Holds Reads content
   pub fault : (e : DecodeError) → (outcome ≡ Err e) ↔ Fault e
 
@@ -24,23 +24,23 @@ pub record GivesList (Reads : List Attribute → Type 0) (Fault : DecodeError �
 -- first fault, of a broken frame or of one that is refused
 abbrev pub ReadsNested : Table → List ℕ → List ℕ → Type 0
 ReadsNested t kind bytes =
-    GivesList
+    IsListOutcome
     (ListReads (table_codec t).read keep kind bytes)
     (IsListFault (table_codec t).read keep kind bytes)
     ((class_codec (list_of t)).read kind bytes)
 
--- a list that holds its own kind: every frame of type 1 has a text, there is one such frame, and each frame is read by
--- the rows under its text; or the first fault: of a broken frame or of a text, of no kind or of several, of a frame
--- that is refused. The kind around the list doesn't matter
+-- a list that sets its own kind: every frame of type 1 has a text, there is one such frame, and each frame is read
+-- with the rows under its text; or the first fault: a broken frame, a frame of type 1 without a text, no kind, several
+-- kinds, or a frame that is refused. The kind around the list doesn't matter
 abbrev pub ReadsOwn : Rows → List ℕ → List ℕ → Type 0
 ReadsOwn rows kind bytes =
-    GivesList
+    IsListOutcome
     (OwnReads (table_codec (table rows)).read bytes)
     (OwnFault (table_codec (table rows)).read bytes)
     ((class_codec (own_list rows)).read kind bytes)
 
--- a message's options, in a row of the frame's own type: a list of the kind's table under a known kind, kept as they
--- stand under any other
+-- a message's options, in a row of the frame's own type: a list of the kind's table under a known kind, kept raw under
+-- any other
 abbrev pub ReadsOptions : Kinds → Rows → List ℕ → Frame → Type 0
 ReadsOptions kinds rows kind f =
     let n = type_of f.word in

@@ -1,4 +1,4 @@
--- A list of frames under the kind that they tell themselves: the text of its one frame of type 1.
+-- A list of frames that are read under the kind that they set themselves: the text of the one frame of type 1.
 use Rattle.std.specs.Prelude.{◌≡◌, ℕ, suc, zero, List, [], ◌∷◌, Some, None, Ok, Err, ◌==◌, if◌then◌else◌}
 use Rattle.std.specs.List.{AllByRecursion}
 use Rattle.nla_frames.specs.declared.error.DecodeError.TheVariants.{MissingKind, DuplicateKind}
@@ -30,7 +30,7 @@ only_kind [] = Err MissingKind
 only_kind (kind ∷ []) = Ok kind
 only_kind _ = Err DuplicateKind
 
--- all frames are looked at for the kind before the first is read
+-- all frames are searched for the kind before the first is read
 unfoldable pub read_own : {X : Type 0} → Reads X → List ℕ → Outcome (List X)
 read_own reads bytes = read_kinds (items_of (cut bytes)) >>= only_kind >>= λ kind. read_list reads keep kind bytes
 

@@ -1,4 +1,4 @@
--- What fits has a value that a frame can hold: the law of writing, for every table.
+-- An attribute that fits has a value of at most 65531 bytes, for every table.
 use Rattle.std.specs.Prelude.{ℕ, ◌+◌, Bool, true, false, List, MatchBool, ◌==◌, if◌then◌else◌}
 use Rattle.std.specs.Str.{bytes_eq}
 use Rattle.nla_frames.specs.Frame.{Frame}
@@ -10,7 +10,7 @@ use Rattle.tc_meaning.specs.Content.{via}
 use Rattle.tc_meaning.specs.Meaning.{IsShort, a_list, choose, row_frames, unread_frames, every_frame, options_frames, class_codec, table_codec, rows_codec}
 use Rattle.tc_meaning.specs.Meaning.{kinds_codec}
 
--- what fits by a codec is short
+-- attributes that fit have a short value
 abbrev pub MakesShort : Codec Frame Attribute → Type 0
 MakesShort c = (x : Attribute) → c.Fits x → IsShort (c.write x).value
 
@@ -41,7 +41,7 @@ rows_short (options m kinds rows) n =
     let list = via a_list (list_codec keep keep (kinds_codec kinds)) in
     choose_short (n == m) (options_frames m kinds list) (rows_codec rows n) (row_short m m list) (rows_short rows n)
 
--- one of two frames, each short where it fits
+-- one of two frames; each has a short value if its attribute fits
 pick_short : (b : Bool) (f g : Frame) (P Q : Type 0) → (P → IsShort f.value) → (Q → IsShort g.value) → MatchBool b P Q → IsShort (if b then f else g).value
 pick_short true f g P Q first second fits = first fits
 pick_short false f g P Q first second fits = second fits

@@ -1,9 +1,9 @@
--- What tables have to keep so that the laws hold of them: tests that are computed.
+-- Tests that tables must pass so that the laws are true for them.
 use Rattle.std.specs.Prelude.{ℕ, ◌%◌, Bool, true, false, ◌&&◌, not, nat_lt, ◌==◌}
 use Rattle.tc_canon.specs.Descriptor.{Class, text, list_of, own_list, Table, table, every, by_kind, Rows, others, types, unread, options, Kinds, unknown, kind}
 use Rattle.tc_canon.specs.Descriptor.{is_within}
 
--- a type lies in its fourteen bits
+-- a type has fourteen bits
 abbrev pub is_type : ℕ → Bool
 is_type n = nat_lt n 0x4000
 
@@ -34,7 +34,7 @@ abbrev mutual
   is_sound_table (every class) = is_sound_class class
   is_sound_table (by_kind kinds) = is_sound_kinds kinds
 
-  -- types and flags lie in their bits, and a type that is never read is in no other row
+  -- types and flags are in range, and a type that is never read is in no other row
   pub is_sound_rows : Rows → Bool
   is_sound_rows others = true
   is_sound_rows (types first last flags class rows) = is_type last && (are_flags flags && (is_sound_class class && is_sound_rows rows))

@@ -1,20 +1,20 @@
--- The values that contracts see: what is in a message, without where it lies in memory.
+-- Abstract values: the content of a message, without its place in memory.
 use Rattle.std.specs.Prelude.{ℕ, Bool, List, [], ◌∷◌}
 use Rattle.nla_frames.specs.Frame.{type_of}
 
 -- a field of a record
 pub data Scalar : Type 0 where
-  -- a number; of a named number, one with a name
+  -- a number; if numbers of the field have names, one with a name
   plain : ℕ → Scalar
-  -- a named number's `Other`
+  -- a number without a name: `Other`
   unnamed : ℕ → Scalar
-  -- bytes, as an address
+  -- bytes, such as an address
   octets_of : List ℕ → Scalar
   -- padding
   blank : Scalar
 
 mutual
-  -- what a value holds
+  -- the content of an attribute
   pub data Content : Type 0 where
     number : ℕ → Content
     is_bytes : List ℕ → Content
@@ -22,19 +22,19 @@ mutual
     record_of : List Scalar → Content
     -- a selector's head and its keys
     keyed : List Scalar → List (List Scalar) → Content
-    -- statistics of fq_codel with the number of their record, and any others
+    -- statistics of fq_codel with the number of their record, and those with another number
     statistics : ℕ → List Scalar → Content
     unknown_statistics : List ℕ → Content
     items : Attributes → Content
 
   pub data Attribute : Type 0 where
-    -- of a type of its table
+    -- a type of the table
     known : ℕ → Content → Attribute
-    -- of a type of its table, with its word and its value as they stand
+    -- a type of the table, kept raw: its word and its value
     kept : ℕ → ℕ → List ℕ → Attribute
-    -- with its word and its value as they stand
+    -- kept raw: its word and its value
     other : ℕ → List ℕ → Attribute
-    -- in the variant of a kind
+    -- an attribute under a kind
     of_kind : List ℕ → Attribute → Attribute
 
   -- a list of attributes
@@ -42,7 +42,7 @@ mutual
     none : Attributes
     and : Attribute → Attributes → Attributes
 
--- the same as a list
+-- the attributes of a list
 abbrev pub attributes_of : List Attribute → Attributes
 attributes_of [] = none
 attributes_of (x ∷ xs) = and x (attributes_of xs)

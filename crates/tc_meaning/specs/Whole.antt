@@ -1,5 +1,5 @@
--- The two messages, each in the same words: a traffic control message, whose kinds are set by its frames of type 1, and an action message,
--- which has no kind.
+-- The definitions of both messages: a traffic control message, whose kinds are set by its frames of type 1, and an
+-- action message, which has no kind.
 use Rattle.std.specs.Prelude.{◌≡◌, ◌↔◌, ◌⊎◌, List, ℕ, Ok, Err}
 use Rattle.nla_frames.specs.declared.error.DecodeError.{DecodeError}
 use Rattle.nla_frames.specs.declared.error.DecodeError.TheVariants.{OutOfMemory}
@@ -15,24 +15,24 @@ use Rattle.tc_meaning.specs.Tree.{Attribute}
 use Rattle.tc_meaning.specs.Message.{Message, ReadsWith, FaultWith, read_with, message_bytes, TypedMessage, FitsMessage, SettledWith, SettledByPlace}
 use Rattle.tc_meaning.specs.Message.{kind_of_frame, kind_of_attribute}
 
--- the grammar's words for one type of message
+-- the definitions for one type of message
 pub record Words (X : Type 0) : Type 1 where
   -- the bytes read as this message
   pub Reads : List ℕ → X → Type 0
-  -- the bytes have this fault first
+  -- this is the first fault of the bytes
   pub Fault : List ℕ → DecodeError → Type 0
-  -- the function that gives the one or the other
+  -- reading as a function
   pub read : List ℕ → Outcome X
-  -- what is written of a message
+  -- the bytes of a message
   pub bytes : X → List ℕ
   pub Typed : X → Type 0
   pub Fits : X → Type 0
   pub Settled : X → Type 0
-  -- settled, said of each attribute at its place
+  -- settled, stated for each attribute at its place
   pub SettledPlaces : X → Type 0
   pub Canonical : List ℕ → Type 0
 
--- a header and a table of attributes, where these frames and these attributes set a kind
+-- the definitions for a header and a table of attributes; these frames and these attributes set a kind
 abbrev pub words_of : Sets Frame → Sets Attribute → List Field → Rows → (List ℕ → Type 0) → Words Message
 words_of by_frame by_value layout rows Canonical = record {
   Reads = ReadsWith by_frame layout rows;
@@ -46,14 +46,14 @@ words_of by_frame by_value layout rows Canonical = record {
   Canonical = Canonical;
 }
 
--- what these words promise of one another, over any bytes
+-- the laws between these definitions, for any bytes
 pub record Correspond {X : Type 0} (w : Words X) (bytes : List ℕ) : Type 0 where
-  -- reading gives a message if and only if the grammar reads it so, and a fault if and only if that is the grammar's
-  -- first, which is never that memory ran out
+  -- reading returns a message if and only if the grammar reads the bytes as it, and a fault if and only if it is the
+  -- first one of the grammar, which is never `OutOfMemory`
   pub reading : (m : X) → (w.read bytes ≡ Ok m) ↔ w.Reads bytes m
   pub fault : (e : DecodeError) → (w.read bytes ≡ Err e) ↔ w.Fault bytes e
   pub not_memory : w.Fault bytes OutOfMemory → ⊥
-  -- what is read has its numbers in their types, and UTF-8 for texts
+  -- a message that was read is typed
   pub typed : (m : X) → w.Reads bytes m → w.Typed m
   -- a message that fits is written as bytes that read as it if and only if it is settled
   pub back : (m : X) → w.Typed m → w.Fits m → w.Reads (w.bytes m) m ↔ w.Settled m

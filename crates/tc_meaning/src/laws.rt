@@ -1,4 +1,4 @@
-//! The laws of both messages, as contracts of functions that do nothing.
+//! The laws of both messages, as contracts of empty functions.
 
 ghost use Rattle.std.specs.Prelude.{◌≡◌, ◌↔◌, List, ℕ, Ok, Err, Bool, IsTrue, true};
 ghost use Rattle.std.specs.Bool.{Decides};
@@ -27,48 +27,50 @@ ghost use Rattle.tc_meaning.specs.Whole.{Correspond, tc_words, action_words, Fit
 
 use nla_frames::FrameMeaning;
 
-/// A traffic control message: reading is the grammar, what fits reads back if and only if it is settled, and settled
-/// messages that fit and canonical bytes correspond one to one.
+/// Traffic control messages: reading is the grammar, a message that fits reads back if and only if it is settled, and
+/// settled messages that fit correspond one to one to canonical bytes.
 pub fn tc_message(bytes: &[u8])
     ensures { Correspond tc_words bytes.now }
 {}
 
-/// An action message: the same laws.
+/// Action messages: reading is the grammar, a message that fits reads back if and only if it is settled, and settled
+/// messages that fit correspond one to one to canonical bytes.
 pub fn action_message(bytes: &[u8])
     ensures { Correspond action_words bytes.now }
 {}
 
-/// Whether a message fits can be decided.
+/// It is decidable whether a message fits.
 pub fn fits_or_not()
     ensures tc { (m : Message) → (fits : Bool) × (IsTrue fits ↔ FitsTc m) }
     ensures action { (m : Message) → (fits : Bool) × (IsTrue fits ↔ FitsAct m) }
 {}
 
-/// Whether a message is settled can be decided.
+/// It is decidable whether a message is settled.
 pub fn settled_or_not()
     ensures tc { (m : Message) → (settled : Bool) × (IsTrue settled ↔ SettledTc m) }
     ensures action { (m : Message) → (settled : Bool) × (IsTrue settled ↔ SettledAct m) }
 {}
 
-/// Whether two messages are equal can be decided, and so of two attributes, and of what two attributes hold.
+/// It is decidable whether two messages, two attributes, or the contents of two attributes are equal.
 pub fn equal_or_not()
     ensures messages { (m n : Message) → Decides (same_message m n) (m ≡ n) }
     ensures attributes { (x y : Attribute) → Decides (same_attribute x y) (x ≡ y) }
     ensures contents { (x y : Content) → Decides (same_content x y) (x ≡ y) }
 {}
 
-/// A list of frames that hold their own kind, as an action is. `read_own` gives values if and only if every frame of
-/// type 1 has a text, there is one such frame, and the frames are read under its text; it gives a fault if and only if
-/// that is the first: of a broken frame or of a text, of no kind or of several, of a frame that has no reading.
+/// Lists of frames that set their own kind, such as an action. `read_own` returns values if and only if every frame of
+/// type 1 has a text, there is one such frame, and the frames are read under its text. It returns a fault if and only
+/// if that is the first fault: a broken frame, a frame of type 1 without a text, no kind, several kinds, or a frame
+/// that has no reading.
 pub fn own_grammar<T: FrameMeaning>(bytes: &[u8])
     ensures { OneOwn T.codec.read bytes.now (read_own T.codec.read bytes.now) }
 {}
 
-/// Reading and writing are inverses for every class and every table that passes its test: what fits reads back if and
-/// only if it is settled, and what is read and fits is written as it was if and only if it was canonical. All tables pass
-/// their test. The value of a nested list, of whatever table, reads as the grammar of lists says, and so does a list that
-/// holds its own kind. A message's options are a list of its kind's table under a known kind, and kept raw under any
-/// other.
+/// Reading and writing are inverses for every class and every table that passes its test: a value that fits reads back
+/// if and only if it is settled, and a value that was read and fits is written as the same bytes if and only if they
+/// are canonical. All tables pass their test. The value of a nested list of any table is read as the grammar of lists
+/// says, and so is a list that sets its own kind. A message's options are a list of its kind's table under a known
+/// kind, and kept raw under any other.
 pub fn tables()
     ensures classes { (c : Class) → is_sound_class c ≡ true
         → Laws IsWireValue (short (class_codec c)) (CanonClass c) }

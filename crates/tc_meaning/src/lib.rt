@@ -1,5 +1,5 @@
-//! What the tables of Linux traffic control mean: the values that contracts see, how they are read and
-//! written, and the laws between the two.
+//! The meaning of the attribute tables of Linux traffic control: abstract values, how they are read and written, and
+//! the laws between reading and writing.
 #![tactic(auto)]
 
 pub mod laws;

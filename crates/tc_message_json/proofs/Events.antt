@@ -1,10 +1,10 @@
--- Events are of one piece of JSON.
+-- Events are those of one JSON value.
 use Rattle.std.proofs.Common.{◌≡◌, Bool, true, false, List, [], ◌∷◌, ◌++◌, refl, ap, sym, ◌∙◌, append_assoc, append-nil}
 use Rattle.serde.specs.Event as event
 use Rattle.serde.specs.Event.{Event}
 use Rattle.serde_json.specs.Data.{Num, unsigned, negative, float, Data, null, boolean, number, string, array, object, Items, no_items, item, Members, no_members, member}
 use Rattle.serde_json.specs.Events.{number_event}
-use Rattle.tc_form_values.specs.Sent.{events, items_events, members_events}
+use Rattle.forms_values.specs.Sent.{events, items_events, members_events}
 
 one_number : (m n : Num) → number_event m ≡ number_event n → m ≡ n
 one_number (unsigned a) (unsigned b) e = cc
@@ -18,7 +18,7 @@ tail x y xs ys e = cc
 head : {T : Type 0} (x y : T) (xs ys : List T) → x ∷ xs ≡ y ∷ ys → x ≡ y
 head x y xs ys e = cc
 
--- a number is sent as one event, which isn't that of another piece of JSON
+-- a number is sent as one event, which no other JSON value has
 abbrev is_number : Event → Bool
 is_number (event.unsigned n) = true
 is_number (event.signed z) = true
@@ -33,7 +33,7 @@ sends_number (float x) = refl
 apart : (n : Num) (x : Event) (xs ys : List Event) → is_number x ≡ false → number_event n ∷ xs ≡ x ∷ ys → ⊥
 apart n x xs ys not e = let same : number_event n ≡ x = head _ _ xs ys e in absurd (cc (sends_number n, not, same))
 
--- no piece of JSON begins with the end of a list
+-- no JSON value begins with the end of a list
 no_end : (d : Data) (xs ys : List Event) → events d ++ xs ≡ event.seq_ends ∷ ys → ⊥
 no_end null xs ys e = absurd (cc e)
 no_end (boolean b) xs ys e = absurd (cc e)
@@ -95,6 +95,6 @@ mutual
       let rest = one_members ms ns xs ys first.1 in
       (λ i. member (name i) (first.0 i) (rest.0 i), rest.1)
 
--- JSON of which the same is sent is the same
+-- JSON with the same events is the same
 pub one_json : (d c : Data) → events d ≡ events c → d ≡ c
 one_json d c e = (one_data d c [] [] (append-nil (events d) ∙ e ∙ sym (append-nil (events c)))).0

@@ -1,12 +1,12 @@
--- The bytes of two messages are the same if and only if the same is shown of them.
+-- The bytes of two messages are the same if and only if their JSON is.
 use Rattle.std.proofs.Common.{◌≡◌, ◌↔◌, ℕ, List, [], ap}
 use Rattle.nla_frames.specs.Value.{IsBytes}
-use Rattle.tc_form_values.specs.declared.form.Form.{Form}
-use Rattle.tc_form_values.specs.Sent.{events}
-use Rattle.tc_forms.specs.Shown.{shown_of}
-use Rattle.tc_form_values.specs.Tables.{Table}
-use Rattle.tc_form_values.specs.Widths.{deepest}
-use Rattle.tc_forms.proofs.Law.{shown_injective}
+use Rattle.forms_values.specs.declared.form.Form.{Form}
+use Rattle.forms_values.specs.Sent.{events}
+use Rattle.forms_json.specs.Shown.{shown_of}
+use Rattle.forms_values.specs.Tables.{Table}
+use Rattle.forms_values.specs.Widths.{deepest}
+use Rattle.forms_json.proofs.Law.{shown_injective}
 use Rattle.tc_message_json.proofs.Events.{one_json}
 
 same_shown : (table : Table) (form : Form) (a b : List ℕ) → IsBytes a → IsBytes b → shown_of table form a ≡ shown_of table form b → a ≡ b

@@ -1,38 +1,37 @@
-//! Why no message is made.
+//! Why JSON can't be turned into a message.
 
 ghost use Rattle.std.specs.Prelude.{◌≡◌};
-ghost use Rattle.tc_forms_strict.specs.Strict.{IsMemory as IsNoMemory};
+ghost use Rattle.forms_text.specs.Strict.{IsMemory as IsNoMemory};
 ghost use Rattle.tc_message_json.specs.Made.{IsMemory};
 ghost use Rattle.tc_message_json.specs.declared.error.NoMessage.TheVariants.{OutOfMemory};
 
+use forms_json::MakeError;
+use forms_text::{Difference, StrictError};
 use std::alloc::AllocError;
 use std::error::Error;
 use std::fmt;
-use tc_forms::MakeError;
-use tc_forms_strict::{Difference, StrictError};
 use tc_wire::DecodeError;
 
-/// Why no message is made of JSON.
+/// Why JSON can't be turned into a message.
 #[derive(Drop)]
 pub enum NoMessage {
     /// Memory ran out.
     OutOfMemory,
 
-    /// The JSON isn't what is shown of any bytes.
+    /// No bytes have this JSON.
     Strict(StrictError),
 
-    /// The bytes that it stands for can't be read as a message.
+    /// The bytes of the JSON can't be read as a message.
     Refused {
         /// The place of the fault, as a JSON pointer.
         path: String,
-        /// What is wrong there.
         fault: DecodeError,
     },
 
-    /// What is read of them can't be written.
+    /// The message that is read doesn't fit.
     DoesNotFit,
 
-    /// What is written of it is another message: the first place where it is.
+    /// Emitting would change the message; the first difference.
     Changed(Difference),
 }
 
@@ -57,7 +56,7 @@ impl fmt::Debug for NoMessage {
 impl Error for NoMessage {}
 
 impl NoMessage {
-    // The same of JSON that isn't what is shown of any bytes, unless memory ran out.
+    // The error for JSON that no bytes have, unless memory ran out.
     pub(crate) fn of_strict(e: StrictError) -> NoMessage
         ensures { IsNoMemory e → IsMemory result }
     {

@@ -1,4 +1,4 @@
-//! Laws of what is sent, as contracts of functions that do nothing.
+//! Laws of the events of messages. The functions do nothing: their contracts are the laws.
 
 ghost use Rattle.std.specs.Prelude.{◌≡◌, ◌↔◌, IsTrue};
 ghost use Rattle.tc_wire.specs.Facade.{FitsTc, SettledTc, FitsAct, SettledAct, tc_message, action_message};
@@ -7,7 +7,7 @@ ghost use Rattle.tc_message_json.specs.Sent.{tc_events, action_events};
 use std::alloc::Allocator;
 use tc_wire::{TcActionMessage, TcMessage};
 
-/// Two settled traffic control messages that fit are `==` if and only if the same is sent of them.
+/// Two settled traffic control messages that fit are `==` if and only if they have the same events.
 pub fn equal_tc_messages<A: Allocator>(one: &TcMessage<A>, other: &TcMessage<A>)
     ensures { FitsTc (tc_message one.now) → SettledTc (tc_message one.now)
         → FitsTc (tc_message other.now) → SettledTc (tc_message other.now)
@@ -20,7 +20,7 @@ pub fn equal_tc_messages<A: Allocator>(one: &TcMessage<A>, other: &TcMessage<A>)
     other.is_settled();
 }
 
-/// Two settled action messages that fit are `==` if and only if the same is sent of them.
+/// Two settled action messages that fit are `==` if and only if they have the same events.
 pub fn equal_action_messages<A: Allocator>(one: &TcActionMessage<A>, other: &TcActionMessage<A>)
     ensures { FitsAct (action_message one.now) → SettledAct (action_message one.now)
         → FitsAct (action_message other.now) → SettledAct (action_message other.now)

@@ -1,16 +1,16 @@
-//! Messages as JSON and back, by forms, with the codec between.
+//! Typed messages as JSON and back, through their bytes.
 //!
 //! ```rust
 //! let text = serde_json::to_string(alloc, &Shown(&message, alloc))?;
 //! let bytes = make::<TcMessage>(alloc, &read_json(alloc, text.as_bytes())?)?;
 //! ```
 //!
-//! Of a message that fits, [`Shown`] sends what `tc_forms` shows of the bytes that are emitted. Serializing a message that doesn't
-//! fit is an error of the format, as is running out of memory. Two settled messages that fit are `==` if and only if the same is sent
-//! of both ([`equal_tc_messages`], [`equal_action_messages`]).
+//! [`Shown`] sends the JSON of the bytes that a message emits. Serializing a message that doesn't fit is an error of the format, as is
+//! running out of memory. Two settled messages that fit are `==` if and only if the same events are sent for both
+//! ([`equal_tc_messages`], [`equal_action_messages`]).
 //!
-//! [`make`] returns canonical bytes: what is written of the message that is read of the bytes which JSON stands for, where this changes
-//! no value. [`make_as_given`] returns the bytes that JSON stands for, whatever they are.
+//! [`make`] reads the bytes of JSON as a message and emits it: the result is canonical. It fails if this would change a value.
+//! [`make_as_given`] returns the bytes of JSON unchanged. Calls that take an allocator fail with `OutOfMemory` if it fails.
 #![tactic(auto)]
 
 mod error;

@@ -1,23 +1,23 @@
-//! Bytes of messages, of JSON.
+//! The bytes of messages in JSON.
 
 ghost use Rattle.std.specs.Prelude.{◌≡◌, ℕ, List, IfOk, MatchResult};
 ghost use Rattle.nla_frames.specs.Value.{IsBytes};
 ghost use Rattle.serde_json.specs.View.{view};
-ghost use Rattle.tc_forms_strict.specs.Strict.{json_of};
-ghost use Rattle.tc_kinds.specs.Table.{tc_tables};
+ghost use Rattle.forms_text.specs.Strict.{json_of};
+ghost use Rattle.forms_kinds.specs.Table.{tc_tables};
 ghost use Rattle.tc_message_json.specs.Made.{IsMadeOf, IsGiven, IsMemory, IsWrittenOf};
 
 use crate::error::NoMessage;
 use crate::message::HasForm;
+use forms_json::Form;
+use forms_kinds::TcTables;
+use forms_text::{Difference, differences, made_strictly, shown_json};
 use serde_json::Value;
 use std::alloc::{AllocError, Global};
-use tc_forms::Form;
-use tc_forms_strict::{Difference, differences, made_strictly, shown_json};
-use tc_kinds::TcTables;
 use tc_outline::{Layout, Page, locate};
 use tc_wire::{DecodeError, WholeMessage};
 
-/// The bytes of which this JSON is shown, whatever they are.
+/// The bytes whose JSON this is.
 pub fn make_as_given<M: HasForm>(alloc: Global, json: &Value) -> Result<Vec<u8>, NoMessage>
     ensures given { IfOk result (λ bytes. IsGiven M.form (view json.now) bytes.items) }
     // If there are such bytes, they are made unless memory runs out.
@@ -30,16 +30,16 @@ pub fn make_as_given<M: HasForm>(alloc: Global, json: &Value) -> Result<Vec<u8>,
     }
 }
 
-/// The canonical bytes of the message that JSON stands for: what is written of the message that is read of the bytes of which the
-/// JSON is shown. So a flag of `nla_type` that isn't the type's own, padding other than zeros, bytes behind a record and a kind without
-/// its NUL go where reading drops them. Where a value would change, there is no message.
+/// The canonical bytes of the message in JSON: its bytes are read as a message, which is emitted. So a flag of `nla_type` that isn't
+/// the type's own, padding other than zeros, bytes after a record and a kind without its NUL are dropped. Fails if a value would
+/// change.
 pub fn make<M: WholeMessage<Global> + HasForm + Drop>(
     alloc: Global,
     json: &Value,
 ) -> Result<Vec<u8>, NoMessage>
     ensures made { IfOk result (λ bytes. IsMadeOf M.words M.form (view json.now) bytes.items) }
     ensures canonical { IfOk result (λ bytes. M.words.Canonical bytes.items) }
-    // Of the JSON of canonical bytes these bytes are made, unless memory runs out.
+    // The JSON of canonical bytes leads back to them, unless memory runs out.
     ensures found { (bytes : List ℕ) → IsBytes bytes → M.words.Canonical bytes → json_of tc_tables M.form bytes ≡ view json.now
         → MatchResult result (λ made. made.items ≡ bytes) IsMemory }
 {
@@ -61,7 +61,7 @@ pub fn make<M: WholeMessage<Global> + HasForm + Drop>(
     }
 }
 
-// The bytes that are written of the message that bytes read as, if it is settled.
+// The bytes of the message that is read from bytes, if it is settled.
 fn written_of<M: WholeMessage<Global> + HasForm + Drop>(
     alloc: Global,
     given: &[u8],
@@ -89,7 +89,7 @@ fn written_of<M: WholeMessage<Global> + HasForm + Drop>(
     }
 }
 
-// The error of bytes that can't be read.
+// The error for bytes that can't be read.
 fn refused<M: HasForm>(alloc: Global, given: &[u8], fault: DecodeError) -> NoMessage {
     match place_of::<M>(alloc, given) {
         Ok(path) => NoMessage::Refused { path, fault },
@@ -106,7 +106,7 @@ fn place_of<M: HasForm>(alloc: Global, given: &[u8]) -> Result<String, AllocErro
     String::from_utf8_lossy(alloc, page.bytes())
 }
 
-// The error of bytes whose message isn't settled.
+// The error for bytes whose message isn't settled.
 fn changed<M: WholeMessage<Global> + HasForm>(alloc: Global, given: &[u8]) -> NoMessage {
     let Ok((settled, _)) = M::settle(alloc, given) else {
         return NoMessage::OutOfMemory;
@@ -118,7 +118,7 @@ fn changed<M: WholeMessage<Global> + HasForm>(alloc: Global, given: &[u8]) -> No
     }
 }
 
-// The first place where another value is shown of other bytes. What is beside a value is no part of the message.
+// The first place where a value differs. Members next to a value aren't part of the typed message.
 fn first_change(
     alloc: Global,
     form: Form,
@@ -128,11 +128,11 @@ fn first_change(
     let found = shown_json(alloc, TcTables, form, given)?;
     let wanted = shown_json(alloc, TcTables, form, other)?;
     let mut all = differences(alloc, &found, &wanted)?.into_iter();
-    Ok(all.find(|difference| !is_beside_a_value(difference.path.as_str())))
+    Ok(all.find(|difference| !is_next_to_a_value(difference.path.as_str())))
 }
 
-// True of the place of a flag of `nla_type`, of padding, of bytes behind a record, and of a kind without its NUL.
-fn is_beside_a_value(path: &str) -> bool {
+// True for the place of an `nla_type`, of padding, of bytes after a record, and of the mark of a kind without its NUL.
+fn is_next_to_a_value(path: &str) -> bool {
     path.ends_with("/word")
         || path.ends_with("/pad")
         || path.ends_with("/rest")

@@ -1,12 +1,12 @@
 //! The types of messages that have a form.
 
 ghost use Rattle.std.specs.Prelude.{◌≡◌};
-ghost use Rattle.tc_form_values.specs.declared.form.Form.{Form};
-ghost use Rattle.tc_kinds.specs.Table.{tc_message, action_message};
+ghost use Rattle.forms_values.specs.declared.form.Form.{Form};
+ghost use Rattle.forms_kinds.specs.Table.{tc_message, action_message};
 
+use forms_json::Form;
+use forms_kinds::{ACTION_MESSAGE, TC_MESSAGE};
 use std::alloc::Allocator;
-use tc_forms::Form;
-use tc_kinds::{ACTION_MESSAGE, TC_MESSAGE};
 use tc_outline::What;
 use tc_wire::{Emitable, TcActionMessage, TcMessage};
 
@@ -18,7 +18,7 @@ pub trait HasForm: Emitable {
     fn form() -> Form
         ensures { result ≡ form };
 
-    /// What its messages speak of, for the place of a fault.
+    /// The object that these messages describe, for the place of a fault.
     fn what() -> What;
 }
 

@@ -1,17 +1,17 @@
-//! A message for a format of serde.
+//! A message as a value for a serde format.
 
 ghost use Rattle.std.specs.Prelude.{◌≡◌, IfOk, IfSome, IsSome};
 ghost use Rattle.tc_message_json.specs.Sent.{SentIfFits};
 
 use crate::message::HasForm;
+use forms_json::send_shown;
+use forms_kinds::TcTables;
 use serde::{Described, Serialize, Serializer};
 use std::alloc::{AllocError, Global};
-use tc_forms::send_shown;
-use tc_kinds::TcTables;
 use tc_wire::Emitable;
 
-/// A message for a format of serde, and what takes its bytes. Where it doesn't fit, or memory runs out, serializing fails with
-/// the format's error.
+/// A message as a value for a serde format, and the allocator of its bytes. If the message doesn't fit, or memory runs out, serializing
+/// fails with the format's error.
 #[derive(Drop)]
 pub struct Shown<'a, M>(pub &'a M, pub Global);
 

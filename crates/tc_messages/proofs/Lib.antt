@@ -1,1 +1,4 @@
+mod Kept
+mod KindTexts
+mod Written
 mod Upgrades

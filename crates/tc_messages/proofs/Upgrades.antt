@@ -13,12 +13,12 @@ use Rattle.tc_laws.proofs.UpgradeLaws.{StaysOrChanges, stays_or_changes, changed
 use Rattle.tc_messages.specs.Upgrade.{UpgradesAs, KnownAfter, is_raw, is_lone, options_of, IsRead}
 
 -- the attributes before a place are upgraded, and the others are left, after a kind that is known or not
-pub record UpgradedSoFar (old new : List Attribute) (i : ℕ) (told : Bool) : Type 0 where
+pub record UpgradedSoFar (old new : List Attribute) (i : ℕ) (known_kind : Bool) : Type 0 where
   pub kind : List ℕ
-  pub is_told : told ≡ is_known option_kinds kind
+  pub is_known_kind : known_kind ≡ is_known option_kinds kind
   pub left : upgrade_each [] old ≡ take i new ++ upgrade_each kind (drop i new)
 
--- what is done of a list and what is left of it, where the attributes before a place leave this kind
+-- the part of a list that is upgraded and the rest, if this is the kind after the former
 abbrev whole : List ℕ → ℕ → List Attribute → List Attribute
 whole kind i xs = take i xs ++ upgrade_each kind (drop i xs)
 
@@ -30,16 +30,16 @@ module _ {Y : Type 0} (see : Y → Attribute) (d y : Y) where
   one_more kind (z ∷ list) zero less is = ap (λ (x : Attribute). x ∷ upgrade_each (kind_then kind_of_attribute kind (see z)) (map see list)) (sym is)
   one_more kind (z ∷ list) (suc i) less is = ap (λ (xs : List Attribute). see z ∷ xs) (one_more kind list i (omega (arith, less)) is)
 
-  -- one step: it is upgraded under the kind so far, and it is told whether the kind after it is known
-  pub goes_on : (old : List Attribute) (list : List Y) (i : ℕ) (told then : Bool) → UpgradedSoFar old (map see list) i told → i < length list
-      → UpgradesAs told (see (get_or list i d)) (see y) → KnownAfter told (kind_of_attribute (see (get_or list i d))) then
+  -- one step: it is upgraded under the kind so far, and the kind after it is known or not
+  pub goes_on : (old : List Attribute) (list : List Y) (i : ℕ) (known_kind then : Bool) → UpgradedSoFar old (map see list) i known_kind → i < length list
+      → UpgradesAs known_kind (see (get_or list i d)) (see y) → KnownAfter known_kind (kind_of_attribute (see (get_or list i d))) then
       → UpgradedSoFar old (map see (slice_set list i y)) (i + 1) then
-  goes_on old list i told then far less upgraded after =
+  goes_on old list i known_kind then far less upgraded after =
       let next = kind_then kind_of_attribute far.kind (see (get_or list i d)) in
-      let left = far.left ∙ one_more far.kind list i less (upgraded far.kind far.is_told) in
+      let left = far.left ∙ one_more far.kind list i less (upgraded far.kind far.is_known_kind) in
       record {
         kind = next;
-        is_told = after far.kind far.is_told;
+        is_known_kind = after far.kind far.is_known_kind;
         left = subst (λ (n : ℕ). upgrade_each [] old ≡ whole next n (map see (slice_set list i y))) (sym (add-one i)) left;
       }
 
@@ -55,14 +55,14 @@ both_hold true true one two = absurd (cc two)
 both_hold false b one two = absurd (cc one)
 
 -- under a known kind all stay
-pub stays_if_known : (told : Bool) (x : Attribute) → told ≡ true → UpgradesAs told x x
-stays_if_known told x holds kind is = go (stays_or_changes kind x)
+pub stays_if_known : (known_kind : Bool) (x : Attribute) → known_kind ≡ true → UpgradesAs known_kind x x
+stays_if_known known_kind x holds kind is = go (stays_or_changes kind x)
   where
     go : StaysOrChanges kind x → x ≡ upgrade_attribute kind x
     go (inl same) = sym same
     go (inr c) = let bad : true ≡ false = sym holds ∙ is ∙ (changed-unknown kind c.word c.unknown).1 in absurd (cc bad)
 
--- options that change are one alone
+-- options that change are a single one
 lone_from : (xs : List Attribute) (word : ℕ) (value : List ℕ) → options_of xs ≡ lone_option word value → is_lone xs ≡ (type_of word == 2)
 lone_from [] word value same = absurd (cc same)
 lone_from (x ∷ []) word value same = let is : x ≡ other word value = cc same in ap is_raw is
@@ -79,7 +79,7 @@ stays_unless_lone xs fails kind is = go (stays_or_changes kind (options_of xs))
         let bad : true ≡ false = sym two ∙ sym (lone_from xs c.word c.value c.was) ∙ fails in
         absurd (cc bad)
 
--- of one alone, the last is that one
+-- of a single one, the last is that one
 pub lone_popped : {Y : Type 0} (see : Y → Attribute) (rest : List Y) (y : Y) → is_lone (map see (rest ++ y ∷ [])) ≡ true
     → (map see (rest ++ y ∷ []) ≡ see y ∷ []) × (is_raw (see y) ≡ true)
 lone_popped see [] y is = (refl, is)
@@ -101,13 +101,13 @@ lone_first see [] y one first = absurd (cc one)
 lone_first see (x ∷ []) y one first = ap (λ (z : _). is_raw (see z)) first
 lone_first see (x ∷ z ∷ ys) y one first = absurd (cc one)
 
--- of none or of several, none is alone
+-- none or several aren't a single one
 pub none_alone : {Y : Type 0} (see : Y → Attribute) (ys : List Y) → (length ys ≡ 1 → ⊥) → false ≡ is_lone (map see ys)
 none_alone see [] many = refl
 none_alone see (y ∷ []) many = absurd (many refl)
 none_alone see (y ∷ z ∷ ys) many = refl
 
--- what is raw stands as it is
+-- raw options are unchanged
 pub raw_unread : (x : Attribute) → is_raw x ≡ true → IsRead x → ⊥
 raw_unread (other word value) raw is_read = is_read word value refl
 raw_unread (known n content) raw is_read = cc raw

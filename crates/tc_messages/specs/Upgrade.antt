@@ -1,4 +1,4 @@
--- What the steps of an upgrade say.
+-- The steps of an upgrade.
 use Rattle.std.specs.Prelude.{◌≡◌, ℕ, Bool, false, List, [], ◌∷◌, Option, unwrap_or, ◌==◌}
 use Rattle.nla_frames.specs.Frame.{type_of}
 use Rattle.tc_canon.specs.Descriptor.{is_known}
@@ -8,18 +8,18 @@ use Rattle.tc_laws.specs.FirstVersion.{upgrade_attribute}
 
 -- an attribute is upgraded as under a kind that is known or not
 abbrev pub UpgradesAs : Bool → Attribute → Attribute → Type 0
-UpgradesAs told x y = (kind : List ℕ) → told ≡ is_known option_kinds kind → y ≡ upgrade_attribute kind x
+UpgradesAs known_kind x y = (kind : List ℕ) → known_kind ≡ is_known option_kinds kind → y ≡ upgrade_attribute kind x
 
 -- the kind after one that is known or not, where another may be set, is known or not
 abbrev pub KnownAfter : Bool → Option (List ℕ) → Bool → Type 0
-KnownAfter told set then = (kind : List ℕ) → told ≡ is_known option_kinds kind → then ≡ is_known option_kinds (unwrap_or set kind)
+KnownAfter known_kind set then = (kind : List ℕ) → known_kind ≡ is_known option_kinds kind → then ≡ is_known option_kinds (unwrap_or set kind)
 
 -- an option that is kept raw, of the type of options
 abbrev pub is_raw : Attribute → Bool
 is_raw (other word value) = type_of word == 2
 is_raw _ = false
 
--- such an option alone
+-- a single raw option
 abbrev pub is_lone : List Attribute → Bool
 is_lone (x ∷ []) = is_raw x
 is_lone _ = false

@@ -2,17 +2,18 @@
 
 ghost use Rattle.std.specs.Prelude.{◌≡◌, ◌↔◌, IsTrue};
 ghost use Rattle.tc_meaning.specs.Whole.{OneOutcome, tc_words, tc_bytes, FitsTc, SettledTc};
-ghost use Rattle.tc_meaning.specs.Equal.{TellsSeen};
-ghost use Rattle.tc_attributes.specs.Attribute.{tc_attribute};
+ghost use Rattle.tc_meaning.specs.Equal.{IsEqualityOf};
+ghost use Rattle.tc_values.specs.Forgets.{ForgetsNothing};
+ghost use Rattle.tc_messages.specs.Attribute.{tc_attribute, SameAttribute};
 ghost use Rattle.tc_messages.specs.Message.{tc_message};
 
+use crate::attribute::TcAttribute;
 use crate::message::TcMessage;
 use std::alloc::Allocator;
-use tc_attributes::TcAttribute;
 use tc_laws::rewriting;
 use tc_meaning::laws;
 
-/// All bytes read as one message and have no fault, or read as none and have one fault.
+/// Any bytes have exactly one reading and no fault, or no reading and exactly one fault.
 pub fn one_outcome(bytes: &[u8])
     ensures { OneOutcome tc_words bytes.now }
 {
@@ -20,10 +21,10 @@ pub fn one_outcome(bytes: &[u8])
     laws::tc_message(bytes);
 }
 
-/// `==` holds exactly where contracts see two messages, or two of their attributes, as equal.
+/// `a == b` if and only if their abstract values are equal.
 pub fn equal<A: Allocator>()
-    ensures attribute { TellsSeen ⟦<TcAttribute<A> as PartialEq>⟧.eq tc_attribute }
-    ensures message { TellsSeen ⟦<TcMessage<A> as PartialEq>⟧.eq tc_message }
+    ensures attribute { IsEqualityOf ⟦<TcAttribute<A> as PartialEq>⟧.eq tc_attribute }
+    ensures message { IsEqualityOf ⟦<TcMessage<A> as PartialEq>⟧.eq tc_message }
 {}
 
 /// Two settled messages that fit are `==` if and only if `emit` writes the same bytes for both.
@@ -38,3 +39,9 @@ pub fn equal_bytes<A: Allocator>(one: &TcMessage<A>, other: &TcMessage<A>)
     one.is_settled();
     other.is_settled();
 }
+
+/// Two attributes with the same abstract value hold the same.
+#[tactic(auto, using(tc_values::proofs::Lists::attributes_once))]
+pub fn forgets_nothing<A: Allocator>()
+    ensures { ForgetsNothing (tc_attribute {A = A}) SameAttribute }
+{}

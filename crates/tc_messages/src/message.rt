@@ -1,8 +1,8 @@
-//! Whole messages.
+//! Traffic control messages.
 
 ghost use Rattle.std.specs.Prelude.{◌≡◌, ◌≤◌, ◌↔◌, [], length, drop, false, IfOk, IsTrue};
 ghost use Rattle.std.specs.Ordering.{on};
-ghost use Rattle.nla_frames.specs.Fault.{Gives, IfRefused, UnlessMemory, seen};
+ghost use Rattle.nla_frames.specs.Fault.{Returns, IfRefused, UnlessMemory, seen};
 ghost use Rattle.nla_frames.specs.Emission.{Writes, HasRoom};
 ghost use Rattle.tc_canon.specs.Layouts.{tc_header};
 ghost use Rattle.tc_canon.specs.Tables.Messages.{attributes};
@@ -14,17 +14,17 @@ ghost use Rattle.tc_laws.specs.Loose.{is_loose_tc};
 ghost use Rattle.tc_records.specs.Header.{empty_header};
 ghost use Rattle.tc_messages.specs.Message.{tc_message, TakesUnknownTc};
 
+use crate::attribute::{TcAttribute, VecTcAttribute};
 use nla_frames::{
     BytesMeaning, Emitable, ParseableBytes, Res, list_checked_len, list_settled_carrying, put_list,
 };
 use std::alloc::{Allocator, Global};
-use tc_attributes::{TcAttribute, VecTcAttribute};
 use tc_laws::{places, rewriting};
 use tc_meaning::laws;
-use tc_records::laws::in_hand::header_in_hand;
+use tc_records::laws::in_range::header_in_range;
 use tc_records::{TC_HEADER_LEN, TcHeader};
 
-/// A message about a queueing discipline, a class, a filter or a chain: a header and attributes.
+/// A message about a qdisc, a class, a filter or a chain: header and attributes.
 #[derive(Drop)]
 #[derive_where(Debug)]
 #[derive_where(Clone; A)]
@@ -85,19 +85,19 @@ impl<A: Allocator> BytesMeaning for TcMessage<A> {
 
 impl<A: Allocator + Copy> ParseableBytes<A> for TcMessage<A> {
     fn parse(alloc: A, bytes: &[u8]) -> Res<TcMessage<A>>
-        // What is read is what the grammar reads.
+        // The value is the grammar's reading.
         ensures found { IfOk result (λ m. ReadsTc bytes.now (tc_message m)) }
-        // What is refused has this fault, and it is the first.
+        // A refusal is the first fault.
         ensures refused { IfRefused result (FaultTc bytes.now) }
-        // The function that computes both gives what is returned, unless memory ran out.
-        ensures exact { Gives (seen tc_message result) (read_tc bytes.now) }
-        // What fits is written as the same bytes if and only if these are canonical.
+        // The result is what the reading function computes, unless memory ran out.
+        ensures exact { Returns (seen tc_message result) (read_tc bytes.now) }
+        // A value that fits is written as the same bytes if and only if these are canonical.
         ensures same { IfOk result (λ m.
             FitsTc (tc_message m) → (tc_bytes (tc_message m) ≡ bytes.now) ↔ CanonTc bytes.now) }
-        // Canonical bytes fail only with OutOfMemory, and read as what fits and is settled.
+        // Canonical bytes fail only with OutOfMemory, and read as a value that fits and is settled.
         ensures canonical { CanonTc bytes.now
             → UnlessMemory result (λ m. FitsTc (tc_message m) × SettledTc (tc_message m)) }
-        // What is read is unsettled if and only if it is loose: if encoding would change a part of it.
+        // The value is unsettled if and only if it is loose: if encoding would change it.
         ensures loose { IfOk result (λ m.
             SettledTc (tc_message m) ↔ (is_loose_tc (tc_message m) ≡ false)) }
         // An attribute of an unknown type may be at any place, and is kept raw there.
@@ -113,14 +113,14 @@ impl<A: Allocator + Copy> ParseableBytes<A> for TcMessage<A> {
 
 #[tactic(auto, unfolding(tc_meaning::specs::Message::read_with))]
 fn read<A: Allocator + Copy>(alloc: A, bytes: &[u8]) -> Res<TcMessage<A>>
-    ensures { Gives (seen tc_message result) (read_tc bytes.now) }
+    ensures { Returns (seen tc_message result) (read_tc bytes.now) }
 {
     let header = TcHeader::parse(bytes)?;
     let attributes = VecTcAttribute::parse(alloc, after_header(bytes))?.0;
     Ok(TcMessage { header, attributes })
 }
 
-// What follows a header.
+// Reads the attributes after a header.
 fn after_header(bytes: &[u8]) -> &[u8]
     requires { 20 ≤ length bytes.now }
     ensures { result.now ≡ drop 20 bytes.now }
@@ -131,7 +131,7 @@ fn after_header(bytes: &[u8]) -> &[u8]
 impl<A: Allocator> Emitable for TcMessage<A> {
     fn checked_len(&self) -> Option<usize> {
         // A law, which does nothing: the header is typed, so it has its length in bytes.
-        header_in_hand(&self.header);
+        header_in_range(&self.header);
         match list_checked_len(&self.attributes) {
             Some(len) => len.checked_add(TC_HEADER_LEN),
             None => None,
@@ -143,21 +143,21 @@ impl<A: Allocator> Emitable for TcMessage<A> {
         requires room { HasRoom (tc_bytes (tc_message self.now)) buffer.old }
         ensures written { Writes (tc_bytes (tc_message self.now)) buffer.old buffer.new }
         ensures typed { TypedTc (tc_message self.now) }
-        // What is written reads back as the message if and only if it is settled.
+        // The bytes read back as the message if and only if it is settled.
         ensures back { ReadsTc (tc_bytes (tc_message self.now)) (tc_message self.now)
             ↔ SettledTc (tc_message self.now) }
     {
         // Laws, which do nothing: what is written reads back if settled, and the header is typed.
         laws::tc_message(&[]);
-        header_in_hand(&self.header);
+        header_in_range(&self.header);
         put_list(&self.attributes, &mut buffer[TC_HEADER_LEN..]);
         self.header.emit(buffer);
     }
 }
 
 impl<A: Allocator> TcMessage<A> {
-    /// True if its bytes, where it can be written, read back as itself: its header is settled, and each attribute is
-    /// under the kind that is set last before its place.
+    /// True if encoding the message and parsing the bytes gives it back: the header is settled, and each attribute under
+    /// the last kind before it.
     pub fn is_settled(&self) -> bool
         ensures settled { IsTrue result ↔ SettledTc (tc_message self.now) }
         ensures typed { IsTrue result → TypedTc (tc_message self.now) }
@@ -175,7 +175,7 @@ impl<A: Allocator> TcMessage<A> {
         ensures typed { IsTrue result → TypedTc (tc_message self.now) }
     {
         // A law, which does nothing: the header is typed.
-        header_in_hand(&self.header);
+        header_in_range(&self.header);
         self.header.is_settled() && list_settled_carrying(&self.attributes)
     }
 }

@@ -1,4 +1,4 @@
-//! The upgrade of messages that version 1 read, where options under an unknown kind are a list of one option.
+//! The upgrade of messages that version 1 read, where options of an unknown kind are a list of one option.
 
 ghost use Rattle.std.specs.Prelude.{◌≡◌, List, ℕ, [], map, false, MatchOption};
 ghost use Rattle.nla_frames.specs.DefaultNla.{kept_frame};
@@ -8,21 +8,22 @@ ghost use Rattle.tc_meaning.specs.Message.{kind_of_attribute};
 ghost use Rattle.tc_meaning.specs.Whole.{ReadsTc, FitsTc};
 ghost use Rattle.tc_laws.specs.FirstVersion.{ReadsTc1, upgrade, upgrade_each};
 ghost use Rattle.tc_options.specs.Options.{tc_option};
-ghost use Rattle.tc_attributes.specs.Attribute.{tc_attribute};
+ghost use Rattle.tc_messages.specs.Attribute.{tc_attribute};
 ghost use Rattle.tc_messages.specs.Message.{tc_message};
 ghost use Rattle.tc_messages.specs.Upgrade.{UpgradesAs, KnownAfter, IsRead, is_raw, is_lone, options_of};
 
+use crate::attribute::TcAttribute;
 use crate::message::TcMessage;
+use crate::types::TCA_OPTIONS;
 use nla_frames::{DefaultNla, NLA_TYPE_MASK, Nla, SetsKind};
 use std::alloc::Allocator;
 use std::mem;
-use tc_attributes::{TCA_OPTIONS, TcAttribute};
 use tc_laws::versions::upgrading;
 use tc_options::{TcOption, is_known_kind};
 
 impl<A: Allocator> TcMessage<A> {
-    /// The message that is read now where version 1 read this one: each `Options` under an unknown kind that is one
-    /// `TcOption::Other` of type 2 alone is `OptionsRaw` of its word and value. It takes no memory.
+    /// Turns a message that version 1 read into the one that is read now: each `Options` under an unknown kind that is a
+    /// single `TcOption::Other` of type 2 becomes `OptionsRaw` with its word and payload. Takes no memory.
     pub fn upgrade(self) -> TcMessage<A>
         ensures value { tc_message result ≡ upgrade (tc_message self) }
         // What version 1 reads as the message, is now read as the upgrade.
@@ -47,7 +48,7 @@ fn upgraded_list<A: Allocator>(mut list: Vec<TcAttribute<A>, A>) -> Vec<TcAttrib
     list
 }
 
-// Each attribute under the kind that is set last before it, of which it matters only whether it is known.
+// Upgrades each attribute. Of the last kind before it, only whether it is known matters.
 fn upgrade_all<A: Allocator>(list: &mut [TcAttribute<A>])
     ensures { map tc_attribute list.new ≡ upgrade_each [] (map tc_attribute list.old) }
 {
@@ -57,7 +58,7 @@ fn upgrade_all<A: Allocator>(list: &mut [TcAttribute<A>])
     }
 }
 
-// An attribute under a kind that is known or not, and whether the kind after it is known.
+// Upgrades an attribute under a kind that is known or not; returns whether the kind after it is known.
 fn upgrade_one<A: Allocator>(attribute: &mut TcAttribute<A>, is_known: bool) -> bool
     ensures upgraded { UpgradesAs is_known (tc_attribute attribute.old)
         (tc_attribute attribute.new) }
@@ -95,7 +96,7 @@ fn upgraded<A: Allocator>(attribute: TcAttribute<A>, is_known: bool) -> TcAttrib
     }
 }
 
-// Options under an unknown kind.
+// Upgrades options under an unknown kind.
 fn unknown_options<A: Allocator>(mut options: Vec<TcOption<A>, A>) -> TcAttribute<A>
     ensures { UpgradesAs false (options_of (map tc_option options.items)) (tc_attribute result) }
 {
@@ -111,7 +112,7 @@ fn unknown_options<A: Allocator>(mut options: Vec<TcOption<A>, A>) -> TcAttribut
     }
 }
 
-// The raw option, unless the option is one of a known kind.
+// The raw option, unless it is typed.
 fn unread<A: Allocator>(option: TcOption<A>) -> Option<DefaultNla<A>>
     ensures { MatchOption result (IsRead (tc_option option)) (λ nla.
         tc_option option ≡ other (kept_frame nla).word (kept_frame nla).value) }
@@ -122,7 +123,7 @@ fn unread<A: Allocator>(option: TcOption<A>) -> Option<DefaultNla<A>>
     }
 }
 
-// True if it is one option alone, of no kind that is known and of the type of options.
+// True for a single option that is raw and has the type of options.
 fn is_lone_option<A: Allocator>(options: &[TcOption<A>]) -> bool
     ensures { result ≡ is_lone (map tc_option options.now) }
 {

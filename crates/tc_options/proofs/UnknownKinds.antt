@@ -1,4 +1,4 @@
--- A kind that is none of the six is unknown.
+-- A kind other than the six is unknown.
 use Rattle.std.proofs.Common.{◌≡◌, ℕ, List, false, refl}
 use Rattle.std.specs.Prelude.{codes}
 use Rattle.std.specs.Str.{bytes_eq}

@@ -1,4 +1,4 @@
--- A message's options as contracts see them.
+-- The abstract values of a message's options.
 use Rattle.std.specs.Prelude.{◌≡◌, ℕ, List, [], ◌∷◌, map, codes, Ok, if◌then◌else◌, MatchBool}
 use Rattle.nla_frames.specs.declared.error.DecodeError.{DecodeError}
 use Rattle.nla_frames.specs.Fault.{Outcome}
@@ -11,11 +11,11 @@ use Rattle.tc_canon.specs.Tables.Options.{option_kinds}
 use Rattle.tc_meaning.specs.Tree.{Attribute, other, of_kind}
 use Rattle.tc_meaning.specs.Meaning.{table_codec}
 use Rattle.tc_flower.specs.Flower.{flower_option}
-use Rattle.tc_qdiscs.specs.FqCodel.{fq_codel_option}
-use Rattle.tc_qdiscs.specs.Ingress.{ingress_option}
-use Rattle.tc_filters.specs.U32.{u32_option}
-use Rattle.tc_filters.specs.MatchAll.{matchall_option}
-use Rattle.tc_filters.specs.Bpf.{bpf_option}
+use Rattle.tc_options.specs.FqCodel.{fq_codel_option}
+use Rattle.tc_options.specs.Ingress.{ingress_option}
+use Rattle.tc_options.specs.U32.{u32_option}
+use Rattle.tc_options.specs.MatchAll.{matchall_option}
+use Rattle.tc_options.specs.Bpf.{bpf_option}
 use Rattle.tc_options.specs.declared.options.VecTcOption.{VecTcOption}
 use Rattle.tc_options.specs.declared.options.TcOption.{TcOption}
 use Rattle.tc_options.specs.declared.options.TcOption.TheVariants.{FqCodel, Ingress, Flower, U32, MatchAll, Bpf, Other}
@@ -29,7 +29,7 @@ tc_option (MatchAll option) = of_kind (codes "matchall") (matchall_option option
 tc_option (Bpf option) = of_kind (codes "bpf") (bpf_option option)
 tc_option (Other nla) = other (kept_frame nla).word (kept_frame nla).value
 
--- two options hold the same: options of one kind that are seen alike, or the same word and payload
+-- two options hold the same: equal options of one kind, or the same word and payload
 abbrev pub SameOption : {A : Type 0} → TcOption A → TcOption A → Type 0
 SameOption (FqCodel x) (FqCodel y) = fq_codel_option x ≡ fq_codel_option y
 SameOption (Ingress x) (Ingress y) = ingress_option x ≡ ingress_option y

@@ -1,16 +1,19 @@
 //! Readers of the options of one kind, for lists whose kind is known before their first option.
 
 ghost use Rattle.std.specs.Prelude.{codes};
-ghost use Rattle.nla_frames.specs.Fault.{Gives, seen};
+ghost use Rattle.nla_frames.specs.Fault.{Returns, seen};
 ghost use Rattle.nla_frames.specs.Reading.{read_list, keep};
 ghost use Rattle.tc_options.specs.Options.{listed, read_option};
 
+use crate::filters::bpf::TcFilterBpfOption;
+use crate::filters::cls_u32::TcFilterU32Option;
+use crate::filters::matchall::TcFilterMatchAllOption;
 use crate::options::{TcOption, VecTcOption};
+use crate::qdiscs::fq_codel::TcQdiscFqCodelOption;
+use crate::qdiscs::ingress::TcQdiscIngressOption;
 use nla_frames::{FrameReader, NlaBuffer, Parseable, Res, parse_list_by};
 use std::alloc::Allocator;
-use tc_filters::{TcFilterBpfOption, TcFilterMatchAllOption, TcFilterU32Option};
 use tc_flower::TcFilterFlowerOption;
-use tc_qdiscs::{TcQdiscFqCodelOption, TcQdiscIngressOption};
 
 /// Reads options of `fq_codel`.
 #[derive(Drop)]
@@ -90,13 +93,13 @@ impl<A: Allocator> FrameReader<A, TcOption<A>> for Bpf {
     }
 }
 
-/// The options of the frames that the bytes are, all of one kind, or the first fault.
+/// Reads a list of options of one kind, or returns the first fault.
 pub(crate) fn read_list_of<A: Allocator + Copy, K: FrameReader<A, TcOption<A>>>(
     alloc: A,
     bytes: &[u8],
     reader: &K,
 ) -> Res<VecTcOption<A>>
-    ensures { Gives (seen listed result)
+    ensures { Returns (seen listed result)
         (read_list read_option keep (K.kind reader.now) bytes.now) }
 {
     Ok(VecTcOption(parse_list_by(alloc, bytes, reader)?))

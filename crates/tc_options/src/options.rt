@@ -1,8 +1,8 @@
-//! A message's options, by its kind.
+//! Options of qdiscs and filters, in the format of the kind.
 
 ghost use Rattle.std.specs.Prelude.{◌≡◌, ◌↔◌, List, IsTrue, IfOk};
 ghost use Rattle.std.specs.Ordering.{on};
-ghost use Rattle.nla_frames.specs.Fault.{Gives, IfRefused, seen};
+ghost use Rattle.nla_frames.specs.Fault.{Returns, IfRefused, seen};
 ghost use Rattle.nla_frames.specs.Buffer.{frame_of};
 ghost use Rattle.tc_canon.specs.Descriptor.{by_kind, is_known};
 ghost use Rattle.tc_canon.specs.Tables.Options.{option_kinds};
@@ -12,19 +12,19 @@ ghost use Rattle.tc_meaning.specs.Short.{table_short};
 ghost use Rattle.tc_meaning.specs.Equal.{same_attribute, attribute_equiv, attribute_per};
 ghost use Rattle.tc_options.specs.Options.{tc_option, listed, read_options, ReadsOptions, OptionsFault};
 
+use crate::filters::bpf::{TcFilterBpf, TcFilterBpfOption};
+use crate::filters::cls_u32::{TcFilterU32, TcFilterU32Option};
+use crate::filters::matchall::{TcFilterMatchAll, TcFilterMatchAllOption};
 use crate::one_kind::{Bpf, Flower, FqCodel, Ingress, MatchAll, U32, read_list_of};
-use nla_frames::laws::in_hand::bytes_in_hand;
+use crate::qdiscs::fq_codel::{TcQdiscFqCodel, TcQdiscFqCodelOption};
+use crate::qdiscs::ingress::{TcQdiscIngress, TcQdiscIngressOption};
+use nla_frames::laws::in_range::bytes_are_in_range;
 use nla_frames::{
     DefaultNla, FrameMeaning, FrameReader, Nla, NlaBuffer, Parseable, ParseableParametrized, Res,
     Settle,
 };
 use std::alloc::{Allocator, Global};
-use tc_filters::{
-    TcFilterBpf, TcFilterBpfOption, TcFilterMatchAll, TcFilterMatchAllOption, TcFilterU32,
-    TcFilterU32Option,
-};
 use tc_flower::{TcFilterFlower, TcFilterFlowerOption};
-use tc_qdiscs::{TcQdiscFqCodel, TcQdiscFqCodelOption, TcQdiscIngress, TcQdiscIngressOption};
 use tc_values::is_settled_of_kind;
 
 /// One option of a message, in the variant of the message's kind.
@@ -48,7 +48,7 @@ pub enum TcOption<A: Allocator = Global> {
     Other(DefaultNla<A>),
 }
 
-/// True of the kinds whose options are known: `fq_codel`, `ingress`, `flower`, `u32`, `matchall` and `bpf`.
+/// True if options of the kind are typed: `fq_codel`, `ingress`, `flower`, `u32`, `matchall` and `bpf`.
 pub fn is_known_kind(kind: &str) -> bool
     ensures { result ≡ is_known option_kinds kind.now }
 {
@@ -169,34 +169,33 @@ impl<A: Allocator> Eq for TcOption<A> {
     ghost laws = { attribute_equiv tc_option };
 }
 
-/// The options of a message, read of one frame: a list under a known kind; under any other the frame itself as one
-/// `Other`.
+/// The options in one frame: a list under a known kind; under any other kind one `Other` with the whole frame.
 #[derive(Drop)]
 pub struct VecTcOption<A: Allocator = Global>(pub Vec<TcOption<A>, A>);
 
 impl<A: Allocator + Copy> VecTcOption<A> {
-    /// The options of a frame under a kind, or their first fault.
+    /// Reads the options in a frame of this kind, or returns their first fault.
     pub fn parse_with_param(alloc: A, buf: &NlaBuffer<'_>, kind: &str) -> Res<VecTcOption<A>>
         ensures found { IfOk result (λ options.
             ReadsOptions kind.now (frame_of buf.now) (listed options)) }
-        // What is refused has this fault, and it is the first.
+        // A refusal is the first fault.
         ensures refused { IfRefused result (OptionsFault kind.now (frame_of buf.now)) }
-        // What is found and what is refused, by the function that computes both.
-        ensures exact { Gives (seen listed result) (read_options kind.now (frame_of buf.now)) }
+        // The result is what the reading function computes, unless memory ran out.
+        ensures exact { Returns (seen listed result) (read_options kind.now (frame_of buf.now)) }
     {
         // Does nothing at run time: it says that the value is bytes, for the clauses `found` and `refused`.
-        bytes_in_hand(buf.value());
+        bytes_are_in_range(buf.value());
         read_by_kind(alloc, buf, kind)
     }
 }
 
-// The options of a frame under a kind, which is asked for once and not at each option.
+// Reads the options; the kind is compared once, not per option.
 fn read_by_kind<A: Allocator + Copy>(
     alloc: A,
     buf: &NlaBuffer<'_>,
     kind: &str,
 ) -> Res<VecTcOption<A>>
-    ensures { Gives (seen listed result) (read_options kind.now (frame_of buf.now)) }
+    ensures { Returns (seen listed result) (read_options kind.now (frame_of buf.now)) }
 {
     if kind == TcQdiscFqCodel::KIND {
         return read_list_of(alloc, buf.value(), &FqCodel);

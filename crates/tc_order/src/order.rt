@@ -10,30 +10,30 @@ use crate::walk::walked;
 use std::alloc::{AllocError, Allocator};
 use std::hash::Hash;
 
-/// A step that gives others what they want, and wants what others give.
+/// A step, the keys that it provides and the keys that it requires.
 #[derive(Drop, Debug)]
 pub struct Step<T, K, A: Allocator> {
     /// The caller's name of it.
     pub item: T,
-    /// What it gives.
+    /// Keys that it provides.
     pub gives: Vec<K, A>,
-    /// What it wants. What no step gives counts as there.
+    /// Keys that it requires; one that no step provides counts as present.
     pub wants: Vec<K, A>,
-    /// True of a step that can't be made: neither it nor what needs it comes into an order.
+    /// True if the step can't be made: neither it nor a step that needs it comes into an order.
     pub is_barred: bool,
 }
 
 /// Steps in an order, and those that have none.
 #[derive(Drop, Debug)]
 pub struct Order<T, K, A: Allocator> {
-    /// Each step stands behind those that it needs.
+    /// Each step comes after those that it requires.
     pub order: Vec<Step<T, K, A>, A>,
     /// Steps that are barred or need one another in a circle, and those that need such.
     pub left: Vec<Step<T, K, A>, A>,
 }
 
-/// Brings steps into an order in which each stands behind all that it needs: the steps that give what it wants. Steps that
-/// are in order already stay as they are.
+/// Sorts steps topologically: each comes after every step that provides a key it requires. Steps that are in order already are
+/// unchanged.
 pub fn ordered<T: Drop, K: Eq + Hash + Copy + Drop, A: Allocator + Copy>(
     alloc: A,
     steps: Vec<Step<T, K, A>, A>,
@@ -82,7 +82,7 @@ fn finished<T: Drop, K: Eq + Hash + Copy + Drop, A: Allocator + Copy>(
     Ok(Order { order, left })
 }
 
-// Puts each step that waits for none of those left behind an order; the others stay.
+// Appends the steps whose requirements are met to an order; returns it and the rest.
 fn swept<T: Drop, K: Eq + Hash + Copy + Drop, A: Allocator + Copy>(
     alloc: A,
     order: Vec<Step<T, K, A>, A>,

@@ -1,4 +1,4 @@
--- What is asked of a type is what the codec's reading of it asks.
+-- The check of a type accepts exactly the values that the codec reads.
 use Rattle.std.proofs.Common.{◌≡◌, ◌⊎◌, ℕ, zero, suc, ◌+◌, ◌<◌, ◌≤◌, List, length, Some, None, Ok, Err, Bool, true, false}
 use Rattle.std.proofs.Common.{refl, sym, ap, ◌∙◌, arith, inl, inr, get_or, add-zero, zero-add}
 use Rattle.std.specs.Prelude.{◌==◌, ◌&&◌, nat_le, nat_lt, not, if◌then◌else◌}
@@ -105,25 +105,25 @@ higher-right m n = go (cases_lt n m)
     go (inl below) = rw (lt-leb m n below) (omega (arith, below))
     go (inr above) = rw (le-leb m n above) (omega arith)
 
--- no more is asked behind them
-behind : (rows : Rows) (n : ℕ) → count_of rows ≤ n → check_by rows n ≡ Any
-behind others n past = refl
-behind (types first last flags class rows) n past =
+-- types after the last row have no check
+after : (rows : Rows) (n : ℕ) → count_of rows ≤ n → check_by rows n ≡ Any
+after others n past = refl
+after (types first last flags class rows) n past =
     let own = higher-left (suc last) (count_of rows) in
     let rest = higher-right (suc last) (count_of rows) in
-    rw (lt-leb n last (omega (arith, own, past))) (go (nat_le first n) (behind rows n (omega (arith, rest, past))))
+    rw (lt-leb n last (omega (arith, own, past))) (go (nat_le first n) (after rows n (omega (arith, rest, past))))
   where
     go : (b : Bool) → check_by rows n ≡ Any → (if b && false then check_in class else check_by rows n) ≡ Any
     go true same = same
     go false same = same
-behind (unread m class rows) n past =
+after (unread m class rows) n past =
     let own = higher-left (suc m) (count_of rows) in
     let rest = higher-right (suc m) (count_of rows) in
-    rw (ne_eqb n m (λ e. omega (arith, own, past, e))) (behind rows n (omega (arith, rest, past)))
-behind (options m kinds rows) n past =
+    rw (ne_eqb n m (λ e. omega (arith, own, past, e))) (after rows n (omega (arith, rest, past)))
+after (options m kinds rows) n past =
     let own = higher-left (suc m) (count_of rows) in
     let rest = higher-right (suc m) (count_of rows) in
-    rw (ne_eqb n m (λ e. omega (arith, own, past, e))) (behind rows n (omega (arith, rest, past)))
+    rw (ne_eqb n m (λ e. omega (arith, own, past, e))) (after rows n (omega (arith, rest, past)))
 
 from-at : (count first m : ℕ) (rows : Rows) → m < count → get_or (checks_from count first rows) m Any ≡ check_by rows (first + m)
 from-at zero first m rows low = absurd (omega arith)
@@ -131,19 +131,19 @@ from-at (suc count) first zero rows low = rw add-zero refl
 from-at (suc count) first (suc m) rows low =
     let same : first + suc m ≡ suc first + m = omega arith in rw same (from-at count (suc first) m rows (omega arith))
 
-from-behind : (count first m : ℕ) (rows : Rows) → count ≤ m → get_or (checks_from count first rows) m Any ≡ Any
-from-behind zero first m rows high = refl
-from-behind (suc count) first zero rows high = absurd (omega arith)
-from-behind (suc count) first (suc m) rows high = from-behind count (suc first) m rows (omega arith)
+from-after : (count first m : ℕ) (rows : Rows) → count ≤ m → get_or (checks_from count first rows) m Any ≡ Any
+from-after zero first m rows high = refl
+from-after (suc count) first zero rows high = absurd (omega arith)
+from-after (suc count) first (suc m) rows high = from-after count (suc first) m rows (omega arith)
 
 at-type : (rows : Rows) (n : ℕ) → get_or (checks_of rows) n Any ≡ check_by rows n
 at-type rows n = go (cases_lt n (count_of rows))
   where
     go : (n < count_of rows) ⊎ (count_of rows ≤ n) → get_or (checks_of rows) n Any ≡ check_by rows n
     go (inl low) = from-at (count_of rows) 0 n rows low ∙ ap (check_by rows) (zero-add n)
-    go (inr high) = from-behind (count_of rows) 0 n rows high ∙ sym (behind rows n high)
+    go (inr high) = from-after (count_of rows) 0 n rows high ∙ sym (after rows n high)
 
--- so the checks of a table ask what its reading asks
+-- so the checks of a table accept what the codec reads
 pub check-is : (t : ListedTable) (n : ℕ) (checks : List Check) (c : Check) → (t ≡ the.Actions → ⊥) → checks ≡ checks_of (rows_in t)
     → c ≡ get_or checks n Any → (k value : List ℕ) → check_fault c k value ≡ value_fault (class_in (table_of t) n k) k value
 check-is t n checks c other listed found k value =

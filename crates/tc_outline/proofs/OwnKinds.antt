@@ -1,4 +1,4 @@
--- The kinds of an action as they are counted: none, one, or two and more.
+-- Counting the kinds of an action: none, one, or several.
 use Rattle.std.proofs.Common.{◌≡◌, ℕ, List, [], ◌∷◌, Option, Some, Ok, Err, Bool, true, false, refl, ap, ◌∙◌}
 use Rattle.std.specs.Prelude.{if◌then◌else◌, ◌==◌}
 use Rattle.std.specs.Str.{is_utf8}
@@ -10,7 +10,7 @@ use Rattle.nla_frames.specs.Value.{strip}
 use Rattle.tc_meaning.specs.Own.{read_kinds, only_kind}
 use Rattle.tc_outline.specs.Fault.{fault_of, one_more, count_error}
 
--- the fault after so many kinds
+-- the fault after a number of kinds
 abbrev pub error_after : ℕ → List (Outcome Frame) → Option DecodeError
 error_after n [] = count_error n
 error_after n (Err e ∷ items) = Some e
@@ -29,7 +29,7 @@ several : (ks : List (List ℕ)) → counted 2 ks ≡ 2
 several [] = refl
 several (k ∷ ks) = several ks
 
--- one kind more in front
+-- one more kind in front
 kind-more : (n : ℕ) (k : List ℕ) (r : Outcome (List (List ℕ))) → kinds_error (one_more n) r ≡ kinds_error n (seen (λ ks. k ∷ ks) r)
 kind-more n k (Ok ks) = refl
 kind-more n k (Err e) = refl
@@ -54,6 +54,6 @@ only-is (Ok []) = refl
 only-is (Ok (k ∷ [])) = refl
 only-is (Ok (k ∷ l ∷ ks)) = ap count_error (several ks)
 
--- so the fault is that of the one kind
+-- so the fault is that of `only_kind`
 pub error_after_is : (items : List (Outcome Frame)) → error_after 0 items ≡ fault_of (read_kinds items >>= only_kind)
 error_after_is items = kinds-is 0 items ∙ only-is (read_kinds items)

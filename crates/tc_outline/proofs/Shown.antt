@@ -1,10 +1,11 @@
--- Text that is printable is shown as it is.
-use Rattle.std.proofs.Common.{◌≡◌, ◌++◌, ◌∷◌, [], List, ℕ, Bool, true, false, refl, ap, ◌∙◌}
+-- Printable text is written unchanged, and escaped bytes are printable.
+use Rattle.std.proofs.Common.{◌≡◌, ◌<◌, ◌++◌, ◌∷◌, [], List, ℕ, Bool, true, false, refl, arith, ap, ◌∙◌}
 use Rattle.std.specs.Char.{digit_char}
 use Rattle.std.specs.Prelude.{IsTrue, ◌↔◌, ◌%◌, ◌&&◌, ◌/◌, ◌==◌, ◌||◌, if◌then◌else◌}
 use Rattle.std.specs.List.{AllByRecursion as ByRecursion, list_all}
-use Rattle.std.proofs.lemmas.List.Elements.{All-from_recursion, recursion_from_All}
-use Rattle.tc_outline.specs.Page.{IsShown, is_printable, is_shown, shown}
+use Rattle.std.proofs.lemmas.List.Elements.{All-append, All-from_recursion, recursion_from_All}
+use Rattle.tc_outline.specs.Page.{IsShown, is_shown, shown}
+use Rattle.tc_texts.specs.Escape.{escaped_byte, is_printable}
 
 as_it_is : (a p : Bool) (b : ℕ) (escaped : List ℕ) → IsTrue (p || (true && a)) → (if a then b ∷ [] else if p then b ∷ [] else escaped) ≡ b ∷ []
 as_it_is true p b escaped h = refl
@@ -18,6 +19,33 @@ each (b ∷ bs) h = ap (λ x. x ++ shown bs) (as_it_is (b == 10) (is_printable b
 
 pub shown_is : (text : List ℕ) → IsShown true text → shown text ≡ text
 shown_is text h = each text (recursion_from_All (λ b. IsTrue (is_shown true b)) text h)
+
+-- ---- escaped bytes
+
+or_left : (a b : Bool) → IsTrue a → IsTrue (a || b)
+or_left true b h = refl
+or_left false b h = absurd (cc h)
+
+pub digit_printable : (n : ℕ) → n < 16 → IsTrue (is_printable (digit_char n))
+digit_printable n h = grind arith
+
+escaped_shown : (lines : Bool) (b : ℕ) → b < 256 → IsShown lines (escaped_byte b)
+escaped_shown lines b h = go (is_printable b) refl
+  where
+    digit : (n : ℕ) → n < 16 → IsTrue (is_shown lines (digit_char n))
+    digit n small = or_left (is_printable (digit_char n)) (lines && (digit_char n == 10)) (digit_printable n small)
+
+    go : (p : Bool) → is_printable b ≡ p → IsShown lines (if p then b ∷ [] else 92 ∷ 120 ∷ digit_char (b / 16) ∷ digit_char (b % 16) ∷ [])
+    go true e = All-from_recursion (λ c. IsTrue (is_shown lines c)) (b ∷ []) (or_left (is_printable b) (lines && (b == 10)) e, tt)
+    go false e = All-from_recursion (λ c. IsTrue (is_shown lines c)) (92 ∷ 120 ∷ digit_char (b / 16) ∷ digit_char (b % 16) ∷ [])
+        (refl, (refl, (digit (b / 16) (grind arith), (digit (b % 16) (grind arith), tt))))
+
+-- an escaped byte is appended, or the allocation failed
+pub escaped_appended : (lines ok : Bool) (b : ℕ) (old new : List ℕ) → b < 256 → new ≡ (if ok then old ++ escaped_byte b else old)
+    → IsShown lines old → IsShown lines new
+escaped_appended lines true b old new small is shown =
+    rw is (All-append (λ c. IsTrue (is_shown lines c)) old (escaped_byte b) shown (escaped_shown lines b small))
+escaped_appended lines false b old new small is shown = rw is shown
 
 -- ---- each byte, one after the other
 

@@ -8,16 +8,16 @@ use Rattle.tc_canon.specs.Descriptor.{Class, list_of, own_list}
 use Rattle.tc_meaning.specs.Own.{read_kinds, only_kind}
 use Rattle.tc_meaning.specs.Meaning.{class_codec}
 
--- the fault of reading, if it has one
+-- the fault of an outcome, if it failed
 abbrev pub fault_of : {X : Type 0} → Outcome X → Option DecodeError
 fault_of (Ok x) = None
 fault_of (Err e) = Some e
 
--- the fault of an action itself: a broken frame or a kind that is no text, then no kind or several
+-- the fault of an action itself: a malformed frame or a kind that isn't UTF-8, then no kind or several
 abbrev pub action_fault : List ℕ → Option DecodeError
 action_fault value = fault_of (read_kinds (items_of (cut value)) >>= only_kind)
 
--- how many kinds there are: none, one, or two and more
+-- counting kinds: none, one, or several
 abbrev pub one_more : ℕ → ℕ
 one_more zero = 1
 one_more (suc n) = 2
@@ -27,7 +27,7 @@ count_error zero = Some MissingKind
 count_error (suc zero) = None
 count_error (suc (suc n)) = Some DuplicateKind
 
--- the fault of a value of this class under a kind; those of a list are its attributes', but for an action's own
+-- the fault of a value of this class under a kind; a list has none of its own, except the attributes of an action
 abbrev pub value_fault : Class → List ℕ → List ℕ → Option DecodeError
 value_fault (list_of t) kind value = None
 value_fault (own_list rows) kind value = action_fault value

@@ -1,4 +1,4 @@
--- The first fault of a message, in the order of reading: each attribute before those in it.
+-- The first fault of a message, in the order of parsing: each attribute before those nested in it.
 use Rattle.std.specs.Prelude.{ℕ, List, [], ◌∷◌, Option, Some, None, Ok, Err}
 use Rattle.nla_frames.specs.declared.error.DecodeError.{DecodeError}
 use Rattle.nla_frames.specs.Fault.{Outcome}
@@ -29,7 +29,7 @@ abbrev pub items_of_message : What → List ℕ → Outcome (List Item)
 items_of_message Action bytes = after_header 4 action_items bytes
 items_of_message what bytes = after_header 20 tc_items bytes
 
--- the first fault of a message: a short header, or that of its attributes
+-- the first fault of a message: a short header, or the first fault of its attributes
 abbrev pub message_fault : Outcome (List Item) → Option DecodeError
 message_fault (Ok items) = first_fault items
 message_fault (Err e) = Some e

@@ -1,19 +1,19 @@
--- What an outline shows.
+-- The lines of an outline.
 use Rattle.std.specs.Prelude.{List, map, ℕ}
 use Rattle.tc_columns.specs.Kinds.{kind_table, root_place}
 use Rattle.tc_columns.specs.declared.root.KindColumns.{KindColumns}
 use Rattle.tc_columns.specs.declared.root.Root.{Root}
 use Rattle.tc_columns.specs.declared.root.Root.TheVariants as root
-use Rattle.tc_forms.specs.Shown.{shown_of}
-use Rattle.tc_form_values.specs.declared.form.Form.{Form}
-use Rattle.tc_kinds.specs.Table.{action_message, tc_message, tc_tables}
-use Rattle.tc_lines.specs.Columns.{Given}
+use Rattle.forms_json.specs.Shown.{shown_of}
+use Rattle.forms_values.specs.declared.form.Form.{Form}
+use Rattle.forms_kinds.specs.Table.{action_message, tc_message, tc_tables}
+use Rattle.tc_lines.specs.Columns.{Options}
 use Rattle.tc_lines.specs.Lines.{lines}
 use Rattle.tc_outline.specs.Page.{shown}
 use Rattle.tc_outline.specs.declared.what.What.{What}
 use Rattle.tc_outline.specs.declared.what.What.TheVariants as what
 
--- which of the two messages speaks of this
+-- the message type of a root
 abbrev pub what_of : Root → What
 what_of root.Qdisc = what.Qdisc
 what_of root.Class = what.Class
@@ -23,16 +23,16 @@ what_of root.Chain = what.Chain
 what_of root.Action = what.Action
 what_of root.Flush = what.Action
 
--- the form of messages that speak of this
+-- the form of a root's messages
 abbrev pub form_of : Root → Form
 form_of root.Action = action_message
 form_of root.Flush = action_message
 form_of it = tc_message
 
--- what columns are given: where they begin, whether paddings are shown, and what interfaces are called
-abbrev pub given_by : KindColumns → Given
-given_by c = record { root = root_place c.root; all = c.all; interfaces = map (λ x. (x.0, x.1.now)) c.interfaces.now }
+-- the options of columns: the root's place, whether padding is displayed, and names of interfaces
+abbrev pub options_of : KindColumns → Options
+options_of c = record { root = root_place c.root; all = c.all; interfaces = map (λ x. (x.0, x.1.now)) c.interfaces.now }
 
--- the lines of what is shown of bytes as JSON
-abbrev pub shown_lines : Given → Form → List ℕ → List ℕ
-shown_lines given form bytes = shown (lines (kind_table given) given.root (shown_of tc_tables form bytes))
+-- the lines of the JSON of bytes
+abbrev pub shown_lines : Options → Form → List ℕ → List ℕ
+shown_lines options form bytes = shown (lines (kind_table options) options.root (shown_of tc_tables form bytes))

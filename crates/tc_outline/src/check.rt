@@ -1,4 +1,4 @@
-//! What the codec asks of the value of each type.
+//! The codec's check of the value of each attribute type.
 
 ghost use Rattle.std.specs.Prelude.{◌≡◌, List, ℕ, slice_index_or};
 ghost use Rattle.tc_index.specs.Tables.{rows_in, table_of};
@@ -10,26 +10,26 @@ ghost use Rattle.tc_outline.specs.declared.check.Check.TheVariants as asks;
 use Check::{Any, Fields, Selector, Text, Xstats};
 use tc_index::Table;
 
-// What a value has to be.
+// The check of a value.
 #[derive(Clone, Copy)]
 pub(crate) enum Check {
-    // Anything. A list is asked nothing but what its attributes are asked.
+    // None. The attributes of a list have their own checks.
     Any,
-    // So many bytes.
+    // Exactly n bytes.
     Bytes(usize),
-    // So many bytes or more: a record, and what stands behind it.
+    // At least n bytes: a record, and bytes after it.
     Fields(usize),
-    // UTF-8, but for a NUL at its end.
+    // UTF-8, before a final NUL.
     Text,
-    // The selector of u32.
+    // A u32 selector with all its keys.
     Selector,
-    // Statistics, by the kind.
+    // The statistics of the kind.
     Xstats,
-    // The attributes of an action.
+    // The attributes of an action, with exactly one kind.
     Action,
 }
 
-// What the codec asks of a type.
+// The check of an attribute type in a table.
 pub(crate) fn check_of(table: Table, number: u16) -> Check
     ensures { (k value : List ℕ) → check_fault result k value ≡ value_fault (class_in (table_of table) number k) k value }
 {
@@ -48,7 +48,7 @@ fn check_at(checks: &'static [Check], number: u16) -> Check
     }
 }
 
-// Those of the types of a table, from type 0 on.
+// The checks of a table's types, from type 0.
 fn checks(table: Table) -> &'static [Check]
     ensures { result.now ≡ checks_of (rows_in table) }
 {
@@ -71,7 +71,7 @@ fn checks(table: Table) -> &'static [Check]
     }
 }
 
-// Values of so many bytes.
+// Values of a fixed width.
 const ONE: Check = Check::Bytes(1);
 
 const TWO: Check = Check::Bytes(2);

@@ -1,7 +1,7 @@
-//! The first fault of a message, and its place.
+//! The first fault of a message, with its offset and path.
 
 ghost use Rattle.std.specs.Prelude.{◌≡◌};
-ghost use Rattle.tc_index.specs.Seen.{placed_of};
+ghost use Rattle.tc_index.specs.Views.{placed_of};
 ghost use Rattle.tc_outline.specs.Located.{own_fault};
 
 mod action;
@@ -19,17 +19,16 @@ use value::error_of;
 /// Why a message is refused, and where.
 #[derive(Drop)]
 pub struct Fault {
-    /// Where it is in the message, in bytes: of a broken frame and of a short header its first byte, of a value the
-    /// first byte of the value.
+    /// The offset in the message, in bytes: for a malformed frame or a short header of its first byte, for a value of
+    /// the first byte of the value.
     pub offset: usize,
-    /// What is wrong.
     pub error: DecodeError,
-    /// Where it is in the message as a tree.
+    /// The path of the attribute in the message.
     pub path: Path,
 }
 
 impl Fault {
-    // Its name, its numbers and its place.
+    // Writes its name, its numbers, its offset and its path.
     pub(crate) fn show<A: Allocator>(&self, page: &mut Page<A>) -> Result<(), AllocError> {
         page.text("refused ")?;
         page.text(self.error.name())?;
@@ -41,7 +40,7 @@ impl Fault {
     }
 }
 
-// The numbers of a fault, each after its name.
+// Writes the numbers of a fault, each after its name.
 fn show_numbers<A: Allocator>(page: &mut Page<A>, error: &DecodeError) -> Result<(), AllocError> {
     match error {
         DecodeError::BufferTooSmall { len, needed } | DecodeError::SelectorShort { len, needed } =>
@@ -82,7 +81,7 @@ fn show_counts<A: Allocator>(
     show_count(page, other, m)
 }
 
-// What is wrong with an attribute itself, those in it aside.
+// The fault of an attribute, not counting those nested in it.
 pub(crate) fn error_in(attribute: &Attribute<'_>) -> Option<DecodeError>
     ensures { result ≡ own_fault (placed_of attribute.now) }
 {
@@ -90,7 +89,7 @@ pub(crate) fn error_in(attribute: &Attribute<'_>) -> Option<DecodeError>
     error_of(check, attribute.value, attribute.kind)
 }
 
-// The fault of an attribute itself. Its place is the last one of the path, but where it is within an action.
+// The fault of an attribute at a path; within an action the path goes on to the frame.
 pub(crate) fn fault_at(attribute: &Attribute<'_>, path: &Path, error: DecodeError) -> Fault
     ensures { result.error ≡ error }
 {

@@ -1,8 +1,9 @@
-//! Messages of traffic control shown to people, of every kind: a line for each attribute, from bytes alone.
+//! Traffic control messages of every kind as outlines: a line for each attribute, from only the bytes.
 //!
-//! [`outline`] writes a message on a [`Page`]: its header, then each attribute on a line of its own, indented by its depth, in the order of
-//! the wire, by the columns of its kind (`tc_columns`). A message that the codec refuses has all its lines, and then a line of the fault with
-//! its numbers, its offset and its path. [`locate`] finds that fault alone. A page holds printable ASCII and line feeds alone.
+//! [`outline`] writes a message on a [`Page`]: its header, then each attribute on a line of its own, indented by its
+//! depth, in wire order, with the columns of its kind (`tc_columns`). After the lines of a malformed message comes a
+//! line with the fault, its numbers, its offset and its path. [`locate`] only finds that fault. A page holds only
+//! printable ASCII and line feeds.
 #![tactic(auto)]
 
 mod check;

@@ -1,21 +1,21 @@
-//! A message as lines.
+//! The outline of a message.
 
 ghost use Rattle.std.specs.Prelude.{◌≡◌, ◌≤◌, ◌++◌, [], List, ℕ, None, true, length, IfOk, IfSome, option_map};
 ghost use Rattle.tc_outline.specs.Located.{items_of_message, message_fault};
-ghost use Rattle.tc_outline.specs.Outline.{form_of, given_by, shown_lines, what_of};
+ghost use Rattle.tc_outline.specs.Outline.{form_of, options_of, shown_lines, what_of};
 ghost use Rattle.tc_outline.specs.Text.{has_lines, text_on};
 
 use crate::fault::Fault;
 use crate::page::{Layout, Page};
 use crate::reader::locate;
 use crate::what::What;
+use forms_json::Form;
+use forms_kinds::{ACTION_MESSAGE, TC_MESSAGE, TcTables};
 use std::alloc::{AllocError, Allocator, Global};
 use tc_columns::{KindColumns, Root};
-use tc_forms::Form;
-use tc_kinds::{ACTION_MESSAGE, TC_MESSAGE, TcTables};
 use tc_lines::lines_of;
 
-// What a message of this root is about.
+// The message type of this root.
 fn what_of(root: Root) -> What
     ensures { result ≡ what_of root }
 {
@@ -38,7 +38,7 @@ fn form_of(root: Root) -> Form
     }
 }
 
-// The line of a fault.
+// The line that reports a fault.
 fn line_of(alloc: Global, fault: &Fault) -> Result<Page<Global>, AllocError> {
     let mut line = Page::new(alloc, Layout::Lines);
     line.begin(0)?;
@@ -46,18 +46,19 @@ fn line_of(alloc: Global, fault: &Fault) -> Result<Page<Global>, AllocError> {
     Ok(line)
 }
 
-/// Adds a message, the payload of a netlink message, to a page, by these columns. The words of its header continue the line that is begun,
-/// and each attribute has a line of its own. The last line of a message that the codec refuses is its first fault, which is returned.
+/// Writes a message, the payload of a netlink message, on a page with these columns. The words of its header continue
+/// the current line, and each attribute is on a line of its own. The last line of a malformed message reports its first
+/// fault, which is also returned.
 pub fn outline<A: Allocator>(
     alloc: Global,
     page: &mut Page<A>,
     bytes: &[u8],
     columns: KindColumns<'_>,
 ) -> Result<Option<Fault>, AllocError>
-    // Where the page has lines, they are those of what is shown of the bytes, and the fault's.
+    // If the page has lines, they are those of the message's JSON, then that of the fault.
     ensures text { has_lines page.old ≡ true → IfOk result (λ found. (line : List ℕ)
         × (text_on page.new
-        ≡ (text_on page.old ++ shown_lines (given_by columns.entry) (form_of columns.entry.root) bytes.now) ++ line)
+        ≡ (text_on page.old ++ shown_lines (options_of columns.entry) (form_of columns.entry.root) bytes.now) ++ line)
         × (found ≡ None → line ≡ [])) }
     ensures error { IfOk result (λ found. option_map (λ fault. fault.error) found
         ≡ message_fault (items_of_message (what_of columns.entry.root) bytes.now)) }

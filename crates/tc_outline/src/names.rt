@@ -1,8 +1,8 @@
-//! Names that the caller knows.
+//! Names that the caller provides.
 
-/// The names of interfaces by their numbers, as the caller knows them.
+/// The caller's names of interfaces, by index.
 #[derive(Clone, Copy, Debug)]
 pub struct Interfaces<'a> {
-    /// Numbers and names.
+    /// Interface indices and names.
     pub names: &'a [(u32, &'a str)],
 }

@@ -1,25 +1,27 @@
-//! The text that messages are shown as.
+//! The text of outlines.
 
 ghost use Rattle.std.specs.Prelude.{◌<◌, IsTrue, true};
-ghost use Rattle.tc_outline.specs.Page.{is_printable, IsShown};
+ghost use Rattle.tc_outline.specs.Page.{IsShown};
+ghost use Rattle.tc_texts.specs.Escape.{is_printable};
 
 mod texts;
 
 use itoa::Buffer;
 use std::alloc::{AllocError, Allocator};
-use texts::{are_shown, is_printable, is_word, margin_of, run_of};
+use tc_texts::{hex_digit, put_escaped_byte};
+use texts::{are_printable, are_shown, is_word, margin_of, run_of};
 
-/// How a message is laid out.
+/// The layout of a message.
 #[derive(Clone, Copy, PartialEq, Eq, Debug)]
 pub enum Layout {
     /// Each attribute on a line of its own, indented by its depth.
     Lines,
-    /// The message on one line, lists in braces.
+    /// The whole message on one line, with lists in braces.
     OneLine,
 }
 
-/// Text for people. Each byte of it is printable ASCII, or a line feed between the lines of a message: the bytes of a
-/// message are written escaped.
+/// Text that is safe for any terminal: each byte is printable ASCII or a line feed, and all other bytes of a message
+/// are escaped. Calls that write fail only if the allocator does.
 #[derive(Drop)]
 pub struct Page<A: Allocator> {
     bytes: Vec<u8, A>,
@@ -31,7 +33,8 @@ pub struct Page<A: Allocator> {
 impl<A: Allocator> Page<A> {
     ghost use Rattle.std.specs.Char.{digit_char};
     ghost use Rattle.std.specs.Prelude.{◌≡◌, ◌≤◌, ◌++◌, ◌∷◌, [], ◌/◌, ◌%◌, IfOk, OnOk, length, true};
-    ghost use Rattle.tc_outline.specs.Page.{escaped_byte, shown, shown_byte};
+    ghost use Rattle.tc_outline.specs.Page.{shown, shown_byte};
+    ghost use Rattle.tc_texts.specs.Escape.{escaped_byte};
     ghost use Rattle.tc_outline.specs.Text.{has_lines, text_on};
 
     /// An empty page.
@@ -43,25 +46,26 @@ impl<A: Allocator> Page<A> {
         }
     }
 
-    /// What is on the page: printable ASCII, and line feeds.
+    /// The text: printable ASCII and line feeds.
     pub fn bytes(&self) -> &[u8]
         ensures { IsShown true result.now }
     {
         self.bytes.as_slice()
     }
 
-    /// Takes everything off the page; its memory is kept.
+    /// Empties the page, and keeps its memory.
     pub fn clear(&mut self) {
         self.bytes.clear();
         self.depth = 0;
     }
 
-    /// A text. What is no printable ASCII in it is written as `\x1b`.
+    /// Writes a text, each byte that isn't printable ASCII as `\x1b`.
     pub fn text(&mut self, text: &str) -> Result<(), AllocError> {
         self.escaped(text.as_bytes())
     }
 
-    /// Lines: what goes on with the line that is begun, and after it each line behind a line feed and two blanks for each level.
+    /// Writes lines: the first continues the current line, and each of the others begins with a line feed and two
+    /// blanks per level.
     pub fn lines(&mut self, text: &[u8]) -> Result<(), AllocError>
         ensures form { has_lines self.old ≡ true → has_lines self.new ≡ true }
         ensures text { has_lines self.old ≡ true → OnOk result (text_on self.new ≡ text_on self.old ++ shown text.now) }
@@ -73,7 +77,7 @@ impl<A: Allocator> Page<A> {
         }
     }
 
-    // The same on one line: its lines in the braces of their depths.
+    // Writes lines as one line, with a brace for each change of depth.
     fn on_one_line(&mut self, text: &[u8]) -> Result<(), AllocError> {
         let mut left = text;
         while !left.is_empty() {
@@ -82,7 +86,7 @@ impl<A: Allocator> Page<A> {
         Ok(())
     }
 
-    // What is printable, and the line feed or the byte behind it; returns what is left.
+    // Writes printable bytes and the byte after them, or begins the next line; returns the rest.
     fn run<'t>(&mut self, text: &'t [u8]) -> Result<&'t [u8], AllocError>
         requires { 0 < length text.now }
         ensures { IfOk result (λ left. length left.now < length text.now) }
@@ -99,7 +103,7 @@ impl<A: Allocator> Page<A> {
         }
     }
 
-    // The margin of a line; returns what is behind it.
+    // Begins a line with the depth of its margin; returns the line after the margin.
     fn margin<'t>(&mut self, line: &'t [u8]) -> Result<&'t [u8], AllocError>
         ensures { IfOk result (λ left. length left.now ≤ length line.now) }
     {
@@ -108,7 +112,7 @@ impl<A: Allocator> Page<A> {
         Ok(left)
     }
 
-    /// A text in quotes, unless it consists of letters, digits, `_`, `-` and `.` alone.
+    /// Writes a text, in quotes unless it consists only of letters, digits, `_`, `-` and `.`.
     pub fn quoted(&mut self, text: &[u8]) -> Result<(), AllocError> {
         if is_word(text) {
             return self.escaped(text);
@@ -123,13 +127,13 @@ impl<A: Allocator> Page<A> {
         self.byte(b'"')
     }
 
-    /// A number.
+    /// Writes a number in decimal.
     pub fn number(&mut self, n: u64) -> Result<(), AllocError> {
         let mut buffer = Buffer::new();
         self.text(buffer.format(n))
     }
 
-    /// Bytes in hex; `empty` where there are none.
+    /// Writes bytes in hex, or `empty` if there are none.
     pub fn hex(&mut self, bytes: &[u8]) -> Result<(), AllocError> {
         if bytes.is_empty() {
             return self.text("empty");
@@ -140,12 +144,12 @@ impl<A: Allocator> Page<A> {
         Ok(())
     }
 
-    /// The last digit of a number in hex.
+    /// Writes the last hex digit of a number.
     pub fn hex_digit(&mut self, n: u16) -> Result<(), AllocError> {
         self.digit((n % 16) as u8)
     }
 
-    // A byte as two digits in hex.
+    // Writes a byte as two hex digits.
     fn hex_byte(&mut self, byte: u8) -> Result<(), AllocError>
         ensures form { has_lines self.new ≡ has_lines self.old }
         ensures text { OnOk result (text_on self.new ≡ text_on self.old ++ digit_char (byte / 16) ∷ digit_char (byte % 16) ∷ []) }
@@ -154,12 +158,12 @@ impl<A: Allocator> Page<A> {
         self.digit(byte % 16)
     }
 
-    /// A blank.
     pub fn blank(&mut self) -> Result<(), AllocError> {
         self.byte(b' ')
     }
 
-    /// Begins what is shown at this depth: a new line, or a blank and the braces of lists that begin or end.
+    /// Begins a line at this depth: a line feed and blanks, or on one line a blank and the braces of lists that begin
+    /// or end.
     pub fn begin(&mut self, depth: usize) -> Result<(), AllocError> {
         if self.has_lines {
             self.line(depth)
@@ -168,7 +172,7 @@ impl<A: Allocator> Page<A> {
         }
     }
 
-    /// Ends a message: the braces of the lists that are open.
+    /// Ends a message: closes the braces of open lists.
     pub fn end(&mut self) -> Result<(), AllocError>
         ensures { has_lines self.old ≡ true → text_on self.new ≡ text_on self.old }
     {
@@ -212,7 +216,7 @@ impl<A: Allocator> Page<A> {
         Ok(())
     }
 
-    // Text and line feeds.
+    // Writes text with line feeds.
     #[tactic(auto, using(crate::proofs::Shown::shown_is))]
     fn shown(&mut self, text: &[u8]) -> Result<(), AllocError>
         requires { has_lines self.old ≡ true }
@@ -241,7 +245,7 @@ impl<A: Allocator> Page<A> {
     }
 
     fn escaped(&mut self, text: &[u8]) -> Result<(), AllocError> {
-        if is_printable(text) {
+        if are_printable(text) {
             return self.bytes.extend_from_slice(text);
         }
         for byte in text {
@@ -250,32 +254,25 @@ impl<A: Allocator> Page<A> {
         Ok(())
     }
 
+    #[tactic(auto, using(crate::proofs::Shown::escaped_appended))]
     fn escaped_byte(&mut self, byte: u8) -> Result<(), AllocError>
         ensures form { has_lines self.new ≡ has_lines self.old }
         ensures text { OnOk result (text_on self.new ≡ text_on self.old ++ escaped_byte byte) }
     {
-        if 0x20 <= byte && byte <= 0x7e {
-            return self.byte(byte);
-        }
-        self.byte(b'\\')?;
-        self.byte(b'x')?;
-        self.hex_byte(byte)
+        put_escaped_byte(&mut self.bytes, byte)
     }
 
-    // A digit in hex.
+    // Writes a hex digit.
+    #[tactic(auto, using(crate::proofs::Shown::digit_printable))]
     fn digit(&mut self, digit: u8) -> Result<(), AllocError>
         requires { digit < 16 }
         ensures form { has_lines self.new ≡ has_lines self.old }
         ensures text { OnOk result (text_on self.new ≡ text_on self.old ++ digit_char digit ∷ []) }
     {
-        if digit < 10 {
-            self.byte(b'0' + digit)
-        } else {
-            self.byte(b'a' + (digit - 10))
-        }
+        self.byte(hex_digit(digit))
     }
 
-    // A byte that is printable.
+    // Writes a printable byte.
     fn byte(&mut self, byte: u8) -> Result<(), AllocError>
         requires { IsTrue (is_printable byte) }
         ensures form { has_lines self.new ≡ has_lines self.old }

@@ -1,26 +1,26 @@
-//! The place of an attribute in a message as a tree.
+//! The path of an attribute in a message, as a JSON pointer.
 
 use crate::page::Page;
 use crate::tree::{held_in, list_of_message, row_in};
+use forms_json::Form;
 use std::alloc::{AllocError, Allocator};
-use tc_forms::Form;
 use tc_index::{Attribute, Table};
 
-// An attribute on the way to a place.
+// An attribute on a path.
 #[derive(Clone, Copy)]
 struct Step {
-    // Its place in its list.
+    // Its index in its list.
     index: usize,
-    // Where its value ends in the message.
+    // The offset of the end of its value in the message, in bytes.
     end: usize,
     table: Table,
     // Its type, if it is known.
     number: Option<u16>,
-    // The kind in force.
+    // The kind at this place.
     kind: Kind,
 }
 
-// A kind that tables may know: none has more than sixteen bytes.
+// A kind of at most sixteen bytes; the tables have no longer one.
 #[derive(Clone, Copy)]
 struct Kind {
     bytes: [u8; 16],
@@ -42,7 +42,7 @@ impl Kind {
         kept
     }
 
-    // The kind; empty of one that is too long.
+    // The kind; empty if it was longer.
     fn text(&self) -> &[u8] {
         match self.bytes.get(..self.len) {
             Some(text) => text,
@@ -51,7 +51,7 @@ impl Kind {
     }
 }
 
-/// The place of an attribute: the place of each list that it is in, and its own.
+/// The path of an attribute: the index of each attribute that it is nested in, and its own.
 #[derive(Clone, Copy)]
 pub struct Path {
     steps: [Step; 6],
@@ -59,7 +59,7 @@ pub struct Path {
 }
 
 impl Path {
-    // The message itself.
+    // The path of the message itself.
     pub(crate) fn new() -> Self {
         let step = Step {
             index: 0,
@@ -74,7 +74,7 @@ impl Path {
         }
     }
 
-    // Goes on to the next attribute at this depth.
+    // Moves to the next attribute at its depth.
     pub(crate) fn enter(&mut self, attribute: &Attribute<'_>) {
         let number = attribute.number();
         let has_options = number == 2 && matches!(attribute.table, Table::Message | Table::Action);
@@ -92,7 +92,7 @@ impl Path {
         self.enter_step(usize::from(attribute.depth), step);
     }
 
-    // Goes on to the next frame of an action, whose type may not be known.
+    // Moves to the next frame of an action, whose type may not be known.
     pub(crate) fn enter_in_action(&mut self, action: &Attribute<'_>, number: Option<u16>) {
         let step = Step {
             index: 0,
@@ -118,7 +118,7 @@ impl Path {
         self.len = depth + 1;
     }
 
-    // Goes on to what is at this offset, in the innermost list that it is in.
+    // Moves to the frame at this offset, in the innermost list that contains it.
     pub(crate) fn enter_at(&mut self, offset: usize) {
         let mut depth = 0;
         for step in &self.steps {
@@ -164,7 +164,7 @@ impl Path {
     }
 }
 
-// The name of an attribute in a list, if it has one. The form of its value.
+// Writes the name of an attribute in a list, if it has one; returns the form of its value.
 fn show_name<A: Allocator>(
     page: &mut Page<A>,
     list: Form,

@@ -1,8 +1,8 @@
-//! The attributes of a message up to the first fault.
+//! Finding the first fault of a message.
 
 ghost use Rattle.std.specs.Prelude.{◌≡◌, ◌≤◌, length, IfSome, option_map};
 ghost use Rattle.nla_frames.specs.Fault.{seen};
-ghost use Rattle.tc_index.specs.Seen.{items_left};
+ghost use Rattle.tc_index.specs.Views.{items_left};
 ghost use Rattle.tc_outline.specs.Located.{first_fault, items_of_message, message_fault};
 
 use crate::fault::{Fault, error_in, fault_at};
@@ -11,25 +11,25 @@ use crate::what::What;
 use nla_frames::{DecodeError, Res};
 use tc_index::{Attribute, Attributes, BrokenFrame};
 
-// The first fault of a message. Its path takes another walk.
+// The first fault of a message, without its path, which takes another walk.
 #[derive(Drop)]
 struct Refused<'a> {
     error: DecodeError,
     at: At<'a>,
-    // How many attributes begin before it, its own among them.
+    // The number of attributes up to and including its own.
     count: usize,
 }
 
-// Where the fault is.
+// The place of a fault.
 #[derive(Clone, Copy)]
 enum At<'a> {
     // In the value of this attribute.
     Attribute(Attribute<'a>),
-    // In the frame that begins at this offset, which is broken.
+    // In the malformed frame at this offset.
     Frame(usize),
 }
 
-/// The first fault of a message in the order of reading, and its place. None of a message that can be read.
+/// The first fault of a message, in the order of parsing; `None` if the message can be parsed.
 pub fn locate(bytes: &[u8], what: What) -> Option<Fault>
     ensures error { option_map (λ fault. fault.error) result ≡ message_fault (items_of_message what bytes.now) }
     ensures place { IfSome result (λ fault. fault.offset ≤ length bytes.now) }
@@ -66,7 +66,7 @@ fn first_fault(attributes: Attributes<'_>) -> Option<Refused<'_>>
     None
 }
 
-// A frame is broken after so many attributes.
+// The fault of a malformed frame after `count` attributes.
 fn broken_after<'a>(count: usize, broken: BrokenFrame) -> Refused<'a>
     ensures { result.error ≡ broken.fault }
 {
@@ -77,7 +77,7 @@ fn broken_after<'a>(count: usize, broken: BrokenFrame) -> Refused<'a>
     }
 }
 
-// The way to the last of the first attributes, so many.
+// The path of the attribute number `count`.
 fn path_of(bytes: &[u8], what: What, count: usize) -> Path {
     let mut path = Path::new();
     let attributes = match attributes_of(bytes, what) {
@@ -99,7 +99,7 @@ fn path_of(bytes: &[u8], what: What, count: usize) -> Path {
     path
 }
 
-// The fault, at the end of a path.
+// The fault, with its path.
 fn fault_of(refused: Refused<'_>, path: &Path) -> Fault
     ensures { result.error ≡ refused.entry.error }
 {
@@ -114,7 +114,7 @@ fn fault_of(refused: Refused<'_>, path: &Path) -> Fault
     }
 }
 
-// The fault at a place in a message of this length.
+// The fault, with an offset within a message of this length.
 fn within(fault: Fault, len: usize) -> Fault
     ensures place { result.offset ≤ len }
     ensures error { result.error ≡ fault.error }
@@ -126,7 +126,7 @@ fn within(fault: Fault, len: usize) -> Fault
     }
 }
 
-// The attributes of a message. Its fault where its header is short.
+// The attributes of a message. Fails if it is shorter than its header.
 fn attributes_of(bytes: &[u8], what: What) -> Res<Attributes<'_>>
     ensures { seen items_left result ≡ items_of_message what bytes.now }
 {
@@ -136,7 +136,7 @@ fn attributes_of(bytes: &[u8], what: What) -> Res<Attributes<'_>>
     }
 }
 
-// The fault that a broken frame at this offset, after an attribute, is.
+// The fault of a malformed frame at this offset, after the attribute at a path.
 fn broken_at(before: &Path, offset: usize, error: DecodeError) -> Fault
     ensures { result.error ≡ error }
 {
@@ -149,7 +149,7 @@ fn broken_at(before: &Path, offset: usize, error: DecodeError) -> Fault
     }
 }
 
-/// The place of the attribute whose header begins at this offset, four bytes before its value; none where none does.
+/// The path of the attribute whose header is at this offset, four bytes before its value; `None` if there is none.
 pub fn path_at(bytes: &[u8], what: What, offset: usize) -> Option<Path> {
     let mut path = Path::new();
     for attribute in attributes_of(bytes, what).ok()? {
@@ -162,7 +162,7 @@ pub fn path_at(bytes: &[u8], what: What, offset: usize) -> Option<Path> {
     None
 }
 
-// The fault of a message without a whole header.
+// The fault of a message that is shorter than its header.
 fn header_fault(error: DecodeError) -> Fault
     ensures place { result.offset ≡ 0 }
     ensures error { result.error ≡ error }

@@ -1,9 +1,9 @@
-//! The names of attributes, of the tables of every kind.
+//! The names of attributes, from the tables of every kind.
 
+use forms_json::{Form, KindRows, Part, Row, Tables};
+use forms_kinds::{ACTION_MESSAGE, TC_MESSAGE, TcTables};
 use nla_frames::NLA_TYPE_MASK;
-use tc_forms::{Form, KindRows, Part, Row, Tables};
 use tc_index::Table;
-use tc_kinds::{ACTION_MESSAGE, TC_MESSAGE, TcTables};
 
 // The list of the attributes of a message.
 pub(crate) fn list_of_message(table: Table) -> Form {
@@ -23,7 +23,7 @@ pub(crate) fn list_of_message(table: Table) -> Form {
     Form::Hex
 }
 
-// What each attribute of an indexed list holds.
+// The form of each attribute of an indexed list.
 pub(crate) fn held_in(place: usize) -> Form {
     match TcTables.part(place) {
         Part::One(form) => form,
@@ -31,7 +31,7 @@ pub(crate) fn held_in(place: usize) -> Form {
     }
 }
 
-// The row of a type in a list under a kind, and the member around the list, if it has one.
+// The row of a type in a list under this kind, and the name of the member around the row, if any.
 pub(crate) fn row_in(list: Form, kind: &[u8], number: u16) -> Option<(&'static str, Row<'static>)> {
     match list {
         Form::List(place) | Form::InForce(place) | Form::Own(place) => {

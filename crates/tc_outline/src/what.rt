@@ -1,22 +1,22 @@
-//! What a message speaks of.
+//! The object types of messages.
 
-/// What a message speaks of, by its `nlmsg_type`: it says what the number `info` of its header is.
+/// The object that a message describes, given its `nlmsg_type`; decides the meaning of `tcm_info`.
 #[derive(Clone, Copy, PartialEq, Eq, Debug)]
 pub enum What {
-    /// A queueing discipline: `info` counts its references.
+    /// A qdisc: `tcm_info` is its number of references.
     Qdisc,
-    /// A class: `info` is the handle of its qdisc.
+    /// A class: `tcm_info` is the handle of its leaf qdisc.
     Class,
-    /// A filter: `info` is a priority and a protocol.
+    /// A filter: `tcm_info` is a priority and a protocol.
     Filter,
     /// A chain of filters.
     Chain,
-    /// Actions: an action message, whose header has no `info`.
+    /// An action message, whose header has no `tcm_info`.
     Action,
 }
 
 impl What {
-    /// What messages with this `nlmsg_type` speak of, where it is traffic control.
+    /// The object of messages with this `nlmsg_type`; `None` if they aren't traffic control.
     pub fn of_type(kind: u16) -> Option<What> {
         match kind {
             36..=38 => Some(What::Qdisc),

@@ -11,9 +11,9 @@ use Rattle.tc_actions.specs.declared.actions.action.TcAction.{TcAction}
 use Rattle.tc_action_messages.specs.declared.attribute.TcActionMessageAttribute.{TcActionMessageAttribute}
 use Rattle.tc_action_messages.specs.declared.attribute.TcActionMessageAttribute.TheVariants as action_attribute
 use Rattle.tc_action_messages.specs.declared.message.TcActionMessage.{TcActionMessage}
-use Rattle.tc_attributes.specs.declared.attribute.TcAttribute.{TcAttribute}
-use Rattle.tc_attributes.specs.declared.attribute.TcAttribute.TheVariants as attribute
-use Rattle.tc_filters.specs.declared.filters.cls_u32.TcFilterU32Option.TheVariants as u32
+use Rattle.tc_messages.specs.declared.attribute.TcAttribute.{TcAttribute}
+use Rattle.tc_messages.specs.declared.attribute.TcAttribute.TheVariants as attribute
+use Rattle.tc_options.specs.declared.filters.cls_u32.TcFilterU32Option.TheVariants as u32
 use Rattle.tc_messages.specs.declared.message.TcMessage.{TcMessage}
 use Rattle.tc_options.specs.declared.options.TcOption.{TcOption}
 use Rattle.tc_options.specs.declared.options.TcOption.TheVariants as option
@@ -93,9 +93,14 @@ in_chain ingress m = key.InChain m.header.index (parent_of ingress m.header) (ch
 
 -- ---- hash tables of u32
 
+-- the qdisc whose tables a filter finds, under whatever parent below it they were made; in a shared block, the block (`tc_u_common_ptr` of
+-- `net/sched/cls_u32.c`)
+abbrev pub tables_of : TcHeader → ℕ
+tables_of h = if int_eq h.index (negsuc 0) then handle_number h.parent else major (handle_number h.parent)
+
 -- the table of a handle: its number is in the upper 12 bits
-abbrev pub table_by : List ℤ → TcHeader → ℕ → Key
-table_by ingress h handle = key.Table h.index (parent_of ingress h) (handle / 0x100000)
+abbrev pub table_by : TcHeader → ℕ → Key
+table_by h handle = key.Table h.index (tables_of h) (handle / 0x100000)
 
 -- a table has the number alone; a classifier, which is dumped without a handle, is none
 abbrev pub is_table : {A : Type 0} → TcMessage A → Bool
@@ -103,28 +108,28 @@ is_table m =
     not (handle_number m.header.handle == 0) && (handle_number m.header.handle % 0x100000 == 0) && is_of (codes "u32") m
 
 -- the table that a dump shows, and the one that a key is in
-abbrev pub table_of : {A : Type 0} → List ℤ → TcMessage A → List Key
-table_of ingress m = if is_table m then table_by ingress m.header (handle_number m.header.handle) ∷ [] else []
+abbrev pub table_of : {A : Type 0} → TcMessage A → List Key
+table_of m = if is_table m then table_by m.header (handle_number m.header.handle) ∷ [] else []
 
-abbrev pub in_table : {A : Type 0} → List ℤ → TcMessage A → List Key
-in_table ingress m =
+abbrev pub in_table : {A : Type 0} → TcMessage A → List Key
+in_table m =
     if not (handle_number m.header.handle % 0x100000 == 0) && is_of (codes "u32") m
-    then table_by ingress m.header (handle_number m.header.handle) ∷ [] else []
+    then table_by m.header (handle_number m.header.handle) ∷ [] else []
 
 -- the table that an option links to (`TCA_U32_LINK`), and those of a dump
-abbrev pub link_of : {A : Type 0} → List ℤ → TcHeader → TcOption A → List Key
-link_of ingress h (option.U32 (u32.Link handle)) = table_by ingress h handle ∷ []
-link_of ingress h x = []
+abbrev pub link_of : {A : Type 0} → TcHeader → TcOption A → List Key
+link_of h (option.U32 (u32.Link handle)) = table_by h handle ∷ []
+link_of h x = []
 
 abbrev pub options_of : {A : Type 0} → TcAttribute A → List (TcOption A)
 options_of (attribute.Options options) = options.items
 options_of x = []
 
-abbrev pub links_in : {A : Type 0} → List ℤ → TcHeader → TcAttribute A → List Key
-links_in ingress h x = flat_map (link_of ingress h) (options_of x)
+abbrev pub links_in : {A : Type 0} → TcHeader → TcAttribute A → List Key
+links_in h x = flat_map (link_of h) (options_of x)
 
-abbrev pub links : {A : Type 0} → List ℤ → TcMessage A → List Key
-links ingress m = flat_map (links_in ingress m.header) m.attributes.items
+abbrev pub links : {A : Type 0} → TcMessage A → List Key
+links m = flat_map (links_in m.header) m.attributes.items
 
 -- ---- what requests give and want
 
@@ -140,7 +145,7 @@ gives ingress Qdisc m =
     ++ flat_map block_of m.attributes.items
 gives ingress Class m = class_of m.header
 gives ingress Chain m = chain_of ingress m ∷ []
-gives ingress Filter m = in_chain ingress m ∷ table_of ingress m
+gives ingress Filter m = in_chain ingress m ∷ table_of m
 
 -- actions give themselves, unless they can't be made
 abbrev pub gives_actions : Fate → List Key
@@ -153,7 +158,7 @@ wants ingress Qdisc m = parents m.header.index (handle_number m.header.parent)
 wants ingress Class m = parents m.header.index (handle_number m.header.parent) ++ key.Node m.header.index (major (handle_number m.header.handle)) ∷ []
 wants ingress Chain m = parents m.header.index (handle_number m.header.parent)
 wants ingress Filter m =
-    ((parents m.header.index (handle_number m.header.parent) ++ key.Actions ∷ chain_of ingress m ∷ []) ++ in_table ingress m) ++ links ingress m
+    ((parents m.header.index (handle_number m.header.parent) ++ key.Actions ∷ chain_of ingress m ∷ []) ++ in_table m) ++ links m
 
 -- a kind with zeros behind it; one of more than 16 bytes the kernel doesn't have
 abbrev pub name_of : List ℕ → Option (List ℕ)

@@ -1,15 +1,11 @@
 -- What becomes of an action that is wanted, by those that there are now.
-use Rattle.std.specs.Prelude.{ℕ, Bool, ◌==◌, ◌||◌, List, [], ◌∷◌, Option, Some, None, option_map, bytes_eq, count_by, if◌then◌else◌}
+use Rattle.std.specs.Prelude.{◌≡◌, ℕ, Bool, map, ◌==◌, ◌||◌, List, [], ◌∷◌, Option, Some, None, option_map, bytes_eq, count_by, if◌then◌else◌}
 use Rattle.std.specs.List.{flat_map}
 use Rattle.std.specs.Option.{option_to_list}
+use Rattle.tc_actions.specs.Action.{tc_action}
 use Rattle.tc_actions.specs.declared.actions.action.TcAction.{TcAction}
-use Rattle.tc_attributes.specs.declared.attribute.TcAttribute.{TcAttribute}
-use Rattle.tc_filters.specs.declared.filters.cls_u32.TcFilterU32Option.TheVariants as u32
-use Rattle.tc_filters.specs.declared.filters.matchall.TcFilterMatchAllOption.TheVariants as matchall
-use Rattle.tc_flower.specs.declared.filters.flower.options.TcFilterFlowerOption.TheVariants as flower
 use Rattle.tc_messages.specs.declared.message.TcMessage.{TcMessage}
-use Rattle.tc_options.specs.declared.options.TcOption.{TcOption}
-use Rattle.tc_options.specs.declared.options.TcOption.TheVariants as option
+use Rattle.tc_requests.specs.FilterActions.{actions_of_filter}
 use Rattle.tc_requests.specs.RestoredActions.{kind_of_action}
 use Rattle.tc_requests.specs.Standing.{index_if, use_of_action}
 use Rattle.tc_plan.specs.declared.fate.Fate.{Fate}
@@ -20,7 +16,7 @@ use Rattle.tc_plan.specs.declared.key.Key.{Key}
 use Rattle.tc_plan.specs.declared.key.Key.TheVariants as key
 use Rattle.tc_plan.specs.declared.now.Action.{Action}
 use Rattle.tc_plan.specs.Fates.{same_key}
-use Rattle.tc_plan.specs.Needs.{name_of, options_of}
+use Rattle.tc_plan.specs.Needs.{name_of}
 
 -- the kind and the index of an action, whoever holds it
 abbrev pub named_by : Option (List ℕ) → Option ℕ → Option Named
@@ -34,24 +30,14 @@ named action = named_by (name_of (kind_of_action action.attributes.items)) (inde
 abbrev pub key_of : Named → Key
 key_of name = key.Action name.kind name.index
 
--- the actions of a filter's option, and those that an action, an option, an attribute and a filter hold
-abbrev pub actions_of : {A : Type 0} → TcOption A → List (TcAction A)
-actions_of (option.Flower (flower.Actions actions)) = actions.items
-actions_of (option.U32 (u32.Action actions)) = actions.items
-actions_of (option.MatchAll (matchall.Action actions)) = actions.items
-actions_of x = []
-
+-- an action by its key
 abbrev pub held_action : {A : Type 0} → TcAction A → List Key
 held_action action = option_to_list (option_map key_of (named action))
 
-abbrev pub held_in : {A : Type 0} → TcOption A → List Key
-held_in x = flat_map held_action (actions_of x)
-
-abbrev pub held_under : {A : Type 0} → TcAttribute A → List Key
-held_under x = flat_map held_in (options_of x)
-
-abbrev pub held : {A : Type 0} → TcMessage A → List Key
-held m = flat_map held_under m.attributes.items
+-- the keys of the actions that a filter of any kind has, each as often as it has it
+abbrev pub Holds : {A : Type 0} → TcMessage A → List Key → Type 0
+Holds {A = A} filter keys =
+    (actions : List (TcAction A)) × (map tc_action actions ≡ actions_of_filter filter) × (keys ≡ flat_map held_action actions)
 
 -- how often the filters that are to be restored hold an action
 abbrev pub own : List Key → Named → ℕ

@@ -1,4 +1,4 @@
-//! What a dump gives and wants, and what has to be so among others.
+//! What a dump provides and requires, and which other dumps must or must not exist.
 
 ghost use Rattle.std.specs.Prelude.{◌≡◌, ◌∷◌, ◌++◌, [], codes, IfOk, if◌then◌else◌};
 ghost use Rattle.std.specs.List.{flat_map, list_any};
@@ -6,7 +6,7 @@ ghost use Rattle.std.specs.Option.{option_to_list};
 ghost use Rattle.std.specs.Ordering.{int_eq};
 ghost use Rattle.tc_records.specs.Header.{handle_number};
 ghost use Rattle.tc_plan.specs.Needs.{chain_number, block_of, gives, wants, parents, object, must, must_not, made_by, is_kind, is_named, is_of, has_kind, gives_actions, class_of, chain_of, in_chain};
-ghost use Rattle.tc_plan.specs.Needs.{ingress_of, is_side, parent_of, table_by, table_of, in_table, link_of, links_in, options_of, newest_first};
+ghost use Rattle.tc_plan.specs.Needs.{ingress_of, is_side, parent_of, tables_of, table_by, table_of, in_table, link_of, links_in, options_of, newest_first};
 ghost use Rattle.tc_plan.specs.Needs.{name_of, action_by, standing_action, actions_in, standing_in, standing_objects};
 ghost use Rattle.tc_requests.specs.declared.restore_messages.Object.TheVariants as kinds;
 ghost use Rattle.tc_plan.specs.declared.key.Key.TheVariants.{Actions, Clsact, Node};
@@ -17,18 +17,17 @@ use nla_frames::{NLA_TYPE_MASK, Nla};
 use std::alloc::{AllocError, Allocator};
 use tc_action_messages::{TcActionMessage, TcActionMessageAttribute};
 use tc_actions::TcAction;
-use tc_attributes::TcAttribute;
-use tc_messages::TcMessage;
+use tc_messages::{TcAttribute, TcMessage};
 use tc_options::{TcFilterU32Option, TcOption};
 use tc_records::TcHeader;
 use tc_requests::{Object, kind_of_action, standing_index};
 
-/// A dump in a plan: its place, and what becomes of it.
+/// A dumped object in a plan, and whether it gets a request.
 #[derive(Drop, Debug)]
 pub struct Item {
     /// The caller's number of it.
     pub place: usize,
-    /// What becomes of it.
+    /// Its fate among all dumps.
     pub fate: Fate,
 }
 
@@ -37,19 +36,19 @@ pub struct Item {
 pub struct Entry<A: Allocator> {
     /// The caller's number of it.
     pub place: usize,
-    /// What becomes of it by itself.
+    /// Its fate before other dumps are considered.
     pub fate: Fate,
-    /// What its request gives others.
+    /// Keys that its request provides.
     pub gives: Vec<Key, A>,
-    /// What its request wants of others.
+    /// Keys that its request requires.
     pub wants: Vec<Key, A>,
-    /// What it is, of which one dump is enough; of actions each that stands by itself.
+    /// The objects that it shows, of each of which one dump is enough; of actions each that is standalone or shared.
     pub objects: Vec<Key, A>,
-    /// What a dump has to give: the class that is a class's parent.
+    /// A key that some dump has to provide: the class that is a class's parent.
     pub must: Option<Key>,
-    /// What no dump may give: clsact, where its parent doesn't say the side.
+    /// A key that no dump may provide: clsact, if its parent doesn't say the side.
     pub must_not: Option<Key>,
-    /// What makes it, if a dump gives that: the filters of a chain without a template.
+    /// A key whose provider makes it: the filters of a chain without a template.
     pub made_by: Option<Key>,
 }
 
@@ -402,7 +401,7 @@ fn given_by_filter<A: Allocator + Copy>(
     ensures { IfOk result (λ keys. keys.items ≡ gives ingress.now kinds.Filter dump.now) }
 {
     let keys = one(alloc, in_chain(ingress, dump))?;
-    let keys = with(keys, table_of(ingress, dump))?;
+    let keys = with(keys, table_of(dump))?;
     Ok(keys)
 }
 
@@ -435,36 +434,48 @@ fn in_chain<A: Allocator>(ingress: &[i32], dump: &TcMessage<A>) -> Key
     }
 }
 
+// The qdisc whose hash tables a filter of u32 finds; in a block that interfaces share, the block.
+fn tables_of(header: &TcHeader) -> u32
+    ensures { result ≡ tables_of header.now }
+{
+    let parent = u32::from(header.parent);
+    if header.index == SHARED {
+        parent
+    } else {
+        parent / 0x1_0000 * 0x1_0000
+    }
+}
+
 // The hash table of a handle of u32.
-fn table_by(ingress: &[i32], header: &TcHeader, handle: u32) -> Key
-    ensures { result ≡ table_by ingress.now header.now handle }
+fn table_by(header: &TcHeader, handle: u32) -> Key
+    ensures { result ≡ table_by header.now handle }
 {
     Key::Table {
         index: header.index,
-        parent: parent_of(ingress, header),
+        parent: tables_of(header),
         number: handle / 0x10_0000,
     }
 }
 
 // The hash table that a dump shows.
-fn table_of<A: Allocator>(ingress: &[i32], dump: &TcMessage<A>) -> Option<Key>
-    ensures { option_to_list result ≡ table_of ingress.now dump.now }
+fn table_of<A: Allocator>(dump: &TcMessage<A>) -> Option<Key>
+    ensures { option_to_list result ≡ table_of dump.now }
 {
     let handle = u32::from(dump.header.handle);
     if handle != 0 && handle % 0x10_0000 == 0 && is_of(dump, "u32") {
-        Some(table_by(ingress, &dump.header, handle))
+        Some(table_by(&dump.header, handle))
     } else {
         None
     }
 }
 
 // The hash table that a key is in.
-fn in_table<A: Allocator>(ingress: &[i32], dump: &TcMessage<A>) -> Option<Key>
-    ensures { option_to_list result ≡ in_table ingress.now dump.now }
+fn in_table<A: Allocator>(dump: &TcMessage<A>) -> Option<Key>
+    ensures { option_to_list result ≡ in_table dump.now }
 {
     let handle = u32::from(dump.header.handle);
     if handle % 0x10_0000 != 0 && is_of(dump, "u32") {
-        Some(table_by(ingress, &dump.header, handle))
+        Some(table_by(&dump.header, handle))
     } else {
         None
     }
@@ -473,15 +484,14 @@ fn in_table<A: Allocator>(ingress: &[i32], dump: &TcMessage<A>) -> Option<Key>
 // Keys, and the hash tables that these options link to.
 fn with_links<A: Allocator>(
     keys: Vec<Key, A>,
-    ingress: &[i32],
     header: &TcHeader,
     options: &[TcOption<A>],
 ) -> Result<Vec<Key, A>, AllocError>
-    ensures { IfOk result (λ made. made.items ≡ keys.items ++ flat_map (link_of ingress.now header.now) options.now) }
+    ensures { IfOk result (λ made. made.items ≡ keys.items ++ flat_map (link_of header.now) options.now) }
 {
     let mut made = keys;
     for option in options {
-        made = with(made, link_of(ingress, header, option))?;
+        made = with(made, link_of(header, option))?;
     }
     Ok(made)
 }
@@ -489,20 +499,19 @@ fn with_links<A: Allocator>(
 // The same of attributes.
 fn with_all_links<A: Allocator>(
     keys: Vec<Key, A>,
-    ingress: &[i32],
     header: &TcHeader,
     attributes: &[TcAttribute<A>],
 ) -> Result<Vec<Key, A>, AllocError>
-    ensures { IfOk result (λ made. made.items ≡ keys.items ++ flat_map (links_in ingress.now header.now) attributes.now) }
+    ensures { IfOk result (λ made. made.items ≡ keys.items ++ flat_map (links_in header.now) attributes.now) }
 {
     let mut made = keys;
     for attribute in attributes {
-        made = with_links(made, ingress, header, options_of(attribute))?;
+        made = with_links(made, header, options_of(attribute))?;
     }
     Ok(made)
 }
 
-pub(crate) fn options_of<A: Allocator>(attribute: &TcAttribute<A>) -> &[TcOption<A>]
+fn options_of<A: Allocator>(attribute: &TcAttribute<A>) -> &[TcOption<A>]
     ensures { result.now ≡ options_of attribute.now }
 {
     match attribute {
@@ -512,11 +521,11 @@ pub(crate) fn options_of<A: Allocator>(attribute: &TcAttribute<A>) -> &[TcOption
 }
 
 // The hash table that an option links to.
-fn link_of<A: Allocator>(ingress: &[i32], header: &TcHeader, option: &TcOption<A>) -> Option<Key>
-    ensures { option_to_list result ≡ link_of ingress.now header.now option.now }
+fn link_of<A: Allocator>(header: &TcHeader, option: &TcOption<A>) -> Option<Key>
+    ensures { option_to_list result ≡ link_of header.now option.now }
 {
     match option {
-        TcOption::U32(TcFilterU32Option::Link(handle)) => Some(table_by(ingress, header, *handle)),
+        TcOption::U32(TcFilterU32Option::Link(handle)) => Some(table_by(header, *handle)),
         _ => None,
     }
 }
@@ -617,14 +626,14 @@ fn wanted_by_filter<A: Allocator>(
     dump: &TcMessage<A>,
 ) -> Result<Vec<Key, A>, AllocError>
     ensures { IfOk result (λ made. made.items
-        ≡ ((keys.items ++ Actions ∷ chain_of ingress.now dump.now ∷ []) ++ in_table ingress.now dump.now)
-        ++ flat_map (links_in ingress.now dump.now.header) dump.now.attributes.items) }
+        ≡ ((keys.items ++ Actions ∷ chain_of ingress.now dump.now ∷ []) ++ in_table dump.now)
+        ++ flat_map (links_in dump.now.header) dump.now.attributes.items) }
 {
     let mut made = keys;
     made.push(Key::Actions)?;
     made.push(chain_of(ingress, dump))?;
-    let made = with(made, in_table(ingress, dump))?;
-    let made = with_all_links(made, ingress, &dump.header, &dump.attributes)?;
+    let made = with(made, in_table(dump))?;
+    let made = with_all_links(made, &dump.header, &dump.attributes)?;
     Ok(made)
 }
 

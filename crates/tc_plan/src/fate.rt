@@ -1,4 +1,4 @@
-//! What becomes of a dump.
+//! The fate of a dump: whether a request is made for it.
 
 ghost use Rattle.std.specs.Prelude.{◌≡◌};
 ghost use Rattle.tc_plan.specs.Fates.{is_refused};
@@ -7,7 +7,7 @@ use std::fmt;
 use tc_requests::RestoreError;
 use thiserror::Error;
 
-/// What becomes of a dump.
+/// The fate of a dump: whether a request is made for it.
 #[derive(Drop, PartialEq, Eq, Debug)]
 pub enum Fate {
     /// A request restores it.
@@ -23,7 +23,7 @@ pub enum Fate {
 }
 
 impl Fate {
-    /// True of what can't be made.
+    /// True if it can't be made.
     pub fn is_refused(&self) -> bool
         ensures { result ≡ is_refused self.now }
     {
@@ -37,7 +37,7 @@ impl Fate {
 /// The kind and the index of an action.
 #[derive(Clone, Copy, Drop, PartialEq, Eq, Debug)]
 pub struct Named {
-    /// The kind, with zeros behind it.
+    /// The kind, padded with zeros.
     pub kind: [u8; 16],
     /// The number among those of its kind.
     pub index: u32,
@@ -72,6 +72,10 @@ pub enum Reason {
     /// An action that is there is another one, and filters of other interfaces hold it.
     #[error("the action {0} is there and differs, and others hold it")]
     Held(Named),
+
+    /// An action that it shares is there and is another one, and no dump has that action by itself, so that no request can change it.
+    #[error("the action {0} is there and differs, and no line has it by itself")]
+    NoDump(Named),
 
     /// Its parent is ffff:0 under clsact, which has two sides: `ffff:fff2` (ingress) and `ffff:fff3` (egress).
     #[error("the parent ffff: doesn't say which side of clsact")]

@@ -8,7 +8,7 @@ ghost use Rattle.tc_plan.specs.Fates.{is_shared};
 pub enum Key {
     /// Actions that stand by themselves; a filter may share one by its index.
     Actions,
-    /// An action, by its kind, with zeros behind it, and its index among those of that kind.
+    /// An action, by its kind, padded with zeros, and its index among those of that kind.
     Action {
         kind: [u8; 16],
         index: u32,
@@ -38,7 +38,8 @@ pub enum Key {
         parent: u32,
         number: u32,
     },
-    /// A hash table of u32 under this parent, by the number in the upper 12 bits of its handle.
+    /// A hash table of u32 below this qdisc, or in this block that interfaces share, by the number in the upper 12 bits of its
+    /// handle.
     Table {
         index: i32,
         parent: u32,
@@ -55,7 +56,7 @@ pub enum Key {
 }
 
 impl Key {
-    /// True of what is in a block that interfaces share, each of which dumps it.
+    /// True if it is in a block that interfaces share, each of which dumps it.
     pub(crate) fn is_shared(&self) -> bool
         ensures { result ≡ is_shared self.now }
     {

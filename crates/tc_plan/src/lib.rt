@@ -1,5 +1,5 @@
-//! What the requests that restore dumps need of one another, an order in which each finds what it needs, and what becomes of
-//! each dump.
+//! What the requests that restore dumps need of one another, an order in which each comes after those that it needs, and the fate
+//! of each dump.
 //!
 //! ```
 //! let mut ingress = Vec::new(alloc);

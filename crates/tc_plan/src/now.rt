@@ -1,20 +1,18 @@
 //! What the kernel has now, as far as requests depend on it.
 
-ghost use Rattle.std.specs.Prelude.{◌≡◌, ◌++◌, IfOk};
+ghost use Rattle.std.specs.Prelude.{◌≡◌, IfOk};
 ghost use Rattle.std.specs.List.{flat_map};
 ghost use Rattle.std.specs.Option.{option_to_list};
 ghost use Rattle.tc_requests.specs.Standing.{index_if};
-ghost use Rattle.tc_plan.specs.Now.{fate_now, fate_there, key_of, own, named, named_by, actions_of, held_action, held_in, held_under, held};
+ghost use Rattle.tc_plan.specs.Now.{fate_now, fate_there, key_of, own, named, named_by, held_action, Holds};
 
-use crate::entry::{name_of, options_of, with};
+use crate::entry::{name_of, with};
 use crate::fate::{Fate, Named, Reason};
 use crate::key::Key;
 use std::alloc::{AllocError, Allocator};
 use tc_actions::TcAction;
-use tc_attributes::TcAttribute;
 use tc_messages::TcMessage;
-use tc_options::{TcFilterFlowerOption, TcFilterMatchAllOption, TcFilterU32Option, TcOption};
-use tc_requests::{Use, kind_of_action, use_of_action};
+use tc_requests::{Use, actions_of_filter, kind_of_action, use_of_action};
 
 /// An action that is there.
 #[derive(Drop, Debug)]
@@ -36,7 +34,7 @@ pub struct Now<A: Allocator> {
     pub held: Vec<Key, A>,
 }
 
-/// What becomes of an action that is wanted and that this request makes: one that is there with the same request stays; another one
+/// The fate of a wanted action that this request makes: one that is there with the same request stays; another one
 /// is changed if only filters of the interfaces to be restored hold it, or none, or if `replaces`.
 pub fn fate_of_action<A: Allocator>(
     now: &Now<A>,
@@ -129,55 +127,29 @@ fn index_if(found: Option<Use>) -> Option<u32>
     }
 }
 
-/// The actions that a filter of flower, u32 or matchall holds, each as often as it holds it.
+/// The actions that a filter of any kind holds, each as often as it holds it.
 pub fn held_by<A: Allocator + Copy>(
     alloc: A,
-    filter: &TcMessage<A>,
+    filter: TcMessage<A>,
 ) -> Result<Vec<Key, A>, AllocError>
-    ensures { IfOk result (λ keys. keys.items ≡ held filter.now) }
+    ensures { IfOk result (λ keys. Holds filter keys.items) }
 {
-    held_under_all(alloc, &filter.attributes)
-}
-
-fn held_under_all<A: Allocator + Copy>(
-    alloc: A,
-    attributes: &[TcAttribute<A>],
-) -> Result<Vec<Key, A>, AllocError>
-    ensures { IfOk result (λ keys. keys.items ≡ flat_map held_under attributes.now) }
-{
-    let mut keys = Vec::new(alloc);
-    for attribute in attributes {
-        keys = with_options(keys, options_of(attribute))?;
-    }
+    let actions = actions_of_filter(alloc, filter)?;
+    let keys = held_among(alloc, &actions)?;
     Ok(keys)
 }
 
-// Keys, and the actions that these options hold.
-fn with_options<A: Allocator>(
-    keys: Vec<Key, A>,
-    options: &[TcOption<A>],
-) -> Result<Vec<Key, A>, AllocError>
-    ensures { IfOk result (λ made. made.items ≡ keys.items ++ flat_map held_in options.now) }
-{
-    let mut made = keys;
-    for option in options {
-        made = with_held(made, actions_of(option))?;
-    }
-    Ok(made)
-}
-
-// Keys, and those of these actions.
-fn with_held<A: Allocator>(
-    keys: Vec<Key, A>,
+fn held_among<A: Allocator + Copy>(
+    alloc: A,
     actions: &[TcAction<A>],
 ) -> Result<Vec<Key, A>, AllocError>
-    ensures { IfOk result (λ made. made.items ≡ keys.items ++ flat_map held_action actions.now) }
+    ensures { IfOk result (λ keys. keys.items ≡ flat_map held_action actions.now) }
 {
-    let mut made = keys;
+    let mut keys = Vec::new(alloc);
     for action in actions {
-        made = with(made, held_action(action))?;
+        keys = with(keys, held_action(action))?;
     }
-    Ok(made)
+    Ok(keys)
 }
 
 fn held_action<A: Allocator>(action: &TcAction<A>) -> Option<Key>
@@ -186,17 +158,5 @@ fn held_action<A: Allocator>(action: &TcAction<A>) -> Option<Key>
     match name_of_action(action) {
         Some(name) => Some(key_of(name)),
         None => None,
-    }
-}
-
-// The actions of a filter's option.
-fn actions_of<A: Allocator>(option: &TcOption<A>) -> &[TcAction<A>]
-    ensures { result.now ≡ actions_of option.now }
-{
-    match option {
-        TcOption::Flower(TcFilterFlowerOption::Actions(actions)) => actions,
-        TcOption::U32(TcFilterU32Option::Action(actions)) => actions,
-        TcOption::MatchAll(TcFilterMatchAllOption::Action(actions)) => actions,
-        _ => &[],
     }
 }

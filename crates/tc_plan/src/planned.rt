@@ -13,8 +13,8 @@ use std::alloc::{AllocError, Allocator};
 use std::collections::HashSet;
 use tc_order::{Order, Step, ordered};
 
-/// Brings the requests that restore dumps into an order in which each stands behind all of these that it needs, and says what
-/// becomes of each dump. In the order are requests and what they make; `left` are dumps that can't be made, and those that
+/// Sorts the requests that restore dumps, each after all of these that it needs, and returns the fate of
+/// each dump. In the order are requests and what they make; `left` are dumps that can't be made, and those that
 /// need such or need one another in a circle.
 pub fn plan<A: Allocator + Copy>(
     alloc: A,

@@ -1,4 +1,4 @@
--- What raw buffers hold: their bytes, padding included.
+-- The bytes of raw buffers, including padding.
 use Rattle.std.specs.Prelude.{ℕ, List, Ok, Err, length, take, nat_lt, if◌then◌else◌}
 use Rattle.nla_frames.specs.declared.error.DecodeError.TheVariants.{BufferTooSmall}
 use Rattle.nla_frames.specs.Fault.{Outcome, seen}
@@ -7,15 +7,14 @@ use Rattle.tc_meaning.specs.Content.{read_selector}
 use Rattle.tc_raw.specs.declared.generic.TcActionGenericBuffer.{TcActionGenericBuffer}
 use Rattle.tc_raw.specs.declared.raw.Raw.{Raw}
 
--- so many bytes at the front of some, where there are as many
+-- the first n bytes, or `BufferTooSmall` if there are fewer
 abbrev pub first_bytes : ℕ → List ℕ → Outcome (List ℕ)
 first_bytes n bytes = if nat_lt (length bytes) n then Err (BufferTooSmall (length bytes) n) else Ok (take n bytes)
 
--- the bytes of a selector's head, where the keys that it counts follow
+-- the bytes of a selector's head, or `SelectorShort` if its keys don't follow
 abbrev pub checked_head : List ℕ → Outcome (List ℕ)
 checked_head bytes = seen (λ selector. take (size_of selector_head) bytes) (read_selector bytes)
 
--- the bytes that a raw buffer holds
 abbrev pub raw_bytes : {R : Type 0} {N : ℕ} → Raw R N → List ℕ
 raw_bytes b = b.bytes
 

@@ -1,4 +1,4 @@
-//! The bytes that every action's record begins with.
+//! The bytes of `tc_gen`, the part that every action's record begins with.
 
 ghost use Rattle.std.specs.Prelude.{◌≡◌};
 ghost use Rattle.nla_frames.specs.Fault.{seen};
@@ -11,14 +11,15 @@ use crate::raw::Raw;
 use nla_frames::Res;
 use tc_records::{TC_ACTION_GENERIC_LEN, TcActionGeneric};
 
-/// The bytes that every action's record begins with, `tc_gen` of `linux/pkt_cls.h`. It alone is `Copy`.
+/// The bytes of the part that every action's record begins with, `tc_gen` of `linux/pkt_cls.h`. The only buffer that is
+/// `Copy`.
 #[derive(PartialEq, Eq, Clone, Copy, Debug)]
 pub struct TcActionGenericBuffer {
     bytes: [u8; TC_ACTION_GENERIC_LEN],
 }
 
 impl TcActionGenericBuffer {
-    /// The bytes at the front; what follows is dropped, and fewer bytes are `BufferTooSmall`.
+    /// Copies the bytes at the front and ignores what follows. Fails with `BufferTooSmall` if there are fewer.
     pub fn read_from_prefix(bytes: &[u8]) -> Res<TcActionGenericBuffer>
         ensures { seen generic_bytes result ≡ first_bytes (size_of action_generic) bytes.now }
     {
@@ -28,7 +29,7 @@ impl TcActionGenericBuffer {
         })
     }
 
-    /// The bytes as they were read, or those of a record.
+    /// The bytes as read, or those of the record that this was built from.
     pub fn as_bytes(&self) -> [u8; TC_ACTION_GENERIC_LEN]
         ensures { result ≡ generic_bytes self.now }
     {

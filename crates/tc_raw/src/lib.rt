@@ -1,4 +1,4 @@
-//! The bytes of the fixed records of traffic control, padding included.
+//! Buffers with the bytes of fixed records, including padding, which the typed records drop.
 #![tactic(auto)]
 
 mod generic;
@@ -30,23 +30,23 @@ pub type TcStatsBasicBuffer = Raw<TcStatsBasic, TC_STATS_BASIC_LEN>;
 /// The bytes of queue statistics, `struct gnet_stats_queue` of `linux/gen_stats.h`.
 pub type TcStatsQueueBuffer = Raw<TcStatsQueue, TC_STATS_QUEUE_LEN>;
 
-/// The bytes of the statistics of a qdisc, `struct tc_fq_codel_qd_stats` of `linux/pkt_sched.h`.
+/// The bytes of the statistics of an fq_codel qdisc, `struct tc_fq_codel_qd_stats` of `linux/pkt_sched.h`.
 pub type TcFqCodelQdStatsBuffer = Raw<TcFqCodelQdStats, TC_FQ_CODEL_QD_STATS_LEN>;
 
-/// The bytes of the statistics of a class, `struct tc_fq_codel_cl_stats` of `linux/pkt_sched.h`.
+/// The bytes of the statistics of an fq_codel class, `struct tc_fq_codel_cl_stats` of `linux/pkt_sched.h`.
 pub type TcFqCodelClStatsBuffer = Raw<TcFqCodelClStats, TC_FQ_CODEL_CL_STATS_LEN>;
 
 /// The bytes of the times of an action, `struct tcf_t` of `linux/pkt_cls.h`.
 pub type TcfBuffer = Raw<Tcf, TCF_LEN>;
 
-/// The bytes of a mirror's record, `struct tc_mirred` of `linux/tc_act/tc_mirred.h`.
+/// The bytes of the record of the action mirred, `struct tc_mirred` of `linux/tc_act/tc_mirred.h`.
 pub type TcMirrorBuffer = Raw<TcMirror, TC_MIRROR_LEN>;
 
-/// The bytes of the record of a network address translation, `struct tc_nat` of `linux/tc_act/tc_nat.h`.
+/// The bytes of the record of the action nat, `struct tc_nat` of `linux/tc_act/tc_nat.h`.
 pub type TcNatBuffer = Raw<TcNat, TC_NAT_LEN>;
 
-/// The bytes of a tunnel key's record, `struct tc_tunnel_key` of `linux/tc_act/tc_tunnel_key.h`.
+/// The bytes of the record of the action tunnel_key, `struct tc_tunnel_key` of `linux/tc_act/tc_tunnel_key.h`.
 pub type TcTunnelKeyBuffer = Raw<TcTunnelKey, TC_TUNNEL_KEY_LEN>;
 
-/// The bytes of a key of a selector, `struct tc_u32_key` of `linux/pkt_cls.h`.
+/// The bytes of a key of a u32 selector, `struct tc_u32_key` of `linux/pkt_cls.h`.
 pub type TcU32KeyBuffer = Raw<TcU32Key, TC_U32_KEY_LEN>;

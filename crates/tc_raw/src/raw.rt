@@ -1,4 +1,4 @@
-//! The bytes of a fixed record, with its padding.
+//! The bytes of a fixed record, including padding.
 
 ghost use Rattle.std.specs.Prelude.{◌≡◌, length};
 ghost use Rattle.nla_frames.specs.Fault.{seen};
@@ -9,7 +9,7 @@ use nla_frames::{DecodeError, Res};
 use std::marker::PhantomData;
 use tc_records::{FixedRecord, emit_record};
 
-/// The N bytes of a record R, padding included.
+/// The N bytes of a record R, including padding.
 #[derive(Drop)]
 #[derive_where(PartialEq, Eq, Clone, Debug)]
 pub struct Raw<R, const N: usize> {
@@ -18,7 +18,7 @@ pub struct Raw<R, const N: usize> {
 }
 
 impl<R, const N: usize> Raw<R, N> {
-    /// The bytes at the front; what follows is dropped, and fewer bytes are `BufferTooSmall`.
+    /// Copies the bytes at the front and ignores what follows. Fails with `BufferTooSmall` if there are fewer.
     pub fn read_from_prefix(bytes: &[u8]) -> Res<Raw<R, N>>
         ensures { seen raw_bytes result ≡ first_bytes N bytes.now }
     {
@@ -33,7 +33,6 @@ impl<R, const N: usize> Raw<R, N> {
         Ok(Raw::of_bytes(first))
     }
 
-    // These bytes.
     pub(crate) fn of_bytes(bytes: [u8; N]) -> Raw<R, N>
         ensures { raw_bytes result ≡ bytes.entry }
     {
@@ -43,7 +42,7 @@ impl<R, const N: usize> Raw<R, N> {
         }
     }
 
-    /// The bytes as they were read; those of a record with zeros for padding.
+    /// The bytes as read, or those of the record that this was built from, with zeros for padding.
     pub fn as_bytes(&self) -> [u8; N]
         ensures { result ≡ raw_bytes self.now }
     {
@@ -55,12 +54,12 @@ impl<R: FixedRecord<N>, const N: usize> From<&R> for Raw<R, N> {
     ghost from_gives = { λ value raw. raw_bytes raw ≡ fields_bytes R.layout (R.scalars value.now) };
 
     fn from(value: &R) -> Raw<R, N> {
-        value.held();
+        value.ref_in_range();
         Raw::of_bytes(record_bytes(value))
     }
 }
 
-// The bytes of a record that is N bytes long.
+// The bytes of a record, with zeros for padding.
 fn record_bytes<R: FixedRecord<N>, const N: usize>(value: &R) -> [u8; N]
     requires { length (fields_bytes R.layout (R.scalars value.now)) ≡ N }
     ensures { result ≡ fields_bytes R.layout (R.scalars value.now) }

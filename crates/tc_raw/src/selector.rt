@@ -12,15 +12,15 @@ use nla_frames::{DecodeError, Res};
 use std::alloc::Allocator;
 use tc_records::{TC_U32_KEY_LEN, TC_U32_SELECTOR_LEN, TcU32Selector};
 
-/// A selector without its keys.
+/// Marks the bytes of a selector without its keys.
 #[derive(Drop)]
 pub struct SelectorHead;
 
-/// The bytes of a selector without its keys, `struct tc_u32_sel` of `linux/pkt_cls.h`, padding included.
+/// The bytes of a selector without its keys, `struct tc_u32_sel` of `linux/pkt_cls.h`, including padding.
 pub type TcU32SelectorBuffer = Raw<SelectorHead, TC_U32_SELECTOR_LEN>;
 
 impl Raw<SelectorHead, TC_U32_SELECTOR_LEN> {
-    /// The bytes at the front, where the keys that they count follow; else `SelectorShort`.
+    /// Copies the head of the selector at the front. Fails with `SelectorShort` if its `nkeys` keys don't follow.
     pub fn new_checked(bytes: &[u8]) -> Res<TcU32SelectorBuffer>
         ensures { seen raw_bytes result ≡ checked_head bytes.now }
     {

@@ -1,4 +1,4 @@
--- Keys of a selector as they are read and written, one after the other.
+-- Reading and writing the keys of a selector in loops.
 use Rattle.std.proofs.Common.{◌≡◌, ℕ, suc, ◌+◌, ◌-◌, ◌*◌, ◌<◌, ◌≤◌, List, [], ◌∷◌, ◌++◌, length, map, take, drop, slice_index_or}
 use Rattle.std.proofs.Common.{refl, sym, ◌∙◌, ap, subst, arith, append_assoc}
 use Rattle.std.proofs.lemmas.List.{map_push, length-take, take_all, append-nil}
@@ -81,7 +81,7 @@ next_before keys i d within =
     (keys_bytes-append before (key_scalars key ∷ [])
     ∙ ap (λ bytes. keys_bytes before ++ bytes) (append-nil (fields_bytes selector_key (key_scalars key))))
 
--- and are written there
+-- and the loop writes them there
 pub next_written : (keys : List TcU32Key) (i : ℕ) (d : TcU32Key) (old now after : List ℕ) (at : ℕ) → i < length keys → at ≡ 16 * i
     → HasRoom (keys_bytes (map key_scalars keys)) old → Writes (bytes_before keys i) old now
     → Writes (fields_bytes selector_key (key_scalars (slice_index_or keys i d))) (take (length now - at) (drop at now)) after
@@ -92,7 +92,7 @@ next_written keys i d old now after at within is_at room written_before written_
     (front_and_back (bytes_before keys i) (fields_bytes selector_key (key_scalars (slice_index_or keys i d))) old now after at
     (omega (arith, before)) (omega (arith, before, length-keys keys)) written_before written_next)
 
--- ---- what holds of keys in hand
+-- ---- ranges of the fields of keys
 
 -- the keys before an index are typed
 unfoldable pub TypedBefore : List TcU32Key → ℕ → Type 0

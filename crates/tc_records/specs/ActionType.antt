@@ -1,4 +1,4 @@
--- The numbers of an action's outcomes, as `linux/pkt_cls.h` has them.
+-- The numbers of verdicts, `TC_ACT_*` of `linux/pkt_cls.h`.
 use Rattle.std.specs.Prelude.{ℤ, pos, negsuc, if◌then◌else◌}
 use Rattle.std.specs.Int.{w32, cast_unsigned}
 use Rattle.std.specs.Ordering.{int_eq}
@@ -6,7 +6,7 @@ use Rattle.tc_meaning.specs.Tree.{Scalar, plain, unnamed}
 use Rattle.tc_records.specs.declared.actions.action.TcActionType.{TcActionType}
 use Rattle.tc_records.specs.declared.actions.action.TcActionType.TheVariants.{Unspec, Ok, Reclassify, Shot, Pipe, Stolen, Queued, Repeat, Redirect, Trap, Other}
 
--- the outcome of a number; `negsuc 0` is -1
+-- the verdict with this number; `negsuc 0` is -1
 abbrev pub action_type_of : ℤ → TcActionType
 action_type_of n =
     if int_eq n (negsuc 0) then Unspec else
@@ -21,7 +21,7 @@ action_type_of n =
     if int_eq n (pos 8) then Trap else
     Other n
 
--- the number of an outcome
+-- the number of a verdict
 abbrev pub action_type_number : TcActionType → ℤ
 action_type_number Unspec = negsuc 0
 action_type_number Ok = pos 0
@@ -35,7 +35,7 @@ action_type_number Redirect = pos 7
 action_type_number Trap = pos 8
 action_type_number (Other n) = n
 
--- what it is as a field of a record
+-- the verdict as a field of a record
 abbrev pub action_type_scalar : TcActionType → Scalar
 action_type_scalar (Other n) = unnamed (cast_unsigned w32 n)
 action_type_scalar action = plain (cast_unsigned w32 (action_type_number action))

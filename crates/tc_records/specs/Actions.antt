@@ -1,4 +1,4 @@
--- What the records of actions are, field by field.
+-- The abstract values of the records of actions: lists of fields.
 use Rattle.std.specs.Prelude.{◌≡◌, pos, Bool, ◌&&◌, nat_eq, List, [], ◌∷◌}
 use Rattle.std.specs.Int.{w32, cast_unsigned}
 use Rattle.std.specs.Net.Addr.{ipv4_octets, IsUnspecifiedV4}
@@ -18,7 +18,7 @@ use Rattle.tc_records.specs.declared.actions.tunnel_key.TcTunnelKey.{TcTunnelKey
 abbrev pub action_message_header_scalars : TcActionMessageHeader → List Scalar
 action_message_header_scalars h = family_scalar h.family ∷ blank ∷ []
 
--- the generic part in front of other fields
+-- the generic part, followed by other fields
 abbrev pub generic_then_scalars : TcActionGeneric → List Scalar → List Scalar
 generic_then_scalars g others =
     plain g.index
@@ -28,7 +28,7 @@ generic_then_scalars g others =
     ∷ plain (cast_unsigned w32 g.bindcnt)
     ∷ others
 
--- two generic parts are equal, and what follows them is
+-- equality of two generic parts, and `rest`: equality of the fields after them
 abbrev pub same_generic_then : TcActionGeneric → TcActionGeneric → Bool → Bool
 same_generic_then g h rest =
     nat_eq g.index h.index
@@ -60,11 +60,11 @@ tunnel_key_scalars k = generic_then_scalars k.generic
     (plain (cast_unsigned w32 k.t_action)
     ∷ [])
 
--- the default: the outcome `Unspec`, every number 0
+-- the default: the verdict `Unspec`, every number 0
 abbrev pub empty_generic : TcActionGeneric
 empty_generic = record { index = 0; capab = 0; action = Unspec; refcnt = pos 0; bindcnt = pos 0 }
 
--- the default: the outcome `Unspec`, every number 0, every address 0.0.0.0, no flag
+-- the default: the verdict `Unspec`, every number 0, every address 0.0.0.0, no flags
 pub record IsEmptyNat (n : TcNat) : Type 0 where
   pub generic : n.generic ≡ empty_generic
   pub old_addr : IsUnspecifiedV4 n.old_addr

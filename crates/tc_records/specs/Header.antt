@@ -1,4 +1,4 @@
--- What a header is, field by field.
+-- The abstract value of a header: a list of fields.
 use Rattle.std.specs.Prelude.{pos, ℕ, ◌+◌, ◌*◌, ◌/◌, ◌%◌, List, [], ◌∷◌}
 use Rattle.std.specs.Int.{w32, cast_unsigned}
 use Rattle.nla_frames.specs.declared.family.AddressFamily.TheVariants.{Unspec}
@@ -7,7 +7,7 @@ use Rattle.tc_fields.specs.Numbers.{family_scalar}
 use Rattle.tc_records.specs.declared.header.TcHandle.{TcHandle}
 use Rattle.tc_records.specs.declared.header.TcHeader.{TcHeader}
 
--- a handle's major number is the upper half of its word
+-- the major number is the upper half of the word
 abbrev pub handle_of : ℕ → TcHandle
 handle_of n = record { major = n / 0x10000; minor = n % 0x10000 }
 
@@ -24,6 +24,6 @@ header_scalars h =
     ∷ plain h.info
     ∷ []
 
--- the default: no family, every number 0
+-- the default: the family `Unspec`, every number 0
 abbrev pub empty_header : TcHeader
 empty_header = record { family = Unspec; index = pos 0; handle = handle_of 0; parent = handle_of 0; info = 0 }

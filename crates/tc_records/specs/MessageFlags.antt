@@ -1,4 +1,5 @@
--- The flags of an action message: the word of a value, and the name and the bits of each flag; the last has all bits and no name.
+-- The flags of an action message: the word of a value, and the table of names and bits; the last row has all bits and
+-- no name.
 use Rattle.std.specs.Prelude.{ℕ, List, [], ◌∷◌, codes}
 use Rattle.bitflags.specs.Sets.{Row}
 use Rattle.tc_records.specs.declared.actions.message_flags.TcActionMessageFlags.{TcActionMessageFlags}

@@ -1,4 +1,4 @@
--- The numbers of what mirroring does, as `linux/tc_act/tc_mirred.h` has them.
+-- The numbers of mirred's actions, `TCA_EGRESS_REDIR` and the following of `linux/tc_act/tc_mirred.h`.
 use Rattle.std.specs.Prelude.{ℤ, pos, if◌then◌else◌}
 use Rattle.std.specs.Int.{w32, cast_unsigned}
 use Rattle.std.specs.Ordering.{int_eq}
@@ -6,7 +6,7 @@ use Rattle.tc_meaning.specs.Tree.{Scalar, plain, unnamed}
 use Rattle.tc_records.specs.declared.actions.mirror.TcMirrorActionType.{TcMirrorActionType}
 use Rattle.tc_records.specs.declared.actions.mirror.TcMirrorActionType.TheVariants.{EgressRedir, EgressMirror, IngressRedir, IngressMirror, Other}
 
--- what a number means
+-- the action with this number
 abbrev pub mirror_action_type_of : ℤ → TcMirrorActionType
 mirror_action_type_of n =
     if int_eq n (pos 1) then EgressRedir else
@@ -15,7 +15,7 @@ mirror_action_type_of n =
     if int_eq n (pos 4) then IngressMirror else
     Other n
 
--- the number of it
+-- the number of an action
 abbrev pub mirror_action_type_number : TcMirrorActionType → ℤ
 mirror_action_type_number EgressRedir = pos 1
 mirror_action_type_number EgressMirror = pos 2
@@ -23,7 +23,7 @@ mirror_action_type_number IngressRedir = pos 3
 mirror_action_type_number IngressMirror = pos 4
 mirror_action_type_number (Other n) = n
 
--- what it is as a field of a record
+-- the action as a field of a record
 abbrev pub mirror_action_type_scalar : TcMirrorActionType → Scalar
 mirror_action_type_scalar (Other n) = unnamed (cast_unsigned w32 n)
 mirror_action_type_scalar action = plain (cast_unsigned w32 (mirror_action_type_number action))

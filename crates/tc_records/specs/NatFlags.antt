@@ -1,13 +1,12 @@
--- The flags of network address translation, as a word.
+-- The flags of network address translation: the word of a value, and the table of names and bits.
 use Rattle.std.specs.Prelude.{ℕ, List, [], ◌∷◌, codes}
 use Rattle.bitflags.specs.Sets.{Row}
 use Rattle.tc_records.specs.declared.actions.nat_flag.TcNatFlags.{TcNatFlags}
 
--- the word that holds them
 abbrev pub nat_flags_word : TcNatFlags → ℕ
 nat_flags_word flags = flags.0
 
--- the flags by name, and one without a name that has all bits
+-- the last row has all bits and no name
 abbrev pub nat_flags_table : List Row
 nat_flags_table =
     (codes "Egress", 0x1)

@@ -1,4 +1,4 @@
--- The words in which the contracts of a record are written.
+-- Definitions that the contracts of every record use.
 pub use Rattle.std.specs.Ordering.{on}
 pub use Rattle.nla_frames.specs.Fault.{seen}
 pub use Rattle.tc_meaning.specs.Tree.{Scalar}

@@ -1,4 +1,4 @@
--- What a selector of u32 and its keys are, field by field.
+-- The abstract values of a u32 selector and its keys: lists of fields.
 use Rattle.std.specs.Prelude.{ℕ, List, [], ◌∷◌, map}
 use Rattle.std.specs.Int.{w16, w32, cast_unsigned}
 use Rattle.std.specs.List.{flat_map}
@@ -13,7 +13,7 @@ use Rattle.tc_records.specs.declared.filters.u32_selector.TcU32Selector.{TcU32Se
 abbrev pub key_scalars : TcU32Key → List Scalar
 key_scalars k = plain k.mask ∷ plain k.val ∷ plain (cast_unsigned w32 k.off) ∷ plain (cast_unsigned w32 k.offmask) ∷ []
 
--- keys as they are written, one after the other
+-- the bytes of keys
 abbrev pub keys_bytes : List (List Scalar) → List ℕ
 keys_bytes keys = flat_map (fields_bytes selector_key) keys
 

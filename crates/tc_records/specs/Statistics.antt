@@ -1,4 +1,4 @@
--- What statistics are, field by field.
+-- The abstract values of statistics: lists of fields.
 use Rattle.std.specs.Prelude.{List, [], ◌∷◌}
 use Rattle.std.specs.Int.{w32, cast_unsigned}
 use Rattle.tc_meaning.specs.Tree.{Scalar, plain, blank}

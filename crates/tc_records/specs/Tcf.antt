@@ -1,4 +1,4 @@
--- What the times of an action are, field by field.
+-- The abstract value of an action's times: a list of fields.
 use Rattle.std.specs.Prelude.{List, [], ◌∷◌}
 use Rattle.tc_meaning.specs.Tree.{Scalar, plain}
 use Rattle.tc_records.specs.declared.actions.tcf.Tcf.{Tcf}

@@ -1,6 +1,6 @@
 //! Tables of flags.
 
-// The flags of a type, each with its name, and one without a name that has all bits: so every bit is known.
+// The named flags of a type, and one without a name with all bits, so that every bit is known.
 macro_rules! flags {
     ($($name:ident),*; $all:expr) => {
         &[

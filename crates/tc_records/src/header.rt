@@ -15,15 +15,16 @@ use tc_fields::{
     same_family,
 };
 
-/// How long a header is, in bytes.
+/// The length of `struct tcmsg` in bytes.
 pub const TC_HEADER_LEN: usize = 20;
 
-/// The handle of a qdisc, a class or a filter: a major and a minor number.
+/// The handle of a qdisc, a class or a filter: major and minor number, as in `8001:10`. On the wire a `u32`,
+/// little-endian, with the major number in the upper half.
 #[derive(Clone, Copy, Default, Debug)]
 pub struct TcHandle {
-    /// The upper half of its word, which names a qdisc.
+    /// The upper half (`TC_H_MAJ`): the qdisc.
     pub major: u16,
-    /// The lower half, which names a class of it, or is 0.
+    /// The lower half (`TC_H_MIN`): a class of that qdisc, or 0.
     pub minor: u16,
 }
 
@@ -48,16 +49,16 @@ impl Eq for TcHandle {
 }
 
 impl TcHandle {
-    /// `TC_H_UNSPEC` of `linux/pkt_sched.h`.
+    /// `TC_H_UNSPEC` of `linux/pkt_sched.h`: `0:0`, no handle.
     pub const UNSPEC: TcHandle = TcHandle { major: 0, minor: 0 };
 
-    /// `TC_H_ROOT`.
+    /// `TC_H_ROOT`: the parent of a root qdisc.
     pub const ROOT: TcHandle = TcHandle {
         major: 0xFFFF,
         minor: 0xFFFF,
     };
 
-    /// `TC_H_INGRESS`.
+    /// `TC_H_INGRESS`: the parent of an ingress qdisc.
     pub const INGRESS: TcHandle = TcHandle {
         major: 0xFFFF,
         minor: 0xFFF1,
@@ -125,17 +126,16 @@ impl FixedRecord<4> for TcHandle {
         true
     }
 
-    fn again(&self) -> Self {
+    fn copied(&self) -> Self {
         *self
     }
 
-    fn in_hand(self, _other: Self) {}
+    fn in_range(self, _other: Self) {}
 
     ghost whole = { refl };
 }
 
-/// The header of a traffic control message, `struct tcmsg` of `linux/rtnetlink.h`: a family, three bytes of padding,
-/// then four numbers, little-endian.
+/// The header of a traffic control message, `struct tcmsg` of `linux/rtnetlink.h`. Numbers are little-endian.
 ///
 /// | Offset | Field | Type |
 /// |---|---|---|
@@ -147,16 +147,16 @@ impl FixedRecord<4> for TcHandle {
 /// | 16 | `info` | u32 |
 #[derive(Clone, Default, Drop, Debug)]
 pub struct TcHeader {
-    /// The family of addresses, `Unspec` as a rule.
+    /// `tcm_family`: the address family, usually `Unspec`.
     pub family: AddressFamily,
-    /// The index of the interface; for a block of filters that of `TCM_IFINDEX_MAGIC_BLOCK`, which is -1 here.
+    /// `tcm_ifindex`: the index of the interface, or `TCM_IFINDEX_MAGIC_BLOCK` (-1 here) for a block of filters.
     pub index: i32,
-    /// The handle of what the message is about.
+    /// `tcm_handle`: the handle of the object that the message describes.
     pub handle: TcHandle,
-    /// The handle of its parent; for a block of filters the number of the block.
+    /// `tcm_parent`: the handle of its parent, or the number of a block of filters (`tcm_block_index`).
     pub parent: TcHandle,
-    /// Of a filter its priority, in the upper half, and its protocol, in network order; of a qdisc how many references
-    /// it has.
+    /// `tcm_info`: for a filter its priority in the upper half and its protocol, big-endian, in the lower; for a qdisc
+    /// its number of references.
     pub info: u32,
 }
 
@@ -208,27 +208,28 @@ impl FixedRecord<TC_HEADER_LEN> for TcHeader {
         self.family.is_settled()
     }
 
-    fn again(&self) -> Self {
+    fn copied(&self) -> Self {
         Self { ..*self }
     }
 
-    fn in_hand(self, _other: Self) {}
+    fn in_range(self, _other: Self) {}
 
     ghost whole = { refl };
 }
 
 impl TcHeader {
-    /// The index that means a block of filters in place of an interface.
+    /// The interface index that stands for a block of filters (`TCM_IFINDEX_MAGIC_BLOCK`).
     pub const TCM_IFINDEX_MAGIC_BLOCK: u32 = 0xFFFF_FFFF;
 
-    /// The header that bytes begin with; what follows is dropped, and fewer bytes are `BufferTooSmall`.
+    /// Parses the header at the front of the payload and ignores what follows. Fails with
+    /// `BufferTooSmall` if there are fewer bytes.
     pub fn parse(payload: &[u8]) -> Res<TcHeader>
         ensures { seen header_scalars result ≡ read_record tc_header payload.now }
     {
         parse_record(payload)
     }
 
-    /// True if it reads back as itself: the family is no `Other` of a number that has a name.
+    /// True if encoding and parsing returns an equal record: if `family` isn't an `Other` of a number that has a name.
     pub fn is_settled(&self) -> bool
         ensures { IsTrue result ↔ SettledFields tc_header (header_scalars self.now) }
     {

@@ -1,4 +1,4 @@
-//! What the definitions promise of one another, as contracts of functions that do nothing; how flags compare and hash;
+//! Laws of records, numbers and flags, each the contract of a function that does nothing; how flags compare and hash;
 //! and the defaults.
 
 ghost use Rattle.std.specs.Prelude.{◌≡◌, ◌↔◌, ◌<◌, ℕ, pos, negsuc, List, fold, Ok, Some, IsTrue};
@@ -29,7 +29,7 @@ ghost use Rattle.tc_records.specs.MessageFlags.{message_flags_word, message_flag
 ghost use Rattle.tc_records.specs.FilterFlags.{bpf_flags_word, bpf_flags_table, selector_flags_byte, selector_flags_table, option_flags_word, option_flags_table};
 
 pub mod equal;
-pub mod in_hand;
+pub mod in_range;
 pub mod selectors;
 
 use crate::{
@@ -41,9 +41,9 @@ use nla_frames::AddressFamily;
 use std::cmp::Ordering;
 use std::hash::{Hash, Hasher};
 
-/// A record of any layout. Its bytes read as it if and only if it is settled; and bytes that are read as a record are its
-/// bytes if and only if they are as long as the record and their padding is zero. Such bytes are read, as a settled
-/// record, and the bytes of a settled record are such.
+/// Laws of records of any layout. The bytes written for a record read as the record if and only if it is settled. Bytes
+/// that read as a record are the bytes written for it if and only if they are canonical: as long as the record, with
+/// zero padding. Canonical bytes read as a settled record, and the bytes of a settled record are canonical.
 pub fn records(bytes: &[u8])
     ensures back { (layout : List Field) (xs : List Scalar) → TypedFields layout xs
         → (read_record layout (fields_bytes layout xs) ≡ Ok xs) ↔ SettledFields layout xs }
@@ -57,14 +57,14 @@ pub fn records(bytes: &[u8])
         → SettledFields layout xs → CanonFields layout (fields_bytes layout xs) }
 {}
 
-/// A handle and its word are one and the same.
+/// Handles and 32-bit words correspond one to one.
 pub fn handle_numbers()
     ensures word { (n : ℕ) → handle_number (handle_of n) ≡ n }
     ensures handle { (h : TcHandle) → h.minor < 0x10000 → handle_of (handle_number h) ≡ h }
 {}
 
-/// A number is the number of its name, so reading and writing one loses nothing; as a field it is named if and only if
-/// the layouts of records say so.
+/// Converting a number to its enum and back returns the number, so reading and writing loses nothing; the enum names
+/// exactly the numbers that the layouts of records name.
 pub fn action_numbers(number: i32)
     ensures outcome { action_type_number (action_type_of number) ≡ number }
     ensures outcome_field { action_type_scalar (action_type_of number)
@@ -74,7 +74,7 @@ pub fn action_numbers(number: i32)
         ≡ read_field (named 4 mirror_action_types) (le_bytes 4 (cast_unsigned w32 number)) }
 {}
 
-/// Every bit of a word belongs to a flag, so that `from_bits` refuses no word.
+/// Every bit of a word belongs to a flag, so `from_bits` accepts every word.
 pub fn flag_words()
     ensures nat { KnowsEvery 32 nat_flags_table }
     ensures message { KnowsEvery 32 message_flags_table }
@@ -83,7 +83,7 @@ pub fn flag_words()
     ensures option { KnowsEvery 32 option_flags_table }
 {}
 
-/// What contracts see of flags, their word, forgets nothing.
+/// Flags with equal words are equal.
 pub fn flags_forget_nothing()
     ensures nat { ForgetsNothing nat_flags_word }
     ensures message { ForgetsNothing message_flags_word }
@@ -92,8 +92,8 @@ pub fn flags_forget_nothing()
     ensures option { ForgetsNothing option_flags_word }
 {}
 
-/// The flags of action messages compare as their words do, by `cmp` and `partial_cmp`; they are equal if and only if
-/// they compare as `Equal`.
+/// `cmp` and `partial_cmp` of the flags of action messages compare their words; flags are equal if and only if they
+/// compare as `Equal`.
 pub fn message_flags_order(
     first: TcActionMessageFlags,
     second: TcActionMessageFlags,
@@ -111,15 +111,15 @@ pub fn message_flags_order(
     )
 }
 
-/// The flags of an action message hash as their word does, so equal flags hash alike.
+/// The flags of an action message hash as their word, so equal flags have equal hashes.
 pub fn message_flags_hash<H: Hasher>(flags: TcActionMessageFlags, state: &mut H)
     ensures { state.new ≡ fold H.write state.old (fed.u32 (message_flags_word flags)) }
 {
     flags.hash(state);
 }
 
-/// The default of each type that has one: no flag, every number 0, and the family `Unspec`; but an action's outcome
-/// is `Unspec`, which is -1, and a mirror's direction is `EgressRedir`, which is 1.
+/// The defaults: no flags, every number 0, the family `Unspec`; but a verdict is `Unspec` (-1), and a mirror's
+/// direction `EgressRedir` (1).
 pub fn defaults()
     ensures family { DefaultsTo ⟦<AddressFamily as Default>⟧.is_default (λ x. x) Unspec }
     ensures handle { DefaultsTo ⟦<TcHandle as Default>⟧.is_default (λ x. x) (handle_of 0) }

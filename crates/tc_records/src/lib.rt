@@ -1,4 +1,4 @@
-//! The fixed records of traffic control, the numbers and the flags in them.
+//! The fixed records of traffic control, with the named numbers and the flags in them.
 #![tactic(auto)]
 
 pub mod actions;

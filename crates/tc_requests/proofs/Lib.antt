@@ -7,3 +7,7 @@ mod Steps
 mod Trees
 mod Anys
 mod Again
+mod Parts
+mod Nests
+mod Steadying
+mod NoActions

@@ -2,7 +2,7 @@
 use Rattle.std.proofs.Common.{◌≡◌, ℕ, ◌+◌, List, [], ◌∷◌, ◌++◌, map, Option, Some, None, Ok, Err, refl, sym, ap, append_assoc}
 use Rattle.std.proofs.lemmas.List.{append-nil}
 use Rattle.tc_requests.specs.declared.restore_error.RestoreError.{RestoreError}
-use Rattle.tc_requests.specs.declared.restore_error.RestoreError.TheVariants.{OutOfMemory, NotSettled}
+use Rattle.tc_requests.specs.declared.restore_error.RestoreError.TheVariants.{OutOfMemory, NotSettled, NotSteady}
 use Rattle.tc_meaning.specs.Message.{Message}
 use Rattle.tc_meaning.specs.Tree.{Attribute}
 use Rattle.tc_requests.specs.RestoredMessages.{some_left}
@@ -15,10 +15,11 @@ gives_err OutOfMemory part whole given leads = tt
 gives_err _ part whole given leads = leads given
 
 -- and why there is no request
-pub refused_by : (Settled : Message → Type 0) (e : RestoreError) (outcome : Restored Message) → Gives (Err e) outcome → RefusedBy Settled outcome e
-refused_by Settled OutOfMemory outcome given = tt
-refused_by Settled NotSettled outcome given = λ request is. absurd (cc (given, is))
-refused_by Settled _ outcome given = given
+pub refused_by : (Settled Other : Message → Type 0) (e : RestoreError) (outcome : Restored Message) → Gives (Err e) outcome → RefusedBy Settled Other outcome e
+refused_by Settled Other OutOfMemory outcome given = tt
+refused_by Settled Other NotSettled outcome given = λ request is. absurd (cc (given, is))
+refused_by Settled Other NotSteady outcome given = λ request is. absurd (cc (given, is))
+refused_by Settled Other _ outcome given = given
 
 front_more : {X : Type 0} (xs : List X) (y : X) (r : Restored (List X)) → behind xs (r >>= λ rest. Ok (in_front (Some y) rest)) ≡ behind (xs ++ y ∷ []) r
 front_more xs y (Ok ys) = ap Ok (sym (append_assoc xs (y ∷ []) ys))

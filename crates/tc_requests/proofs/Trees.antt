@@ -8,15 +8,15 @@ use Rattle.std.specs.Int.{w32, cast_unsigned}
 use Rattle.tc_records.specs.ActionType.{action_type_number, action_type_scalar}
 use Rattle.tc_records.specs.declared.actions.action.TcActionType.{TcActionType}
 use Rattle.tc_records.specs.declared.actions.action.TcActionType.TheVariants as types
-use Rattle.tc_stats.specs.Stats2.{tc_stats2}
-use Rattle.tc_stats.specs.declared.stats2.TcStats2.{TcStats2}
-use Rattle.tc_stats.specs.declared.stats2.TcStats2.TheVariants as stats2
-use Rattle.tc_action_options.specs.ActionOption.{action_option}
-use Rattle.tc_action_options.specs.declared.option.TcActionOption.{TcActionOption}
-use Rattle.tc_action_options.specs.declared.option.TcActionOption.TheVariants as option
-use Rattle.tc_action_options.specs.declared.mirror.TcActionMirrorOption.TheVariants as mirror
-use Rattle.tc_action_options.specs.declared.nat.TcActionNatOption.TheVariants as nat
-use Rattle.tc_action_options.specs.declared.tunnel_key.TcActionTunnelKeyOption.TheVariants as tunnel_key
+use Rattle.tc_actions.specs.Stats2.{tc_stats2}
+use Rattle.tc_actions.specs.declared.stats.stats2.TcStats2.{TcStats2}
+use Rattle.tc_actions.specs.declared.stats.stats2.TcStats2.TheVariants as stats2
+use Rattle.tc_actions.specs.ActionOption.{action_option}
+use Rattle.tc_actions.specs.declared.actions.option.TcActionOption.{TcActionOption}
+use Rattle.tc_actions.specs.declared.actions.option.TcActionOption.TheVariants as option
+use Rattle.tc_actions.specs.declared.actions.mirror.TcActionMirrorOption.TheVariants as mirror
+use Rattle.tc_actions.specs.declared.actions.nat.TcActionNatOption.TheVariants as nat
+use Rattle.tc_actions.specs.declared.actions.tunnel_key.TcActionTunnelKeyOption.TheVariants as tunnel_key
 use Rattle.tc_actions.specs.Action.{tc_action}
 use Rattle.tc_actions.specs.ActionAttribute.{action_attribute}
 use Rattle.tc_actions.specs.declared.actions.action.TcAction.{TcAction}

@@ -6,6 +6,7 @@ pub mod Numbers
 pub mod CodelTimes
 pub mod Restoring
 pub mod RestoredRaw
+pub mod RestoredTunnels
 pub mod Uses
 pub mod RestoredActions
 pub mod RestoredTrees
@@ -15,4 +16,7 @@ pub mod Standing
 pub mod RestoredMessages
 pub mod RootTables
 pub mod Notices
+pub mod Steady
 pub mod RequestOf
+pub mod FilterActions
+pub mod Unheld

@@ -2,8 +2,8 @@
 use Rattle.std.specs.Prelude.{Bool, false, not, ◌==◌, ◌&&◌, nat_le, length, codes, bytes_eq, Option, Some, None, if◌then◌else◌}
 use Rattle.std.specs.List.{list_any}
 use Rattle.nla_frames.specs.DefaultNla.{kept_frame}
-use Rattle.tc_attributes.specs.declared.attribute.TcAttribute.{TcAttribute}
-use Rattle.tc_attributes.specs.declared.attribute.TcAttribute.TheVariants as attribute
+use Rattle.tc_messages.specs.declared.attribute.TcAttribute.{TcAttribute}
+use Rattle.tc_messages.specs.declared.attribute.TcAttribute.TheVariants as attribute
 use Rattle.tc_messages.specs.declared.message.TcMessage.{TcMessage}
 use Rattle.tc_requests.specs.declared.notice.Notice.{Notice}
 use Rattle.tc_requests.specs.declared.notice.Notice.TheVariants.{Distribution, PlugLimit}

@@ -3,8 +3,8 @@ use Rattle.std.specs.Prelude.{ℕ, Bool, ◌==◌, List, [], ◌∷◌, Option, 
 use Rattle.std.specs.List.{list_any}
 use Rattle.tc_actions.specs.declared.actions.action.TcAction.{TcAction}
 use Rattle.tc_flower.specs.declared.filters.flower.options.TcFilterFlowerOption.TheVariants as flower
-use Rattle.tc_filters.specs.declared.filters.cls_u32.TcFilterU32Option.TheVariants as u32
-use Rattle.tc_filters.specs.declared.filters.matchall.TcFilterMatchAllOption.TheVariants as matchall
+use Rattle.tc_options.specs.declared.filters.cls_u32.TcFilterU32Option.TheVariants as u32
+use Rattle.tc_options.specs.declared.filters.matchall.TcFilterMatchAllOption.TheVariants as matchall
 use Rattle.tc_options.specs.declared.options.TcOption.{TcOption}
 use Rattle.tc_options.specs.declared.options.TcOption.TheVariants.{Flower, U32, MatchAll}
 

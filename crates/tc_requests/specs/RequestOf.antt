@@ -7,7 +7,7 @@ use Rattle.tc_options.specs.declared.options.TcOption.{TcOption}
 use Rattle.tc_options.specs.declared.options.TcOption.TheVariants.{Flower}
 use Rattle.tc_flower.specs.declared.filters.flower.options.TcFilterFlowerOption.TheVariants as flower
 use Rattle.tc_requests.specs.declared.restore_error.RestoreError.{RestoreError}
-use Rattle.tc_requests.specs.declared.restore_error.RestoreError.TheVariants.{OutOfMemory, MadeByKernel, Terse, RootTables, LinkToRoot, NotSettled}
+use Rattle.tc_requests.specs.declared.restore_error.RestoreError.TheVariants.{OutOfMemory, MadeByKernel, Terse, RootTables, LinkToRoot, NotSettled, NotSteady}
 use Rattle.tc_requests.specs.declared.restore_messages.Object.{Object}
 use Rattle.tc_requests.specs.declared.restore_messages.Object.TheVariants.{Qdisc, Class, Filter, Chain}
 use Rattle.tc_requests.specs.Restoring.{Restored}
@@ -58,8 +58,9 @@ request_restored roots object m =
     else if links_to_root roots object m then Err LinkToRoot
     else tc_restored (is_in_root roots object m) m
 
--- why there is no request: what the dump becomes isn't settled, or the dump can't be restored
-abbrev pub RefusedBy : (Message → Type 0) → Restored Message → RestoreError → Type 0
-RefusedBy Settled outcome OutOfMemory = Unit {0}
-RefusedBy Settled outcome NotSettled = (request : Message) → outcome ≡ Ok request → Settled request → ⊥
-RefusedBy Settled outcome e = outcome ≡ Err e
+-- why there is no request: what the dump becomes isn't settled, or restoring it again leads to another request, or the dump can't be restored
+abbrev pub RefusedBy : (Message → Type 0) → (Message → Type 0) → Restored Message → RestoreError → Type 0
+RefusedBy Settled Other outcome OutOfMemory = Unit {0}
+RefusedBy Settled Other outcome NotSettled = (request : Message) → outcome ≡ Ok request → Settled request → ⊥
+RefusedBy Settled Other outcome NotSteady = (request : Message) → outcome ≡ Ok request → Other request
+RefusedBy Settled Other outcome e = outcome ≡ Err e

@@ -1,5 +1,5 @@
 -- What becomes of actions.
-use Rattle.std.specs.Prelude.{ℕ, ◌+◌, ◌/◌, ◌%◌, List, [], ◌∷◌, ◌++◌, length, replicate, codes, bytes_eq, nat_lt, nat_le, ◌==◌, ◌&&◌, ◌||◌}
+use Rattle.std.specs.Prelude.{ℕ, ◌+◌, ◌%◌, List, [], ◌∷◌, ◌++◌, length, replicate, codes, bytes_eq, nat_lt, nat_le, ◌==◌, ◌&&◌, ◌||◌}
 use Rattle.std.specs.Prelude.{Bool, true, false, not, Option, Ok, Err, if◌then◌else◌}
 use Rattle.std.specs.List.{list_any}
 use Rattle.nla_frames.specs.DefaultNla.{kept_frame}
@@ -9,23 +9,24 @@ use Rattle.nla_frames.specs.Place.{kinds_set}
 use Rattle.tc_meaning.specs.Own.{kind_of_attribute}
 use Rattle.tc_meaning.specs.Tree.{Attribute, known, other, items, attributes_of, of_kind, record_of}
 use Rattle.tc_records.specs.Actions.{mirror_scalars, nat_scalars, tunnel_key_scalars}
-use Rattle.tc_stats.specs.declared.stats2.TcStats2.{TcStats2}
-use Rattle.tc_stats.specs.declared.stats2.TcStats2.TheVariants as stats2
-use Rattle.tc_action_options.specs.ActionOption.{action_option}
+use Rattle.tc_actions.specs.declared.stats.stats2.TcStats2.{TcStats2}
+use Rattle.tc_actions.specs.declared.stats.stats2.TcStats2.TheVariants as stats2
+use Rattle.tc_actions.specs.ActionOption.{action_option}
 use Rattle.tc_actions.specs.ActionAttribute.{action_attribute}
 use Rattle.tc_actions.specs.declared.actions.action.TcAction.{TcAction}
 use Rattle.tc_actions.specs.declared.actions.attribute.TcActionAttribute.{TcActionAttribute}
 use Rattle.tc_actions.specs.declared.actions.attribute.TcActionAttribute.TheVariants as attribute
-use Rattle.tc_action_options.specs.declared.option.TcActionOption.{TcActionOption}
-use Rattle.tc_action_options.specs.declared.option.TcActionOption.TheVariants.{Mirror, Nat, TunnelKey, Other}
-use Rattle.tc_action_options.specs.declared.mirror.TcActionMirrorOption.TheVariants as mirror
-use Rattle.tc_action_options.specs.declared.nat.TcActionNatOption.TheVariants as nat
-use Rattle.tc_action_options.specs.declared.tunnel_key.TcActionTunnelKeyOption.TheVariants as tunnel_key
-use Rattle.tc_requests.specs.declared.restore_error.RestoreError.TheVariants.{TooManyActions, Terse, TunnelOptions, ProgramByNumber, Estimator}
+use Rattle.tc_actions.specs.declared.actions.option.TcActionOption.{TcActionOption}
+use Rattle.tc_actions.specs.declared.actions.option.TcActionOption.TheVariants.{Mirror, Nat, TunnelKey, Other}
+use Rattle.tc_actions.specs.declared.actions.mirror.TcActionMirrorOption.TheVariants as mirror
+use Rattle.tc_actions.specs.declared.actions.nat.TcActionNatOption.TheVariants as nat
+use Rattle.tc_actions.specs.declared.actions.tunnel_key.TcActionTunnelKeyOption.TheVariants as tunnel_key
+use Rattle.tc_requests.specs.declared.restore_error.RestoreError.TheVariants.{TooManyActions, Terse, ProgramByNumber, Estimator}
 use Rattle.tc_requests.specs.Numbers.{number_at, with_number}
 use Rattle.tc_requests.specs.Uses.{parameters, mirror_restored, nat_restored, tunnel_key_restored, record_restored}
 use Rattle.tc_requests.specs.Restoring.{Restored, ◌>>=◌, stays, left_out, each, behind, sole_kind}
 use Rattle.tc_requests.specs.RestoredRaw.{with_value}
+use Rattle.tc_requests.specs.RestoredTunnels.{tunnel_restored}
 
 -- the types of options that are only dumped, by the action's kind: `TCA_.._TM` and `TCA_.._PAD`, and of ctinfo its counters;
 -- and police's rate tables, which are made anew
@@ -121,23 +122,16 @@ police_tables options = table_if 2 (list_any (has_rate 28) options) ++ table_if 
 abbrev pub rate_tables : {A : Type 0} → List ℕ → List (TcActionOption A) → List Attribute
 rate_tables kind options = if bytes_eq kind (codes "police") then police_tables options else []
 
--- tunnel options whose first nest is one of geneve (1), with more in it than a class and a type, of 8 bytes each, and data: a dump
--- has all options of geneve in one nest, of which the kernel would take one
-abbrev pub has_several : List ℕ → Bool
-has_several bytes =
-    nat_le 24 (length bytes)
-    && ((number_at 0 bytes / 0x10000 % 0x4000 == 1) && nat_lt (20 + number_at 20 bytes % 0x10000) (number_at 0 bytes % 0x10000))
-
 -- `TCA_TUNNEL_KEY_ENC_OPTS` (11)
-abbrev pub tunnel_kept : Frame → Restored Frame
-tunnel_kept f = if (type_of f.word == 11) && has_several f.value then Err TunnelOptions else Ok f
+abbrev pub tunnel_kept : Frame → Frame
+tunnel_kept f = if type_of f.word == 11 then tunnel_restored f else f
 
 -- an option that is kept raw; an eBPF program that is dumped by its number (`TCA_ACT_BPF_ID`, 9) can't be loaded again
 abbrev pub raw_option_restored : List ℕ → Frame → Restored Frame
 raw_option_restored kind f =
     if bytes_eq kind (codes "bpf") && (type_of f.word == 9) then Err ProgramByNumber
     else if list_any (λ n. n == type_of f.word) (parameters kind) then Ok (with_value f (parameters_restored kind f.value))
-    else if bytes_eq kind (codes "tunnel_key") then tunnel_kept f
+    else if bytes_eq kind (codes "tunnel_key") then Ok (tunnel_kept f)
     else Ok f
 
 abbrev pub option_kept : {A : Type 0} → List ℕ → TcActionOption A → Restored (Option Attribute)
@@ -145,7 +139,7 @@ option_kept kind (Mirror (mirror.Parms p)) = stays (of_kind (codes "mirred") (kn
 option_kept kind (Nat (nat.Parms p)) = stays (of_kind (codes "nat") (known 1 (record_of (nat_scalars (nat_restored p)))))
 option_kept kind (TunnelKey (tunnel_key.Parms p)) = stays (of_kind (codes "tunnel_key") (known 2 (record_of (tunnel_key_scalars (tunnel_key_restored p)))))
 option_kept kind (TunnelKey (tunnel_key.Other nla)) =
-    tunnel_kept (kept_frame nla) >>= λ f. stays (of_kind (codes "tunnel_key") (other f.word f.value))
+    stays (of_kind (codes "tunnel_key") (other (tunnel_kept (kept_frame nla)).word (tunnel_kept (kept_frame nla)).value))
 option_kept kind (Other nla) = raw_option_restored kind (kept_frame nla) >>= λ f. stays (other f.word f.value)
 option_kept kind x = stays (action_option x)
 

@@ -1,4 +1,4 @@
--- What becomes of options of filters that are kept raw: of basic, fw, route, flow and cgroup.
+-- What becomes of options of filters that are kept raw: of basic, fw, route, flow, cgroup, tcindex and rsvp.
 use Rattle.std.specs.Prelude.{ℕ, Bool, ◌||◌, List, [], ◌∷◌, codes, bytes_eq, Option, Ok, Err, if◌then◌else◌}
 use Rattle.nla_frames.specs.DefaultNla.{kept_codec}
 use Rattle.nla_frames.specs.Emission.{list_bytes}
@@ -9,7 +9,8 @@ use Rattle.tc_requests.specs.Restoring.{Restored, ◌>>=◌, stays, left_out, ea
 use Rattle.tc_requests.specs.RestoredRaw.{with_value, raw_restored}
 use Rattle.tc_requests.specs.RestoredTrees.{among, or_raw, actions_restored}
 
--- the types of a kind's actions: `TCA_BASIC_ACT`, `TCA_FW_ACT`, `TCA_ROUTE4_ACT`, `TCA_FLOW_ACT`, `TCA_CGROUP_ACT`
+-- the types of a kind's actions: `TCA_BASIC_ACT`, `TCA_FW_ACT`, `TCA_ROUTE4_ACT`, `TCA_FLOW_ACT`, `TCA_CGROUP_ACT`,
+-- `TCA_TCINDEX_ACT`, `TCA_RSVP_ACT`
 abbrev pub actions_types : List ℕ → List ℕ
 actions_types kind =
     if bytes_eq kind (codes "basic") then 3 ∷ []
@@ -17,10 +18,13 @@ actions_types kind =
     else if bytes_eq kind (codes "route") then 6 ∷ []
     else if bytes_eq kind (codes "flow") then 9 ∷ []
     else if bytes_eq kind (codes "cgroup") then 1 ∷ []
+    else if bytes_eq kind (codes "tcindex") then 7 ∷ []
+    else if bytes_eq kind (codes "rsvp") then 6 ∷ []
+    else if bytes_eq kind (codes "rsvp6") then 6 ∷ []
     else []
 
 -- of police without a list of actions: `TCA_BASIC_POLICE`, `TCA_FW_POLICE`, `TCA_ROUTE4_POLICE`, `TCA_FLOW_POLICE`,
--- `TCA_CGROUP_POLICE`; its rate table isn't dumped
+-- `TCA_CGROUP_POLICE`, `TCA_TCINDEX_POLICE`, `TCA_RSVP_POLICE`; its rate table isn't dumped
 abbrev pub police_types : List ℕ → List ℕ
 police_types kind =
     if bytes_eq kind (codes "basic") then 4 ∷ []
@@ -28,6 +32,9 @@ police_types kind =
     else if bytes_eq kind (codes "route") then 5 ∷ []
     else if bytes_eq kind (codes "flow") then 10 ∷ []
     else if bytes_eq kind (codes "cgroup") then 2 ∷ []
+    else if bytes_eq kind (codes "tcindex") then 6 ∷ []
+    else if bytes_eq kind (codes "rsvp") then 5 ∷ []
+    else if bytes_eq kind (codes "rsvp6") then 5 ∷ []
     else []
 
 -- of what is only dumped: `TCA_BASIC_PCNT`, `TCA_BASIC_PAD`
@@ -47,7 +54,10 @@ is_raw_filter kind =
     || (bytes_eq kind (codes "fw")
     || (bytes_eq kind (codes "route")
     || (bytes_eq kind (codes "flow")
-    || bytes_eq kind (codes "cgroup"))))
+    || (bytes_eq kind (codes "cgroup")
+    || (bytes_eq kind (codes "tcindex")
+    || (bytes_eq kind (codes "rsvp")
+    || bytes_eq kind (codes "rsvp6")))))))
 
 abbrev pub filter_restored : List ℕ → Frame → Restored Frame
 filter_restored kind f =

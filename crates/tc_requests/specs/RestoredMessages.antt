@@ -11,9 +11,9 @@ use Rattle.tc_records.specs.Header.{handle_of, handle_number, header_scalars}
 use Rattle.tc_records.specs.declared.header.TcHandle.{TcHandle}
 use Rattle.tc_records.specs.declared.header.TcHeader.{TcHeader}
 use Rattle.tc_records.specs.Actions.{action_message_header_scalars}
-use Rattle.tc_attributes.specs.Attribute.{tc_attribute}
-use Rattle.tc_attributes.specs.declared.attribute.TcAttribute.{TcAttribute}
-use Rattle.tc_attributes.specs.declared.attribute.TcAttribute.TheVariants as attribute
+use Rattle.tc_messages.specs.Attribute.{tc_attribute}
+use Rattle.tc_messages.specs.declared.attribute.TcAttribute.{TcAttribute}
+use Rattle.tc_messages.specs.declared.attribute.TcAttribute.TheVariants as attribute
 use Rattle.tc_messages.specs.declared.message.TcMessage.{TcMessage}
 use Rattle.tc_action_messages.specs.ActionMessageAttribute.{action_message_attribute}
 use Rattle.tc_action_messages.specs.declared.attribute.TcActionMessageAttribute.{TcActionMessageAttribute}

@@ -1,23 +1,23 @@
 -- What becomes of options.
 use Rattle.std.specs.Prelude.{ℕ, ◌%◌, Bool, true, false, ◌==◌, ◌&&◌, ◌||◌, List, [], ◌∷◌, codes, bytes_eq, bit_and, Option, Err, if◌then◌else◌}
 use Rattle.tc_meaning.specs.Tree.{Attribute, known, other, number, items, attributes_of, of_kind}
-use Rattle.tc_requests.specs.declared.restore_error.RestoreError.TheVariants.{ProgramByNumber, PoliceOfFilter, TunnelOptions}
+use Rattle.tc_requests.specs.declared.restore_error.RestoreError.TheVariants.{ProgramByNumber, PoliceOfFilter}
 use Rattle.tc_records.specs.FilterFlags.{option_flags_word}
-use Rattle.tc_qdiscs.specs.FqCodel.{fq_codel_option}
-use Rattle.tc_qdiscs.specs.declared.qdiscs.fq_codel.TcQdiscFqCodelOption.{TcQdiscFqCodelOption}
-use Rattle.tc_qdiscs.specs.declared.qdiscs.fq_codel.TcQdiscFqCodelOption.TheVariants as fq_codel
+use Rattle.tc_options.specs.FqCodel.{fq_codel_option}
+use Rattle.tc_options.specs.declared.qdiscs.fq_codel.TcQdiscFqCodelOption.{TcQdiscFqCodelOption}
+use Rattle.tc_options.specs.declared.qdiscs.fq_codel.TcQdiscFqCodelOption.TheVariants as fq_codel
 use Rattle.tc_flower.specs.Flower.{flower_option}
 use Rattle.tc_flower.specs.declared.filters.flower.options.TcFilterFlowerOption.{TcFilterFlowerOption}
 use Rattle.tc_flower.specs.declared.filters.flower.options.TcFilterFlowerOption.TheVariants as flower
-use Rattle.tc_filters.specs.U32.{u32_option}
-use Rattle.tc_filters.specs.declared.filters.cls_u32.TcFilterU32Option.{TcFilterU32Option}
-use Rattle.tc_filters.specs.declared.filters.cls_u32.TcFilterU32Option.TheVariants as u32
-use Rattle.tc_filters.specs.MatchAll.{matchall_option}
-use Rattle.tc_filters.specs.declared.filters.matchall.TcFilterMatchAllOption.{TcFilterMatchAllOption}
-use Rattle.tc_filters.specs.declared.filters.matchall.TcFilterMatchAllOption.TheVariants as matchall
-use Rattle.tc_filters.specs.Bpf.{bpf_option}
-use Rattle.tc_filters.specs.declared.filters.bpf.TcFilterBpfOption.{TcFilterBpfOption}
-use Rattle.tc_filters.specs.declared.filters.bpf.TcFilterBpfOption.TheVariants as bpf
+use Rattle.tc_options.specs.U32.{u32_option}
+use Rattle.tc_options.specs.declared.filters.cls_u32.TcFilterU32Option.{TcFilterU32Option}
+use Rattle.tc_options.specs.declared.filters.cls_u32.TcFilterU32Option.TheVariants as u32
+use Rattle.tc_options.specs.MatchAll.{matchall_option}
+use Rattle.tc_options.specs.declared.filters.matchall.TcFilterMatchAllOption.{TcFilterMatchAllOption}
+use Rattle.tc_options.specs.declared.filters.matchall.TcFilterMatchAllOption.TheVariants as matchall
+use Rattle.tc_options.specs.Bpf.{bpf_option}
+use Rattle.tc_options.specs.declared.filters.bpf.TcFilterBpfOption.{TcFilterBpfOption}
+use Rattle.tc_options.specs.declared.filters.bpf.TcFilterBpfOption.TheVariants as bpf
 use Rattle.tc_options.specs.Options.{tc_option}
 use Rattle.tc_options.specs.declared.options.TcOption.{TcOption}
 use Rattle.tc_options.specs.declared.options.TcOption.TheVariants.{FqCodel, Flower, U32, MatchAll, Bpf}
@@ -26,7 +26,8 @@ use Rattle.tc_texts.specs.Info.{protocol_of}
 use Rattle.tc_requests.specs.declared.restore.Around.{Around}
 use Rattle.tc_requests.specs.CodelTimes.{time_set}
 use Rattle.tc_requests.specs.Restoring.{Restored, ◌>>=◌, stays, left_out, each, behind, seen_part}
-use Rattle.tc_requests.specs.RestoredActions.{action_restored, is_of, has_several}
+use Rattle.tc_requests.specs.RestoredActions.{action_restored, is_of}
+use Rattle.tc_requests.specs.RestoredTunnels.{tunnel_restored}
 use Rattle.tc_requests.specs.RestoredTrees.{actions_restored as raw_actions_restored}
 use Rattle.nla_frames.specs.DefaultNla.{kept_frame}
 
@@ -64,7 +65,7 @@ flower_restored info (flower.Flags n) = stays (known 22 (number (cleared n)))
 flower_restored info (flower.InHwCount n) = left_out
 flower_restored info (flower.Actions actions) = actions_restored 3 actions.items
 flower_restored info (flower.Other nla) =
-    if is_of (84 ∷ 85 ∷ []) nla && has_several (kept_frame nla).value then Err TunnelOptions else stays (flower_option (flower.Other nla))
+    if is_of (84 ∷ 85 ∷ []) nla then stays (other (kept_frame nla).word (tunnel_restored (kept_frame nla)).value) else stays (flower_option (flower.Other nla))
 flower_restored info x = stays (flower_option x)
 
 -- what a handle of u32 says within its table, whose number is the upper 12 bits: 0 for the table itself

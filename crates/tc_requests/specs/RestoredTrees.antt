@@ -61,7 +61,7 @@ option_kept kind (of_kind name (known n (record_of scalars))) =
     stays (of_kind name (known n (record_of (if among (parameters name) n then parameters_seen scalars else scalars))))
 option_kept kind (of_kind name (other word value)) =
     if bytes_eq name (codes "tunnel_key")
-    then (tunnel_kept (record { word = word; value = value }) >>= λ f. stays (of_kind name (other f.word f.value)))
+    then stays (of_kind name (other (tunnel_kept (record { word = word; value = value })).word (tunnel_kept (record { word = word; value = value })).value))
     else stays (of_kind name (other word value))
 option_kept kind (other word value) = raw_option_restored kind (record { word = word; value = value }) >>= λ f. stays (other f.word f.value)
 option_kept kind x = stays x

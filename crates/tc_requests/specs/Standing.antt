@@ -6,11 +6,11 @@ use Rattle.tc_meaning.specs.Tree.{Attribute}
 use Rattle.tc_actions.specs.declared.actions.action.TcAction.{TcAction}
 use Rattle.tc_actions.specs.declared.actions.attribute.TcActionAttribute.{TcActionAttribute}
 use Rattle.tc_actions.specs.declared.actions.attribute.TcActionAttribute.TheVariants as attribute
-use Rattle.tc_action_options.specs.declared.option.TcActionOption.{TcActionOption}
-use Rattle.tc_action_options.specs.declared.option.TcActionOption.TheVariants.{Mirror, Nat, TunnelKey, Other}
-use Rattle.tc_action_options.specs.declared.mirror.TcActionMirrorOption.TheVariants as mirror
-use Rattle.tc_action_options.specs.declared.nat.TcActionNatOption.TheVariants as nat
-use Rattle.tc_action_options.specs.declared.tunnel_key.TcActionTunnelKeyOption.TheVariants as tunnel_key
+use Rattle.tc_actions.specs.declared.actions.option.TcActionOption.{TcActionOption}
+use Rattle.tc_actions.specs.declared.actions.option.TcActionOption.TheVariants.{Mirror, Nat, TunnelKey, Other}
+use Rattle.tc_actions.specs.declared.actions.mirror.TcActionMirrorOption.TheVariants as mirror
+use Rattle.tc_actions.specs.declared.actions.nat.TcActionNatOption.TheVariants as nat
+use Rattle.tc_actions.specs.declared.actions.tunnel_key.TcActionTunnelKeyOption.TheVariants as tunnel_key
 use Rattle.tc_requests.specs.declared.restore_error.RestoreError.TheVariants.{GotoChain, MadeByKernel}
 use Rattle.tc_requests.specs.declared.standing.Asked.{Asked}
 use Rattle.tc_requests.specs.declared.standing.Asked.TheVariants.{Private, ToChain}

@@ -13,9 +13,9 @@ ghost use Rattle.tc_meaning.specs.Meaning.{table_codec};
 ghost use Rattle.tc_meaning.specs.Whole.{tc_bytes, FitsTc, SettledTc, act_bytes, FitsAct, SettledAct};
 ghost use Rattle.tc_texts.specs.Info.{filter_info};
 ghost use Rattle.tc_options.specs.Options.{tc_option};
-ghost use Rattle.tc_attributes.specs.Attribute.{tc_attribute};
+ghost use Rattle.tc_messages.specs.Attribute.{tc_attribute};
 ghost use Rattle.tc_messages.specs.Message.{tc_message};
-ghost use Rattle.tc_action_options.specs.ActionOption.{action_option};
+ghost use Rattle.tc_actions.specs.ActionOption.{action_option};
 ghost use Rattle.tc_actions.specs.Action.{tc_action, listed, an_action};
 ghost use Rattle.tc_actions.specs.ActionAttribute.{action_attribute};
 ghost use Rattle.tc_action_messages.specs.ActionMessage.{action_message};
@@ -36,8 +36,7 @@ use tc_action_messages::{TcActionMessage, TcActionMessageAttribute};
 use tc_actions::{
     TcAction, TcActionAttribute, TcActionMirror, TcActionNat, TcActionOption, TcActionTunnelKey,
 };
-use tc_attributes::TcAttribute;
-use tc_messages::TcMessage;
+use tc_messages::{TcAttribute, TcMessage};
 use tc_options::TcOption;
 use tc_records::{TcActionMessageHeader, TcHeader};
 use tc_texts::filter_info;

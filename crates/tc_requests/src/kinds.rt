@@ -4,7 +4,7 @@ ghost use Rattle.std.specs.Prelude.{◌≡◌, true, List, ℕ, codes};
 ghost use Rattle.tc_canon.specs.Descriptor.{is_known};
 ghost use Rattle.tc_canon.specs.Tables.Options.{option_kinds};
 ghost use Rattle.tc_options.specs.declared.options.TcOption.TheVariants.{FqCodel, Ingress, Flower, U32, MatchAll, Bpf};
-ghost use Rattle.tc_action_options.specs.declared.option.TcActionOption.TheVariants.{Mirror, Nat, TunnelKey, Other};
+ghost use Rattle.tc_actions.specs.declared.actions.option.TcActionOption.TheVariants.{Mirror, Nat, TunnelKey, Other};
 
 use nla_frames::DefaultNla;
 use std::alloc::Allocator;
@@ -14,9 +14,9 @@ use tc_actions::{
 };
 use tc_options::{
     TcFilterBpf, TcFilterBpfOption, TcFilterFlower, TcFilterFlowerOption, TcFilterMatchAll,
-    TcFilterMatchAllOption, TcFilterU32, TcFilterU32Option, TcOption,
+    TcFilterMatchAllOption, TcFilterU32, TcFilterU32Option, TcOption, TcQdiscFqCodel,
+    TcQdiscFqCodelOption, TcQdiscIngress, TcQdiscIngressOption,
 };
-use tc_qdiscs::{TcQdiscFqCodel, TcQdiscFqCodelOption, TcQdiscIngress, TcQdiscIngressOption};
 
 /// What becomes one of the options `T`, which hold options of all kinds.
 pub trait OptionOf<T>: Drop {

@@ -15,7 +15,9 @@
 
 pub mod build;
 mod codel_times;
+pub mod counts;
 pub mod error;
+pub mod filter_actions;
 pub mod handle;
 pub mod kinds;
 pub mod laws;
@@ -29,6 +31,7 @@ mod restore_filters;
 pub mod restore_messages;
 mod restore_options;
 mod restore_raw;
+mod restore_tunnels;
 pub mod root_tables;
 mod settled;
 pub mod standing;
@@ -36,7 +39,9 @@ pub mod target;
 pub mod uses;
 
 pub use build::{action, action_message, chain, filter, plain_qdisc, qdisc, raw_action};
+pub use counts::unheld;
 pub use error::RequestError;
+pub use filter_actions::actions_of_filter;
 pub use handle::TcText;
 pub use kinds::{ActionKindOption, FilterOption, OfKind, OptionOf, QdiscOption, TcKindOption};
 pub use notice::{Notice, notice_of};

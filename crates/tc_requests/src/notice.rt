@@ -9,8 +9,7 @@ use crate::numbers::number_at;
 use crate::restore_messages::{Object, kind_of_message};
 use nla_frames::Nla;
 use std::alloc::Allocator;
-use tc_attributes::TcAttribute;
-use tc_messages::TcMessage;
+use tc_messages::{TcAttribute, TcMessage};
 use thiserror::Error;
 
 /// What the kernel doesn't dump of a qdisc, so that its request lacks it.

@@ -27,7 +27,7 @@ fn has_place<A: Allocator>(actions: &[TcAction<A>], place: u16) -> bool
     actions.iter().any(|action| action.tab == place)
 }
 
-// The same of the first option that has such actions.
+// An order number that two actions have, in the first option with actions that do.
 pub(crate) fn doubled_in<A: Allocator>(options: &[TcOption<A>]) -> Option<u16>
     ensures { result ≡ doubled_in options.now }
 {

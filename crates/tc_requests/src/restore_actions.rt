@@ -1,20 +1,21 @@
 //! Actions, as they are in a request: counted from 1, without statistics and times.
 
-ghost use Rattle.std.specs.Prelude.{◌≡◌, ◌≤◌, ◌+◌, ◌++◌, length, map, IfOk, IfErr};
+ghost use Rattle.std.specs.Prelude.{◌≡◌, ◌≤◌, ◌+◌, ◌++◌, length, map, Ok, IfOk, IfErr};
 ghost use Rattle.std.specs.List.{list_any};
 ghost use Rattle.nla_frames.specs.DefaultNla.{kept_frame};
 ghost use Rattle.tc_actions.specs.Action.{tc_action};
 ghost use Rattle.tc_actions.specs.ActionAttribute.{action_attribute};
-ghost use Rattle.tc_action_options.specs.ActionOption.{action_option};
+ghost use Rattle.tc_actions.specs.ActionOption.{action_option};
 ghost use Rattle.tc_meaning.specs.Tree.{Attribute};
 ghost use Rattle.tc_requests.specs.declared.restore_error.RestoreError.TheVariants.{OutOfMemory};
 ghost use Rattle.tc_requests.specs.Restoring.{Gives, seen, seen_part};
 ghost use Rattle.tc_requests.specs.RestoredActions.{only_dumped, is_only_dumped, changes_label, mpls_types, dumped_types, with_cell_log, has_rate, zeros, rate_table, table_if, rate_tables};
-ghost use Rattle.tc_requests.specs.RestoredActions.{with_cell_logs, has_several, tunnel_kept, parameters_restored, raw_option_restored, has_options, option_kept, option_restored, options_restored, estimates, attribute_restored, action_restored};
+ghost use Rattle.tc_requests.specs.RestoredActions.{with_cell_logs, tunnel_kept, parameters_restored, raw_option_restored, has_options, option_kept, option_restored, options_restored, estimates, attribute_restored, action_restored};
 
 use crate::numbers::{number_at, with_number};
 use crate::restore::{Around, Restore, is_of, restore_behind, restore_own};
 use crate::restore_error::RestoreError;
+use crate::restore_tunnels::restored_tunnel;
 use crate::uses::{
     mirror_restored, nat_restored, parameters, record_restored, tunnel_key_restored,
 };
@@ -254,7 +255,7 @@ fn kept_option<A: Allocator + Copy>(
             )))))
         }
         TcActionOption::TunnelKey(TcActionTunnelKeyOption::Other(nla)) => {
-            let nla = kept_tunnel(nla)?;
+            let nla = kept_tunnel(alloc, nla)?;
             Ok(Some(TcActionOption::TunnelKey(TcActionTunnelKeyOption::Other(nla))))
         }
         TcActionOption::Other(nla) => {
@@ -282,32 +283,25 @@ fn restored_raw_option<A: Allocator + Copy>(
         return Ok(DefaultNla::new(nla.kind(), value));
     }
     if kind == "tunnel_key" {
-        return kept_tunnel(nla);
+        return kept_tunnel(alloc, nla);
     }
     Ok(nla)
 }
 
+// `TCA_TUNNEL_KEY_ENC_OPTS` of `linux/tc_act/tc_tunnel_key.h`.
+const TUNNEL: u16 = 11;
+
 // An option of tunnel_key that is kept raw.
-fn kept_tunnel<A: Allocator>(nla: DefaultNla<A>) -> Result<DefaultNla<A>, RestoreError>
-    ensures { Gives (seen kept_frame result) (tunnel_kept (kept_frame nla)) }
+fn kept_tunnel<A: Allocator + Copy>(
+    alloc: A,
+    nla: DefaultNla<A>,
+) -> Result<DefaultNla<A>, RestoreError>
+    ensures { Gives (seen kept_frame result) (Ok (tunnel_kept (kept_frame nla))) }
 {
-    if nla.kind() & NLA_TYPE_MASK == 11 && has_several(nla.value()) {
-        Err(RestoreError::TunnelOptions)
+    if nla.kind() & NLA_TYPE_MASK == TUNNEL {
+        restored_tunnel(alloc, nla)
     } else {
         Ok(nla)
-    }
-}
-
-// True of tunnel options with several options of geneve in their first nest.
-pub(crate) fn has_several(bytes: &[u8]) -> bool
-    ensures { result ≡ has_several bytes.now }
-{
-    if bytes.len() >= 24 {
-        let first = number_at(bytes, 0);
-        let data = number_at(bytes, 20) % 0x1_0000;
-        first / 0x1_0000 % 0x4000 == 1 && 20 + data < first % 0x1_0000
-    } else {
-        false
     }
 }
 

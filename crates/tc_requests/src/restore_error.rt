@@ -54,11 +54,6 @@ pub enum RestoreError {
     #[error("link to a root table of u32")]
     LinkToRoot,
 
-    /// Several geneve options of a tunnel, of the action tunnel_key or of flower, are dumped in one nest, of which the kernel would
-    /// take one option.
-    #[error("several geneve options of a tunnel")]
-    TunnelOptions,
-
     /// Statistics are all that there is.
     #[error("nothing but statistics")]
     NothingLeft,
@@ -72,6 +67,10 @@ pub enum RestoreError {
     /// The request would not read back as itself, since the dump doesn't.
     #[error("does not read back as itself")]
     NotSettled,
+
+    /// Restored again, as if it were a dump, the request would be another one.
+    #[error("its request would be restored as another one")]
+    NotSteady,
 
     /// The allocator failed.
     #[error("out of memory")]

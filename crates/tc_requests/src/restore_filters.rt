@@ -34,11 +34,14 @@ pub(crate) fn restored_kept<A: Allocator + Copy>(
 fn is_raw_filter(kind: &str) -> bool
     ensures { result ≡ is_raw_filter kind.now }
 {
-    matches!(kind, "basic" | "fw" | "route" | "flow" | "cgroup")
+    matches!(
+        kind,
+        "basic" | "fw" | "route" | "flow" | "cgroup" | "tcindex" | "rsvp" | "rsvp6"
+    )
 }
 
 // The types of a kind's actions.
-fn actions_types(kind: &str) -> &'static [u16]
+pub(crate) fn actions_types(kind: &str) -> &'static [u16]
     ensures { result.now ≡ actions_types kind.now }
 {
     match kind {
@@ -47,6 +50,9 @@ fn actions_types(kind: &str) -> &'static [u16]
         "route" => &[6],
         "flow" => &[9],
         "cgroup" => &[1],
+        "tcindex" => &[7],
+        "rsvp" => &[6],
+        "rsvp6" => &[6],
         _ => &[],
     }
 }
@@ -61,6 +67,9 @@ fn police_types(kind: &str) -> &'static [u16]
         "route" => &[5],
         "flow" => &[10],
         "cgroup" => &[2],
+        "tcindex" => &[6],
+        "rsvp" => &[5],
+        "rsvp6" => &[5],
         _ => &[],
     }
 }

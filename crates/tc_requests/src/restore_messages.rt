@@ -1,18 +1,20 @@
 //! Dumps made into the requests that restore them.
 
-ghost use Rattle.std.specs.Prelude.{◌≡◌, bytes_eq, codes, Ok, IfOk, IfErr};
+ghost use Rattle.std.specs.Prelude.{◌≡◌, true, false, bytes_eq, codes, Ok, IfOk, IfErr};
 ghost use Rattle.std.specs.List.{list_any};
 ghost use Rattle.tc_canon.specs.Canonical.{CanonTc, CanonAct};
 ghost use Rattle.tc_meaning.specs.Whole.{tc_bytes, FitsTc, SettledTc, act_bytes, FitsAct, SettledAct};
 ghost use Rattle.tc_messages.specs.Message.{tc_message};
-ghost use Rattle.tc_attributes.specs.Attribute.{tc_attribute};
+ghost use Rattle.tc_messages.specs.Attribute.{tc_attribute};
 ghost use Rattle.tc_action_messages.specs.ActionMessage.{action_message};
 ghost use Rattle.tc_action_messages.specs.ActionMessageAttribute.{action_message_attribute};
 ghost use Rattle.tc_meaning.specs.Tree.{Attribute};
 ghost use Rattle.tc_requests.specs.Restoring.{Gives, seen};
 ghost use Rattle.tc_requests.specs.RestoredMessages.{attribute_restored, lacks_table, kind_of_message, handle_restored, header_restored};
 ghost use Rattle.tc_requests.specs.RestoredMessages.{tc_restored, action_attribute_restored, actions_message_restored};
-ghost use Rattle.tc_requests.specs.RootTables.{has_such, any_option};
+ghost use Rattle.tc_requests.specs.RootTables.{has_such, any_option, is_in_root};
+ghost use Rattle.tc_requests.specs.Steady.{Steady, Unsteady, has_times, IsSteady, IsSteadyAct};
+ghost use Rattle.tc_requests.specs.declared.restore_error.RestoreError.TheVariants.{OutOfMemory};
 ghost use Rattle.tc_requests.specs.RequestOf.{new_type, has_own_classes, is_made, is_count, is_terse, request_restored, RefusedBy};
 
 use crate::restore::{Around, NOTHING_AROUND, Restore, is_of, restore_all, restore_own, sole_kind};
@@ -26,8 +28,7 @@ use crate::root_tables::{
 use crate::standing::standing_restored;
 use std::alloc::Allocator;
 use tc_action_messages::{TcActionMessage, TcActionMessageAttribute};
-use tc_attributes::TcAttribute;
-use tc_messages::TcMessage;
+use tc_messages::{TcAttribute, TcMessage};
 use tc_options::{TcFilterFlowerOption, TcOption};
 use tc_records::{TcHandle, TcHeader};
 
@@ -94,11 +95,19 @@ pub fn request_of<A: Allocator + Copy>(
     ensures settled { IfOk result (λ r. SettledTc (tc_message r.message)) }
     ensures canonical { IfOk result (λ r.
         FitsTc (tc_message r.message) → CanonTc (tc_bytes (tc_message r.message))) }
-    ensures refused { IfErr result (RefusedBy SettledTc (request_restored roots.now object dump)) }
+    ensures steady { IfOk result (λ r. IsSteady (is_in_root roots.now object dump) r.message) }
+    ensures refused { IfErr result (RefusedBy SettledTc
+        (Unsteady (tc_message {A = A}) (tc_restored (is_in_root roots.now object dump)))
+        (request_restored roots.now object dump)) }
 {
+    let in_root = is_in_root(roots, object, &dump);
     let message = restored(alloc, roots, object, dump)?;
     if !message.is_settled() {
         return Err(RestoreError::NotSettled);
+    }
+    let steady = is_steady(alloc, in_root, &message)?;
+    if !steady {
+        return Err(RestoreError::NotSteady);
     }
     Ok(Request {
         message_type: object.new_type(),
@@ -119,17 +128,93 @@ pub fn request_of_actions<A: Allocator + Copy>(
     ensures settled { IfOk result (λ r. SettledAct (action_message r.message)) }
     ensures canonical { IfOk result (λ r.
         FitsAct (action_message r.message) → CanonAct (act_bytes (action_message r.message))) }
-    ensures refused { IfErr result (RefusedBy SettledAct (actions_message_restored dump)) }
+    ensures steady { IfOk result (λ r. IsSteadyAct r.message) }
+    ensures refused { IfErr result (RefusedBy SettledAct
+        (Unsteady (action_message {A = A}) actions_message_restored)
+        (actions_message_restored dump)) }
 {
     let message = restored_actions(alloc, dump)?;
     if !message.is_settled() {
         return Err(RestoreError::NotSettled);
+    }
+    let steady = are_steady(alloc, &message)?;
+    if !steady {
+        return Err(RestoreError::NotSteady);
     }
     Ok(Request {
         message_type: RTM_NEWACTION,
         flags: NEW_FLAGS,
         message,
     })
+}
+
+// True if a request, restored as if it were a dump, is the same request, or one whose times aren't the same then.
+fn is_steady<A: Allocator + Copy>(
+    alloc: A,
+    in_root: bool,
+    request: &TcMessage<A>,
+) -> Result<bool, RestoreError>
+    ensures steady { IfOk result (λ is. is ≡ true → IsSteady in_root request.now) }
+    ensures unsteady { IfOk result (λ is. is ≡ false
+        → Unsteady (tc_message {A = A}) (tc_restored in_root) (tc_message request.now)) }
+    ensures memory { IfErr result (λ e. e ≡ OutOfMemory) }
+{
+    if has_times(kind_of_message(request)) {
+        return Ok(true);
+    }
+    let copy = request.clone()?;
+    // A clone is equal.
+    if copy != *request {
+        return Err(RestoreError::OutOfMemory);
+    }
+    match restored_message(alloc, in_root, copy) {
+        Ok(again) => Ok(again == *request),
+        Err(error) => {
+            let is = is_of_request(error)?;
+            Ok(is)
+        }
+    }
+}
+
+// The same of actions.
+fn are_steady<A: Allocator + Copy>(
+    alloc: A,
+    request: &TcActionMessage<A>,
+) -> Result<bool, RestoreError>
+    ensures steady { IfOk result (λ is. is ≡ true → IsSteadyAct request.now) }
+    ensures unsteady { IfOk result (λ is. is ≡ false
+        → Unsteady (action_message {A = A}) actions_message_restored (action_message request.now)) }
+    ensures memory { IfErr result (λ e. e ≡ OutOfMemory) }
+{
+    let copy = request.clone()?;
+    // A clone is equal.
+    if copy != *request {
+        return Err(RestoreError::OutOfMemory);
+    }
+    match restored_actions(alloc, copy) {
+        Ok(again) => Ok(again == *request),
+        Err(error) => {
+            let is = is_of_request(error)?;
+            Ok(is)
+        }
+    }
+}
+
+// False of an error that the request gives: not of one of memory.
+fn is_of_request(error: RestoreError) -> Result<bool, RestoreError>
+    ensures other { IfOk result (λ is. (is ≡ false) × (error ≡ OutOfMemory → ⊥)) }
+    ensures memory { IfErr result (λ e. e ≡ OutOfMemory) }
+{
+    match error {
+        RestoreError::OutOfMemory => Err(RestoreError::OutOfMemory),
+        _ => Ok(false),
+    }
+}
+
+fn has_times(kind: &str) -> bool
+    ensures { result ≡ has_times kind.now }
+{
+    matches!(kind, "fq_codel" | "codel")
 }
 
 // True if the kernel makes it by itself.

@@ -3,11 +3,11 @@
 ghost use Rattle.std.specs.Prelude.{◌≡◌, ◌∷◌, [], codes, map, IfOk, IfErr};
 ghost use Rattle.tc_meaning.specs.Tree.{Attribute, known, number, of_kind};
 ghost use Rattle.tc_records.specs.FilterFlags.{option_flags_word};
-ghost use Rattle.tc_qdiscs.specs.FqCodel.{fq_codel_option};
+ghost use Rattle.tc_options.specs.FqCodel.{fq_codel_option};
 ghost use Rattle.tc_flower.specs.Flower.{flower_option};
-ghost use Rattle.tc_filters.specs.U32.{u32_option};
-ghost use Rattle.tc_filters.specs.MatchAll.{matchall_option};
-ghost use Rattle.tc_filters.specs.Bpf.{bpf_option};
+ghost use Rattle.tc_options.specs.U32.{u32_option};
+ghost use Rattle.tc_options.specs.MatchAll.{matchall_option};
+ghost use Rattle.tc_options.specs.Bpf.{bpf_option};
 ghost use Rattle.tc_options.specs.Options.{tc_option};
 ghost use Rattle.tc_requests.specs.declared.restore_error.RestoreError.TheVariants.{OutOfMemory};
 ghost use Rattle.tc_requests.specs.Restoring.{Gives, seen, seen_part};
@@ -15,16 +15,15 @@ ghost use Rattle.tc_requests.specs.RestoredOptions.{cleared, fq_codel_restored, 
 
 use crate::codel_times::time_set;
 use crate::restore::{Around, NOTHING_AROUND, Restore, is_of, restore_all, restore_behind};
-use crate::restore_actions::has_several;
 use crate::restore_error::RestoreError;
 use crate::restore_filters::restored_actions;
+use crate::restore_tunnels::restored_tunnel;
 use bitflags::Flags;
-use nla_frames::Nla;
 use std::alloc::{AllocError, Allocator};
 use tc_options::{
     TcFilterBpfOption, TcFilterFlowerOption, TcFilterMatchAllOption, TcFilterU32Option, TcOption,
+    TcQdiscFqCodelOption,
 };
-use tc_qdiscs::TcQdiscFqCodelOption;
 use tc_records::TcU32OptionFlags;
 use tc_texts::info_protocol;
 
@@ -142,6 +141,9 @@ pub(crate) fn restored_options<A: Allocator + Copy>(
     restore_behind(alloc, front, options, kind, around, &[])
 }
 
+// `TCA_FLOWER_KEY_ENC_OPTS` and `TCA_FLOWER_KEY_ENC_OPTS_MASK` of `linux/pkt_cls.h`.
+const TUNNELS: &[u16] = &[84, 85];
+
 fn restored_flower<A: Allocator + Copy>(
     alloc: A,
     info: u32,
@@ -164,8 +166,9 @@ fn restored_flower<A: Allocator + Copy>(
             Ok(Some(TcFilterFlowerOption::Actions(actions)))
         }
         TcFilterFlowerOption::Other(nla) => {
-            if is_of(&[84, 85], &nla) && has_several(nla.value()) {
-                Err(RestoreError::TunnelOptions)
+            if is_of(TUNNELS, &nla) {
+                let nla = restored_tunnel(alloc, nla)?;
+                Ok(Some(TcFilterFlowerOption::Other(nla)))
             } else {
                 Ok(Some(TcFilterFlowerOption::Other(nla)))
             }

@@ -9,8 +9,7 @@ ghost use Rattle.tc_requests.specs.RootTables.{is_of_block, is_of_priority, is_t
 
 use crate::restore_messages::{Object, kind_of_message};
 use std::alloc::Allocator;
-use tc_attributes::TcAttribute;
-use tc_messages::TcMessage;
+use tc_messages::{TcAttribute, TcMessage};
 use tc_options::{TcFilterU32Option, TcOption};
 use tc_records::TcHeader;
 use tc_texts::info_priority;

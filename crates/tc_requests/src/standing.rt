@@ -73,7 +73,7 @@ pub fn kind_of_action<A: Allocator>(action: &TcAction<A>) -> &str
     sole_kind(&action.attributes)
 }
 
-/// The index of an action that stands by itself, by which filters share it (`tc_gen.index`). None of one filter's own action,
+/// The index of a standalone action, by which filters share it (`tc_gen.index`). None of one filter's own action,
 /// and of one whose parameters name no index, or 0, for which the kernel takes a free one.
 pub fn standing_index<A: Allocator>(action: &TcAction<A>) -> Option<u32>
     ensures { result ≡ standing_index action.now }

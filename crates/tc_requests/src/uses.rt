@@ -1,4 +1,4 @@
-//! The parameters of actions: who holds an action, and what a request has in place of that.
+//! The parameters of actions: who holds an action, and what a request has instead.
 
 ghost use Rattle.std.specs.Prelude.{◌≡◌, ◌+◌, ◌≤◌, length, IfOk};
 ghost use Rattle.tc_requests.specs.Uses.{parameters, use_at, use_in, use_of_generic, goes_to_chain, is_private, index_wanted, generic_restored, mirror_restored, nat_restored, tunnel_key_restored, record_restored};
@@ -12,7 +12,7 @@ use tc_records::{TcActionGeneric, TcMirror, TcNat, TcTunnelKey};
 pub struct Use {
     /// Its number among those of its kind; 0 asks for a free one.
     pub index: u32,
-    /// What becomes of a packet after it, `TC_ACT_*`.
+    /// The verdict: what happens to the packet next, `TC_ACT_*`.
     pub next: u32,
     /// How many hold it, filters and others (`refcnt`).
     pub references: u32,

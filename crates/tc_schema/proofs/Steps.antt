@@ -1,7 +1,7 @@
--- One step of what goes down a number.
+-- One step of a countdown.
 use Rattle.std.proofs.Common.{List, None, Some, ap, ◌≡◌, ℕ, suc, ◌++◌, ◌-◌, ◌∙◌, refl, subst, sym}
-use Rattle.tc_form_values.specs.Tables.{Table}
-use Rattle.tc_form_values.specs.declared.form.Form.{Form}
+use Rattle.forms_values.specs.Tables.{Table}
+use Rattle.forms_values.specs.declared.form.Form.{Form}
 use Rattle.tc_schema.specs.Explained.{alone, explained, members_text, part_text, place_in, signed_of, text_at}
 use Rattle.tc_schema.specs.Texts.{deepest, members_of, times}
 use Rattle.tc_schema.specs.declared.notes.Note.{Note}
@@ -9,7 +9,7 @@ use Rattle.tc_schema.specs.declared.notes.Note.{Note}
 pub times_more : (n k : ℕ) (text : List ℕ) → n ≡ suc k → times n text ≡ text ++ times k text
 times_more n k text e = subst (λ m. times m text ≡ text ++ times k text) (sym e) refl
 
--- what is within a form that names the place of members
+-- the contents of a form that refers to the place of members
 pub explained_at : (table : Table) (notes : List Note) (n k : ℕ) (f : Form) (i : ℕ)
     → n ≡ suc k → place_in f ≡ Some i → alone (table i) ≡ None
     → explained table notes n f ≡ members_text (explained table notes k) notes (deepest - k) (signed_of f) i (members_of (table i))

@@ -1,11 +1,12 @@
--- What the attributes of a kind are, as a text: a line for each attribute, field and choice, in the order of the table, below that in which it is.
+-- The explanation of a kind: a line for each attribute, field and choice, in the order of the table, below the one that
+-- contains it.
 use Rattle.std.specs.Option.{option_map_or}
 use Rattle.std.specs.Prelude.{List, None, Option, Some, [], bytes_eq, codes, decimal, if◌then◌else◌, nat_le, nat_lt, suc, zero, ℕ}
 use Rattle.std.specs.Prelude.{◌&&◌, ◌++◌, ◌+◌, ◌-◌, ◌/◌, ◌∷◌}
-use Rattle.tc_form_values.specs.Tables.{KindRows, Kinds, One, Part, Table}
-use Rattle.tc_form_values.specs.declared.form.Form.{Form}
-use Rattle.tc_form_values.specs.declared.form.Form.TheVariants as form
-use Rattle.tc_form_values.specs.declared.form.Number.TheVariants as number
+use Rattle.forms_values.specs.Tables.{KindRows, Kinds, One, Part, Table}
+use Rattle.forms_values.specs.declared.form.Form.{Form}
+use Rattle.forms_values.specs.declared.form.Form.TheVariants as form
+use Rattle.forms_values.specs.declared.form.Number.TheVariants as number
 use Rattle.tc_schema.specs.Json.{kind_example}
 use Rattle.tc_schema.specs.Notes.{Note, note_of}
 use Rattle.tc_schema.specs.Texts.{Member, deepest, form_text, members_of, times, around}
@@ -14,7 +15,7 @@ use Rattle.tc_units.specs.Names.{CodeName}
 use Rattle.tc_units.specs.Units.{number_text}
 use Rattle.tc_units.specs.declared.unit.Unit.{Unit}
 
--- a line: two blanks for each level, a name, its description, and the kernel's name, where it has one
+-- a line: two blanks per level, a name, its description, and the kernel's name, if any
 abbrev pub text_line : ℕ → List ℕ → List ℕ → List ℕ → List ℕ
 text_line level name said kernel = times level (codes "  ") ++ (name ++ (said ++ (around (codes " (") kernel (codes ")") ++ codes "\n")))
 
@@ -23,7 +24,7 @@ abbrev pub named_lines : ℕ → Unit → List CodeName → List ℕ
 named_lines level unit [] = []
 named_lines level unit (x ∷ xs) = text_line level x.name.now (codes " = " ++ number_text unit x.number) x.kernel.now ++ named_lines level unit xs
 
--- how many numbers a signed form has; 0 for others
+-- the number of values of a signed form; 0 for other forms
 abbrev pub signed_of : Form → ℕ
 signed_of (form.Named number.I8 i) = 0x100
 signed_of (form.Named number.I16 i) = 0x10000
@@ -33,7 +34,7 @@ signed_of f = 0
 abbrev pub signed_text : ℕ → ℕ → List ℕ
 signed_text all n = if nat_le (all / 2) n && nat_lt n all then codes "-" ++ decimal (all - n) else decimal n
 
--- the number that a name has, or the form and what it counts
+-- the number of a name, or the form and the unit
 abbrev pub value_text : ℕ → Form → List ℕ → Option ℕ → List ℕ
 value_text all f unit (Some n) = codes " = " ++ signed_text all n
 value_text all f unit None = codes ": " ++ (form_text f ++ around (codes ", ") unit [])
@@ -41,9 +42,9 @@ value_text all f unit None = codes ": " ++ (form_text f ++ around (codes ", ") u
 abbrev pub member_line : ℕ → ℕ → Member → Note → List ℕ
 member_line level all m note = text_line level m.name (value_text all m.form note.unit m.number) note.kernel
 
--- ---- what is within
+-- ---- contents
 
--- the place that a form names; the kinds within attributes have explanations of their own
+-- the place that a form refers to; kinds nested in attributes have explanations of their own
 abbrev pub place_in : Form → Option ℕ
 place_in (form.Named of i) = Some i
 place_in (form.Record i) = Some i
@@ -55,18 +56,18 @@ place_in (form.Indexed i) = Some i
 place_in (form.Choice i) = Some i
 place_in f = None
 
--- the form that a part is
+-- the form of a part that is only a form
 abbrev pub alone : Part → Option Form
 alone (One f) = Some f
 alone p = None
 
--- `Inner` explains what is within a form
+-- `Inner` explains the contents of a form
 module _ (Inner : Form → List ℕ) (notes : List CodeNote) where
-  -- a member of the part at a place in a line, below it the names of its numbers or bits, and behind them a text
+  -- the line of a member of the part at a place, then the names of its numbers or bits, then a text
   abbrev pub member_text : ℕ → ℕ → Member → Note → List ℕ → List ℕ
-  member_text level all m note behind = member_line level all m note ++ (named_lines (level + 1) note.numbers note.names ++ behind)
+  member_text level all m note rest = member_line level all m note ++ (named_lines (level + 1) note.numbers note.names ++ rest)
 
-  -- each member, and what is within it
+  -- each member, with its contents
   abbrev pub members_text : ℕ → ℕ → ℕ → List Member → List ℕ
   members_text level all place [] = []
   members_text level all place (m ∷ ms) = member_text level all m (note_of notes place m.name) (Inner m.form ++ members_text level all place ms)
@@ -79,7 +80,7 @@ module _ (Inner : Form → List ℕ) (notes : List CodeNote) where
   text_at table level all None = []
   text_at table level all (Some i) = part_text level all i (table i) (alone (table i))
 
--- what is within a form, at most so deep
+-- the contents of a form, at most n levels deep
 abbrev pub explained : Table → List CodeNote → ℕ → Form → List ℕ
 explained table notes zero f = []
 explained table notes (suc n) f = text_at (explained table notes n) notes table (deepest - n) (signed_of f) (place_in f)
@@ -95,7 +96,7 @@ abbrev pub rows_of_kind : List KindRows → List ℕ → Option ℕ
 rows_of_kind [] kind = None
 rows_of_kind (x ∷ xs) kind = if bytes_eq x.kind kind then Some x.rows else rows_of_kind xs kind
 
--- a kind of the list at a place: what its attributes are, and an example
+-- a kind of the list at a place: its attributes, and an example
 abbrev pub kind_text : Table → List CodeNote → ℕ → List ℕ → List ℕ
 kind_text table notes place kind =
     option_map_or (λ rows. kind ++ (codes "\n" ++ (explained table notes deepest (form.List rows) ++ kind_example table kind rows)))

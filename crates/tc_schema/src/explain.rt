@@ -1,7 +1,7 @@
-//! What the attributes of a kind are, for people.
+//! `--explain`: the attributes of a kind, for people.
 
 ghost use Rattle.std.specs.Prelude.{OnOk, is_some, ◌++◌, ◌-◌, ◌≡◌, ◌≤◌};
-ghost use Rattle.tc_form_values.specs.Tables.{kinds_view, part_view};
+ghost use Rattle.forms_values.specs.Tables.{kinds_view, part_view};
 ghost use Rattle.tc_schema.specs.Explained.{alone, explained, kind_text, kinds_of, member_line, members_text, named_lines, place_in};
 ghost use Rattle.tc_schema.specs.Explained.{rows_of_kind, signed_of, signed_text, value_text};
 ghost use Rattle.tc_schema.specs.Notes.{note_view};
@@ -10,11 +10,11 @@ ghost use Rattle.tc_schema.specs.Texts.{deepest, member_view, members_of};
 use crate::json::put_example;
 use crate::notes::{Note, note_of};
 use crate::texts::{DEEPEST, Done, Member, first_member, put, put_around, put_form, put_times};
+use forms_values::{Form, KindRows, Number, Part, Tables};
 use std::alloc::{AllocError, Allocator};
-use tc_form_values::{Form, KindRows, Number, Part, Tables};
 use tc_units::{Name, Unit, put_number};
 
-// Where a form is explained: by this table and what is known beside it, with so many levels left.
+// The state of an explanation: the table, the notes on its members, and the levels left.
 #[derive(Clone, Copy)]
 struct At<'a, T> {
     table: T,
@@ -22,7 +22,7 @@ struct At<'a, T> {
     depth: u8,
 }
 
-// A line for each number and its name.
+// Appends a line for each number and its name.
 fn put_named<A: Allocator>(out: &mut Vec<u8, A>, level: u8, unit: Unit, names: &[Name<'_>]) -> Done
     ensures { OnOk result (out.new.items ≡ out.old.items ++ named_lines level unit names.now) }
 {
@@ -38,7 +38,7 @@ fn put_named<A: Allocator>(out: &mut Vec<u8, A>, level: u8, unit: Unit, names: &
     Ok(())
 }
 
-// How many numbers a signed form has; 0 for others.
+// The number of values of a signed form; 0 for other forms.
 fn signed_of(form: Form) -> u64
     ensures { result ≡ signed_of form }
 {
@@ -60,7 +60,7 @@ fn put_signed<A: Allocator>(out: &mut Vec<u8, A>, all: u64, n: u64) -> Done
     put_number(out, Unit::Plain, n)
 }
 
-// The number that a name has, or the form and what it counts.
+// Appends the number of a name, or the form and the unit.
 fn put_value<A: Allocator>(out: &mut Vec<u8, A>, all: u64, of: Member, unit: &str) -> Done
     ensures { OnOk result (out.new.items ≡ out.old.items ++ value_text all of.form unit.now of.number) }
 {
@@ -77,7 +77,7 @@ fn put_value<A: Allocator>(out: &mut Vec<u8, A>, all: u64, of: Member, unit: &st
     }
 }
 
-// A line for a member: its name, its value, and the kernel's name.
+// Appends a line for a member: its name, its value, and the kernel's name.
 fn put_line<A: Allocator>(out: &mut Vec<u8, A>, level: u8, all: u64, of: Member, note: Note) -> Done
     ensures { OnOk result (out.new.items ≡ out.old.items ++ member_line level all (member_view of) (note_view note)) }
 {
@@ -88,7 +88,7 @@ fn put_line<A: Allocator>(out: &mut Vec<u8, A>, level: u8, all: u64, of: Member,
     put(out, "\n")
 }
 
-// The place that a form names. The kinds within attributes have explanations of their own.
+// The place that a form refers to. Kinds nested in attributes have explanations of their own.
 fn place_in(form: Form) -> Option<usize>
     ensures { result ≡ place_in form }
 {
@@ -100,7 +100,7 @@ fn place_in(form: Form) -> Option<usize>
     }
 }
 
-// The form that a part is.
+// The form of a part that is only a form.
 fn alone(part: Part<'static>) -> Option<Form>
     ensures { result ≡ alone (part_view part.entry) }
 {
@@ -110,7 +110,7 @@ fn alone(part: Part<'static>) -> Option<Form>
     None
 }
 
-// What is within a form.
+// Appends the contents of a form.
 #[cycle(explain)]
 fn explain_form<T: Tables, A: Allocator>(out: &mut Vec<u8, A>, at: &At<'_, T>, form: Form) -> Done
     requires { at.now.depth ≤ 12 }
@@ -135,7 +135,7 @@ fn explain_form<T: Tables, A: Allocator>(out: &mut Vec<u8, A>, at: &At<'_, T>, f
     }
 }
 
-// The members of a part, each with what is within.
+// Appends the members of a part, each with its contents.
 #[cycle(explain)]
 fn explain_members<T: Tables, A: Allocator>(
     out: &mut Vec<u8, A>,
@@ -162,7 +162,7 @@ fn explain_members<T: Tables, A: Allocator>(
 
 // ---- kinds
 
-/// The kinds of the list with kinds at a place.
+/// The kinds of a list at a place.
 pub fn kinds_of<T: Tables>(table: T, place: usize) -> &'static [KindRows<'static>]
     ensures { kinds_view result.now ≡ kinds_of (T.parts_of table place) }
 {
@@ -183,9 +183,9 @@ fn rows_of_kind(kinds: &[KindRows<'_>], kind: &str) -> Option<usize>
     }
 }
 
-/// Puts what the attributes of a kind are, and an example, by the list with kinds at a place: a line for each attribute, field and choice
-/// with its name in JSON, its form, its unit and the kernel's name, and one for each name of a number. Nothing where the list has no such
-/// kind.
+/// Appends the attributes of a kind and an example, from the list of kinds at a place: a line for each attribute, field
+/// and choice with its name in JSON, its form, its unit and the kernel's name, and a line for each name of a number.
+/// Nothing for an unknown kind.
 pub fn put_kind<T: Tables, A: Allocator>(
     table: T,
     notes: &[Note],
@@ -209,7 +209,7 @@ pub fn put_kind<T: Tables, A: Allocator>(
     Ok(())
 }
 
-/// True if the list with kinds at a place has this kind.
+/// True if the list of kinds at a place has this kind.
 pub fn knows_kind<T: Tables>(table: T, place: usize, kind: &str) -> bool
     ensures { result ≡ is_some (rows_of_kind (kinds_of (T.parts_of table place)) kind.now) }
 {

@@ -1,9 +1,9 @@
-//! What is shown in forms, as JSON: an example, and the JSON Schema of a line. What is shown in a part of the table is defined once, under its
+//! Examples in JSON, and `--schema`: the JSON Schema of a line. Each part of the table has one definition, named by its
 //! place.
 
 ghost use Rattle.std.specs.Prelude.{OnOk, [], codes, true, ◌++◌, ◌≡◌};
-ghost use Rattle.tc_form_values.specs.Places.{form_of, layer_of};
-ghost use Rattle.tc_form_values.specs.Tables.{kinds_view, part_view};
+ghost use Rattle.forms_values.specs.Places.{form_of, layer_of};
+ghost use Rattle.forms_values.specs.Tables.{kinds_view, part_view};
 ghost use Rattle.tc_schema.specs.Json.{array, definitions, each_text, element, example, example_by, first_example, form_schema, indexed, is_left_out, item};
 ghost use Rattle.tc_schema.specs.Json.{kind_example, kinds_schema, list_example, named, object_schema, member_text, only};
 ghost use Rattle.tc_schema.specs.Json.{or_raw, part_schema, reference, row, schema_of_line};
@@ -13,16 +13,16 @@ use crate::texts::{
     DEEPEST, Done, Member, about, about_number, first_member, is_pad, layer_of, put, put_around,
     put_between, put_comma, put_counted, put_quoted, put_times,
 };
+use forms_values::places::form_at;
+use forms_values::{Form, KindRows, Number, Part, Tables};
 use std::alloc::{AllocError, Allocator};
-use tc_form_values::places::form_at;
-use tc_form_values::{Form, KindRows, Number, Part, Tables};
 
 // ---- an example
 
-// How an example of a kind begins.
+// The beginning of an example of a kind.
 const EXAMPLE: &str = "example: [{\"Kind\":";
 
-// An example of what is in a form, at most so deep.
+// Appends an example of a form, at most `depth` levels deep.
 #[cycle(example)]
 fn put_deep<T: Tables, A: Allocator>(out: &mut Vec<u8, A>, table: T, depth: u8, form: Form) -> Done
     ensures { OnOk result (out.new.items ≡ out.old.items ++ example (T.parts_of table) depth form) }
@@ -67,7 +67,7 @@ fn put_inner<T: Tables, A: Allocator>(out: &mut Vec<u8, A>, table: T, inner: u8,
     }
 }
 
-// An object of the first member.
+// Appends an object of the first member.
 #[cycle(example)]
 fn put_one<T: Tables, A: Allocator>(out: &mut Vec<u8, A>, table: T, inner: u8, place: usize) -> Done
     ensures { OnOk result (out.new.items ≡ out.old.items ++ first_example (example (T.parts_of table) inner) (members_of (T.parts_of table place))) }
@@ -82,7 +82,7 @@ fn put_one<T: Tables, A: Allocator>(out: &mut Vec<u8, A>, table: T, inner: u8, p
     }
 }
 
-// The first attribute of a list, in its layer and behind a text; nothing for a list of none.
+// Appends the first attribute of a list, in its layer and after a text; nothing for an empty list.
 #[cycle(example)]
 fn put_first<T: Tables, A: Allocator>(
     out: &mut Vec<u8, A>,
@@ -108,7 +108,7 @@ fn put_first<T: Tables, A: Allocator>(
     put(out, "}")
 }
 
-/// Puts an example of a kind and the first attribute behind it, by the rows at a place.
+/// Appends an example of a kind and the first attribute after it, from the rows at a place.
 pub(crate) fn put_example<T: Tables, A: Allocator>(
     out: &mut Vec<u8, A>,
     table: T,
@@ -124,8 +124,8 @@ pub(crate) fn put_example<T: Tables, A: Allocator>(
 
 // ---- the schema
 
-// The schema of a line, up to the definitions of messages: the members that begin a line; those for a message, for an answer, for a place
-// without a message, and for the end; and what is defined once for all tables.
+// The schema of a line, up to the definitions of messages: the members that begin a line; those of a message, of an
+// answer, of a place without a message, and of the end; and the definitions that all tables share.
 const LINE: &str = r##"{"$schema":"https://json-schema.org/draft/2020-12/schema",
 "title":"A line of tcshow --json",
 "type":"object","properties":{
@@ -166,29 +166,29 @@ const LINE: &str = r##"{"$schema":"https://json-schema.org/draft/2020-12/schema"
 "ipv6":{"type":"string","pattern":"^[0-9a-f:.]+$"},
 "message":{"anyOf":[{"$ref":"#/$defs/tc"},{"$ref":"#/$defs/action"}]}"##;
 
-// Before the least and the greatest integer; and before how many bytes there are, in hex.
+// Text before the range of an integer, and before the number of bytes in hex.
 const INTEGER: &str = r##"{"type":"integer","minimum":"##;
 
 const BYTES: &str = r##"{"type":"string","pattern":"^([0-9a-f]{2}){"##;
 
-// Before what is there, or raw bytes; and before what is in a list.
+// Text before a schema or raw bytes, and before the elements of a list.
 const RAW_OR: &str = r##"{"anyOf":[{"$ref":"#/$defs/raw"},"##;
 
 const LIST: &str = r##"{"type":"array","items":{"anyOf":[{"$ref":"#/$defs/raw"},"##;
 
-// A list of attributes with kinds among them: before the place of its rows.
+// A list of attributes with kinds: text before the place of its rows.
 const KINDED: &str =
     r##"{"type":"array","items":{"anyOf":[{"$ref":"#/$defs/raw"},{"$ref":"#/$defs/kind"},{"$ref":"#/$defs/"##;
 
-// Before the members of an object, before the names of those that it must have, and behind them.
+// Text before the members of an object, before the names of the required ones, and after them.
 const OBJECT: &str = r##"{"type":"object","properties":{"##;
 
 const REQUIRED: &str = r##"},"required":["##;
 
 const CLOSED: &str = r##"],"additionalProperties":false}"##;
 
-// A name, or a number without one: before the place of the names, behind it and before the number, and behind that; and what follows no
-// choice, the last of some.
+// A name, or a number without one: text before the place of the names, before the number, and after it; and after the
+// last of some choices.
 const NAMED: &str = r##"{"anyOf":[{"$ref":"#/$defs/"##;
 
 const OR_OTHER: &str = r##""},{"type":"object","properties":{"Other":"##;
@@ -198,13 +198,13 @@ const OTHER_ENDS: &str = r##"}},"required":["Other"],"additionalProperties":fals
 const OTHERWISE: &str =
     r##"{"type":"object","properties":{"Other":{"$ref":"#/$defs/hex"}},"required":["Other"],"additionalProperties":false}]}"##;
 
-// An attribute of any type in a list: before what is in it, and behind that and the list.
+// An attribute of any type in a list: text before its contents, and after them and the list.
 const TAB: &str =
     r##"{"type":"object","properties":{"tab":{"$ref":"#/$defs/u16"},"pad":{"$ref":"#/$defs/hex"},"attributes":{"anyOf":[{"$ref":"#/$defs/raw"},"##;
 
 const TAB_ENDS: &str = r##"]}},"required":["tab","attributes"],"additionalProperties":false}]}}"##;
 
-// The members that each record may have, and each attribute; and before an attribute of a row, or another.
+// The members that every record and every attribute may have; and text before an attribute of a row, or another one.
 const REST: &str = r##""rest":{"$ref":"#/$defs/hex"}},"required":["##;
 
 const WORD: &str = r##""word":{"$ref":"#/$defs/u16"},"pad":{"$ref":"#/$defs/hex"}},"oneOf":["##;
@@ -213,7 +213,7 @@ const UNKNOWN: &str = r##"{"anyOf":[{"$ref":"#/$defs/unknown"}"##;
 
 // ---- forms
 
-// Refers to the definition of a place.
+// Appends a reference to the definition of a place.
 #[tactic(auto, unfolding(crate::specs::Json::reference))]
 fn put_reference<A: Allocator>(out: &mut Vec<u8, A>, place: usize) -> Done
     ensures { OnOk result (out.new.items ≡ out.old.items ++ reference place) }
@@ -221,7 +221,7 @@ fn put_reference<A: Allocator>(out: &mut Vec<u8, A>, place: usize) -> Done
     put_counted(out, "{\"$ref\":\"#/$defs/", place, "\"}")
 }
 
-// A name, or a number without one.
+// Appends a name, or a number without one.
 fn put_named<A: Allocator>(out: &mut Vec<u8, A>, of: Number, place: usize) -> Done
     ensures { OnOk result (out.new.items ≡ out.old.items ++ named of place) }
 {
@@ -229,7 +229,7 @@ fn put_named<A: Allocator>(out: &mut Vec<u8, A>, of: Number, place: usize) -> Do
     put_around(out, INTEGER, about_number(of).schema, OTHER_ENDS)
 }
 
-// An attribute of a list, in its layer.
+// Appends an attribute of a list, in its layer.
 #[tactic(auto, unfolding(crate::specs::Json::only))]
 fn put_layered<A: Allocator>(out: &mut Vec<u8, A>, place: usize, layer: &str) -> Done
     ensures { OnOk result (out.new.items ≡ out.old.items ++ only layer.now (reference place)) }
@@ -248,7 +248,7 @@ fn put_item<A: Allocator>(out: &mut Vec<u8, A>, place: usize, layer: &str) -> Do
     put_layered(out, place, layer)
 }
 
-// A list of attributes.
+// Appends a list of attributes.
 fn put_list<A: Allocator>(out: &mut Vec<u8, A>, place: usize, layer: &str) -> Done
     ensures { OnOk result (out.new.items ≡ out.old.items ++ array (item place layer.now)) }
 {
@@ -257,7 +257,7 @@ fn put_list<A: Allocator>(out: &mut Vec<u8, A>, place: usize, layer: &str) -> Do
     put(out, "]}}")
 }
 
-// What an array, or an attribute of any type, holds.
+// Appends the element of an array or of an attribute of any type.
 fn put_element<A: Allocator>(out: &mut Vec<u8, A>, place: usize, part: Part<'static>) -> Done
     ensures { OnOk result (out.new.items ≡ out.old.items ++ element place (part_view part.entry)) }
 {
@@ -277,7 +277,7 @@ fn put_array<A: Allocator>(out: &mut Vec<u8, A>, place: usize, part: Part<'stati
     put(out, "]}}")
 }
 
-// A list of attributes of any types.
+// Appends a list of attributes of any types.
 fn put_indexed<A: Allocator>(out: &mut Vec<u8, A>, place: usize, part: Part<'static>) -> Done
     ensures { OnOk result (out.new.items ≡ out.old.items ++ indexed (element place (part_view part.entry))) }
 {
@@ -287,7 +287,7 @@ fn put_indexed<A: Allocator>(out: &mut Vec<u8, A>, place: usize, part: Part<'sta
     put(out, TAB_ENDS)
 }
 
-// What is shown in a form where the bytes follow it.
+// Appends the schema of a form, for bytes that match it.
 fn put_form<T: Tables, A: Allocator>(out: &mut Vec<u8, A>, table: T, form: Form) -> Done
     ensures { OnOk result (out.new.items ≡ out.old.items ++ form_schema (T.parts_of table) form) }
 {
@@ -304,7 +304,7 @@ fn put_form<T: Tables, A: Allocator>(out: &mut Vec<u8, A>, table: T, form: Form)
     }
 }
 
-// The same, or raw.
+// Appends the schema of a form, or raw bytes.
 fn put_shown<T: Tables, A: Allocator>(out: &mut Vec<u8, A>, table: T, form: Form) -> Done
     ensures { OnOk result (out.new.items ≡ out.old.items ++ or_raw (form_schema (T.parts_of table) form)) }
 {
@@ -315,8 +315,8 @@ fn put_shown<T: Tables, A: Allocator>(out: &mut Vec<u8, A>, table: T, form: Form
 
 // ---- parts
 
-// What is put of each member: an example, at most so deep; the schema, alone or in an object of its own; its name; or that an object must
-// have it.
+// The text of each member: an example, at most some levels deep; the schema, on its own or in an object; its name; or
+// that it is required.
 #[derive(Clone, Copy)]
 enum Each {
     Example(u8),
@@ -365,7 +365,7 @@ fn put_member<T: Tables, A: Allocator>(
     }
 }
 
-// Padding is shown only where it isn't zero.
+// Padding is left out if it is zero.
 fn is_left_out(each: Each, form: Form) -> bool
     ensures { result ≡ is_left_out each form }
 {
@@ -394,7 +394,7 @@ fn put_each<T: Tables, A: Allocator>(
     Ok(())
 }
 
-// An object of these members and others, of which it must have some.
+// Appends an object of these members and others, some of them required.
 #[tactic(auto, unfolding(crate::specs::Json::object_schema))]
 fn put_object<T: Tables, A: Allocator>(
     out: &mut Vec<u8, A>,
@@ -412,7 +412,7 @@ fn put_object<T: Tables, A: Allocator>(
     put(out, CLOSED)
 }
 
-// And an attribute by one of these rows, where there are any.
+// Appends an attribute of one of these rows, if there are any.
 fn put_row<T: Tables, A: Allocator>(out: &mut Vec<u8, A>, table: T, part: Part<'static>) -> Done
     ensures { OnOk result (out.new.items ≡ out.old.items ++ row (T.parts_of table) (members_of (part_view part.entry))) }
 {
@@ -468,7 +468,7 @@ fn put_part<T: Tables, A: Allocator>(out: &mut Vec<u8, A>, table: T, part: Part<
     }
 }
 
-// A definition for each place.
+// Appends a definition for each place.
 fn put_places<T: Tables, A: Allocator>(out: &mut Vec<u8, A>, table: T, places: &[usize]) -> Done
     ensures { OnOk result (out.new.items ≡ out.old.items ++ definitions (T.parts_of table) places.now) }
 {
@@ -480,8 +480,8 @@ fn put_places<T: Tables, A: Allocator>(out: &mut Vec<u8, A>, table: T, places: &
     Ok(())
 }
 
-/// Puts the schema of a line: of the two messages in these forms, by a table with parts at these places, which are to be all that a form
-/// names.
+/// Appends the schema of a line: of the two messages with these forms, from the parts at these places of a table, which
+/// must be all that forms refer to.
 pub fn put_schema<T: Tables, A: Allocator>(
     table: T,
     places: &[usize],

@@ -1,5 +1,5 @@
-//! The tables of forms, for people and for other programs: the JSON Schema of what is shown, and what the attributes of a kind are.
-//! Both are written of any tables at run time.
+//! The tables of forms, for people and for other programs: the JSON Schema of messages, and explanations of the
+//! attributes of a kind. Both are written from any tables, at run time. Calls fail only if the vector can't grow.
 #![tactic(auto)]
 
 mod explain;

@@ -1,11 +1,11 @@
-//! What is known of the members of parts beside their names in JSON and their forms.
+//! Notes on the members of parts, in addition to their names in JSON and their forms.
 
 ghost use Rattle.std.specs.Prelude.{bytes_eq, ◌&&◌, ◌==◌, ◌≡◌};
 ghost use Rattle.tc_schema.specs.Notes.{note_of, note_view};
 
 use tc_units::{Name, Unit};
 
-/// A member of a part: what the kernel calls it, what it counts, and the names of its numbers.
+/// A note on a member of a part: the kernel's name, the unit, and the names of its numbers.
 #[derive(Clone, Copy)]
 pub struct Note {
     /// The place of the part.
@@ -14,11 +14,11 @@ pub struct Note {
     pub member: &'static str,
     /// The kernel's name; empty if there is none.
     pub kernel: &'static str,
-    /// What it counts, in words; empty if nothing in particular.
+    /// The unit in words; empty if there is none.
     pub unit: &'static str,
     /// The names of its numbers or bits.
     pub names: &'static [Name<'static>],
-    /// How these numbers are written.
+    /// The notation of these numbers.
     pub numbers: Unit,
 }
 
@@ -37,7 +37,7 @@ fn is_of(note: &Note, place: usize, member: &str) -> bool
     note.place == place && note.member == member
 }
 
-// The first note of a member of the part at a place.
+// The first note on a member of the part at a place.
 pub(crate) fn note_of(notes: &[Note], place: usize, member: &str) -> Note
     ensures { note_view result ≡ note_of notes.now place member.now }
 {
@@ -48,7 +48,7 @@ pub(crate) fn note_of(notes: &[Note], place: usize, member: &str) -> Note
     }
 }
 
-/// What a number in this unit counts, in words; empty if nothing in particular.
+/// A unit in words; empty for `Plain`.
 pub fn unit_in_words(unit: Unit) -> &'static str {
     match unit {
         Unit::Bytes => "bytes",

@@ -1,31 +1,30 @@
-//! Texts appended to a vector, how each form is described, and the members of a part.
+//! Appending texts to a vector, the description of each form, and the members of a part.
 
 ghost use Rattle.std.specs.Prelude.{MatchOption, OnOk, [], decimal, ◌++◌, ◌∷◌, ◌≡◌};
-ghost use Rattle.tc_form_values.specs.Places.{layer_of};
-ghost use Rattle.tc_form_values.specs.Records.{is_pad};
-ghost use Rattle.tc_form_values.specs.Tables.{part_view};
-ghost use Rattle.tc_schema.specs.Texts.{about, about_number, between, comma, escaped, escapes, form_text, member_view, members_of, quoted, said_view};
+ghost use Rattle.forms_values.specs.Places.{layer_of};
+ghost use Rattle.forms_values.specs.Records.{is_pad};
+ghost use Rattle.forms_values.specs.Tables.{part_view};
+ghost use Rattle.tc_schema.specs.Texts.{about, about_number, between, comma, escaped, escapes, form_text, member_view, members_of, quoted, description_view};
 ghost use Rattle.tc_schema.specs.Texts.{times, around};
 ghost use Rattle.tc_units.specs.declared.unit.Unit.TheVariants.{Plain};
 
+use forms_values::{Form, Number, Part};
 use std::alloc::{AllocError, Allocator};
-use tc_form_values::{Form, Number, Part};
 use tc_units::{Unit, put_number};
 
-/// How deep attributes are explained, and an example goes.
+/// The depth limit of explanations and examples.
 pub const DEEPEST: u8 = 12;
 
-/// A text was put, or there is no memory for it.
+/// The result of appending: fails if the vector can't grow.
 pub type Done = Result<(), AllocError>;
 
-/// Puts a text.
 pub fn put<A: Allocator>(out: &mut Vec<u8, A>, text: &str) -> Done
     ensures { OnOk result (out.new.items ≡ out.old.items ++ text.now) }
 {
     out.extend_from_slice(text.as_bytes())
 }
 
-/// Puts a number between two texts.
+/// Appends a number between two texts.
 pub fn put_counted<A: Allocator>(out: &mut Vec<u8, A>, head: &str, count: usize, tail: &str) -> Done
     ensures { OnOk result (out.new.items ≡ out.old.items ++ (head.now ++ (decimal count ++ tail.now))) }
 {
@@ -34,7 +33,7 @@ pub fn put_counted<A: Allocator>(out: &mut Vec<u8, A>, head: &str, count: usize,
     put(out, tail)
 }
 
-/// Puts a text so many times.
+/// Appends a text `count` times.
 pub fn put_times<A: Allocator>(out: &mut Vec<u8, A>, text: &str, count: usize) -> Done
     ensures { OnOk result (out.new.items ≡ out.old.items ++ times count text.now) }
 {
@@ -47,7 +46,7 @@ pub fn put_times<A: Allocator>(out: &mut Vec<u8, A>, text: &str, count: usize) -
     }
 }
 
-/// Puts a comma, but before the first.
+/// Appends a comma, except before the first element.
 pub fn put_comma<A: Allocator>(out: &mut Vec<u8, A>, is_first: bool) -> Done
     ensures { OnOk result (out.new.items ≡ out.old.items ++ comma is_first) }
 {
@@ -57,7 +56,7 @@ pub fn put_comma<A: Allocator>(out: &mut Vec<u8, A>, is_first: bool) -> Done
     put(out, ",")
 }
 
-/// Puts a text between two others, or none of them if it is empty.
+/// Appends a text between two others, or nothing if it is empty.
 pub fn put_around<A: Allocator>(out: &mut Vec<u8, A>, head: &str, text: &str, tail: &str) -> Done
     ensures { OnOk result (out.new.items ≡ out.old.items ++ around head.now text.now tail.now) }
 {
@@ -69,7 +68,7 @@ pub fn put_around<A: Allocator>(out: &mut Vec<u8, A>, head: &str, text: &str, ta
     put(out, tail)
 }
 
-// Puts a byte of a text as in JSON. Names have no control characters; one would be a blank.
+// Appends a byte of a JSON string. Names have no control characters; one would become a blank.
 fn put_escaped<A: Allocator>(out: &mut Vec<u8, A>, byte: u8) -> Done
     ensures { OnOk result (out.new.items ≡ out.old.items ++ escaped byte) }
 {
@@ -91,7 +90,7 @@ fn put_escapes<A: Allocator>(out: &mut Vec<u8, A>, text: &[u8]) -> Done
     Ok(())
 }
 
-/// Puts a text in quotes, as in JSON.
+/// Appends a text as a JSON string.
 pub fn put_quoted<A: Allocator>(out: &mut Vec<u8, A>, text: &str) -> Done
     ensures { OnOk result (out.new.items ≡ out.old.items ++ quoted text.now) }
 {
@@ -100,7 +99,7 @@ pub fn put_quoted<A: Allocator>(out: &mut Vec<u8, A>, text: &str) -> Done
     put(out, "\"")
 }
 
-/// Puts a text in quotes between two others.
+/// Appends a text as a JSON string, between two others.
 #[tactic(auto, unfolding(crate::specs::Texts::between))]
 pub fn put_between<A: Allocator>(out: &mut Vec<u8, A>, head: &str, text: &str, tail: &str) -> Done
     ensures { OnOk result (out.new.items ≡ out.old.items ++ between head.now text.now tail.now) }
@@ -112,82 +111,82 @@ pub fn put_between<A: Allocator>(out: &mut Vec<u8, A>, head: &str, text: &str, t
 
 // ---- forms
 
-/// How a form is described: in words; if it holds no others, also by an example of what is shown in it, and by the schema of that, of a
-/// number by its range.
+/// The description of a form: in words; for a form without others in it also an example in JSON, and its schema, or the
+/// range of a number.
 #[derive(Clone, Copy)]
-pub struct Said {
+pub struct Description {
     pub words: &'static str,
     pub sample: &'static str,
     pub schema: &'static str,
 }
 
-fn say(words: &'static str, sample: &'static str, schema: &'static str) -> Said
-    ensures { said_view result ≡ record { words = words.now; sample = sample.now; schema = schema.now } }
+fn describe(words: &'static str, sample: &'static str, schema: &'static str) -> Description
+    ensures { description_view result ≡ record { words = words.now; sample = sample.now; schema = schema.now } }
 {
-    Said {
+    Description {
         words,
         sample,
         schema,
     }
 }
 
-pub fn about_number(of: Number) -> Said
-    ensures { said_view result ≡ about_number of }
+pub fn about_number(of: Number) -> Description
+    ensures { description_view result ≡ about_number of }
 {
     match of {
-        Number::U8 => say("u8", "1", "0,\"maximum\":255"),
-        Number::U16 => say("u16", "1", "0,\"maximum\":65535"),
-        Number::U32 => say("u32", "1", "0,\"maximum\":4294967295"),
-        Number::U64 => say("u64", "1", "0,\"maximum\":18446744073709551615"),
-        Number::I8 => say("i8", "1", "-128,\"maximum\":127"),
-        Number::I16 => say("i16", "1", "-32768,\"maximum\":32767"),
-        Number::I32 => say("i32", "1", "-2147483648,\"maximum\":2147483647"),
-        Number::I64 => say(
+        Number::U8 => describe("u8", "1", "0,\"maximum\":255"),
+        Number::U16 => describe("u16", "1", "0,\"maximum\":65535"),
+        Number::U32 => describe("u32", "1", "0,\"maximum\":4294967295"),
+        Number::U64 => describe("u64", "1", "0,\"maximum\":18446744073709551615"),
+        Number::I8 => describe("i8", "1", "-128,\"maximum\":127"),
+        Number::I16 => describe("i16", "1", "-32768,\"maximum\":32767"),
+        Number::I32 => describe("i32", "1", "-2147483648,\"maximum\":2147483647"),
+        Number::I64 => describe(
             "i64",
             "1",
             "-9223372036854775808,\"maximum\":9223372036854775807",
         ),
-        Number::U16Be => say("u16, big-endian", "1", "0,\"maximum\":65535"),
-        Number::U32Be => say("u32, big-endian", "1", "0,\"maximum\":4294967295"),
-        Number::U64Be => say("u64, big-endian", "1", "0,\"maximum\":18446744073709551615"),
+        Number::U16Be => describe("u16, big-endian", "1", "0,\"maximum\":65535"),
+        Number::U32Be => describe("u32, big-endian", "1", "0,\"maximum\":4294967295"),
+        Number::U64Be => describe("u64, big-endian", "1", "0,\"maximum\":18446744073709551615"),
     }
 }
 
-pub fn about(form: Form) -> Said
-    ensures { said_view result ≡ about form }
+pub fn about(form: Form) -> Description
+    ensures { description_view result ≡ about form }
 {
     match form {
         Form::Number(of) | Form::Named(of, _) => about_number(of),
-        Form::Handle => say("handle", "\"1:1\"", "{\"$ref\":\"#/$defs/handle\"}"),
-        Form::Flag => say("flag", "true", "{\"const\":true}"),
-        Form::Truth => say("false or true", "true", "{\"type\":\"boolean\"}"),
-        Form::Text | Form::Bare => say("text", "\"text\"", "{\"type\":\"string\"}"),
-        Form::Mac => say(
+        Form::Handle => describe("handle", "\"1:1\"", "{\"$ref\":\"#/$defs/handle\"}"),
+        Form::Flag => describe("flag", "true", "{\"const\":true}"),
+        Form::Truth => describe("false or true", "true", "{\"type\":\"boolean\"}"),
+        Form::Text | Form::Bare => describe("text", "\"text\"", "{\"type\":\"string\"}"),
+        Form::Mac => describe(
             "MAC address",
             "\"02:00:00:00:00:01\"",
             "{\"$ref\":\"#/$defs/mac\"}",
         ),
-        Form::Ipv4 => say(
+        Form::Ipv4 => describe(
             "IPv4 address",
             "\"192.0.2.1\"",
             "{\"$ref\":\"#/$defs/ipv4\"}",
         ),
-        Form::Ipv6 => say(
+        Form::Ipv6 => describe(
             "IPv6 address",
             "\"2001:db8::1\"",
             "{\"$ref\":\"#/$defs/ipv6\"}",
         ),
-        Form::Record(_) => say("record", "[]", ""),
-        Form::Array(_) => say("array", "[]", ""),
-        Form::List(_) | Form::InForce(_) => say("attributes", "[]", ""),
-        Form::Own(_) => say("attributes by their kind", "[]", ""),
-        Form::Indexed(_) => say("list", "[]", ""),
-        Form::Choice(_) => say("one of", "[]", ""),
-        _ => say("hex", "\"00ff\"", "{\"$ref\":\"#/$defs/hex\"}"),
+        Form::Record(_) => describe("record", "[]", ""),
+        Form::Array(_) => describe("array", "[]", ""),
+        Form::List(_) | Form::InForce(_) => describe("attributes", "[]", ""),
+        Form::Own(_) => describe("attributes by their kind", "[]", ""),
+        Form::Indexed(_) => describe("list", "[]", ""),
+        Form::Choice(_) => describe("one of", "[]", ""),
+        _ => describe("hex", "\"00ff\"", "{\"$ref\":\"#/$defs/hex\"}"),
     }
 }
 
-/// Puts a form in a few words.
+/// Appends a form in a few words.
 pub fn put_form<A: Allocator>(out: &mut Vec<u8, A>, form: Form) -> Done
     ensures { OnOk result (out.new.items ≡ out.old.items ++ form_text form) }
 {
@@ -222,7 +221,7 @@ fn member_of(name: &'static str, number: Option<u64>, form: Form) -> Member
     Member { name, number, form }
 }
 
-/// The first member of a part, and the part without it.
+/// The first member of a part, and the rest of the part.
 pub fn first_member(part: Part<'static>) -> Option<(Member, Part<'static>)>
     ensures { MatchOption result (members_of (part_view part.entry) ≡ [])
         (λ x. members_of (part_view part.entry) ≡ member_view x.0 ∷ members_of (part_view x.1)) }

@@ -1,10 +1,10 @@
--- The numbers that a fault is for C.
+-- Faults as numbers for C.
 use Rattle.std.specs.Prelude.{ℕ}
 use Rattle.nla_frames.specs.declared.error.DecodeError.{DecodeError}
 use Rattle.nla_frames.specs.declared.error.DecodeError.TheVariants.{BufferTooSmall, FrameHeaderShort, FrameTooLong, FrameTooShort, WrongLength, NotUtf8}
 use Rattle.nla_frames.specs.declared.error.DecodeError.TheVariants.{SelectorShort, XstatsShort, MissingKind, DuplicateKind, OutOfMemory}
 
--- which fault it is
+-- the status of a fault
 abbrev pub status_of : DecodeError → ℕ
 status_of (BufferTooSmall len needed) = 1
 status_of (FrameHeaderShort left) = 2
@@ -18,7 +18,7 @@ status_of MissingKind = 9
 status_of DuplicateKind = 10
 status_of OutOfMemory = 11
 
--- its own numbers
+-- the numbers in a fault's fields
 abbrev pub numbers_of : DecodeError → ℕ × ℕ
 numbers_of (BufferTooSmall len needed) = (len, needed)
 numbers_of (FrameHeaderShort left) = (left, 0)

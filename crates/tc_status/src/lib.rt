@@ -1,4 +1,5 @@
-//! How a call from C ended, as a number: 0, or the first fault of the bytes, or another cause. The header of the library has the same numbers.
+//! The status codes of calls from C (`VTC_*` of `bindings/vtc.h`): 0, the number of the first fault of the bytes, or
+//! another cause.
 //!
 //! ```rust
 //! assert!(rt; status_of(&DecodeError::NotUtf8) == 6);
@@ -10,13 +11,13 @@ ghost use Rattle.tc_status.specs.Status.{status_of, numbers_of};
 
 use nla_frames::DecodeError;
 
-/// The call did what was asked for.
+/// Success.
 pub const OK: u32 = 0;
 
-/// There was no memory.
+/// Out of memory.
 pub const OUT_OF_MEMORY: u32 = 11;
 
-/// What was read can't be written: an attribute's value would have more than 65531 bytes.
+/// The message can't be encoded: an attribute's value would have more than 65531 bytes.
 pub const DOES_NOT_FIT: u32 = 12;
 
 /// The buffer is too small.
@@ -28,10 +29,10 @@ pub const END: u32 = 14;
 /// A text isn't JSON.
 pub const NOT_JSON: u32 = 15;
 
-/// No message is made of the JSON.
+/// The JSON describes no message.
 pub const NO_MESSAGE: u32 = 16;
 
-/// The number of a fault, 1 to 10; that of `OutOfMemory` is 11.
+/// The status of a fault: 1 to 10, and 11 for `OutOfMemory`.
 pub fn status_of(fault: &DecodeError) -> u32
     ensures number { result ≡ status_of fault.now }
     ensures some { 0 < result }
@@ -51,7 +52,7 @@ pub fn status_of(fault: &DecodeError) -> u32
     }
 }
 
-/// The numbers of a fault, in the order of its fields; 0 in place of those that it doesn't have.
+/// The numbers in a fault's fields, in order; 0 for fields that it doesn't have.
 pub fn numbers_of(fault: &DecodeError) -> (usize, usize)
     ensures { result ≡ numbers_of fault.now }
 {

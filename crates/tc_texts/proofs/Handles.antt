@@ -1,4 +1,4 @@
--- The text of a handle is read as that handle.
+-- Parsing the text of a handle returns the handle.
 use Rattle.std.proofs.Common.{◌≡◌, ◌≢◌, ℕ, ◌+◌, ◌*◌, ◌/◌, ◌%◌, ◌^◌, ◌<◌, ◌==◌, true, false, List, [], ◌∷◌, ◌++◌, length, take, drop, Option, Some, refl, sym, ap, ap₂, ◌∙◌, subst, arith, inl, inr, le-leb, lt-ltb, eq-eqb, ne_eqb, drop_at, append_assoc, length-append}
 use Rattle.std.proofs.Math.Seq.{take-append_seam}
 use Rattle.std.proofs.lemmas.Bool.{cases_eq, false_from_ne_true}
@@ -25,7 +25,7 @@ pub half_of-IsHexOf : (text : List ℕ) (n : ℕ) → IsHexOf text n → half_of
 unfolding half_of
 half_of-IsHexOf text n h = rw (le-leb (length text) 4 h.short, list_all-digits text h.digits, h.value) refl
 
--- a colon is no digit
+-- a colon isn't a digit
 no_colon : (c : ℕ) → digit_value c < 16 → (c == 58) ≡ false
 no_colon c h = ne_eqb c 58 (λ e. let same : digit_value 58 < 16 = subst (λ (v : ℕ). digit_value v < 16) e h in omega arith)
 

@@ -1,4 +1,4 @@
--- Hex texts are those of the kit's `hex`, and each is that of one list of bytes.
+-- Hex texts are those of the kit's `hex`, and each belongs to one list of bytes.
 use Rattle.std.proofs.Common.{◌≡◌, ℕ, zero, suc, ◌+◌, ◌*◌, ◌-◌, ◌/◌, ◌%◌, ◌<◌, ◌≤◌, ◌==◌, Bool, true, false, ◌&&◌, List, [], ◌∷◌, length, slice_index, Ok, Err, refl, sym, ap, ◌∙◌, arith, inl, inr, true≢false}
 use Rattle.std.specs.Prelude.{nat_le, ◌||◌}
 use Rattle.std.specs.List.{AllPass}
@@ -12,11 +12,11 @@ use Rattle.hex.proofs.HexLemmas.{decode_of-encode_lower, decode_sized-encode_low
 use Rattle.tc_texts.specs.Hex.{hex_text, has_capital}
 use Rattle.tc_texts.specs.Reading.{IsNoHex}
 
--- the test of one place of the kit's table of digits
+-- one entry of the kit's table of digits is right
 abbrev is_digit_of : ℕ → Bool
 is_digit_of d = slice_index lower_digits d == digit_char d
 
--- the test of the first n places
+-- the first n entries are right
 abbrev are_digits : ℕ → Bool
 are_digits zero = true
 are_digits (suc n) = is_digit_of n && are_digits n
@@ -56,7 +56,7 @@ pub hex_text-injective : (a b : List ℕ) → IsBytes a → IsBytes b → hex_te
 hex_text-injective a b ha hb e =
     decode_of-same (hex_text a) a b (decode_of-hex_text a ha) (ap decode_of e ∙ decode_of-hex_text b hb)
 
--- ---- what is read
+-- ---- parsing
 
 small_digit : (d : ℕ) → d < 16 → (nat_le 65 (digit_char d) && nat_le (digit_char d) 70) ≡ false
 small_digit d h = grind (arith, nat_tests)
@@ -89,7 +89,7 @@ lower_digit_of c h low =
           (c - 87, omega arith, grind (arith, nat_tests))
     ]
 
--- lower-case digits, two by two, are the text of some bytes
+-- an even number of lower-case digits is the text of some bytes
 lower_pairs : (s : List ℕ) → length s % 2 ≡ 0 → AllPass is_hex_digit s → has_capital s ≡ false → (xs : List ℕ) × IsBytes xs × (s ≡ hex_text xs)
 lower_pairs [] even h low = ([], λ k. omega arith, refl)
 lower_pairs (a ∷ []) even h low = absurd (omega arith)
@@ -107,7 +107,7 @@ lower_pairs (a ∷ b ∷ rest) even h low =
       rw (high, low_digit, ← da.2, ← db.2, ← later.2) refl,
     )
 
--- what decodes, and has no capital letter, is the text of what it decodes to
+-- a text that decodes and has no capital letter is the text of the decoded bytes
 pub hex_text-decoded : (s bytes : List ℕ) → decode_of s ≡ Ok bytes → has_capital s ≡ false → s ≡ hex_text bytes
 hex_text-decoded s bytes e low =
     let ok = decode_of-ok s bytes e in
@@ -115,6 +115,6 @@ hex_text-decoded s bytes e low =
     let same = decode_of-same s bytes pairs.0 e (ap decode_of pairs.2 ∙ decode_of-hex_text pairs.0 pairs.1) in
     pairs.2 ∙ ap hex_text (sym same)
 
--- what doesn't decode is the text of no bytes
+-- a text that doesn't decode isn't the text of any bytes
 pub not_hex : (s : List ℕ) (e : FromHexError) → decode_of s ≡ Err e → IsNoHex s
 not_hex s e h bytes typed same = cc (sym h ∙ ap decode_of same ∙ decode_of-hex_text bytes typed)

@@ -1,4 +1,4 @@
--- Reading the text of a value gives that value, where no other has the text.
+-- Parsing the text of a value returns the value, if no other value has the text.
 use Rattle.std.proofs.Common.{ℕ, List, Some, None, refl, sym, ap}
 use Rattle.tc_texts.specs.Reading.{IsInjective, GivesBack}
 

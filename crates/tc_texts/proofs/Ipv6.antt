@@ -1,4 +1,4 @@
--- The texts of IP addresses are in the grammar that std reads, and each is that of one address alone.
+-- The texts of IP addresses are in std's grammar, and each belongs to only one address.
 use Rattle.std.proofs.Common.{◌≡◌, ℕ, zero, suc, ◌+◌, ◌*◌, ◌/◌, ◌%◌, ◌^◌, ◌<◌, false, List, [], ◌∷◌, ◌++◌, length, get_or, take, drop, refl, sym, ap, ap₂, ◌∙◌, subst, arith, inr, lt-ltb, take-append-drop}
 use Rattle.std.specs.Prelude.{bytes_eq, codes, nat_lt}
 use Rattle.std.proofs.lemmas.Bool.{and_parts, cond_both, false_from_ne_true, ltb-true}
@@ -99,7 +99,7 @@ colon_hex text o h e =
     subst (λ (t : List ℕ). IsColonHex t (segments_of o)) (sym e)
     (IsColonHex-segments_text (segments_of o) (eight_segments o h.0) (AllSegments-segments_of o h.1))
 
--- a text spells one address, whose octets these are
+-- the octets that a text spells are unique
 pub colon_hex_unique : (text segments o : List ℕ) → IsOctets 16 o → IsColonHex text segments → text ≡ ipv6_text o → octets_of segments ≡ o
 colon_hex_unique text segments o h spelled e =
     let x : Ipv6Addr = record { segments = segments } in
@@ -112,7 +112,7 @@ ipv6_text-injective a b ha hb e =
     sym (octets_of-segments_of a (omega (arith, ha.0)) ha.1)
     ∙ colon_hex_unique (ipv6_text a) (segments_of a) b hb (colon_hex (ipv6_text a) a ha refl) e
 
--- ---- the text by the form of the address
+-- ---- the text, by the address's form
 
 pub text_mapped : (s : List ℕ) → IsIpv4Mapped s → segments_text s ≡ codes "::ffff:" ++ ipv4_text (octets_of (drop 6 s))
 unfolding segments_text Net.ipv6_text

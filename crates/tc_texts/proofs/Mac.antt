@@ -1,4 +1,4 @@
--- The text of a MAC address is that of one address alone.
+-- The text of a MAC address belongs to only one address.
 use Rattle.std.proofs.Common.{◌≡◌, ℕ, List, [], ◌∷◌, length, get_or, Result, Ok, refl, sym, ap, ◌∙◌}
 use Rattle.std.specs.Result.{result_unwrap_or}
 use Rattle.std.proofs.lemmas.Slice.Eq.{text_from_reads}

@@ -1,4 +1,4 @@
--- Numbers of 16 bits in hex, by their number of digits, and what their digits say.
+-- 16-bit numbers in hex: their number of digits, and the value of their digits.
 use Rattle.std.proofs.Common.{◌≡◌, ℕ, ◌/◌, ◌%◌, ◌^◌, ◌<◌, ◌≤◌, Bool, true, false, ◌&&◌, zero, suc, List, [], ◌∷◌, length, take, get_or, refl, arith, inl, inr, lit≤, le-ltb, length-take-le}
 use Rattle.std.proofs.lemmas.Bool.{cases_lt, le-leb, lt-leb}
 use Rattle.std.proofs.lemmas.Bool.Decides.{nat_tests}
@@ -33,7 +33,7 @@ hex_1 n h₂ =
 pub digit_value-digit_char : (d : ℕ) → d < 16 → digit_value (digit_char d) ≡ d
 digit_value-digit_char d h = grind (arith, nat_tests)
 
--- up to four digits, whose number is n
+-- up to four digits with the value n
 pub record IsHexOf (text : List ℕ) (n : ℕ) : Type 0 where
   pub digits : AllDigits 16 text
   pub value : digits_value 16 text ≡ n
@@ -56,7 +56,7 @@ IsHexOf-hex n fits =
       ]
     ]
 
--- the number of up to three digits, before one more
+-- the value of up to three digits, before one more
 pub short_number : (xs : List ℕ) (i : ℕ) → i < 4 → i ≤ length xs → AllDigits 16 (take i xs) → digits_value 16 (take i xs) < 0x1000
 short_number xs i few within h =
     let below = digits_value-lt 16 (take i xs) h in
@@ -68,7 +68,7 @@ and_false : (b : Bool) → (b && false) ≡ false
 and_false true = refl
 and_false false = refl
 
--- a byte that is no digit
+-- a byte that isn't a digit
 pub list_all-other : (xs : List ℕ) (i : ℕ) → i < length xs → 16 ≤ digit_value (get_or xs i 0) → list_all (λ c. is_digit c 16) xs ≡ false
 list_all-other [] i lt h = absurd (omega arith)
 list_all-other (x ∷ xs) zero lt h = rw (le-ltb (digit_value x) 16 h) refl

@@ -11,13 +11,13 @@ use arrayvec::ArrayString;
 use hex::FromHex;
 use std::net::{Ipv4Addr, Ipv6Addr};
 
-/// The length of the text of a MAC address.
+/// The length of a MAC address as text.
 pub const MAC_TEXT_LEN: usize = 17;
 
-/// The length of the longest text of an IPv4 address.
+/// The length of the longest IPv4 address as text.
 pub const IPV4_TEXT_LEN: usize = 15;
 
-/// The length of the longest text of an IPv6 address.
+/// The length of the longest IPv6 address as text.
 pub const IPV6_TEXT_LEN: usize = 39;
 
 /// A MAC address as `ip` writes it: `02:00:5e:10:00:01`.
@@ -40,7 +40,7 @@ pub fn mac_text(octets: [u8; 6]) -> ArrayString<MAC_TEXT_LEN>
     text
 }
 
-/// An IPv4 address, most significant octet first: `192.0.2.1`.
+/// An IPv4 address from its octets, most significant first: `192.0.2.1`.
 pub fn ipv4_text(octets: [u8; 4]) -> ArrayString<IPV4_TEXT_LEN>
     ensures { result.bytes ≡ ipv4_text octets }
 {
@@ -64,7 +64,7 @@ fn push_ipv4<const N: usize>(text: &mut ArrayString<N>, octets: [u8; 4])
     push_decimal(text, d);
 }
 
-/// An IPv6 address, most significant octet first, as `ip` and `inet_ntop` of glibc write it: `2001:db8::1`,
+/// An IPv6 address from its octets, most significant first, as `ip` and glibc's `inet_ntop` write it: `2001:db8::1`,
 /// `::ffff:192.0.2.1`, `::192.0.2.1`.
 pub fn ipv6_text(octets: [u8; 16]) -> ArrayString<IPV6_TEXT_LEN>
     ensures { result.bytes ≡ ipv6_text octets }
@@ -95,7 +95,7 @@ pub fn ipv6_text(octets: [u8; 16]) -> ArrayString<IPV6_TEXT_LEN>
     text
 }
 
-/// The start and the length of the longest run of zeros, of equals the first.
+/// Start and length of the longest run of zeros; of several equally long runs, of the first.
 fn longest_zero_run(segments: &[u16]) -> (usize, usize)
     ensures value { result ≡ longest_zero_run segments.now }
     ensures within { result.0 + result.1 ≤ length segments.now }
@@ -128,7 +128,7 @@ fn push_groups<const N: usize>(text: &mut ArrayString<N>, groups: &[u16])
     }
 }
 
-/// The MAC address of which this is the text.
+/// Parses a MAC address as `mac_text` writes it; `None` for any other text.
 pub fn read_mac(text: &str) -> Option<[u8; 6]>
     ensures { ReadsBack mac_text 6 text.now result }
 {
@@ -147,7 +147,7 @@ pub fn read_mac(text: &str) -> Option<[u8; 6]>
     }
 }
 
-/// The octets of the IPv4 address of which this is the text, most significant first.
+/// Parses an IPv4 address as `ipv4_text` writes it, most significant octet first; `None` for any other text.
 pub fn read_ipv4(text: &str) -> Option<[u8; 4]>
     ensures { ReadsBack ipv4_text 4 text.now result }
 {
@@ -157,7 +157,7 @@ pub fn read_ipv4(text: &str) -> Option<[u8; 4]>
     }
 }
 
-/// The octets of the IPv6 address of which this is the text, most significant first.
+/// Parses an IPv6 address as `ipv6_text` writes it, most significant octet first; `None` for any other text.
 pub fn read_ipv6(text: &str) -> Option<[u8; 16]>
     ensures { ReadsBack ipv6_text 16 text.now result }
 {

@@ -1,4 +1,4 @@
-//! Digits, put at the end of a text; and whether two texts are the same.
+//! Appending digits to texts of fixed capacity.
 
 ghost use Rattle.std.specs.Prelude.{◌≡◌, ◌↔◌, IsTrue, ◌+◌, ◌<◌, ◌≤◌, [], ◌∷◌, ◌++◌, decimal};
 ghost use Rattle.std.specs.Char.{digit_char};
@@ -8,8 +8,8 @@ ghost use Rattle.tc_texts.specs.Hex.{octet_text};
 
 use arrayvec::ArrayString;
 
-/// The lower-case hex digit.
-fn hex_digit(n: u8) -> u8
+/// The lower-case hex digit of a number below 16.
+pub fn hex_digit(n: u8) -> u8
     requires { n < 16 }
     ensures { result ≡ digit_char n }
 {
@@ -45,7 +45,7 @@ pub(crate) fn push_octet<const N: usize>(text: &mut ArrayString<N>, octet: u8)
     push_digit(text, octet % 16);
 }
 
-/// Appends a number of 16 bits in hex, without leading zeros.
+/// Appends a 16-bit number in hex, without leading zeros.
 pub(crate) fn push_hex<const N: usize>(text: &mut ArrayString<N>, n: u16)
     requires { array_string_len text.old + 4 ≤ N }
     ensures bytes { text.new.bytes ≡ text.old.bytes ++ hex n }
@@ -73,7 +73,7 @@ pub(crate) fn push_decimal<const N: usize>(text: &mut ArrayString<N>, n: u8)
     text.push_str(buffer.format(n));
 }
 
-/// Whether two texts are the same.
+/// True if two texts are equal: `==`, with the contract that proofs need.
 pub(crate) fn is_same(a: &str, b: &str) -> bool
     ensures { IsTrue result ↔ (a.now ≡ b.now) }
 {

@@ -1,4 +1,4 @@
-//! Handles, as numbers of 32 bits whose upper half is the major number and whose lower half the minor.
+//! Handles, as 32-bit numbers: major number in the upper half, minor number in the lower.
 
 ghost use Rattle.std.specs.Prelude.{◌≡◌, ◌+◌, ◌≤◌, ◌++◌};
 ghost use Rattle.arrayvec.specs.ArrayString.{array_string_len};
@@ -8,17 +8,17 @@ ghost use Rattle.tc_texts.specs.Reading.{ReadsHandle};
 use crate::digits::{is_same, push_hex};
 use arrayvec::ArrayString;
 
-/// The length of the longest text of a handle.
+/// The length of the longest handle as text.
 pub const HANDLE_TEXT_LEN: usize = 9;
 
-/// The handle of the root qdisc's parent (`TC_H_ROOT`).
+/// `TC_H_ROOT`: the parent of a root qdisc.
 const ROOT: u32 = 0xFFFF_FFFF;
 
-/// The handle of the parent of an ingress or clsact qdisc (`TC_H_INGRESS`, `TC_H_CLSACT`).
+/// `TC_H_INGRESS` and `TC_H_CLSACT`: the parent of an ingress or clsact qdisc.
 const INGRESS: u32 = 0xFFFF_FFF1;
 
-/// A handle as `tc` writes it: `1:10`, `8001:` if the minor number is 0, `:10` if the major is, `root`, `ffff:fff1`; but 0 is
-/// `0:0`.
+/// A handle as `tc` writes it: `1:10`, `8001:` if the minor number is 0, `:10` if the major is, `root`, `ffff:fff1`.
+/// The handle 0 is `0:0`.
 pub fn handle_text(handle: u32) -> ArrayString<HANDLE_TEXT_LEN>
     ensures { result.bytes ≡ handle_text handle }
 {
@@ -35,7 +35,7 @@ pub fn handle_text(handle: u32) -> ArrayString<HANDLE_TEXT_LEN>
     text
 }
 
-/// Appends half of a handle, nothing for 0.
+/// Appends half of a handle in hex; nothing for 0.
 fn push_half<const N: usize>(text: &mut ArrayString<N>, half: u16)
     requires { array_string_len text.old + 4 ≤ N }
     ensures bytes { text.new.bytes ≡ text.old.bytes ++ half_text half }
@@ -46,7 +46,7 @@ fn push_half<const N: usize>(text: &mut ArrayString<N>, half: u16)
     }
 }
 
-/// The handle of which this is the text, as `handle_text` writes it.
+/// Parses a handle as `handle_text` writes it; `None` for any other text.
 pub fn read_handle(text: &str) -> Option<u32>
     ensures { ReadsHandle text.now result }
 {
@@ -61,8 +61,8 @@ pub fn read_handle(text: &str) -> Option<u32>
     }
 }
 
-/// The handle of a text that `tc` reads as one: `1:10`, `1:`, `:10`, `root`, `none`, `ingress`, `clsact`; digits are hex, in
-/// either case. A number without a colon isn't read.
+/// Parses a handle as `tc` does: `1:10`, `1:`, `:10`, `root`, `none`, `ingress`, `clsact`, with hex digits in either
+/// case. `None` for any other text, such as a number without a colon.
 pub fn handle_from_tc_text(text: &str) -> Option<u32>
     ensures { result ≡ handle_of text.now }
 {
@@ -79,7 +79,7 @@ pub fn handle_from_tc_text(text: &str) -> Option<u32>
     }
 }
 
-/// The handle of a text with a colon.
+/// Parses major and minor number around a colon.
 fn numbers(text: &str) -> Option<u32>
     ensures { result ≡ numbers_of text.now }
 {
@@ -90,7 +90,7 @@ fn numbers(text: &str) -> Option<u32>
     }
 }
 
-/// The number of up to four hex digits.
+/// Parses up to four hex digits; none is 0.
 fn half(text: &str) -> Option<u16>
     ensures { result ≡ half_of text.now }
 {

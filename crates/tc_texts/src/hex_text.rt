@@ -10,7 +10,7 @@ use hex::FromHexError;
 use std::alloc::{AllocError, Allocator};
 use std::fmt;
 
-/// Bytes that show themselves as hex: two digits each, lower case, without blanks.
+/// Displays bytes in hex: two lower-case digits each, without separators.
 #[derive(Clone, Copy)]
 pub struct HexText<'a>(pub &'a [u8]);
 
@@ -25,14 +25,15 @@ impl fmt::Display for HexText<'_> {
     }
 }
 
-/// Bytes as hex, in a string.
+/// Bytes in hex, as a string. Fails only if the allocator does.
 pub fn hex_string<A: Allocator>(alloc: A, bytes: &[u8]) -> Result<String<A>, AllocError>
     ensures { IfOk result (λ text. string_bytes text ≡ hex_text bytes.now) }
 {
     hex::encode(alloc, bytes)
 }
 
-/// The bytes of which this is the text in hex: digits in lower case, two for each byte.
+/// Parses bytes in hex as `hex_string` writes them: two lower-case digits each; `None` for any other text. Fails only
+/// if the allocator does.
 pub fn read_hex<A: Allocator>(alloc: A, text: &str) -> Result<Option<Vec<u8, A>>, AllocError>
     ensures { IfOk result (λ r. MatchOption r (IsNoHex text.now) (λ bytes. text.now ≡ hex_text bytes.items)) }
 {
@@ -48,7 +49,7 @@ pub fn read_hex<A: Allocator>(alloc: A, text: &str) -> Result<Option<Vec<u8, A>>
     }
 }
 
-/// Whether one of the capital letters `A` to `F` is in a text.
+/// True if a text has one of the capital letters `A` to `F`.
 fn has_capital(text: &str) -> bool
     ensures { result ≡ has_capital text.now }
 {

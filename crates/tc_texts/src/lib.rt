@@ -1,13 +1,15 @@
-//! The texts in which values of Linux traffic control are shown, and read again: addresses, handles and bytes; and the word
-//! `info` of a filter, from a priority and a protocol.
+//! Values of Linux traffic control as text, written and parsed: addresses, handles and bytes in hex; `tcm_info` of a
+//! filter, from a priority and a protocol; and escaping for terminals.
 //!
-//! Texts are of fixed size and take no memory. A reader accepts exactly the texts that are written; only `handle_from_tc_text`
-//! takes all that `tc` takes.
+//! Addresses and handles are texts of fixed capacity and don't allocate. Parsers accept exactly the texts that are
+//! written; only `handle_from_tc_text` accepts all that `tc` does.
 #![tactic(auto)]
 
 pub mod address;
 mod digits;
+pub mod escape;
 pub mod handle;
+pub mod hex_number;
 pub mod hex_text;
 pub mod info;
 pub mod laws;
@@ -17,6 +19,9 @@ pub use address::{
     read_ipv6, read_mac,
 };
 pub use arrayvec::ArrayString;
+pub use digits::hex_digit;
+pub use escape::{is_printable, put_escaped_byte};
 pub use handle::{HANDLE_TEXT_LEN, handle_from_tc_text, handle_text, read_handle};
+pub use hex_number::put_hex_number;
 pub use hex_text::{HexText, hex_string, read_hex};
 pub use info::{filter_info, info_priority, info_protocol};

@@ -15,7 +15,7 @@ abbrev pub name_of : List Name → ℕ → Option (List ℕ)
 name_of [] n = None
 name_of (x ∷ xs) n = if x.number == n then Some x.name else name_of xs n
 
--- a number behind its name, or alone
+-- a number after its name, or only the number
 abbrev pub named : Option (List ℕ) → List ℕ → List ℕ
 named None number = number
 named (Some name) number = name ++ bracketed number
@@ -28,7 +28,7 @@ abbrev pub number_of : List Name → List ℕ → Option ℕ
 number_of [] name = None
 number_of (x ∷ xs) name = if bytes_eq x.name name then Some x.number else number_of xs name
 
--- ---- the code's values
+-- ---- abstract values of the code's types
 
 abbrev pub CodeName : Type 0
 CodeName = NameOf (Bor (List ℕ))
@@ -39,7 +39,7 @@ name_view x = record { number = x.number; name = x.name.now }
 abbrev pub names_view : List CodeName → List Name
 names_view xs = map name_view xs
 
--- ---- the same values in a constant of the code, where a reference is another type
+-- ---- the same for constants, whose references have another type
 
 abbrev pub ConstName : Type 0
 ConstName = NameOf (record { now : List ℕ })

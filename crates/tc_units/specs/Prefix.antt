@@ -1,8 +1,8 @@
--- Masks of prefixes.
+-- Network masks and prefix lengths.
 use Rattle.std.specs.List.{list_all}
 use Rattle.std.specs.Prelude.{List, None, Option, Some, [], if◌then◌else◌, option_map, ℕ, ◌+◌, ◌==◌, ◌∷◌}
 
--- how many leading ones an octet has, if no other bit of it is set
+-- the number of leading ones in an octet, if no other bit is set
 abbrev pub ones_of : ℕ → Option ℕ
 ones_of o =
     if o == 0 then Some 0
@@ -15,7 +15,7 @@ ones_of o =
     else if o == 254 then Some 7
     else None
 
--- how many leading ones octets have, most significant first, if no other bit of them is set
+-- the number of leading ones in octets, most significant first, if no other bit is set
 abbrev pub prefix_of : List ℕ → Option ℕ
 prefix_of [] = Some 0
 prefix_of (o ∷ os) =

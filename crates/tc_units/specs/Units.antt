@@ -1,4 +1,4 @@
--- Numbers with their units: the exact number first, and in brackets what it is to people.
+-- Numbers with units: the exact number, then a readable form in parentheses.
 use Rattle.std.specs.Int.{is_negative}
 use Rattle.std.specs.Prelude.{Bool, List, [], codes, decimal, if◌then◌else◌, nat_lt, unsigned_abs, ℕ, ℤ, ◌%◌, ◌&&◌, ◌*◌, ◌+◌, ◌++◌, ◌/◌, ◌==◌, ◌^◌, ◌||◌, ◌∷◌}
 use Rattle.tc_units.specs.Numerals.{bracketed, hex_text, long_hex_text}
@@ -7,23 +7,23 @@ use Rattle.tc_units.specs.Values.{u32_handle_text}
 use Rattle.tc_units.specs.declared.unit.Unit.{Unit}
 use Rattle.tc_units.specs.declared.unit.Unit.TheVariants as unit
 
--- true where `tc` writes a number in this unit, and not in one that is a thousand times as large
+-- true if `tc` writes the number in this unit, not in the next larger one
 abbrev pub stays : ℕ → Bool
 stays n = nat_lt n 1000 || (nat_lt 0 (n % 1000) && nat_lt n 1000000)
 
--- a number in the unit in which `tc` writes it, of those after it each a thousand times as large
+-- a number in the unit that `tc` chooses: this one, or one of the following, each 1000 times as large
 abbrev pub scaled : ℕ → List ℕ → List (List ℕ) → List ℕ
 scaled n name [] = decimal n ++ name
 scaled n name (next ∷ others) = if stays n then decimal n ++ name else scaled (n / 1000) next others
 
--- a rate in bytes a second, as `tc` writes it in bits
+-- a rate in bytes per second as `tc` writes it, in bits
 abbrev pub bits_text : ℕ → List ℕ
 bits_text rate = scaled (rate * 8) (codes "bit") (codes "Kbit" ∷ codes "Mbit" ∷ codes "Gbit" ∷ codes "Tbit" ∷ [])
 
 abbrev pub rate_text : ℕ → List ℕ
 rate_text n = decimal n ++ (codes " B/s" ++ bracketed (bits_text n))
 
--- three decimals, without the zeros that end them
+-- three decimals without trailing zeros
 abbrev pub decimals : ℕ → List ℕ
 decimals n =
     if n == 0 then []
@@ -31,7 +31,7 @@ decimals n =
     else if n % 10 == 0 then codes "." ++ (decimal (n / 100) ++ decimal (n / 10 % 10))
     else codes "." ++ (decimal (n / 100) ++ (decimal (n / 10 % 10) ++ decimal (n % 10)))
 
--- 2^-32 each, in thousandths of a percent, rounded
+-- a probability in units of 2^-32, in thousandths of a percent, rounded
 abbrev pub thousandths : ℕ → ℕ
 thousandths n = (n * 100000 + 2 ^ 31) / 2 ^ 32
 
@@ -41,11 +41,11 @@ percent_text thousandths = decimal (thousandths / 1000) ++ (decimals (thousandth
 abbrev pub probability_text : ℕ → List ℕ
 probability_text n = decimal n ++ bracketed (percent_text (thousandths n))
 
--- a power of two by its exponent
+-- a power of two, given its exponent
 abbrev pub power_text : ℕ → List ℕ
 power_text n = decimal n ++ (if nat_lt n 64 then bracketed (decimal (2 ^ n)) else [])
 
--- four bytes in the other order
+-- a 32-bit number with its bytes swapped
 abbrev pub swapped : ℕ → ℕ
 swapped n = n % 0x100 * 0x1000000 + n / 0x100 % 0x100 * 0x10000 + n / 0x10000 % 0x100 * 0x100 + n / 0x1000000 % 0x100
 
@@ -71,17 +71,17 @@ number_text unit.Probability n = probability_text n
 number_text unit.Power n = power_text n
 number_text unit.U32Handle n = u32_handle_text n
 
--- a number below zero in its unit, by its amount
-abbrev pub below_zero_text : Unit → ℕ → List ℕ
-below_zero_text unit.Bytes n = codes "-" ++ (decimal n ++ codes "B")
-below_zero_text unit.Packets n = codes "-" ++ (decimal n ++ codes "p")
-below_zero_text unit.Nanoseconds n = time_in (codes "-") 1 (codes "ns") n
-below_zero_text unit.Microseconds n = time_in (codes "-") 1000 (codes "us") n
-below_zero_text unit.Milliseconds n = time_in (codes "-") 1000000 (codes "ms") n
-below_zero_text unit.Seconds n = codes "-" ++ (decimal n ++ codes "s")
-below_zero_text unit.Ticks n = ticks_text (codes "-") n
-below_zero_text u n = codes "-" ++ decimal n
+-- a negative number in its unit, given its absolute value
+abbrev pub negative_text : Unit → ℕ → List ℕ
+negative_text unit.Bytes n = codes "-" ++ (decimal n ++ codes "B")
+negative_text unit.Packets n = codes "-" ++ (decimal n ++ codes "p")
+negative_text unit.Nanoseconds n = time_in (codes "-") 1 (codes "ns") n
+negative_text unit.Microseconds n = time_in (codes "-") 1000 (codes "us") n
+negative_text unit.Milliseconds n = time_in (codes "-") 1000000 (codes "ms") n
+negative_text unit.Seconds n = codes "-" ++ (decimal n ++ codes "s")
+negative_text unit.Ticks n = ticks_text (codes "-") n
+negative_text u n = codes "-" ++ decimal n
 
--- a number that may be below zero
+-- a signed number in its unit
 abbrev pub signed_text : Unit → ℤ → List ℕ
-signed_text u z = if is_negative z then below_zero_text u (unsigned_abs z) else number_text u (unsigned_abs z)
+signed_text u z = if is_negative z then negative_text u (unsigned_abs z) else number_text u (unsigned_abs z)

@@ -1,8 +1,8 @@
--- Numbers that have names of their own.
+-- Verdicts and the handles of u32 filters.
 use Rattle.std.specs.Prelude.{List, None, Option, Some, [], codes, decimal, if◌then◌else◌, unwrap_or, ℕ, ◌%◌, ◌++◌, ◌/◌, ◌==◌}
-use Rattle.tc_units.specs.Numerals.{hex}
+use Rattle.tc_texts.specs.Hex.{hex_number}
 
--- what an action says of a packet, a number of 32 bits (`TC_ACT_OK` and so on), as `tc` names it
+-- the name of a verdict, a 32-bit number (`TC_ACT_*`), as `tc` writes it
 abbrev pub verdict_name : ℕ → Option (List ℕ)
 verdict_name n =
     if n == 0xffffffff then Some (codes "continue")
@@ -17,22 +17,22 @@ verdict_name n =
     else if n == 8 then Some (codes "trap")
     else None
 
--- to go on with a later action, or in a chain, has its number in the lower 28 bits
+-- `jump` and `goto chain` have their number in the lower 28 bits
 abbrev pub verdict_text : ℕ → List ℕ
 verdict_text n =
     if n / 0x10000000 == 1 then codes "jump " ++ decimal (n % 0x10000000)
     else if n / 0x10000000 == 2 then codes "goto chain " ++ decimal (n % 0x10000000)
     else unwrap_or (verdict_name n) (decimal n)
 
--- the handle of a filter of kind u32: its table, its bucket and its node, as `tc` writes it
+-- the handle of a u32 filter as `tc` writes it: hash table, bucket and node
 abbrev pub table_text : ℕ → List ℕ
-table_text n = if n == 0 then [] else hex n ++ codes ":"
+table_text n = if n == 0 then [] else hex_number n ++ codes ":"
 
 abbrev pub bucket_text : ℕ → List ℕ
-bucket_text n = if n == 0 then [] else hex n
+bucket_text n = if n == 0 then [] else hex_number n
 
 abbrev pub node_text : ℕ → List ℕ
-node_text n = if n == 0 then [] else codes ":" ++ hex n
+node_text n = if n == 0 then [] else codes ":" ++ hex_number n
 
 abbrev pub u32_handle_text : ℕ → List ℕ
 u32_handle_text n =

@@ -25,7 +25,7 @@ fn any_set(bits: &[Name<'_>], n: u64) -> bool
     }
 }
 
-// Puts the names of the bits that are set, and what has no name in hex, each behind a blank.
+// Appends the names of the set bits, then the unnamed bits in hex, each after a blank.
 fn put_set<A: Allocator>(out: &mut Vec<u8, A>, bits: &[Name<'_>], n: u64) -> Result<(), AllocError>
     ensures { OnOk result (out.new.items ≡ out.old.items ++ set_names (names_view bits.now) n) }
 {
@@ -41,7 +41,7 @@ fn put_set<A: Allocator>(out: &mut Vec<u8, A>, bits: &[Name<'_>], n: u64) -> Res
     put_set(out, others, n - bit.number)
 }
 
-// Puts what has no name.
+// Appends the unnamed bits in hex, after a blank.
 fn put_rest<A: Allocator>(out: &mut Vec<u8, A>, n: u64) -> Result<(), AllocError>
     ensures { OnOk result (out.new.items ≡ out.old.items ++ set_names [] n) }
 {
@@ -52,8 +52,8 @@ fn put_rest<A: Allocator>(out: &mut Vec<u8, A>, n: u64) -> Result<(), AllocError
     put_hex(out, n)
 }
 
-/// Puts a flag word behind a blank: the names of its bits and in brackets its number, or the number alone where no bit that is set
-/// has a name.
+/// Appends a flag word after a blank: the names of its bits and its number in parentheses, or only the number if no set
+/// bit has a name.
 pub fn put_flags<A: Allocator>(
     out: &mut Vec<u8, A>,
     bits: &[Name<'_>],

@@ -1,4 +1,4 @@
-//! Values of Linux traffic control as people read them: the exact value first, and in brackets what it is in other units or names.
+//! Values of Linux traffic control as people read them: the exact value, then other units or names in parentheses.
 //!
 //! | What | How it is written |
 //! |---|---|
@@ -13,7 +13,7 @@
 //! | what an action says of a packet | `pipe`, `drop`, `goto chain 42`, `jump 10` |
 //! | the handle of a filter of kind u32 | `800::800` |
 //!
-//! Texts are put at the end of a vector, and only its growth takes memory.
+//! Texts are appended to a vector. Calls fail only if it can't grow.
 #![tactic(auto)]
 
 mod flags;

@@ -7,22 +7,21 @@ use crate::unit::Unit;
 use crate::units::put_number;
 use std::alloc::{AllocError, Allocator};
 
-/// A number, or a bit of a flag word, and its name. It is generic in its texts: specs can cite a constant of a generic type, and of none that
-/// has a lifetime.
+/// A number, or a bit of a flag word, and its name. Generic in the text type, since specs can cite a constant only if
+/// its type has no lifetime.
 #[derive(Clone, Copy)]
 pub struct NameOf<N> {
-    /// The number; a bit is a power of two.
+    /// The number; for a bit a power of two.
     pub number: u64,
-    /// The name.
     pub name: N,
-    /// The kernel's name, for explanations; empty if there is none. Values are shown without it.
+    /// The kernel's constant, which `--explain` prints; empty if there is none.
     pub kernel: N,
 }
 
 /// A number, or a bit of a flag word, and its name.
 pub type Name<'a> = NameOf<&'a str>;
 
-/// The first name of a number.
+/// The first name of a number in a list.
 pub fn name_of<'a>(names: &[Name<'a>], n: u64) -> Option<&'a str>
     ensures { option_map (λ t. t.now) result ≡ name_of (names_view names.now) n }
 {
@@ -33,7 +32,7 @@ pub fn name_of<'a>(names: &[Name<'a>], n: u64) -> Option<&'a str>
     }
 }
 
-/// The first number of a name.
+/// The number of the first entry with this name.
 pub fn number_of(names: &[Name<'_>], text: &str) -> Option<u64>
     ensures { result ≡ number_of (names_view names.now) text.now }
 {
@@ -50,7 +49,7 @@ fn is_same(a: &str, b: &str) -> bool
     a == b
 }
 
-/// Puts a number: its name, and in brackets the number in its unit; or the number alone where it has no name.
+/// Appends a number: its name, and the number in its unit in parentheses; or only the number if it has no name.
 pub fn put_named<A: Allocator>(
     out: &mut Vec<u8, A>,
     unit: Unit,

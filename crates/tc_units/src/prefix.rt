@@ -1,10 +1,10 @@
-//! Masks of prefixes.
+//! Network masks and prefix lengths.
 
 ghost use Rattle.std.specs.List.{list_all};
 ghost use Rattle.std.specs.Prelude.{IfSome, length, ◌*◌, ◌==◌, ◌≡◌, ◌≤◌};
 ghost use Rattle.tc_units.specs.Prefix.{ones_of, prefix_of};
 
-/// The length of the prefix whose mask these octets are, most significant first; none if they are no mask of a prefix.
+/// The prefix length of a mask, most significant octet first; `None` if it isn't ones followed by zeros.
 pub fn prefix_of(mask: &[u8]) -> Option<u8>
     requires { length mask.now ≤ 16 }
     ensures len { result ≡ prefix_of mask.now }
@@ -36,7 +36,7 @@ fn are_zero(octets: &[u8]) -> bool
     }
 }
 
-// How many leading ones an octet has, if no other bit of it is set.
+// The number of leading ones in an octet; `None` if any other bit is set.
 fn ones_of(octet: u8) -> Option<u8>
     ensures ones { result ≡ ones_of octet }
     ensures most { IfSome result (λ n. n ≤ 8) }

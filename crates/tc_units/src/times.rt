@@ -1,4 +1,4 @@
-//! Spans of time.
+//! Durations.
 
 ghost use Rattle.std.specs.Prelude.{OnOk, ◌++◌, ◌≡◌};
 ghost use Rattle.tc_units.specs.Times.{clock_text, ticks_text, time_in, time_text};
@@ -6,7 +6,7 @@ ghost use Rattle.tc_units.specs.Times.{clock_text, ticks_text, time_in, time_tex
 use crate::numerals::{put_decimal, put_wide};
 use std::alloc::{AllocError, Allocator};
 
-/// Puts nanoseconds in the longest of s, ms, us and ns that counts them exactly.
+/// Appends nanoseconds in the longest of s, ms, us and ns that is exact.
 #[inline(never)]
 pub(crate) fn put_time<A: Allocator>(out: &mut Vec<u8, A>, ns: u128) -> Result<(), AllocError>
     ensures { OnOk result (out.new.items ≡ out.old.items ++ time_text ns) }
@@ -27,7 +27,7 @@ pub(crate) fn put_time<A: Allocator>(out: &mut Vec<u8, A>, ns: u128) -> Result<(
     out.extend_from_slice(b"ns")
 }
 
-/// Puts so many units of this name, and the time in a longer unit where that is exact, both behind a sign.
+/// Appends a number of units with this name, then the time in a longer unit if that is exact; both with the sign.
 pub(crate) fn put_time_in<A: Allocator>(
     out: &mut Vec<u8, A>,
     sign: &[u8],
@@ -49,7 +49,7 @@ pub(crate) fn put_time_in<A: Allocator>(
     Ok(())
 }
 
-/// Puts ticks of the packet scheduler, and their time, both behind a sign.
+/// Appends ticks of the packet scheduler and their duration, both with the sign.
 pub(crate) fn put_ticks<A: Allocator>(
     out: &mut Vec<u8, A>,
     sign: &[u8],
@@ -65,7 +65,7 @@ pub(crate) fn put_ticks<A: Allocator>(
     out.extend_from_slice(b")")
 }
 
-/// Puts hundredths of a second, and their time.
+/// Appends clock ticks (`USER_HZ`) and their duration.
 pub(crate) fn put_clock<A: Allocator>(out: &mut Vec<u8, A>, n: u64) -> Result<(), AllocError>
     ensures { OnOk result (out.new.items ≡ out.old.items ++ clock_text n) }
 {

@@ -1,44 +1,36 @@
-//! What a number counts.
+//! The units of numbers.
 
-/// What a number counts, or how it is written.
+/// The unit of a number, or its notation.
 #[derive(Clone, Copy)]
 pub enum Unit {
-    /// Nothing in particular: decimal.
+    /// No unit: decimal.
     Plain,
-    /// A mask, a mark or a key: hex.
+    /// Hex, as for a mask, a mark or a key.
     Hex,
-    /// A protocol's number: hex, at least four digits.
+    /// Hex with at least four digits, as for an EtherType.
     LongHex,
-    /// Four bytes of a packet, which are big-endian, as a little-endian number: hex of the big-endian one.
+    /// Four big-endian bytes of a packet that were read as a little-endian number: the big-endian number in hex.
     NetworkHex,
-    /// Bytes.
     Bytes,
-    /// Packets.
     Packets,
-    /// Bytes a second.
+    /// Bytes per second; in parentheses bits per second, as `tc` writes them.
     BytesPerSecond,
-    /// Packets a second.
     PacketsPerSecond,
-    /// A thousand bits a second.
+    /// 1000 bits per second.
     KilobitsPerSecond,
-    /// Nanoseconds.
     Nanoseconds,
-    /// Microseconds.
     Microseconds,
-    /// Milliseconds.
     Milliseconds,
-    /// Seconds.
     Seconds,
-    /// Ticks of the packet scheduler, 64 ns each (`PSCHED_SHIFT`, since Linux 2.6.31).
+    /// Ticks of the packet scheduler: 64 ns (`PSCHED_SHIFT`, since Linux 2.6.31).
     Ticks,
-    /// Hundredths of a second (`USER_HZ`).
+    /// Clock ticks: 1/100 s (`USER_HZ`).
     ClockTicks,
-    /// Hundredths.
     Percent,
-    /// A probability: 2^-32 each.
+    /// A probability in units of 2^-32.
     Probability,
-    /// The exponent of a power of two.
+    /// The exponent of a power of two; in parentheses the power.
     Power,
-    /// The handle of a filter of kind u32, as `tc` writes it.
+    /// The handle of a u32 filter, as `tc` writes it: `800::800`.
     U32Handle,
 }

@@ -1,7 +1,7 @@
-//! Numbers with their units.
+//! Numbers with units.
 
 ghost use Rattle.std.specs.Prelude.{OnOk, codes, decimal, ◌++◌, ◌≡◌};
-ghost use Rattle.tc_units.specs.Units.{below_zero_text, bits_text, decimals, number_text, percent_text, power_text, probability_text, rate_text, scaled};
+ghost use Rattle.tc_units.specs.Units.{negative_text, bits_text, decimals, number_text, percent_text, power_text, probability_text, rate_text, scaled};
 ghost use Rattle.tc_units.specs.Units.{signed_text, stays, swapped, thousandths};
 
 use crate::numerals::{put_decimal, put_hex, put_long_hex, put_wide};
@@ -10,7 +10,7 @@ use crate::unit::Unit;
 use crate::values::put_u32_handle;
 use std::alloc::{AllocError, Allocator};
 
-/// Puts a number in its unit: exact, and behind it in brackets what it is to people.
+/// Appends a number in its unit: the exact number, then a readable form in parentheses.
 pub fn put_number<A: Allocator>(out: &mut Vec<u8, A>, unit: Unit, n: u64) -> Result<(), AllocError>
     ensures { OnOk result (out.new.items ≡ out.old.items ++ number_text unit n) }
 {
@@ -37,21 +37,21 @@ pub fn put_number<A: Allocator>(out: &mut Vec<u8, A>, unit: Unit, n: u64) -> Res
     }
 }
 
-/// Puts a number that may be below zero in its unit; a rate, a mask or a key that is has none.
+/// Appends a signed number in its unit; negative rates, masks and keys without one.
 pub fn put_signed<A: Allocator>(out: &mut Vec<u8, A>, unit: Unit, n: i64) -> Result<(), AllocError>
     ensures { OnOk result (out.new.items ≡ out.old.items ++ signed_text unit n) }
 {
     let amount = n.unsigned_abs();
     if n < 0 {
-        put_below_zero(out, unit, amount)
+        put_negative(out, unit, amount)
     } else {
         put_number(out, unit, amount)
     }
 }
 
-// Puts a number below zero in its unit, by its amount.
-fn put_below_zero<A: Allocator>(out: &mut Vec<u8, A>, unit: Unit, n: u64) -> Result<(), AllocError>
-    ensures { OnOk result (out.new.items ≡ out.old.items ++ below_zero_text unit n) }
+// Appends a negative number in its unit, given its absolute value.
+fn put_negative<A: Allocator>(out: &mut Vec<u8, A>, unit: Unit, n: u64) -> Result<(), AllocError>
+    ensures { OnOk result (out.new.items ≡ out.old.items ++ negative_text unit n) }
 {
     match unit {
         Unit::Bytes => put_minus(out, n, b"B"),
@@ -65,7 +65,7 @@ fn put_below_zero<A: Allocator>(out: &mut Vec<u8, A>, unit: Unit, n: u64) -> Res
     }
 }
 
-// Puts a number below zero and the name of its unit.
+// Appends a minus sign, an absolute value and the name of the unit.
 fn put_minus<A: Allocator>(out: &mut Vec<u8, A>, n: u64, name: &[u8]) -> Result<(), AllocError>
     ensures { OnOk result (out.new.items ≡ out.old.items ++ (codes "-" ++ (decimal n ++ name.now))) }
 {
@@ -73,7 +73,7 @@ fn put_minus<A: Allocator>(out: &mut Vec<u8, A>, n: u64, name: &[u8]) -> Result<
     put_counted(out, n, name)
 }
 
-// The number whose four bytes are in the other order.
+// A 32-bit number with its bytes swapped.
 fn swapped(n: u64) -> u64
     ensures { result ≡ swapped n }
 {
@@ -83,7 +83,7 @@ fn swapped(n: u64) -> u64
         + n / 0x100_0000 % 0x100
 }
 
-// Puts a number and the name of its unit, mostly a letter.
+// Appends a number and the name of its unit, usually one letter.
 #[inline(always)]
 fn put_counted<A: Allocator>(out: &mut Vec<u8, A>, n: u64, name: &[u8]) -> Result<(), AllocError>
     ensures { OnOk result (out.new.items ≡ out.old.items ++ (decimal n ++ name.now)) }
@@ -98,14 +98,14 @@ fn put_counted<A: Allocator>(out: &mut Vec<u8, A>, n: u64, name: &[u8]) -> Resul
     }
 }
 
-// True where tc writes a number in a unit, and not in one that is a thousand times as large.
+// True if `tc` writes the number in this unit, not in the next larger one.
 fn stays(n: u128) -> bool
     ensures { result ≡ stays n }
 {
     n < 1000 || (n % 1000 > 0 && n < 1_000_000)
 }
 
-// Puts a number and its unit.
+// Appends a number and the name of its unit.
 fn put_scaled<A: Allocator>(out: &mut Vec<u8, A>, n: u128, name: &[u8]) -> Result<(), AllocError>
     ensures { OnOk result (out.new.items ≡ out.old.items ++ (decimal n ++ name.now)) }
 {
@@ -113,7 +113,7 @@ fn put_scaled<A: Allocator>(out: &mut Vec<u8, A>, n: u128, name: &[u8]) -> Resul
     out.extend_from_slice(name)
 }
 
-// Puts bytes a second, as tc writes them in bits.
+// Appends a rate in bytes per second as `tc` writes it, in bits.
 #[inline(never)]
 fn put_bits<A: Allocator>(out: &mut Vec<u8, A>, rate: u64) -> Result<(), AllocError>
     ensures { OnOk result (out.new.items ≡ out.old.items ++ bits_text rate) }
@@ -146,7 +146,7 @@ fn put_rate<A: Allocator>(out: &mut Vec<u8, A>, n: u64) -> Result<(), AllocError
     out.extend_from_slice(b")")
 }
 
-// Puts three decimals, without the zeros that end them.
+// Appends three decimals without trailing zeros.
 fn put_decimals<A: Allocator>(out: &mut Vec<u8, A>, n: u64) -> Result<(), AllocError>
     ensures { OnOk result (out.new.items ≡ out.old.items ++ decimals n) }
 {
@@ -173,7 +173,7 @@ fn put_percent<A: Allocator>(out: &mut Vec<u8, A>, thousandths: u64) -> Result<(
     out.extend_from_slice(b"%")
 }
 
-// Thousandths of a percent, rounded.
+// A probability in thousandths of a percent, rounded.
 fn thousandths(n: u64) -> u64
     ensures { result ≡ thousandths n }
 {

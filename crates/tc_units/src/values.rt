@@ -1,12 +1,13 @@
-//! Numbers that have names of their own.
+//! Verdicts and the handles of u32 filters.
 
 ghost use Rattle.std.specs.Prelude.{OnOk, option_map, ◌++◌, ◌≡◌};
 ghost use Rattle.tc_units.specs.Values.{bucket_text, node_text, table_text, u32_handle_text, verdict_name, verdict_text};
 
-use crate::numerals::{put_decimal, put_digits};
+use crate::numerals::put_decimal;
 use std::alloc::{AllocError, Allocator};
+use tc_texts::put_hex_number;
 
-/// The name of what an action says of a packet (`TC_ACT_OK` and so on).
+/// The name of a verdict (`TC_ACT_*`), as `tc` writes it.
 pub fn verdict_name(n: u32) -> Option<&'static str>
     ensures { option_map (λ t. t.now) result ≡ verdict_name n }
 {
@@ -25,7 +26,7 @@ pub fn verdict_name(n: u32) -> Option<&'static str>
     }
 }
 
-/// Puts what an action says of a packet.
+/// Appends a verdict by name, such as `pipe` or `goto chain 42`; a number if it has no name.
 pub fn put_verdict<A: Allocator>(out: &mut Vec<u8, A>, n: u32) -> Result<(), AllocError>
     ensures { OnOk result (out.new.items ≡ out.old.items ++ verdict_text n) }
 {
@@ -43,7 +44,7 @@ pub fn put_verdict<A: Allocator>(out: &mut Vec<u8, A>, n: u32) -> Result<(), All
     }
 }
 
-/// Puts the handle of a filter of kind u32 as tc writes it: `800::800`.
+/// Appends the handle of a u32 filter as `tc` writes it: `800::800`.
 pub fn put_u32_handle<A: Allocator>(out: &mut Vec<u8, A>, n: u64) -> Result<(), AllocError>
     ensures { OnOk result (out.new.items ≡ out.old.items ++ u32_handle_text n) }
 {
@@ -61,7 +62,7 @@ fn put_table<A: Allocator>(out: &mut Vec<u8, A>, n: u64) -> Result<(), AllocErro
     if n == 0 {
         return Ok(());
     }
-    put_digits(out, n)?;
+    put_hex_number(out, n)?;
     out.extend_from_slice(b":")
 }
 
@@ -71,7 +72,7 @@ fn put_bucket<A: Allocator>(out: &mut Vec<u8, A>, n: u64) -> Result<(), AllocErr
     if n == 0 {
         return Ok(());
     }
-    put_digits(out, n)
+    put_hex_number(out, n)
 }
 
 fn put_node<A: Allocator>(out: &mut Vec<u8, A>, n: u64) -> Result<(), AllocError>
@@ -81,5 +82,5 @@ fn put_node<A: Allocator>(out: &mut Vec<u8, A>, n: u64) -> Result<(), AllocError
         return Ok(());
     }
     out.extend_from_slice(b":")?;
-    put_digits(out, n)
+    put_hex_number(out, n)
 }

@@ -1,4 +1,4 @@
--- A table that doesn't ask for the kind reads the same under every kind.
+-- Tables whose reading doesn't depend on the kind read the same under every kind.
 use Rattle.std.proofs.Common.{◌≡◌, ℕ, Bool, true, false, ◌&&◌, List, [], ◌∷◌, Ok, Err, refl, ap, ◌==◌}
 use Rattle.std.proofs.lemmas.Bool.{and_parts}
 use Rattle.nla_frames.specs.Fault.{Outcome, seen}
@@ -11,7 +11,7 @@ use Rattle.tc_canon.specs.Descriptor.{Table, table, every, by_kind, Rows, others
 use Rattle.tc_meaning.specs.Tree.{Attribute, known}
 use Rattle.tc_meaning.specs.Meaning.{a_list, choose, class_codec, table_codec, rows_codec}
 
--- nothing in it depends on the kind but what holds its own
+-- nothing in it depends on the kind, except lists that set their own
 abbrev mutual
   pub is_kindless_class : Class → Bool
   is_kindless_class xstats = false

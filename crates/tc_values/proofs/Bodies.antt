@@ -1,4 +1,4 @@
--- The things that attributes nest are what their classes have them to be.
+-- Each nested payload satisfies `IsInner`: its own methods agree with its class.
 use Rattle.std.proofs.Common.{◌≡◌, ℕ, List, refl, arith}
 use Rattle.nla_frames.specs.Codec.{Codec}
 use Rattle.nla_frames.specs.Emission.{list_bytes}

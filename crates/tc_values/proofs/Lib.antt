@@ -1,6 +1,6 @@
 pub mod AnyKind
 pub mod Bodies
-mod KindTold
+mod KindSetByFrame
 pub mod Lists
 pub mod Measures
 pub mod OfKinds

@@ -1,4 +1,4 @@
--- Lengths that are measured of one thing and asked of another.
+-- A length measured for one value is the length of another with the same bytes.
 use Rattle.std.proofs.Common.{◌≡◌, ◌↔◌, ℕ, List, Option, Some, None, length, ap, ◌∙◌}
 use Rattle.nla_frames.specs.Emission.{Measures}
 use Rattle.tc_canon.specs.Descriptor.{Rows, table}
@@ -9,13 +9,13 @@ use Rattle.tc_values.specs.Row.{ShownAs}
 use Rattle.tc_values.specs.Value.{value_bytes, ValueFits}
 use Rattle.tc_values.specs.declared.value.Value.{Value}
 
--- of the same bytes, which fit where the others do
+-- equal bytes, which fit if and only if the others do
 pub same_measure : {Fits Same : Type 0} {bytes again : List ℕ} → Fits ↔ Same → bytes ≡ again → (measured : Option ℕ) → Measures measured Fits bytes
     → Measures measured Same again
 same_measure fits is None never = λ same. never (fits.1 same)
 same_measure fits is (Some n) told = (fits.0 told.0, told.1 ∙ ap length is)
 
--- of a value, of the attribute that shows it
+-- the length of a value is the length of its attribute's payload
 pub measured : {N : Type 0} (inner : Inner N) (rows : Rows) (x : Attribute) (word : ℕ) (v : Value N) (len : Option ℕ) → ShownAs inner rows x word v
     → Measures len (ValueFits inner.Fits v) (value_bytes inner.bytes v)
     → Measures len ((table_codec (table rows)).Fits x) ((table_codec (table rows)).write x).value

@@ -1,12 +1,12 @@
--- An option under a known kind is what the kind's rows read; under any other it is kept raw.
+-- An option under a known kind is read with the kind's rows; under any other kind it is kept raw.
 use Rattle.std.proofs.Common.{◌≡◌, ℕ, Bool, true, false, List, [], cond, refl, ap, ◌∙◌}
 use Rattle.std.specs.Str.{bytes_eq}
 use Rattle.std.proofs.lemmas.Slice.Eq.{bytes_eq-Decides}
 use Rattle.nla_frames.specs.declared.error.DecodeError.{DecodeError}
-use Rattle.nla_frames.specs.Fault.{Gives, seen, read_as, refused}
+use Rattle.nla_frames.specs.Fault.{Returns, seen, read_as, refused}
 use Rattle.nla_frames.specs.Frame.{Frame, type_of}
 use Rattle.nla_frames.specs.Reading.{Reads}
-use Rattle.nla_frames.proofs.Outcomes.{Gives-err}
+use Rattle.nla_frames.proofs.Outcomes.{Returns-err}
 use Rattle.tc_canon.specs.Descriptor.{Rows, table, Kinds, unknown, kind, by_kind, is_known}
 use Rattle.tc_meaning.specs.Tree.{Attribute, other, of_kind}
 use Rattle.tc_meaning.specs.Meaning.{table_codec, kinds_codec}
@@ -15,7 +15,7 @@ use Rattle.tc_values.proofs.AnyKind.{are_kindless, rows_same}
 abbrev read_option : Kinds → Reads Attribute
 read_option kinds = (table_codec (by_kind kinds)).read
 
--- of a kind with these rows
+-- a kind with these rows
 module _ (kinds : Kinds) (name : List ℕ) (rows : Rows)
     (named : (f : Frame) → read_option kinds name f ≡ seen (of_kind name) ((table_codec (table rows)).read name f))
     (free : are_kindless rows ≡ true) (k : List ℕ) (f : Frame) (is : bytes_eq k name ≡ true) where
@@ -27,10 +27,10 @@ module _ (kinds : Kinds) (name : List ℕ) (rows : Rows)
   pub option_read : (x : Attribute) → (table_codec (table rows)).read [] f ≡ read_as x → read_option kinds k f ≡ read_as (of_kind name x)
   option_read x reads = by_rows ∙ ap (seen (of_kind name)) reads
 
-  pub option_refused : (e : DecodeError) → Gives (refused e) ((table_codec (table rows)).read [] f) → Gives (refused e) (read_option kinds k f)
-  option_refused e given = Gives-err e _ _ given (λ refuses. by_rows ∙ ap (seen (of_kind name)) refuses)
+  pub option_refused : (e : DecodeError) → Returns (refused e) ((table_codec (table rows)).read [] f) → Returns (refused e) (read_option kinds k f)
+  option_refused e given = Returns-err e _ _ given (λ refuses. by_rows ∙ ap (seen (of_kind name)) refuses)
 
--- no table has the kind
+-- an unknown kind
 kinds_kept : (kinds : Kinds) (k : List ℕ) (f : Frame) → is_known kinds k ≡ false → (kinds_codec kinds).read k f ≡ read_as (other f.word f.value)
 kinds_kept unknown k f is = refl
 kinds_kept (kind name rows kinds) k f is = go (bytes_eq k name) is (kinds_kept kinds k f)
@@ -40,7 +40,7 @@ kinds_kept (kind name rows kinds) k f is = go (bytes_eq k name) is (kinds_kept k
     go true e rest = absurd (cc e)
     go false e rest = rest e
 
--- an option under it is kept raw
+-- an option under an unknown kind is kept raw
 pub option_kept : (kinds : Kinds) (k : List ℕ) (f kept : Frame) → is_known kinds k ≡ false → read_as f ≡ read_as kept
     → read_option kinds k f ≡ read_as (other kept.word kept.value)
 option_kept kinds k f kept told same = kinds_kept kinds k f told ∙ ap (seen (λ (g : Frame). other g.word g.value)) same

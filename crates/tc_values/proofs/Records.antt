@@ -1,4 +1,4 @@
--- Records that attributes nest are what their classes have them to be, and are compared as contracts see them.
+-- Nested records satisfy `IsInner`, and their `==` compares abstract values.
 use Rattle.std.proofs.Common.{◌≡◌, ◌&&◌, List, Bool, true, false, refl}
 use Rattle.std.specs.Ordering.{on}
 use Rattle.tc_canon.specs.Descriptor.{Field, fields}
@@ -21,11 +21,11 @@ same_record see r s = on see same_scalars r.0.now s.0.now
 pub are_same_records : {R : Type 0} (see : R → List Scalar) (layout : List Field) → IsSame (record_part see layout) (same_record see)
 are_same_records see layout = same_part see a_record (record_codec layout) (fields layout) (on see same_scalars) refl (λ r s. refl)
 
--- a test of all numbers of a record ends in none that is left
+-- `b && true` is `b`: the end of a record's chain of comparisons
 pub and_none : (b : Bool) → b ≡ (b && true)
 and_none true = refl
 and_none false = refl
 
--- records whose `==` is derived
+-- `==` of a nested record whose type derives it
 abbrev pub same_of : {R : Type 0} → (R → R → Bool) → Record R → Record R → Bool
 same_of same r s = same r.0.now s.0.now

@@ -1,4 +1,4 @@
--- What an enum shows, by a row of its table, is what the table has.
+-- The word and value that an enum returns for an attribute are encoded as its table says.
 use Rattle.std.proofs.Common.{◌≡◌, ◌↔◌, ℕ, ◌+◌, List, Bool, true, false, Option, Some, None, unwrap_or, cond, refl, sym, ap, subst, ◌∙◌, ◌==◌}
 use Rattle.std.proofs.lemmas.Bool.Decides.{Decides-eqb}
 use Rattle.nla_frames.specs.Frame.{type_of}
@@ -17,14 +17,14 @@ use Rattle.tc_values.specs.declared.value.Value.TheVariants.{Presence, Truth, U8
 use Rattle.tc_values.specs.declared.value.Value.TheVariants.{Octets16, Bytes, Text, Warning, Kept, Nested}
 use Rattle.tc_values.proofs.Values.{value_written, value_fits, value_typed, value_settled}
 
--- a typed value at its type, in a codec that writes it by this word and this class
+-- a codec writes the attributes of a type with this word and this class
 record WrittenAt (codec : Codec Frame Attribute) (is_read : Bool) (n word : ℕ) (class : Class) : Type 0 where
   pub write : (x : Content) → codec.write (known n x) ≡ record { word = word; value = (class_codec class).write x }
   pub fits : (x : Content) → codec.Fits (known n x) ↔ ((class_codec class).Fits x × IsShort ((class_codec class).write x))
   pub typed : (x : Content) → (class_codec class).Typed x → codec.Typed (known n x)
   pub settled : (kind : List ℕ) (x : Content) → codec.Settled kind (known n x) ↔ ((is_read ≡ true) × (class_codec class).Settled kind x)
 
--- what is kept raw, in a codec whose type is read or not
+-- raw attributes in a codec, for a type that is read or not
 record KeptAt (codec : Codec Frame Attribute) (is_read : Bool) : Type 0 where
   pub write : (w : ℕ) (v : List ℕ) → codec.write (other w v) ≡ record { word = w; value = v }
   pub fits : (w : ℕ) (v : List ℕ) → codec.Fits (other w v) ↔ IsShort v
@@ -87,7 +87,7 @@ written_row (options m kinds rows) n word class e = go (n == m) e (written_row r
     go true e rest = absurd (cc e)
     go false e rest = rest e
 
--- at a type of a row that is read, and at one that isn't
+-- a raw attribute of a type that the table reads, and of one that it doesn't
 kept_unread : {codec : Codec Frame Attribute} → ((w : ℕ) (v : List ℕ) → codec.write (other w v) ≡ record { word = w; value = v })
     → ((w : ℕ) (v : List ℕ) → codec.Fits (other w v) ↔ IsShort v) → ((w : ℕ) (v : List ℕ) → IsRaw w v → codec.Typed (other w v))
     → ((kind : List ℕ) (w : ℕ) (v : List ℕ) → codec.Settled kind (other w v)) → KeptAt codec false
@@ -121,7 +121,7 @@ kept_row (options m kinds rows) n = go (n == m) (kept_row rows n)
     go false rest = rest
 
 module _ {N : Type 0} (inner : Inner N) (is : IsInner inner) (rows : Rows) (word : ℕ) where
-  -- a typed value, of a class that the table has for its word
+  -- a typed value whose class is the table's class for its word
   shown_known : (v : Value N) → written_at rows (type_of word) ≡ Some (word, value_class inner v)
       → ((kind : List ℕ) → SettledAs inner.Settled (reads_at rows (type_of word)) kind v
       ≡ ((reads_at rows (type_of word) ≡ true) × SettledValue inner.Settled kind v))
@@ -170,7 +170,7 @@ module _ {N : Type 0} (inner : Inner N) (is : IsInner inner) (rows : Rows) (word
   shown_as x (Warning t) seen row = subst (λ y. ShownAs inner rows y word (Warning t)) (sym seen) (shown_known (Warning t) row (λ kind. refl))
   shown_as x (Nested n) seen row = subst (λ y. ShownAs inner rows y word (Nested n)) (sym seen) (shown_known (Nested n) row (λ kind. refl))
 
--- a test that says of a value whether it is settled, at a type that is read or not, says it of the attribute
+-- a value is settled, at a type that is read or not, if and only if its attribute is
 pub settled_shown : {N : Type 0} {inner : Inner N} {rows : Rows} {x : Attribute} {word : ℕ} {v : Value N} {is_read : Bool} {P : Type 0}
     → ShownAs inner rows x word v → is_read ≡ reads_at rows (type_of word) → (kind : List ℕ)
     → P ↔ SettledAs inner.Settled is_read kind v → P ↔ (table_codec (table rows)).Settled kind x

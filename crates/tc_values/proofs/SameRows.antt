@@ -1,4 +1,4 @@
--- The test of two attributes, each given by its word and its value, says whether contracts see them as equal.
+-- `same_row` compares abstract values: true if and only if the two attributes are equal.
 use Rattle.std.proofs.Common.{◌≡◌, ◌&&◌, ℕ, Bool, true, false, List, Some, refl, sym, ap, subst, ◌∙◌, nat_eq}
 use Rattle.std.specs.Ordering.{on}
 use Rattle.std.specs.Cmp.{unsigned_Decides}
@@ -22,7 +22,7 @@ use Rattle.tc_values.specs.declared.value.Value.TheVariants.{Presence, Truth, U8
 use Rattle.tc_values.specs.declared.value.Value.TheVariants.{Octets16, Bytes, Text, Warning, Kept, Nested}
 use Rattle.tc_values.proofs.Rows.{some_pair}
 
--- ---- the things that attributes nest
+-- ---- nested payloads
 
 pub same_nothing : IsSame nothing (λ _ _. true)
 same_nothing = record { tells = λ m n e. refl; nested = λ n. refl }
@@ -60,7 +60,7 @@ and_false true = refl
 and_false false = refl
 
 module _ {N : Type 0} (inner : Inner N) (same : N → N → Bool) (is : IsSame inner same) where
-  -- what a holding is there
+  -- the content of a holding
   abbrev content_held : Holding N → Content
   content_held (a_flag b) = flag b
   content_held (a_number n) = number n
@@ -68,7 +68,7 @@ module _ {N : Type 0} (inner : Inner N) (same : N → N → Bool) (is : IsSame i
   content_held (bytes_kept v) = is_bytes v
   content_held (what_is_nested n) = inner.content n
 
-  -- the class of what is nested
+  -- the class of a nested payload
   abbrev class_held : Holding N → Class → Class
   class_held (what_is_nested n) class = inner.class n
   class_held h class = class
@@ -81,7 +81,7 @@ module _ {N : Type 0} (inner : Inner N) (same : N → N → Bool) (is : IsSame i
   is_held_kept (bytes_kept v) = true
   is_held_kept h = false
 
-  -- a holding of a value that isn't kept raw, in its class
+  -- a holding of a value that isn't raw, in its class
   record IsHeld (h : Holding N) (class : Class) : Type 0 where
     pub nested : class ≡ class_held h class
     pub plain : is_plain class ≡ is_held_plain h
@@ -100,7 +100,7 @@ module _ {N : Type 0} (inner : Inner N) (same : N → N → Bool) (is : IsSame i
   unlike_kept v (bytes_kept w) e = absurd (cc e)
   unlike_kept v h e = (refl, refl)
 
-  -- a value that isn't kept raw, as an attribute
+  -- a value that isn't raw, as an attribute
   record IsTyped (v : Value N) : Type 0 where
     pub seen : (word : ℕ) → attribute_of inner word v ≡ known (type_of word) (value_content inner v)
     pub row : (rows : Rows) (word : ℕ) → IsRow inner rows word v → written_at rows (type_of word) ≡ Some (word, value_class inner v)
@@ -137,7 +137,7 @@ module _ {N : Type 0} (inner : Inner N) (same : N → N → Bool) (is : IsSame i
   form (Text t) = typed (Text t) (λ word. refl) (λ rows word e. e) refl (record { nested = refl; plain = refl; unkept = refl })
   form (Warning t) = typed (Warning t) (λ word. refl) (λ rows word e. e) refl (record { nested = refl; plain = refl; unkept = refl })
 
-  -- where the table has a row for each
+  -- two values that both have a row in the table
   module _ (rows : Rows) (word another : ℕ) (v w : Value N) where
     one_row : IsTyped v → IsTyped w → IsRow inner rows word v → IsRow inner rows another w → type_of word ≡ type_of another
         → (word ≡ another) × (value_class inner v ≡ value_class inner w)
@@ -193,7 +193,7 @@ module _ {N : Type 0} (inner : Inner N) (same : N → N → Bool) (is : IsSame i
             seen_as (known (type_of word) (value_content inner v)) (known (type_of another) (value_content inner w)) (t.seen word) (u.seen another)
             (typed_same t u row row')
 
--- a test of two attributes as they are shown is one of what contracts see
+-- comparing words and values is comparing attributes
 pub same_shown : {N : Type 0} {inner : Inner N} {same : N → N → Bool} → IsSame inner same → (rows : Rows)
     → (word another : ℕ) (v w : Value N) {x y : Attribute} {b : Bool}
     → x ≡ attribute_of inner word v → IsRow inner rows word v → y ≡ attribute_of inner another w → IsRow inner rows another w

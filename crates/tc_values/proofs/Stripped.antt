@@ -1,9 +1,9 @@
--- Texts that end in no NUL.
+-- Texts that don't end in a NUL.
 use Rattle.std.proofs.Common.{◌≡◌, ℕ, ◌-◌, Bool, true, false, List, [], ◌∷◌, length, take, cond, refl, arith}
 use Rattle.std.proofs.lemmas.List.{length-take}
 use Rattle.nla_frames.specs.Value.{strip, ends_in_nul}
 
--- what is as long as before has lost nothing
+-- if stripping keeps the length, it keeps the bytes
 pub same_length : (v : List ℕ) → length (strip v) ≡ length v → strip v ≡ v
 unfolding strip
 same_length v long = go v (ends_in_nul v) refl long

@@ -1,4 +1,4 @@
--- An attribute of a type that no row reads is kept raw, whatever the rows are.
+-- An attribute of a type that no row reads is kept raw.
 use Rattle.std.proofs.Common.{◌≡◌, ℕ, ◌+◌, Bool, true, false, List, cond, refl}
 use Rattle.std.specs.Prelude.{◌==◌}
 use Rattle.nla_frames.specs.Fault.{read_as}

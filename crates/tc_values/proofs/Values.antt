@@ -1,4 +1,4 @@
--- A plain value is what its class has it to be.
+-- Each plain value is encoded as its class says.
 use Rattle.std.proofs.Common.{◌≡◌, ◌↔◌, ℕ, List, [], ◌∷◌, refl, arith, length-append}
 use Rattle.tc_meaning.specs.Meaning.{class_codec, IsShort}
 use Rattle.tc_values.specs.Inner.{Inner, IsInner}

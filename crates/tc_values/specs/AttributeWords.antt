@@ -1,4 +1,4 @@
--- The words in which the contracts of an enum of attributes are written.
+-- Definitions that the contracts of every enum of attributes use.
 pub use Rattle.std.specs.Ordering.{on}
 pub use Rattle.nla_frames.specs.Frame.{type_of}
 pub use Rattle.tc_canon.specs.Descriptor.{table}

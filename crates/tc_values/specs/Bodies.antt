@@ -1,4 +1,4 @@
--- What contracts see of the things that attributes nest: nothing, a list, a record, one of two.
+-- The abstract values of nested payloads: none, a list, a record, either of two.
 use Rattle.std.specs.Prelude.{◌≤◌, ℕ, Bool, false, List, [], map, length}
 use Rattle.std.specs.List.{AllByRecursion}
 use Rattle.nla_frames.specs.Reading.{keep}
@@ -15,7 +15,7 @@ use Rattle.tc_values.specs.declared.body.Record.{Record}
 use Rattle.tc_values.specs.declared.body.Either.{Either}
 use Rattle.tc_values.specs.declared.body.Either.TheVariants.{Left, Right}
 
--- nothing is nested in the attributes of the type: seen as an empty list
+-- the type without values, for attributes that nest nothing
 abbrev pub nothing : Inner NoBody
 nothing = record {
   class = λ n. list_of (table others);
@@ -26,7 +26,7 @@ nothing = record {
   Settled = λ kind n. Unit {0};
 }
 
--- a list of elements that are seen as attributes of this table
+-- a list; `see` maps an element to an attribute of this table
 abbrev pub items_of : {T : Type 0} → (T → Attribute) → Table → Inner (Items T)
 items_of see t = record {
   class = λ xs. list_of t;
@@ -37,7 +37,7 @@ items_of see t = record {
   Settled = λ kind xs. SettledEach (table_codec t).Settled keep kind (map see xs.0.now);
 }
 
--- a record, a selector or statistics, as contents of this class
+-- a record, a selector or statistics, as content of this class
 abbrev pub part_of : {R X : Type 0} → (R → X) → Shape X → Codec (List ℕ) X → Class → Inner (Record R)
 part_of see shape codec class = record {
   class = λ r. class;
@@ -56,7 +56,7 @@ abbrev pub EitherHolds : {L R : Type 0} → (L → Type 0) → (R → Type 0) �
 EitherHolds LeftHolds RightHolds (Left body) = LeftHolds body
 EitherHolds LeftHolds RightHolds (Right body) = RightHolds body
 
--- one of two
+-- either of two
 abbrev pub either : {L R : Type 0} → Inner L → Inner R → Inner (Either L R)
 either left right = record {
   class = either_of left.class right.class;

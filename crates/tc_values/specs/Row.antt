@@ -1,4 +1,4 @@
--- What an enum shows of an attribute by a row of its table: its `nla_type`, here the word, and a value.
+-- An attribute as a word (its `nla_type`) and a value, and how both follow from a row of its table.
 use Rattle.std.specs.Prelude.{◌≡◌, ◌↔◌, ℕ, ◌<◌, ◌^◌, ◌+◌, Bool, true, false, List, Option, Some, None, ◌==◌, if◌then◌else◌}
 use Rattle.nla_frames.specs.Frame.{type_of}
 use Rattle.tc_canon.specs.Descriptor.{Class, Rows, others, types, unread, options, is_within, table}
@@ -16,24 +16,24 @@ reads_at (types first last flags class rows) n = if is_within first last n then 
 reads_at (unread m class rows) n = if n == m then false else reads_at rows n
 reads_at (options m kinds rows) n = if n == m then true else reads_at rows n
 
--- the word and the class by which an attribute of this type is written
+-- the word and the class with which the table encodes an attribute of this type
 abbrev pub written_at : Rows → ℕ → Option (ℕ × Class)
 written_at others n = None
 written_at (types first last flags class rows) n = if is_within first last n then Some (flags + n, class) else written_at rows n
 written_at (unread m class rows) n = if n == m then Some (m, class) else written_at rows n
 written_at (options m kinds rows) n = if n == m then None else written_at rows n
 
--- the attribute that a word and a value are
+-- the attribute with this word and this value
 abbrev pub attribute_of : {N : Type 0} → Inner N → ℕ → Value N → Attribute
 attribute_of inner word (Kept v) = other word v.now
 attribute_of inner word v = known (type_of word) (value_content inner v)
 
--- the table writes an attribute of this type by this word and this class of values
+-- the table encodes an attribute of this type with this word and the value's class
 abbrev pub IsRow : {N : Type 0} → Inner N → Rows → ℕ → Value N → Type 0
 IsRow inner rows word (Kept v) = Unit {0}
 IsRow inner rows word v = written_at rows (type_of word) ≡ Some (word, value_class inner v)
 
--- what the table says of an attribute, said of its word and its value: how it is written, that it fits, is typed, is settled
+-- the word and the value of an attribute: its bytes, and that it fits, is typed and is settled, as its table says
 pub record ShownAs {N : Type 0} (inner : Inner N) (rows : Rows) (x : Attribute) (word : ℕ) (v : Value N) : Type 0 where
   pub same_word : word ≡ ((table_codec (table rows)).write x).word
   pub bytes : value_bytes inner.bytes v ≡ ((table_codec (table rows)).write x).value

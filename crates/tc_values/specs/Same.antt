@@ -1,4 +1,4 @@
--- What a value holds, whatever its width, its byte order and its mask; and when two values at one word hold the same.
+-- A value without its width, byte order and mask, and equality of values with the same word.
 use Rattle.std.specs.Prelude.{◌≡◌, ℕ, Bool, true, false, List, nat_eq}
 use Rattle.std.specs.Bool.{beq}
 use Rattle.std.specs.Cmp.Lexicographic.{pointwise}
@@ -11,7 +11,7 @@ use Rattle.tc_values.specs.declared.value.Value.{Value}
 use Rattle.tc_values.specs.declared.value.Value.TheVariants.{Presence, Truth, U8, U16, U32, U16Be, U32Be, Bits1, Bits3, Bits20, Octets4, Octets6, Octets8}
 use Rattle.tc_values.specs.declared.value.Value.TheVariants.{Octets16, Bytes, Text, Warning, Kept, Nested}
 
--- what a value holds
+-- a value without its width, byte order and mask
 pub data Holding (N : Type 0) : Type 0 where
   a_flag : Bool → Holding N
   a_number : ℕ → Holding N
@@ -40,7 +40,7 @@ holding (Warning t) = some_bytes t.now
 holding (Kept v) = bytes_kept v.now
 holding (Nested n) = what_is_nested n
 
--- as it is held in memory
+-- the same, from the code's `Held`
 abbrev pub in_memory : {N : Type 0} → Held N → Holding N
 in_memory (held.Flag b) = a_flag b
 in_memory (held.Number n) = a_number n
@@ -56,11 +56,11 @@ same_holding nested (bytes_kept v) (bytes_kept w) = pointwise nat_eq v w
 same_holding nested (what_is_nested m) (what_is_nested n) = nested m n
 same_holding nested x y = false
 
--- two values at one word hold the same
+-- equality of two values with the same word
 abbrev pub same_value : {N : Type 0} → (N → N → Bool) → Value N → Value N → Bool
 same_value nested v w = same_holding nested (holding v) (holding w)
 
--- a class of values in which nothing is nested
+-- the class of a plain value
 abbrev pub is_plain : Class → Bool
 is_plain (le n) = true
 is_plain (be n) = true
@@ -73,7 +73,7 @@ is_plain presence = true
 is_plain truth = true
 is_plain class = false
 
--- the test says whether what is nested is seen as equal, where it is of one class
+-- `same` is equality of contents for nested payloads of one class
 pub record IsSame {N : Type 0} (inner : Inner N) (same : N → N → Bool) : Type 0 where
   pub tells : (m n : N) → inner.class m ≡ inner.class n → same m n ≡ same_content (inner.content m) (inner.content n)
   pub nested : (n : N) → is_plain (inner.class n) ≡ false

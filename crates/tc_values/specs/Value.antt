@@ -1,4 +1,4 @@
--- The plain values of attributes, as contracts see them: their class, their content, and what each is in bytes.
+-- The abstract values of plain values: class, content and bytes.
 use Rattle.std.specs.Prelude.{◌≡◌, ℕ, ◌<◌, ◌≤◌, ◌^◌, ◌%◌, Bool, true, false, List, [], ◌∷◌, length, if◌then◌else◌}
 use Rattle.nla_frames.specs.Value.{IsBytes, IsText, le_bytes, be_bytes, strip, terminated}
 use Rattle.tc_canon.specs.Descriptor.{Class, le, be, masked, array, raw, text, warning, presence, truth}
@@ -51,7 +51,7 @@ value_content inner (Warning t) = is_bytes t.now
 value_content inner (Kept v) = is_bytes v.now
 value_content inner (Nested n) = inner.content n
 
--- its bytes
+-- the bytes of a value
 abbrev pub value_bytes : {N : Type 0} → (N → List ℕ) → Value N → List ℕ
 value_bytes nested (Presence b) = []
 value_bytes nested (Truth b) = (if b then 1 else 0) ∷ []
@@ -73,7 +73,7 @@ value_bytes nested (Warning t) = t.now
 value_bytes nested (Kept v) = v.now
 value_bytes nested (Nested n) = nested n
 
--- it has at most 65531 bytes, and so has what is nested in it
+-- the value and all nested values have at most 65531 bytes
 abbrev pub ValueFits : {N : Type 0} → (N → Type 0) → Value N → Type 0
 ValueFits FitsIn (Octets4 v) = length v ≤ 65531
 ValueFits FitsIn (Octets6 v) = length v ≤ 65531
@@ -86,7 +86,7 @@ ValueFits FitsIn (Kept v) = length v.now ≤ 65531
 ValueFits FitsIn (Nested n) = FitsIn n
 ValueFits FitsIn v = Unit {0}
 
--- as any value in hand: numbers lie in their types, arrays have their length, texts are UTF-8
+-- numbers are in the range of their types, arrays have their length, texts are UTF-8
 abbrev pub TypedValue : {N : Type 0} → (N → Type 0) → Value N → Type 0
 TypedValue TypedIn (Presence b) = Unit {0}
 TypedValue TypedIn (Truth b) = Unit {0}
@@ -108,7 +108,7 @@ TypedValue TypedIn (Warning t) = IsText t.now
 TypedValue TypedIn (Kept v) = IsBytes v.now
 TypedValue TypedIn (Nested n) = TypedIn n
 
--- no part of it is lost: a presence is true, no bit is masked, a warning text ends in no NUL
+-- encoding loses no part of it: a presence is true, no masked bit is set, a warning doesn't end in a NUL
 abbrev pub SettledValue : {N : Type 0} → (List ℕ → N → Type 0) → List ℕ → Value N → Type 0
 SettledValue SettledIn kind (Presence b) = b ≡ true
 SettledValue SettledIn kind (Bits1 n) = n < 2 ^ 1
@@ -118,8 +118,8 @@ SettledValue SettledIn kind (Warning t) = strip t.now ≡ t.now
 SettledValue SettledIn kind (Nested n) = SettledIn kind n
 SettledValue SettledIn kind v = Unit {0}
 
--- at a type that is read, or isn't: what is kept raw is of a type that isn't read; any other value is of one
--- that is, and no part of it is lost
+-- settled, given whether the table reads the type: a raw value needs a type that isn't read, any other value one that
+-- is, and encoding loses no part of it
 abbrev pub SettledAs : {N : Type 0} → (List ℕ → N → Type 0) → Bool → List ℕ → Value N → Type 0
 SettledAs SettledIn is_read kind (Kept v) = is_read ≡ false
 SettledAs SettledIn is_read kind v = (is_read ≡ true) × SettledValue SettledIn kind v

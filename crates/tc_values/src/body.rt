@@ -1,4 +1,4 @@
-//! What is nested in attributes.
+//! Payloads that nest: lists of attributes, records, or either of two.
 
 ghost use Rattle.std.specs.Prelude.{◌≡◌, ◌≤◌, ◌↔◌, List, ℕ, [], IsTrue, length, map};
 ghost use Rattle.std.specs.List.{AllByRecursion};
@@ -12,25 +12,25 @@ use nla_frames::{
     put_list,
 };
 
-/// What an attribute nests: a list of attributes, a record, or one of two such things.
+/// A nested payload: a list of attributes, a record, or either of two.
 pub trait Body {
-    // Its bytes.
+    // The encoded bytes.
     ghost bytes: { Self → List ℕ };
 
-    // It can be written.
+    // It can be encoded.
     ghost Fits: { Self → Type 0 };
 
     // Each number in it is in the range of its type, each text is UTF-8.
     ghost Typed: { Self → Type 0 };
 
-    // Written and read again under this kind, it is the same.
+    // Encoding it and parsing the bytes under this kind returns it unchanged.
     ghost Settled: { List ℕ → Self → Type 0 };
 
-    /// How many bytes it has, or `None` where it can't be written.
+    /// The encoded length in bytes, or `None` if it can't be encoded.
     fn checked_len(&self) -> Option<usize>
         ensures { Measures result (Self.Fits self.now) (Self.bytes self.now) };
 
-    /// Writes it at the front of the buffer, and returns how many bytes that took.
+    /// Writes the payload at the front of the buffer and returns its length in bytes.
     fn put(&self, buffer: &mut [u8]) -> usize
         requires fits { Self.Fits self.now }
         requires room { HasRoom (Self.bytes self.now) buffer.old }
@@ -38,13 +38,13 @@ pub trait Body {
         ensures length { result ≡ length (Self.bytes self.now) }
         ensures typed { Self.Typed self.now };
 
-    /// True if, written and read again under this kind, it is the same.
+    /// True if encoding it and parsing the bytes under this kind returns it unchanged.
     fn is_settled_under(&self, kind: &str) -> bool
         ensures settled { IsTrue result ↔ Self.Settled kind.now self.now }
         ensures typed { IsTrue result → Self.Typed self.now };
 }
 
-/// What the attributes of an enum nest that nests nothing.
+/// The nested payload of enums whose attributes nest nothing; it has no values.
 #[derive(Drop)]
 pub struct NoBody {}
 
@@ -96,7 +96,7 @@ impl<'a, T: Nla + Settle> Body for Items<'a, T> {
     }
 }
 
-/// A record, a selector or statistics: bytes in which no attributes are nested.
+/// A record, a selector or statistics: a payload without nested attributes.
 #[derive(Drop)]
 pub struct Record<'a, R>(pub &'a R);
 
@@ -128,12 +128,10 @@ impl<'a, R: Emitable + SettleBytes> Body for Record<'a, R> {
     }
 }
 
-/// One of two things that attributes of one enum nest.
+/// Either of two payloads, for enums whose attributes nest both.
 #[derive(Drop)]
 pub enum Either<L, R> {
-    /// One of them.
     Left(L),
-    /// The other.
     Right(R),
 }
 

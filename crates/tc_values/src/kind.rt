@@ -1,4 +1,4 @@
-//! The kind that a frame sets, and options in the variant of a kind.
+//! `TCA_KIND` and `TCA_ACT_KIND`: the kind that a frame sets, and whether options of a kind are settled.
 
 ghost use Rattle.std.specs.Prelude.{◌≡◌, ◌↔◌, [], true, IsTrue};
 ghost use Rattle.std.specs.Str.{bytes_eq};
@@ -9,11 +9,11 @@ ghost use Rattle.tc_meaning.specs.OwnGrammar.{first_look};
 
 use nla_frames::{DecodeError, NlaBuffer, Res, Settle, strip_nul};
 
-// The type of the attribute that holds the kind: `TCA_KIND` in a message, `TCA_ACT_KIND` in an action.
+// The type of the kind attribute: `TCA_KIND` in a message, `TCA_ACT_KIND` in an action.
 const TCA_KIND: u16 = 1;
 
-/// True if an option of the kind `own`, written and read again under `kind`, is the same: if both kinds are one, and it
-/// is settled under that.
+/// True if encoding an option of the kind `own` and parsing the bytes under `kind` returns it unchanged: if both kinds
+/// are equal and it is settled under that kind.
 pub fn is_settled_of_kind<T: Settle>(attribute: &T, own: &str, kind: &str) -> bool
     ensures settled { IsTrue result
         ↔ (bytes_eq kind.now own.now ≡ true) × T.codec.Settled kind.now (T.see attribute.now) }
@@ -22,9 +22,9 @@ pub fn is_settled_of_kind<T: Settle>(attribute: &T, own: &str, kind: &str) -> bo
     kind == own && attribute.is_settled_under(kind)
 }
 
-/// The kind that a frame sets: the text of a frame of type 1, whatever its flags are, and `None` for any other frame;
-/// `NotUtf8` if the payload is no text.
-pub fn kind_told<'a>(frame: &NlaBuffer<'a>) -> Res<Option<&'a str>>
+/// The kind that a frame sets: the text of a frame of type 1, with any flags; `None` for any other type. Fails with
+/// `NotUtf8` if the payload isn't UTF-8.
+pub fn kind_set_by_frame<'a>(frame: &NlaBuffer<'a>) -> Res<Option<&'a str>>
     ensures { seen text_set result ≡ first_look [] (frame_of frame.now) }
 {
     if frame.kind() != TCA_KIND {

@@ -1,5 +1,5 @@
-//! The plain values that attributes hold, and what is nested in them: how each is measured, written and settled, said
-//! once for all enums of attributes.
+//! The payloads of attributes, plain and nested: how each is measured, written and settled, defined once for all enums
+//! of attributes.
 #![tactic(auto)]
 
 pub mod body;
@@ -8,6 +8,6 @@ pub mod same;
 pub mod value;
 
 pub use body::{Body, Either, Items, NoBody, Record};
-pub use kind::{is_settled_of_kind, kind_told};
+pub use kind::{is_settled_of_kind, kind_set_by_frame};
 pub use same::{Same, same_row};
 pub use value::Value;

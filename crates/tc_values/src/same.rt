@@ -1,4 +1,4 @@
-//! When two attributes of one enum are equal.
+//! Equality of two attributes of one enum.
 
 ghost use Rattle.std.specs.Prelude.{◌≡◌, ◌&&◌, Bool, true, nat_eq};
 ghost use Rattle.std.specs.Cmp.Lexicographic.{pointwise};
@@ -8,11 +8,10 @@ ghost use Rattle.tc_values.specs.Bodies.{same_of_either};
 use crate::body::{Either, Items, NoBody, Record};
 use crate::value::Value;
 
-/// What an attribute nests, if it can be compared.
+/// A nested payload that can be compared.
 pub trait Same {
     ghost same: { Self → Self → Bool };
 
-    /// True if the two are equal.
     fn same(&self, other: &Self) -> bool
         ensures { result ≡ same self.now other.now };
 }
@@ -53,7 +52,7 @@ impl<L: Same, R: Same> Same for Either<L, R> {
     }
 }
 
-/// What a value holds, whatever its width, its byte order and its mask.
+/// A value without its width, byte order and mask, for comparing.
 #[derive(Drop)]
 enum Held<'a, N> {
     Flag(bool),
@@ -99,7 +98,7 @@ impl<'a, N: Same> Value<'a, N> {
     }
 }
 
-/// True if two attributes of one enum are equal, each given by its `nla_type` and its value.
+/// True if two attributes of one enum are equal, each as its `nla_type` and its value.
 pub fn same_row<N: Same>(one: &(u16, Value<'_, N>), other: &(u16, Value<'_, N>)) -> bool
     ensures { result ≡ (nat_eq one.now.0 other.now.0 && same_value N.same one.now.1 other.now.1) }
 {

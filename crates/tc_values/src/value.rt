@@ -1,4 +1,4 @@
-//! The plain values of attributes.
+//! The values of attributes, with width, byte order and mask.
 
 ghost use Rattle.std.specs.Prelude.{◌≡◌, ◌<◌, ◌↔◌, IsTrue, length};
 ghost use Rattle.nla_frames.specs.Emission.{Measures, Writes, HasRoom};
@@ -6,59 +6,52 @@ ghost use Rattle.nla_frames.specs.Value.{terminated, strip};
 ghost use Rattle.tc_values.specs.Value.{value_bytes, ValueFits, TypedValue, SettledAs};
 
 use crate::body::{Body, NoBody};
-use nla_frames::laws::in_hand::{
-    bytes_in_hand, text_in_hand, u8_in_hand, u16_in_hand, u32_in_hand,
+use nla_frames::laws::in_range::{
+    bytes_are_in_range, text_is_utf8, u8_is_in_range, u16_is_in_range, u32_is_in_range,
 };
 use nla_frames::{
     NLA_VALUE_MAX_SIZE, checked_value_len, put_bytes, put_text, put_u8, put_u16, put_u16_be,
     put_u32, put_u32_be, strip_nul,
 };
 
-/// The value of an attribute in the form in which it is written; numbers are little-endian unless their name ends in `Be`.
+/// The value of an attribute as it is encoded. Numbers are little-endian unless their name ends in `Be`.
 #[derive(Drop)]
 pub enum Value<'a, N = NoBody> {
-    /// No bytes: the attribute is there, and true.
+    /// No bytes: the attribute's presence means true.
     Presence(bool),
-    /// One byte, 1 or 0.
+    /// One byte: 1 or 0.
     Truth(bool),
-    /// A number of one byte.
     U8(u8),
-    /// A number of two bytes.
     U16(u16),
-    /// A number of four bytes.
     U32(u32),
-    /// A number of two bytes, big-endian.
     U16Be(u16),
-    /// A number of four bytes, big-endian.
     U32Be(u32),
-    /// The lowest bit of a number of one byte.
+    /// One byte, of which the lowest bit is kept.
     Bits1(u8),
-    /// The lowest three bits of a number of one byte.
+    /// One byte, of which the lowest three bits are kept.
     Bits3(u8),
-    /// The lowest twenty bits of a number of four bytes.
+    /// Four bytes, little-endian, of which the lowest twenty bits are kept.
     Bits20(u32),
-    /// Four bytes, an IPv4 address.
+    /// An IPv4 address.
     Octets4([u8; 4]),
-    /// Six bytes, a MAC address.
+    /// A MAC address.
     Octets6([u8; 6]),
-    /// Eight bytes.
     Octets8([u8; 8]),
-    /// Sixteen bytes, an IPv6 address among them.
+    /// Sixteen bytes, such as an IPv6 address.
     Octets16([u8; 16]),
-    /// Bytes.
     Bytes(&'a [u8]),
-    /// A text, with one NUL after it.
+    /// A text, encoded with one NUL after it.
     Text(&'a str),
-    /// A text without a NUL after it.
+    /// A text, encoded without a NUL: `TCA_EXT_WARN_MSG`.
     Warning(&'a str),
-    /// The payload of an attribute that is kept raw.
+    /// The payload of an attribute kept raw.
     Kept(&'a [u8]),
-    /// What is nested in the attribute.
+    /// A nested payload.
     Nested(N),
 }
 
 impl<'a, N: Body> Value<'a, N> {
-    /// How many bytes it has, or `None` where it can't be written.
+    /// The encoded length in bytes, or `None` if it can't be encoded.
     #[inline(always)]
     pub fn checked_len(&self) -> Option<usize>
         ensures { Measures result (ValueFits N.Fits self.now) (value_bytes N.bytes self.now) }
@@ -79,7 +72,7 @@ impl<'a, N: Body> Value<'a, N> {
         }
     }
 
-    /// Writes it at the front of the buffer, and returns how many bytes that took.
+    /// Writes the value at the front of the buffer and returns its length in bytes.
     #[inline(always)]
     pub fn put(&self, buffer: &mut [u8]) -> usize
         requires fits { ValueFits N.Fits self.now }
@@ -88,8 +81,8 @@ impl<'a, N: Body> Value<'a, N> {
         ensures length { result ≡ length (value_bytes N.bytes self.now) }
         ensures typed { TypedValue N.Typed self.now }
     {
-        // Does nothing at run time: it says that each number is in the range of its type, for the clause `typed`.
-        self.in_hand();
+        // Does nothing at run time; the clause `typed` follows from its contract.
+        self.in_range();
         match self {
             Value::Presence(_) => 0,
             Value::Truth(is_true) => put_u8(buffer, if *is_true { 1 } else { 0 }),
@@ -112,14 +105,14 @@ impl<'a, N: Body> Value<'a, N> {
         }
     }
 
-    /// True if, written and read again under this kind, it is the same; `is_read` says whether the attribute is of a type
-    /// that its table reads.
+    /// True if encoding it and parsing the bytes under this kind returns it unchanged; `is_read` says whether its table
+    /// has the attribute's type.
     pub fn is_settled_under(&self, is_read: bool, kind: &str) -> bool
         ensures settled { IsTrue result ↔ SettledAs N.Settled is_read kind.now self.now }
         ensures typed { IsTrue result → TypedValue N.Typed self.now }
     {
-        // Does nothing at run time: it says that each number is in the range of its type, for the clause `typed`.
-        self.in_hand();
+        // Does nothing at run time; the clause `typed` follows from its contract.
+        self.in_range();
         match self {
             Value::Kept(_) => !is_read,
             Value::Presence(is_there) => is_read && *is_there,
@@ -132,26 +125,26 @@ impl<'a, N: Body> Value<'a, N> {
         }
     }
 
-    // Does nothing at run time. Each number of a value in hand is in the range of its type, and each text is UTF-8.
-    fn in_hand(&self)
+    // Does nothing at run time. Its contract: each number is in the range of its type, and each text is UTF-8.
+    fn in_range(&self)
         ensures { TypedValue (λ _. Unit {0}) self.now }
     {
         match self {
-            Value::U8(n) | Value::Bits1(n) | Value::Bits3(n) => u8_in_hand(*n),
-            Value::U16(n) | Value::U16Be(n) => u16_in_hand(*n),
-            Value::U32(n) | Value::U32Be(n) | Value::Bits20(n) => u32_in_hand(*n),
-            Value::Octets4(octets) => bytes_in_hand(octets),
-            Value::Octets6(octets) => bytes_in_hand(octets),
-            Value::Octets8(octets) => bytes_in_hand(octets),
-            Value::Octets16(octets) => bytes_in_hand(octets),
-            Value::Bytes(bytes) | Value::Kept(bytes) => bytes_in_hand(bytes),
-            Value::Text(text) | Value::Warning(text) => text_in_hand(text),
+            Value::U8(n) | Value::Bits1(n) | Value::Bits3(n) => u8_is_in_range(*n),
+            Value::U16(n) | Value::U16Be(n) => u16_is_in_range(*n),
+            Value::U32(n) | Value::U32Be(n) | Value::Bits20(n) => u32_is_in_range(*n),
+            Value::Octets4(octets) => bytes_are_in_range(octets),
+            Value::Octets6(octets) => bytes_are_in_range(octets),
+            Value::Octets8(octets) => bytes_are_in_range(octets),
+            Value::Octets16(octets) => bytes_are_in_range(octets),
+            Value::Bytes(bytes) | Value::Kept(bytes) => bytes_are_in_range(bytes),
+            Value::Text(text) | Value::Warning(text) => text_is_utf8(text),
             Value::Presence(_) | Value::Truth(_) | Value::Nested(_) => {}
         }
     }
 }
 
-// How many bytes a text and its NUL have, or `None` where they are too many for a value.
+// The length of a text and its NUL in bytes, or `None` if an attribute can't hold as many.
 fn checked_text_len(text: &str) -> Option<usize>
     ensures { Measures result (length text.now < 65531) (terminated text.now) }
 {
@@ -162,7 +155,7 @@ fn checked_text_len(text: &str) -> Option<usize>
     }
 }
 
-// True if no NUL ends the bytes.
+// True if the bytes don't end in a NUL.
 fn is_stripped(bytes: &[u8]) -> bool
     ensures { IsTrue result ↔ strip bytes.now ≡ bytes.now }
 {

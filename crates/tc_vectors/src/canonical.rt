@@ -9,7 +9,7 @@ use tc_canon::{
     canon_action, canon_action_options, canon_actions, canon_lse, canon_mpls, canon_options,
     canon_stats2, is_canonical_tc,
 };
-use tests_messages::Form;
+use tests_data::Form;
 
 /// The kind fq_codel, and a limit of 10240.
 static LIMIT: &str =

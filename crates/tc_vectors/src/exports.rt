@@ -67,7 +67,7 @@ pub use tc_wire::helpers::{
 };
 
 // The kind that attributes set for those after them.
-pub use tc_wire::helpers::{OnlyKind, SetsKind, kind_then, kind_told, only_kind_set};
+pub use tc_wire::helpers::{OnlyKind, SetsKind, kind_set_by_frame, kind_then, only_kind_set};
 
 // Plain values: their bytes, and how they are written at the front of a buffer.
 pub use tc_wire::helpers::{

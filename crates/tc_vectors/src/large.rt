@@ -6,7 +6,7 @@ use crate::rewriting::is_settled_as;
 use crate::worked::front_of;
 use std::alloc::{AllocError, Global};
 use std::test::Fail;
-use tests_messages::{
+use tests_data::{
     Expected, Form, MANY_ATTRIBUTES, MANY_KEYS, MANY_LETTERS, MANY_NULS, Row, large_messages,
 };
 

@@ -6,7 +6,7 @@ use nla_frames::DefaultNla;
 use std::alloc::{AllocError, Global};
 use tc_canon::is_canonical_tc;
 use tc_wire::{TcAttribute, TcMessage, TcOption, TcQdiscFqCodelOption, TcQdiscIngressOption};
-use tests_messages::{Form, too_long};
+use tests_data::{Form, too_long};
 
 /// An attribute of an unknown type with so many bytes.
 fn long(alloc: Global, length: usize) -> Result<DefaultNla, AllocError> {

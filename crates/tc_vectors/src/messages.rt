@@ -6,7 +6,7 @@ use crate::worked::{NO_HEADER, is_message};
 use std::alloc::{AllocError, Global};
 use std::test::Fail;
 use tc_wire::{DecodeError, TcAttribute, TcHeader, TcMessage};
-use tests_messages::Form;
+use tests_data::Form;
 
 /// A message about a qdisc `fq_codel` with a limit of 10240 packets: its header, its kind and its options.
 #[rattlefmt::skip]

@@ -6,7 +6,7 @@ use nla_frames::DecodeError;
 use std::alloc::{AllocError, Global};
 use std::test::Fail;
 use tc_wire::RewriteError;
-use tests_messages::{Form, too_long};
+use tests_data::{Form, too_long};
 
 /// True if bytes are rewritten as others.
 pub(crate) fn becomes(alloc: Global, form: Form, bytes: &[u8], written: &[u8]) -> bool {

@@ -4,7 +4,7 @@ use crate::tables::rows;
 use crate::{canonical, flower, known, worked};
 use std::alloc::Global;
 use std::test::Fail;
-use tests_messages::Form;
+use tests_data::Form;
 
 /// What a row says.
 #[derive(Clone, Copy)]

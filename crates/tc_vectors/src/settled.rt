@@ -16,7 +16,7 @@ use tc_records::{
     TcActionMessageHeader, TcActionType, TcHeader, TcMirror, TcMirrorActionType, TcNat, TcTunnelKey,
 };
 use tc_wire::{TcAttribute, TcMessage, TcOption, TcQdiscFqCodelOption};
-use tests_messages::Form;
+use tests_data::Form;
 
 // A frame of fq_codel's limit, 5 packets.
 const LIMIT: [u8; 8] = [8, 0, 2, 0, 5, 0, 0, 0];

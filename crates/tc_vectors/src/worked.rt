@@ -8,7 +8,7 @@ use nla_frames::{AddressFamily, DecodeError};
 use std::alloc::Global;
 use std::test::Fail;
 use tc_action_messages::TcActionMessage;
-use tests_messages::Form;
+use tests_data::Form;
 
 // A row of messages that are read: frames in hex, the attributes that they are read as, and the frames that are written of these, where they
 // aren't the same, which only canonical ones are. A row of those that are refused: frames in hex, and the first fault in them.

@@ -1,4 +1,4 @@
--- From what is read and written to the words of the grammar.
+-- From reading and writing to the grammar.
 use Rattle.std.proofs.Common.{◌≡◌, ◌↔◌, ◌+◌, ℕ, List, Bool, true, false, refl, sym, ap, subst, ◌∙◌}
 use Rattle.nla_frames.specs.Codec.{Codec}
 use Rattle.tc_meaning.specs.Message.{Message}

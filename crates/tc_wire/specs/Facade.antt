@@ -1,6 +1,6 @@
--- The words of the crates below that contracts over messages cite, passed on from one place.
+-- The definitions of lower crates that contracts over messages cite, exported from one place.
 pub use Rattle.nla_frames.specs.Codec.{Codec}
-pub use Rattle.nla_frames.specs.Fault.{Outcome, Gives, IfRefused, UnlessMemory, seen, name_of}
+pub use Rattle.nla_frames.specs.Fault.{Outcome, Returns, IfRefused, UnlessMemory, seen, name_of}
 pub use Rattle.nla_frames.specs.declared.error.DecodeError.{DecodeError}
 pub use Rattle.nla_frames.specs.declared.error.DecodeError.TheVariants.{OutOfMemory}
 pub use Rattle.nla_frames.specs.Emission.{Writes, HasRoom}

@@ -1,4 +1,4 @@
--- What rewriting and settling return, and why they are refused.
+-- The results of rewriting and settling, and why they fail.
 use Rattle.std.specs.Prelude.{◌≡◌, ◌≢◌, ◌⊎◌, ℕ, List, Ok, Err}
 use Rattle.nla_frames.specs.declared.error.DecodeError.{DecodeError}
 use Rattle.nla_frames.specs.declared.error.DecodeError.TheVariants.{OutOfMemory as NoMemory}
@@ -20,7 +20,7 @@ abbrev pub refusal : DecodeError → RewriteError
 refusal NoMemory = OutOfMemory
 refusal e = Decode e
 
--- why bytes aren't rewritten, by what they read as, which faults they have, and what fits
+-- why bytes can't be rewritten, from their reading, their fault, and whether the value fits
 abbrev pub RefusedBy : {X : Type 0} → (X → Type 0) → (DecodeError → Type 0) → (X → Type 0) → RewriteError → Type 0
 RefusedBy Reads Fault Fits (Decode e) = (e ≢ NoMemory) × Fault e
 RefusedBy Reads Fault Fits DoesNotFit = (x : _) × Reads x × (Fits x → ⊥)
@@ -37,16 +37,16 @@ RefusedAct = Refused action_words
 
 -- ---- one rewrite, of any type
 
--- what is read fits, and these are its bytes
+-- the reading fits, and these are its bytes
 abbrev pub WrittenOf : {X : Type 0} → Codec (List ℕ) X → Outcome X → List ℕ → Type 0
 WrittenOf codec outcome written = (x : _) × (outcome ≡ Ok x) × codec.Fits x × (written ≡ codec.write x)
 
 abbrev pub RefusedOf : {X : Type 0} → Codec (List ℕ) X → Outcome X → RewriteError → Type 0
 RefusedOf codec outcome = RefusedBy (λ x. outcome ≡ Ok x) (λ e. outcome ≡ Err e) codec.Fits
 
--- ---- as many rewrites as lead to canonical bytes
+-- ---- rewrites until the bytes are canonical
 
--- so many rewrites, and no fewer, lead to these bytes, which are canonical and read as the norm of what the bytes read as
+-- exactly this many rewrites lead to these bytes, which are canonical and read as the norm of the reading
 pub record Settles (w : Words Message) (norm : Message → Message) (bytes settled : List ℕ) (count : ℕ) : Type 0 where
   pub message : Message
   pub reads : w.Reads bytes message
@@ -58,11 +58,12 @@ SettlesTc = Settles tc_words norm_tc
 abbrev pub SettlesAct : List ℕ → List ℕ → ℕ → Type 0
 SettlesAct = Settles action_words norm_act
 
--- none where the bytes are canonical, and else so many
+-- 0 if the bytes are canonical, else this number
 abbrev pub CountIs : Type 0 → ℕ → ℕ → Type 0
 CountIs IsCanon many count = (IsCanon × (count ≡ 0)) ⊎ ((IsCanon → ⊥) × (count ≡ many))
 
--- the bytes read as an action message that fits, these are those of its norm, and so many NULs at most end one of its warnings
+-- the bytes read as an action message that fits, `written` is the bytes of its norm, and `nuls` the longest run of NULs at
+-- the end of one of its warnings
 pub record TrimmedOf (bytes written : List ℕ) (nuls : ℕ) : Type 0 where
   pub message : Message
   pub reads : action_words.Reads bytes message

@@ -1,10 +1,9 @@
-//! What the codec itself is written with: for code that defines, reads and writes attributes of its own. The Rust crate
-//! has none of these names.
+//! Building blocks of the codec, for code that defines attributes of its own. netlink-packet-route has none of these names.
 
-// What contracts see of a type, and how it is read and written, which the traits of attributes build on.
+// The abstract value of a type and its codec, which the traits of attributes build on.
 pub use nla_frames::{BytesMeaning, FrameMeaning};
 
-// Lists: their lengths where they can be written, whether they are settled, and room for them.
+// Lists: length, the test for settled, capacity.
 pub use nla_frames::{
     first_capacity, list_checked_len, list_settled_carrying, list_settled_own, list_settled_under,
     nested_checked_len, nested_fits,
@@ -12,19 +11,19 @@ pub use nla_frames::{
 
 // The kind that attributes set for those after them.
 pub use nla_frames::{OnlyKind, SetsKind, kind_then, only_kind_set};
-pub use tc_values::kind_told;
+pub use tc_values::kind_set_by_frame;
 
-// Plain values: their bytes, and how they are written at the front of a buffer.
+// Plain values: bytes, and writing at the front of a buffer.
 pub use nla_frames::{
     NLA_VALUE_MAX_SIZE, checked_value_len, i32_bytes, put_bytes, put_text, put_u8, put_u16,
     put_u16_be, put_u32, put_u32_be, put_u64, strip_nul, u16_be_bytes, u16_bytes, u32_be_bytes,
     u32_bytes, u64_bytes,
 };
 
-// What an enum of attributes shows of each: its word and its value, plain or nested.
+// Rows of an enum of attributes: `nla_type` and value, plain or nested.
 pub use tc_values::{Body, Either, Items, NoBody, Record, Value};
 
-// How many bytes each fixed record has.
+// Lengths of the fixed records, in bytes.
 pub use tc_records::{
     TC_ACTION_GENERIC_LEN, TC_FQ_CODEL_CL_STATS_LEN, TC_FQ_CODEL_QD_STATS_LEN, TC_HEADER_LEN,
     TC_MIRROR_LEN, TC_NAT_LEN, TC_STATS_BASIC_LEN, TC_STATS_LEN, TC_STATS_QUEUE_LEN,

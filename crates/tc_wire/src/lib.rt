@@ -1,13 +1,14 @@
 //! Linux traffic control messages: the public names of the crates below in one place, with rewriting and settling.
 //!
-//! Names that only code with attributes of its own needs are in [`helpers`].
+//! Names that only code with attributes of its own needs are in [`helpers`]. Calls that take an allocator fail with
+//! `OutOfMemory` if it fails.
 #![tactic(auto)]
 
 pub mod helpers;
 pub mod rewriting;
 mod whole;
 
-// Whole messages, and what is done to their bytes.
+// Messages, rewriting and settling.
 pub use rewriting::{RewriteError, rewrite_action, rewrite_tc, settle_action, settle_tc};
 pub use tc_action_messages::{
     TcActionMessage, TcActionMessageAttribute, TcActionMessageFlagsWithSelector,
@@ -16,23 +17,22 @@ pub use tc_canon::{is_canonical_action, is_canonical_tc};
 pub use tc_messages::TcMessage;
 pub use whole::WholeMessage;
 
-// The traits by which they are read and written, and why bytes are refused.
+// Traits for reading and writing, and errors of reading.
 pub use nla_frames::{
     DecodeError, Emitable, Nla, Parseable, ParseableBytes, ParseableParametrized, Res, Settle,
     SettleBytes,
 };
 
 // Attributes, and options by kind.
-pub use tc_attributes::{TcAttribute, VecTcAttribute};
-pub use tc_filters::{
-    TcFilterBpf, TcFilterBpfOption, TcFilterMatchAll, TcFilterMatchAllOption, TcFilterU32,
-    TcFilterU32Option,
-};
 pub use tc_flower::{
     TcFilterFlower, TcFilterFlowerMplsLseOption, TcFilterFlowerMplsOption, TcFilterFlowerOption,
 };
-pub use tc_options::{TcOption, VecTcOption, is_known_kind};
-pub use tc_qdiscs::{TcQdiscFqCodel, TcQdiscFqCodelOption, TcQdiscIngress, TcQdiscIngressOption};
+pub use tc_messages::{TcAttribute, VecTcAttribute};
+pub use tc_options::{
+    TcFilterBpf, TcFilterBpfOption, TcFilterMatchAll, TcFilterMatchAllOption, TcFilterU32,
+    TcFilterU32Option, TcOption, TcQdiscFqCodel, TcQdiscFqCodelOption, TcQdiscIngress,
+    TcQdiscIngressOption, VecTcOption, is_known_kind,
+};
 
 // Actions and statistics.
 pub use tc_actions::{

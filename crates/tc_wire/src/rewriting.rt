@@ -1,4 +1,4 @@
-//! Rewriting, reading bytes and writing what was read, and settling, which leads to canonical bytes.
+//! Rewriting (parse, then encode) and settling (rewrite until canonical).
 
 ghost use Rattle.std.specs.Prelude.{◌≡◌, ◌+◌, ◌<◌, ◌^◌, [], length, Ok, IfOk, IfErr};
 ghost use Rattle.tc_canon.specs.Canonical.{CanonTc, CanonAct};
@@ -17,18 +17,18 @@ use tc_meaning::laws::{action_message, tc_message};
 use tc_messages::TcMessage;
 use thiserror::Error;
 
-/// Why bytes aren't rewritten. The causes are looked for in this order, but memory may run out at any growth.
+/// Why rewriting failed. The causes are tested in this order, but memory may run out at any allocation.
 #[derive(Drop, PartialEq, Eq, Error, Debug)]
 pub enum RewriteError {
-    /// The bytes can't be read, for this fault, which is never `OutOfMemory`.
+    /// The bytes don't parse: the first fault, never `OutOfMemory`.
     #[error("{0}")]
     Decode(DecodeError),
 
-    /// What was read can't be written: an attribute's value would have more than 65531 bytes.
+    /// The value can't be encoded: a payload would exceed 65,531 bytes.
     #[error("value does not fit")]
     DoesNotFit,
 
-    /// A growth was refused.
+    /// Allocation failed.
     #[error("out of memory")]
     OutOfMemory,
 }
@@ -52,7 +52,7 @@ impl From<AllocError> for RewriteError {
     }
 }
 
-// The bytes of a value that fits.
+// Encodes a value that fits.
 fn emitted<A: Allocator, M: Emitable>(
     alloc: A,
     value: &M,
@@ -67,7 +67,7 @@ fn emitted<A: Allocator, M: Emitable>(
     Ok(bytes)
 }
 
-// What bytes read as, and how many bytes it is written as.
+// Parses bytes, and measures the value.
 fn read<A: Allocator + Copy, M: ParseableBytes<A> + Emitable + Drop>(
     alloc: A,
     bytes: &[u8],
@@ -84,7 +84,7 @@ fn read<A: Allocator + Copy, M: ParseableBytes<A> + Emitable + Drop>(
     }
 }
 
-// The bytes of what bytes read as.
+// Parses and encodes.
 fn rewrite<A: Allocator + Copy, M: ParseableBytes<A> + Emitable + Drop>(
     alloc: A,
     bytes: &[u8],
@@ -97,7 +97,7 @@ fn rewrite<A: Allocator + Copy, M: ParseableBytes<A> + Emitable + Drop>(
     Ok(emitted(alloc, &value, len)?)
 }
 
-/// The bytes of the traffic control message that the bytes read as.
+/// Parses a traffic control message and encodes it.
 pub fn rewrite_tc<A: Allocator + Copy>(alloc: A, bytes: &[u8]) -> Result<Vec<u8, A>, RewriteError>
     ensures written { IfOk result (λ written. RewritesTc bytes.now written.items) }
     ensures refused { IfErr result (RefusedTc bytes.now) }
@@ -107,7 +107,7 @@ pub fn rewrite_tc<A: Allocator + Copy>(alloc: A, bytes: &[u8]) -> Result<Vec<u8,
     rewrite::<A, TcMessage<A>>(alloc, bytes)
 }
 
-/// The bytes of the action message that the bytes read as.
+/// Parses an action message and encodes it.
 pub fn rewrite_action<A: Allocator + Copy>(
     alloc: A,
     bytes: &[u8],
@@ -120,8 +120,7 @@ pub fn rewrite_action<A: Allocator + Copy>(
     rewrite::<A, TcActionMessage<A>>(alloc, bytes)
 }
 
-/// The canonical bytes to which rewriting leads, and after how many rewrites: none where the bytes are canonical,
-/// else one.
+/// The canonical bytes that rewriting leads to, and the number of rewrites: 0 if the bytes are canonical, else 1.
 pub fn settle_tc<A: Allocator + Copy>(
     alloc: A,
     bytes: &[u8],
@@ -139,8 +138,8 @@ pub fn settle_tc<A: Allocator + Copy>(
     Ok((rewrite_tc(alloc, bytes)?, 1))
 }
 
-/// The canonical bytes to which rewriting leads, and after how many rewrites: none where the bytes are canonical, else
-/// one more than the longest run of NULs at the end of a warning as read. That many rewrites aren't done.
+/// The canonical bytes that rewriting leads to, and the number of rewrites: 0 if the bytes are canonical, else n + 1,
+/// where n is the longest run of trailing NULs in a warning as read. They are computed, not performed one by one.
 pub fn settle_action<A: Allocator + Copy>(
     alloc: A,
     bytes: &[u8],
@@ -165,8 +164,7 @@ pub fn settle_action<A: Allocator + Copy>(
     Ok((settled, nuls + 1))
 }
 
-// The bytes of the action message that the bytes read as, without NULs at the end of its warnings, and how many ended one
-// at most.
+// Parses an action message and encodes it without NULs at the end of its warnings; returns the longest run of them.
 fn trimmed<A: Allocator + Copy>(alloc: A, bytes: &[u8]) -> Result<(Vec<u8, A>, usize), RewriteError>
     ensures trimmed { IfOk result (λ trimmed. TrimmedOf bytes.now trimmed.0.items trimmed.1) }
     ensures bound { IfOk result (λ trimmed. trimmed.1 < 2 ^ 63) }

@@ -1,4 +1,4 @@
-//! Both types of whole messages by one name.
+//! One trait for both types of messages.
 
 ghost use Rattle.std.specs.Prelude.{◌≡◌, ◌↔◌, length, IfOk, IfErr, IsTrue};
 ghost use Rattle.nla_frames.specs.Emission.{HasRoom, Measures, Writes};
@@ -18,8 +18,8 @@ use tc_canon::{is_canonical_action, is_canonical_tc};
 use tc_meaning::laws;
 use tc_messages::TcMessage;
 
-/// A type of whole messages, in the grammar's words: for code that serves `TcMessage` and `TcActionMessage`. `read`,
-/// `measure` and `write` are `parse`, `checked_len` and `emit`.
+/// `TcMessage` or `TcActionMessage`, for code that serves both. `read`, `measure` and `write` are `parse`, `checked_len`
+/// and `emit`.
 pub trait WholeMessage<A: Allocator>: ParseableBytes<A> + Emitable {
     // What the grammar says of its bytes.
     ghost words: { Words Message };
@@ -34,49 +34,49 @@ pub trait WholeMessage<A: Allocator>: ParseableBytes<A> + Emitable {
     fn correspond(bytes: &[u8])
         ensures { Correspond words bytes.now };
 
-    /// The message of the bytes, or their first fault.
+    /// Parses bytes, or returns their first fault.
     fn read(alloc: A, bytes: &[u8]) -> Res<Self>
         ensures found { IfOk result (λ m. words.Reads bytes.now (message m)) }
         ensures refused { IfRefused result (words.Fault bytes.now) };
 
-    /// How many bytes it has, or `None` where it can't be written.
+    /// The encoded length in bytes, or `None` if the message can't be encoded.
     fn measure(&self) -> Option<usize>
         ensures { Measures result (words.Fits (message self.now)) (words.bytes (message self.now)) };
 
-    /// Writes it at the front of the buffer; what follows stays.
+    /// Encodes the message at the front of the buffer; the bytes after it are unchanged.
     fn write(&self, buffer: &mut [u8])
         requires fits { words.Fits (message self.now) }
         requires room { HasRoom (words.bytes (message self.now)) buffer.old }
         ensures { Writes (words.bytes (message self.now)) buffer.old buffer.new };
 
-    /// True if its bytes, where it can be written, read back as itself.
+    /// True if encoding it and parsing the bytes gives it back.
     fn is_settled(&self) -> bool
         ensures settled { IsTrue result ↔ words.Settled (message self.now) }
         ensures typed { IsTrue result → words.Typed (message self.now) };
 
-    /// True if bytes are canonical: a message, and what is written of it.
+    /// True if the bytes are canonical: parsing and encoding gives them back.
     fn is_canonical(bytes: &[u8]) -> bool
         ensures { IsTrue result ↔ words.Canonical bytes.now };
 
-    /// The bytes of the message that bytes read as.
+    /// Parses a message and encodes it.
     fn rewrite(alloc: A, bytes: &[u8]) -> Result<Vec<u8, A>, RewriteError>
         ensures written { IfOk result (λ written. Rewrites words bytes.now written.items) }
         ensures refused { IfErr result (Refused words bytes.now) };
 
-    /// The canonical bytes to which rewriting leads, and after how many rewrites.
+    /// The canonical bytes that rewriting leads to, and the number of rewrites.
     fn settle(alloc: A, bytes: &[u8]) -> Result<(Vec<u8, A>, usize), RewriteError>
         ensures settled { IfOk result (λ settled.
             Settles words norm bytes.now settled.0.items settled.1) }
         ensures refused { IfErr result (Refused words bytes.now) };
 
-    /// True if it can be written.
+    /// True if it can be encoded.
     final fn is_writable(&self) -> bool
         ensures { IsTrue result ↔ words.Fits (message self.now) }
     {
         self.measure().is_some()
     }
 
-    /// How many bytes it has.
+    /// The encoded length in bytes.
     final fn written_len(&self) -> usize
         requires { words.Fits (message self.now) }
         ensures { result ≡ length (words.bytes (message self.now)) }

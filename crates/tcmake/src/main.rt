@@ -1,8 +1,8 @@
 //! Makes traffic control messages of lines of JSON.
 #![tactic(auto)]
 
+use forms_kinds::{ACTION_MESSAGE, TC_MESSAGE, TcTables};
 use std::process::ExitCode;
-use tc_kinds::{ACTION_MESSAGE, TC_MESSAGE, TcTables};
 use tcmake_lib::message::Forms;
 use tcmake_lib::program::tcmake;
 

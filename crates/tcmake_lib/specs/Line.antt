@@ -5,10 +5,10 @@ use Rattle.std.specs.Str.Parse.{IsNumeral, digits_value}
 use Rattle.serde_json.specs.Data.{Data, object, no_members}
 use Rattle.serde_json.specs.Find.{get, as_bool, as_number, as_str, as_u64}
 use Rattle.tc_capture.specs.Kind.{rtm_at}
-use Rattle.tc_capture.specs.declared.kind.Holds.{Holds}
-use Rattle.tc_capture.specs.declared.kind.Holds.TheVariants.{Tc, Action}
+use Rattle.tc_capture.specs.declared.kind.MessageType.{MessageType}
+use Rattle.tc_capture.specs.declared.kind.MessageType.TheVariants.{Tc, Action}
 use Rattle.tc_capture.specs.declared.time.Time.{Time}
-use Rattle.tcmake_lines.specs.declared.given.Given.{Given}
+use Rattle.tcmake_lines.specs.declared.netlink.NetlinkHeader.{NetlinkHeader}
 
 -- a member: a number from 0 on, true or false, a text
 abbrev pub number_in : List ℕ → Data → Option ℕ
@@ -28,19 +28,19 @@ abbrev pub beside : Data → Data
 beside json = if is_some (get (codes "message") json) then json else object no_members
 
 -- which of the two messages has such a header: that of actions has no interface
-abbrev pub holds_by_index : Option Data → Holds
+abbrev pub holds_by_index : Option Data → MessageType
 holds_by_index None = Action
 holds_by_index (Some index) = Tc
 
-abbrev pub holds_with : Option Data → Holds
+abbrev pub holds_with : Option Data → MessageType
 holds_with None = Tc
 holds_with (Some header) = holds_by_index (get (codes "index") header)
 
-abbrev pub holds_by_header : Data → Holds
+abbrev pub holds_by_header : Data → MessageType
 holds_by_header message = holds_with (get (codes "header") message)
 
 -- the message type is the one that the line names; a line without a type shows by the header of its message what that is
-abbrev pub IsTyped : Data → Data → Option ℕ → Holds → Type 0
+abbrev pub IsTyped : Data → Data → Option ℕ → MessageType → Type 0
 IsTyped line message None holds = (get (codes "type") line ≡ None) × (holds ≡ holds_by_header message)
 IsTyped line message (Some kind) holds =
     (name : List ℕ) × (text_in (codes "type") line ≡ Some name) × (rtm_at kind ≡ Some (record { holds = holds; name = name }))
@@ -64,7 +64,7 @@ IsTime line t =
     ⊎ ((text : List ℕ) × (text_in (codes "time") line ≡ Some text) × IsTimeText text t)
 
 -- what the members beside a message say; a number that isn't there is 0, and the packet type that of what this machine sends
-pub record IsBeside (line message : Data) (g : Given) : Type 0 where
+pub record IsBeside (line message : Data) (g : NetlinkHeader) : Type 0 where
   pub typed : IsTyped line message g.kind g.holds
   pub flags : g.flags ≡ unwrap_or (number_in (codes "flags") line) 0
   pub sequence : g.sequence ≡ unwrap_or (number_in (codes "seq") line) 0
@@ -82,5 +82,5 @@ abbrev pub IsOfSave : Data → Type 0
 IsOfSave json =
     (IsTrue (is_some (get (codes "save") json)) ⊎ IsTrue (is_some (get (codes "end") json))) × (get (codes "message") json ≡ None)
 
-abbrev pub IsGiven : Data → Given → Type 0
+abbrev pub IsGiven : Data → NetlinkHeader → Type 0
 IsGiven json g = IsBeside (beside json) (message_in json) g

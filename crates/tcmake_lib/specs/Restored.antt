@@ -3,8 +3,8 @@ use Rattle.std.specs.Prelude.{◌≡◌, ◌⊎◌, ℕ, List, Option, Some, Ok}
 use Rattle.std.specs.declared.alloc.Global.{Global}
 use Rattle.tc_action_messages.specs.ActionMessage.{action_message}
 use Rattle.tc_action_messages.specs.declared.message.TcActionMessage.{TcActionMessage}
-use Rattle.tc_capture.specs.declared.kind.Holds.{Holds}
-use Rattle.tc_capture.specs.declared.kind.Holds.TheVariants.{Tc, Action}
+use Rattle.tc_capture.specs.declared.kind.MessageType.{MessageType}
+use Rattle.tc_capture.specs.declared.kind.MessageType.TheVariants.{Tc, Action}
 use Rattle.tcmake_lib.specs.declared.restore.Dump.{Dump}
 use Rattle.tcmake_lib.specs.declared.restore.Dump.TheVariants.{Of, Actions}
 use Rattle.tc_meaning.specs.Message.{Message}
@@ -21,7 +21,7 @@ IsDumpOf kind (Of object) = kind ≡ Some (new_type object)
 IsDumpOf kind Actions = (kind ≡ Some 48) ⊎ (kind ≡ Some 50)
 
 -- the message that a dump of this is
-abbrev pub held_by : Dump → Holds
+abbrev pub held_by : Dump → MessageType
 held_by (Of object) = Tc
 held_by Actions = Action
 

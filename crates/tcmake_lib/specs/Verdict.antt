@@ -5,8 +5,8 @@ use Rattle.nla_frames.specs.declared.error.DecodeError.{DecodeError}
 use Rattle.nla_frames.specs.declared.error.DecodeError.TheVariants as fault
 use Rattle.serde_json.specs.Data.{Data}
 use Rattle.serde_json.specs.Find.{get}
-use Rattle.tc_capture.specs.declared.kind.Holds.{Holds}
-use Rattle.tc_capture.specs.declared.kind.Holds.TheVariants.{Tc, Action}
+use Rattle.tc_capture.specs.declared.kind.MessageType.{MessageType}
+use Rattle.tc_capture.specs.declared.kind.MessageType.TheVariants.{Tc, Action}
 use Rattle.tc_meaning.specs.Message.{Message}
 use Rattle.tc_meaning.specs.Whole.{Words, tc_words, action_words}
 use Rattle.tcmake_lib.specs.Line.{number_in, bool_in, text_in}
@@ -16,7 +16,7 @@ use Rattle.tcmake_lib.specs.declared.verdict.Verdict.{Verdict}
 use Rattle.tcmake_lib.specs.declared.verdict.Verdict.TheVariants as found
 
 -- the grammar's words for the one message or the other
-abbrev pub words_of : Holds → Words Message
+abbrev pub words_of : MessageType → Words Message
 words_of Tc = tc_words
 words_of Action = action_words
 

@@ -4,7 +4,7 @@ use clap::builder::ValueParser;
 use clap::{Arg, ArgAction, ArgGroup, ArgMatches, Command, Error};
 use std::alloc::{AllocError, Global};
 use std::convert::AsStr;
-use tcmake_lines::Form;
+use tcmake_lines::OutputFormat;
 
 /// What is made of a line.
 #[derive(Clone, Copy, PartialEq, Eq, Debug)]
@@ -23,12 +23,12 @@ pub enum Making {
 #[derive(Clone, Copy, Debug)]
 pub struct Request {
     /// How messages are written.
-    pub form: Form,
+    pub form: OutputFormat,
     /// What is made of a line.
     pub making: Making,
     /// True if requests keep the order of the lines.
     pub in_order: bool,
-    /// The interface of requests, in place of that of the dumps.
+    /// The interface of requests, instead of that of the dumps.
     pub index: Option<i32>,
     /// True if what needs no request is named.
     pub verbose: bool,
@@ -231,15 +231,15 @@ fn command<'a>(alloc: Global) -> Result<Command<'a>, AllocError> {
 }
 
 // How messages are written.
-fn form_of(matches: &ArgMatches<'_>) -> Form {
+fn form_of(matches: &ArgMatches<'_>) -> OutputFormat {
     if matches.get_flag("no-header") {
-        Form::Bare
+        OutputFormat::Bare
     } else if matches.get_flag("pcap") {
-        Form::Capture
+        OutputFormat::Capture
     } else if matches.get_flag("stream") {
-        Form::Stream
+        OutputFormat::Stream
     } else {
-        Form::Hex
+        OutputFormat::Hex
     }
 }
 

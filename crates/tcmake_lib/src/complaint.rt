@@ -1,14 +1,13 @@
 //! Why no message is made of a line.
 
 use crate::save::SaveFault;
+use forms_json::MakeError;
+use forms_text::{Difference, ReadError, StrictError};
+use forms_values::Wanted;
 use nla_frames::DecodeError;
 use std::alloc::{AllocError, AllocFailed};
 use std::fmt;
 use tc_capture::rtm_of;
-use tc_form_values::Wanted;
-use tc_forms::MakeError;
-use tc_forms_strict::{Difference, StrictError};
-use tc_forms_text::ReadError;
 use tc_requests::RestoreError;
 use tcmake_lines::run::LONG_LINE;
 
@@ -76,7 +75,7 @@ pub(crate) enum Complaint {
     NoMemory,
 }
 
-/// What was found in place of what is wanted.
+/// What was found instead of what is expected.
 #[derive(Drop)]
 pub(crate) enum Found {
     /// Nothing.
@@ -218,7 +217,7 @@ impl fmt::Display for Complaint {
 }
 
 impl Complaint {
-    /// True of one for which no request at all is made.
+    /// True if no request at all is made because of it.
     pub(crate) fn is_of_all(&self) -> bool {
         matches!(
             self,

@@ -10,8 +10,8 @@ use crate::complaint::Complaint;
 use crate::members::{Numbered, missing, number_of, number_or, wrong};
 use serde_json::Value;
 use std::alloc::Global;
-use tc_capture::{Holds, Time, rtm_of};
-use tcmake_lines::{Given, OUTGOING, PacketOf, packet_at};
+use tc_capture::{MessageType, Time, rtm_of};
+use tcmake_lines::{NetlinkHeader, OUTGOING, PacketOf, packet_at};
 
 const NO_TIME: Time = Time {
     seconds: 0,
@@ -19,7 +19,7 @@ const NO_TIME: Time = Time {
 };
 
 /// What a line says of its message.
-pub(crate) fn given_of(alloc: Global, json: &Value) -> Result<Given, Complaint>
+pub(crate) fn given_of(alloc: Global, json: &Value) -> Result<NetlinkHeader, Complaint>
     ensures { IfOk result (IsGiven (view json.now)) }
 {
     match json.get("message") {
@@ -32,13 +32,13 @@ pub(crate) fn given_of(alloc: Global, json: &Value) -> Result<Given, Complaint>
 }
 
 // What is known of a message that is a line of its own.
-fn in_message(json: &Value) -> Result<Given, Complaint>
+fn in_message(json: &Value) -> Result<NetlinkHeader, Complaint>
     ensures { IfOk result (IsBeside (object no_members) (view json.now)) }
 {
     if json.get("raw").is_some() {
         return Err(missing("type", RAW_TYPES));
     }
-    Ok(Given {
+    Ok(NetlinkHeader {
         holds: holds_by_header(json),
         kind: None,
         flags: 0,
@@ -48,7 +48,7 @@ fn in_message(json: &Value) -> Result<Given, Complaint>
     })
 }
 
-/// True of an answer of the kernel.
+/// True if the line is an answer of the kernel.
 pub(crate) fn is_answer(json: &Value) -> bool
     ensures { IsTrue result → IsOfKernel (view json.now) }
 {
@@ -112,7 +112,7 @@ fn unknown_in(json: &Value) -> Option<&str> {
 }
 
 // What is beside a message.
-fn in_line(alloc: Global, json: &Value, message: &Value) -> Result<Given, Complaint>
+fn in_line(alloc: Global, json: &Value, message: &Value) -> Result<NetlinkHeader, Complaint>
     ensures { IfOk result (IsBeside (view json.now) (view message.now)) }
 {
     if let Some(name) = unknown_in(json) {
@@ -123,7 +123,7 @@ fn in_line(alloc: Global, json: &Value, message: &Value) -> Result<Given, Compla
     let sequence = number_or(alloc, json, &SEQUENCE, 0)?;
     let port = number_or(alloc, json, &PORT, 0)?;
     let packet = packet_of(alloc, json)?;
-    Ok(Given {
+    Ok(NetlinkHeader {
         holds,
         kind,
         flags: flags as u16,
@@ -180,7 +180,11 @@ const PACKET_TYPE: Numbered = Numbered {
 };
 
 // The message type, and what the payload is; a line without a type shows that by its header.
-fn type_in(alloc: Global, json: &Value, message: &Value) -> Result<(Option<u16>, Holds), Complaint>
+fn type_in(
+    alloc: Global,
+    json: &Value,
+    message: &Value,
+) -> Result<(Option<u16>, MessageType), Complaint>
     ensures { IfOk result (λ given. IsTyped (view json.now) (view message.now) given.0 given.1) }
 {
     match json.get("type") {
@@ -201,7 +205,7 @@ fn type_in(alloc: Global, json: &Value, message: &Value) -> Result<(Option<u16>,
 }
 
 // The number of the message type of this name, and what its payload is.
-fn type_named(name: &str) -> Option<(u16, Holds)>
+fn type_named(name: &str) -> Option<(u16, MessageType)>
     ensures { IfSome result (λ found. rtm_at found.0 ≡ Some (record { holds = found.1; name = name.now })) }
 {
     for kind in 36..103u16 {
@@ -215,15 +219,15 @@ fn type_named(name: &str) -> Option<(u16, Holds)>
 }
 
 // What a message of this JSON is: the header of an action message has no interface.
-fn holds_by_header(message: &Value) -> Holds
+fn holds_by_header(message: &Value) -> MessageType
     ensures { result ≡ holds_by_header (view message.now) }
 {
     match message.get("header") {
         Some(header) => match header.get("index") {
-            Some(_) => Holds::Tc,
-            None => Holds::Action,
+            Some(_) => MessageType::Tc,
+            None => MessageType::Action,
         },
-        None => Holds::Tc,
+        None => MessageType::Tc,
     }
 }
 

@@ -1,4 +1,4 @@
-//! Lines of an input, and what they hold of dumps.
+//! Lines of an input, and the dumps in them.
 
 use crate::arguments::Making;
 use crate::complaint::{Complaint, Found as FoundValue};
@@ -7,14 +7,14 @@ use crate::made::{Made, made_of_json, unread};
 use crate::message::Forms;
 use crate::names::{Interfaces, mapped};
 use crate::save::{Names, Save, is_of_save};
+use forms_json::Tables;
+use forms_text::read_json;
+use program_io::Stop;
 use serde_json::Value;
 use std::alloc::{AllocError, Global};
 use std::io::BufRead;
-use tc_capture::Holds;
-use tc_forms::Tables;
-use tc_forms_text::read_json;
-use tc_streams::Stop;
-use tcmake_lines::{Found, Given, is_blank, next_line};
+use tc_capture::MessageType;
+use tcmake_lines::{LineStatus, NetlinkHeader, is_blank, next_line};
 
 /// Where a line is.
 #[derive(Clone, Copy, PartialEq, Eq, Debug)]
@@ -66,7 +66,7 @@ pub(crate) struct Lines {
 #[derive(Clone, Copy)]
 pub(crate) struct Reading<'a> {
     pub(crate) source: Source,
-    /// The interface of dumps, in place of their own.
+    /// The interface of dumps, instead of their own.
     pub(crate) index: Option<i32>,
     /// The interfaces of now.
     pub(crate) names: Option<&'a [(u32, &'a str)]>,
@@ -89,7 +89,7 @@ impl Lines {
     }
 
     /// Keeps what is wrong with a line.
-    pub(crate) fn complain(
+    pub(crate) fn fail_with(
         &mut self,
         alloc: Global,
         source: Source,
@@ -121,13 +121,13 @@ pub(crate) fn read_lines<T: Tables, R: BufRead>(
     let mut line = Vec::new(alloc);
     for number in 1..u64::MAX {
         let found = next_line(reader, &mut line)?;
-        if found == Found::End {
+        if found == LineStatus::End {
             break;
         }
         match dump_in(alloc, forms, reading, &mut save, found, &line, number) {
             Ok(Some(made)) => lines.keep(number, made)?,
             Ok(None) => {}
-            Err(complaint) => lines.complain(alloc, reading.source, number, &complaint)?,
+            Err(complaint) => lines.fail_with(alloc, reading.source, number, &complaint)?,
         }
     }
     end(alloc, reading, &save, &mut lines)?;
@@ -142,10 +142,10 @@ fn end(
     lines: &mut Lines,
 ) -> Result<(), AllocError> {
     if let Some((number, fault)) = save.fault_at_end() {
-        lines.complain(alloc, reading.source, number, &Complaint::Save(fault))?;
+        lines.fail_with(alloc, reading.source, number, &Complaint::Save(fault))?;
     }
     if reading.names.is_some() && save.names().is_none() {
-        lines.complain(alloc, reading.source, 1, &Complaint::NoNames)?;
+        lines.fail_with(alloc, reading.source, 1, &Complaint::NoNames)?;
     }
     Ok(())
 }
@@ -156,14 +156,14 @@ fn dump_in<T: Tables>(
     forms: Forms<T>,
     reading: Reading<'_>,
     save: &mut Save,
-    found: Found,
+    found: LineStatus,
     line: &[u8],
     number: u64,
 ) -> Result<Option<Made>, Complaint> {
     match found {
-        Found::TooLong => Err(without_json(save, number, Complaint::LongLine)),
-        Found::NoMemory => Err(Complaint::NoMemory),
-        Found::Whole | Found::End => if is_blank(line) {
+        LineStatus::TooLong => Err(without_json(save, number, Complaint::LongLine)),
+        LineStatus::NoMemory => Err(Complaint::NoMemory),
+        LineStatus::Whole | LineStatus::End => if is_blank(line) {
             Ok(None)
         } else {
             dump_in_text(alloc, forms, reading, save, line, number)
@@ -266,7 +266,7 @@ fn is_get(kind: Option<u16>) -> bool {
 }
 
 // True of a dump, false of the request of one.
-fn is_dump(given: &Given) -> Result<bool, Complaint> {
+fn is_dump(given: &NetlinkHeader) -> Result<bool, Complaint> {
     let flags = given.flags;
     if flags & NLM_F_REQUEST == 0 {
         return Ok(true);
@@ -283,7 +283,7 @@ fn is_dump(given: &Given) -> Result<bool, Complaint> {
 
 // A message of this interface, if one is given; what is in a block that interfaces share has none (its index is -1).
 fn with_index(mut made: Made, index: Option<i32>) -> Made {
-    if let (Holds::Tc, Some(index)) = (made.given.holds, index) {
+    if let (MessageType::Tc, Some(index)) = (made.given.holds, index) {
         set_index(&mut made.bytes, index);
     }
     made

@@ -11,18 +11,17 @@ use crate::complaint::Complaint;
 use crate::given::{given_of, is_answer};
 use crate::message::{Forms, Message, message_of};
 use crate::save::is_of_save;
+use forms_json::Tables;
+use forms_text::{Difference, ReadError, read_json};
 use serde_json::Value;
 use std::alloc::Global;
-use tc_capture::Holds;
-use tc_forms::Tables;
-use tc_forms_strict::Difference;
-use tc_forms_text::{ReadError, read_json};
-use tcmake_lines::Given;
+use tc_capture::MessageType;
+use tcmake_lines::NetlinkHeader;
 
 /// A message, and what a line says of it.
 #[derive(Drop)]
 pub(crate) struct Made {
-    pub(crate) given: Given,
+    pub(crate) given: NetlinkHeader,
     pub(crate) bytes: Vec<u8>,
     /// The places that settling changed.
     pub(crate) settled: Vec<Difference>,
@@ -74,7 +73,7 @@ fn message_in<T: Tables>(
     alloc: Global,
     forms: Forms<T>,
     making: Making,
-    holds: Holds,
+    holds: MessageType,
     json: &Value,
 ) -> Result<Message, Complaint>
     ensures { IfOk result (λ m. IsMade (T.parts_of forms.table) (form_of forms.tc forms.action holds) making holds

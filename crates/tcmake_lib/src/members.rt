@@ -5,9 +5,9 @@ ghost use Rattle.serde_json.specs.View.{view};
 ghost use Rattle.tcmake_lib.specs.Line.{number_in, bool_in};
 
 use crate::complaint::{Complaint, Found};
+use forms_text::brief;
 use serde_json::Value;
 use std::alloc::Global;
-use tc_forms_strict::brief;
 
 /// A member that is a number.
 pub(crate) struct Numbered {
@@ -17,7 +17,7 @@ pub(crate) struct Numbered {
     pub(crate) wanted: &'static str,
 }
 
-/// The number of a member; None where there is none.
+/// The number of a member, if it has one.
 pub(crate) fn number_of(
     alloc: Global,
     json: &Value,
@@ -35,7 +35,7 @@ pub(crate) fn number_of(
     }
 }
 
-/// The number of a member; this one where there is none.
+/// The number of a member, or else this one.
 pub(crate) fn number_or(
     alloc: Global,
     json: &Value,

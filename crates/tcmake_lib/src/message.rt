@@ -8,13 +8,13 @@ ghost use Rattle.tcmake_lib.specs.Made.{IsAsSaid, IsMade, Settles, StandsFor, fo
 use crate::arguments::Making;
 use crate::complaint::{Complaint, Found};
 use crate::verdict::{Disagreement, Said, Verdict, agree, said_in, verdict_on};
+use forms_json::{Form, Tables};
+use forms_text::{Difference, differences, made_strictly, shown_json};
 use nla_frames::DecodeError;
 use serde_json::Value;
 use std::alloc::{AllocError, Global};
 use std::str;
-use tc_capture::Holds;
-use tc_forms::{Form, Tables};
-use tc_forms_strict::{Difference, differences, made_strictly, shown_json};
+use tc_capture::MessageType;
 use tc_outline::{Layout, Page, What, locate};
 use tc_wire::{RewriteError, settle_action, settle_tc};
 
@@ -31,12 +31,12 @@ pub struct Forms<T> {
 
 impl<T: Copy> Forms<T> {
     // The form of the one message or the other.
-    fn of(self, holds: Holds) -> Form
+    fn of(self, holds: MessageType) -> Form
         ensures { result ≡ form_of self.tc self.action holds }
     {
         match holds {
-            Holds::Tc => self.tc,
-            Holds::Action => self.action,
+            MessageType::Tc => self.tc,
+            MessageType::Action => self.action,
         }
     }
 }
@@ -54,7 +54,7 @@ pub(crate) fn message_of<T: Tables>(
     alloc: Global,
     forms: Forms<T>,
     making: Making,
-    holds: Holds,
+    holds: MessageType,
     line: &Value,
     json: &Value,
 ) -> Result<Message, Complaint>
@@ -124,7 +124,7 @@ fn check<T: Tables>(
     alloc: Global,
     table: T,
     form: Form,
-    holds: Holds,
+    holds: MessageType,
     line: &Value,
     json: &Value,
     bytes: &[u8],
@@ -144,7 +144,7 @@ fn disagreement<T: Tables>(
     alloc: Global,
     table: T,
     form: Form,
-    holds: Holds,
+    holds: MessageType,
     json: &Value,
     bytes: &[u8],
     why: Disagreement,
@@ -169,7 +169,7 @@ fn not_canonical<T: Tables>(
     alloc: Global,
     table: T,
     form: Form,
-    holds: Holds,
+    holds: MessageType,
     json: &Value,
     bytes: &[u8],
 ) -> Complaint {
@@ -190,7 +190,7 @@ fn settled_message<T: Tables>(
     alloc: Global,
     table: T,
     form: Form,
-    holds: Holds,
+    holds: MessageType,
     json: &Value,
     bytes: &[u8],
 ) -> Result<Message, Complaint>
@@ -206,7 +206,7 @@ fn settled_message<T: Tables>(
 }
 
 // The bytes to which settling leads.
-fn settled_bytes(alloc: Global, holds: Holds, bytes: &[u8]) -> Result<Vec<u8>, Complaint>
+fn settled_bytes(alloc: Global, holds: MessageType, bytes: &[u8]) -> Result<Vec<u8>, Complaint>
     ensures { IfOk result (λ settled. (count : ℕ) × Settles holds bytes.now settled.items count) }
 {
     match settle(alloc, holds, bytes) {
@@ -218,17 +218,17 @@ fn settled_bytes(alloc: Global, holds: Holds, bytes: &[u8]) -> Result<Vec<u8>, C
 }
 
 // The same, and after how many rewrites.
-fn settle(alloc: Global, holds: Holds, bytes: &[u8]) -> Result<(Vec<u8>, usize), RewriteError>
+fn settle(alloc: Global, holds: MessageType, bytes: &[u8]) -> Result<(Vec<u8>, usize), RewriteError>
     ensures { IfOk result (λ settled. Settles holds bytes.now settled.0.items settled.1) }
 {
     match holds {
-        Holds::Tc => settle_tc(alloc, bytes),
-        Holds::Action => settle_action(alloc, bytes),
+        MessageType::Tc => settle_tc(alloc, bytes),
+        MessageType::Action => settle_action(alloc, bytes),
     }
 }
 
 // The complaint about bytes that the codec refuses.
-fn unreadable(alloc: Global, holds: Holds, bytes: &[u8], error: DecodeError) -> Complaint {
+fn unreadable(alloc: Global, holds: MessageType, bytes: &[u8], error: DecodeError) -> Complaint {
     match path_of_fault(alloc, holds, bytes) {
         Ok(path) => Complaint::Unreadable { path, error },
         Err(_) => Complaint::NoMemory,
@@ -236,10 +236,10 @@ fn unreadable(alloc: Global, holds: Holds, bytes: &[u8], error: DecodeError) -> 
 }
 
 // Where the first fault of bytes is, as a JSON pointer.
-fn path_of_fault(alloc: Global, holds: Holds, bytes: &[u8]) -> Result<String, AllocError> {
+fn path_of_fault(alloc: Global, holds: MessageType, bytes: &[u8]) -> Result<String, AllocError> {
     let what = match holds {
-        Holds::Tc => What::Qdisc,
-        Holds::Action => What::Action,
+        MessageType::Tc => What::Qdisc,
+        MessageType::Action => What::Action,
     };
     let mut page = Page::new(alloc, Layout::OneLine);
     if let Some(fault) = locate(bytes, what) {

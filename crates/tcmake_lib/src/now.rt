@@ -8,11 +8,16 @@ use nla_frames::ParseableBytes;
 use std::alloc::{AllocError, Global};
 use tc_action_messages::{TcActionMessage, TcActionMessageAttribute};
 use tc_actions::TcAction;
+use tc_capture::MessageType;
 use tc_messages::TcMessage;
-use tc_plan::{Action, Entry, Fate, Key, Named, Now, entry_of, held_by, name_of_action};
+use tc_plan::{
+    Action, Entry, Fate, Key, Named, Now, entry_of, fate_of_action, held_by, name_of_action,
+};
 use tc_records::TcActionMessageHeader;
-use tc_requests::{Object, use_of_action};
-use tcmake_lines::Given;
+use tc_requests::{
+    Object, RTM_NEWACTION, actions_of_filter, standing_index, unheld, use_of_action,
+};
+use tcmake_lines::NetlinkHeader;
 
 /// An action of a dump by itself.
 #[derive(Drop)]
@@ -25,13 +30,26 @@ pub(crate) struct Single {
     pub(crate) filters: usize,
 }
 
+/// Whether actions are as they are held.
+#[derive(Clone, Copy, PartialEq, Eq)]
+pub(crate) enum Counts {
+    /// With their counts, so that a filter's own is one.
+    Kept,
+    /// As if nothing held them, so that each has a request by itself, with its index.
+    Cleared,
+}
+
 /// The actions of a dump of actions, each by itself.
-pub(crate) fn singles_of(alloc: Global, dump: &Made) -> Result<Vec<Single>, Complaint> {
+pub(crate) fn singles_of(
+    alloc: Global,
+    dump: &Made,
+    counts: Counts,
+) -> Result<Vec<Single>, Complaint> {
     let TcActionMessage { header, attributes } = TcActionMessage::parse(alloc, &dump.bytes)?;
     let mut singles = Vec::new(alloc);
     for attribute in attributes {
         if let TcActionMessageAttribute::Actions(actions) = attribute {
-            put_singles(alloc, &dump.given, &header, actions, &mut singles)?;
+            put_singles(alloc, &dump.given, &header, actions, counts, &mut singles)?;
         }
     }
     Ok(singles)
@@ -39,13 +57,14 @@ pub(crate) fn singles_of(alloc: Global, dump: &Made) -> Result<Vec<Single>, Comp
 
 fn put_singles(
     alloc: Global,
-    given: &Given,
+    given: &NetlinkHeader,
     header: &TcActionMessageHeader,
     actions: Vec<TcAction>,
+    counts: Counts,
     singles: &mut Vec<Single>,
 ) -> Result<(), Complaint> {
     for action in actions {
-        let single = single_of(alloc, given, header, action)?;
+        let single = single_of(alloc, given, header, action, counts)?;
         singles.push(single)?;
     }
     Ok(())
@@ -53,14 +72,19 @@ fn put_singles(
 
 fn single_of(
     alloc: Global,
-    given: &Given,
+    given: &NetlinkHeader,
     header: &TcActionMessageHeader,
     action: TcAction,
+    counts: Counts,
 ) -> Result<Single, Complaint> {
     let name = name_of_action(&action);
     let filters = match use_of_action(&action) {
         Some(found) => found.filters as usize,
         None => 0,
+    };
+    let action = match counts {
+        Counts::Kept => action,
+        Counts::Cleared => unheld(alloc, action)?,
     };
     let mut actions = Vec::new(alloc);
     actions.push(action)?;
@@ -72,7 +96,11 @@ fn single_of(
     };
     let bytes = emitted(alloc, &message)?;
     let made = Made {
-        given: *given,
+        given: NetlinkHeader {
+            holds: MessageType::Action,
+            kind: Some(RTM_NEWACTION),
+            ..*given
+        },
         bytes,
         settled: Vec::new(alloc),
     };
@@ -97,7 +125,7 @@ pub(crate) fn now_of(alloc: Global, lines: &mut Lines) -> Result<Now<Global>, Al
         }
     }
     for (number, complaint) in &wrong {
-        lines.complain(alloc, Source::Now, *number, complaint)?;
+        lines.fail_with(alloc, Source::Now, *number, complaint)?;
     }
     Ok(found)
 }
@@ -117,7 +145,7 @@ fn keep(
 }
 
 fn keep_actions(alloc: Global, dump: &Made, found: &mut Now<Global>) -> Result<(), Complaint> {
-    for single in singles_of(alloc, dump)? {
+    for single in singles_of(alloc, dump, Counts::Cleared)? {
         let Single {
             made,
             name,
@@ -135,7 +163,7 @@ fn keep_actions(alloc: Global, dump: &Made, found: &mut Now<Global>) -> Result<(
     Ok(())
 }
 
-// The request that makes an action; none of one that its filter makes, or that can't be made.
+// The request that makes an action; none of one that can't be made by itself.
 fn request_bytes(alloc: Global, made: &Made) -> Result<Vec<u8>, Complaint> {
     match restored(alloc, &[], made) {
         Ok(made) => Ok(made.bytes),
@@ -159,9 +187,34 @@ fn keep_filter(
         }
         shared.extend_from_slice(&entry.objects)?;
     }
-    let held = held_by(alloc, &filter)?;
+    let held = held_by(alloc, filter)?;
     found.held.extend_from_slice(&held)?;
     Ok(())
+}
+
+/// Why a filter can't be made beside the actions of now: it shares one that is there and is another one, and no dump has that action by
+/// itself (`listed` are those that one has), by which it could be changed.
+pub(crate) fn unlisted_in(
+    alloc: Global,
+    now: &Now<Global>,
+    listed: &[Named],
+    given: &NetlinkHeader,
+    filter: TcMessage,
+) -> Result<Option<Named>, Complaint> {
+    let header = TcActionMessageHeader::default();
+    for action in actions_of_filter(alloc, filter)? {
+        if let (Some(_), Some(name)) = (standing_index(&action), name_of_action(&action)) {
+            if !listed.contains(&name) {
+                let single = single_of(alloc, given, &header, action, Counts::Cleared)?;
+                let request = request_bytes(alloc, &single.made)?;
+                match fate_of_action(now, false, name, &request) {
+                    Fate::Change | Fate::Refused(_) => return Ok(Some(name)),
+                    _ => {}
+                }
+            }
+        }
+    }
+    Ok(None)
 }
 
 fn is_known(shared: &[Key], entry: &Entry<Global>) -> bool {

@@ -5,27 +5,27 @@ use crate::complaint::Complaint;
 use crate::lines::{Dumped, Lines, Reading, Remark, RemarkKind, Source, read_lines};
 use crate::made::Made;
 use crate::message::Forms;
-use crate::now::{Single, now_of, singles_of};
+use crate::now::{Counts, Single, now_of, singles_of, unlisted_in};
 use crate::restore::{Dump, dump_of, restored};
+use forms_json::Tables;
 use nla_frames::ParseableBytes;
+use program_io::{Stop, write_all};
 use std::alloc::{AllocError, Global};
 use std::io::{BufRead, Write};
-use tc_action_messages::TcActionMessage;
-use tc_forms::Tables;
+use tc_action_messages::{TcActionMessage, TcActionMessageAttribute};
 use tc_messages::TcMessage;
 use tc_plan::{
     Entry, Fate, Item, Key, Named, Now, Order, Reason, Step, circle, entry_of, entry_of_actions,
-    fate_of_action, ingress_of, newest_first, plan,
+    fate_of_action, ingress_of, name_of_action, newest_first, plan,
 };
 use tc_requests::{Object, RestoreError, RootTable, notice_of, root_table};
-use tc_streams::{Stop, write_all};
 use tcmake_lines::run::put_message;
-use tcmake_lines::{Form, Given, Output};
+use tcmake_lines::{NetlinkHeader, Output, OutputFormat};
 
 /// What requests are made by, beside the lines of what is wanted.
 #[derive(Clone, Copy)]
 pub struct Asked<'a> {
-    /// The interface of requests, in place of that of the dumps.
+    /// The interface of requests, instead of that of the dumps.
     pub index: Option<i32>,
     /// What the kernel has now, as lines of JSON.
     pub now: Option<&'a [u8]>,
@@ -41,15 +41,15 @@ pub struct LineRequest {
     /// The number of the line, from 1.
     pub number: u64,
     /// What goes into its netlink header.
-    pub given: Given,
-    /// The message behind that.
+    pub given: NetlinkHeader,
+    /// The message after that.
     pub bytes: Vec<u8>,
 }
 
 impl LineRequest {
     /// The netlink message, with zeros up to a multiple of four. Fails where memory runs out, or with `Stop::Write` of one that is too long.
     pub fn netlink(&self, alloc: Global) -> Result<Vec<u8>, Stop> {
-        let mut output = Output::new(alloc, Form::Stream);
+        let mut output = Output::new(alloc, OutputFormat::Stream);
         let mut errors = Vec::new(alloc);
         if put_message(
             alloc,
@@ -71,7 +71,7 @@ impl LineRequest {
 /// The requests that lines become.
 #[derive(Drop)]
 pub struct Restored {
-    /// The requests, each behind those that it needs.
+    /// The requests, each after those that it needs.
     pub requests: Vec<LineRequest>,
     /// What is said of the lines.
     pub remarks: Vec<Remark>,
@@ -108,6 +108,8 @@ struct Known<'a> {
     roots: &'a [RootTable],
     // The interfaces that have ingress.
     ingress: &'a [i32],
+    // The actions that dumps have by themselves.
+    listed: &'a [Named],
     now: Option<&'a Now<Global>>,
     replaces_actions: bool,
 }
@@ -127,12 +129,13 @@ impl Requests {
     fn keep(&mut self, alloc: Global, known: Known<'_>, dump: &Dumped) -> Result<(), Complaint> {
         let kind = dump_of(dump.made.given.kind)?;
         if kind == Dump::Actions {
-            let singles = singles_of(alloc, &dump.made)?;
+            let singles = singles_of(alloc, &dump.made, Counts::Kept)?;
             if !singles.is_empty() {
                 return self.keep_actions(alloc, known, dump.number, &singles);
             }
         }
         let (fate, made) = fate_of(restored(alloc, known.roots, &dump.made))?;
+        let fate = fate_by_actions(alloc, known, kind, &dump.made, fate)?;
         self.put(alloc, known, kind, dump.number, &dump.made, fate, made)
     }
 
@@ -249,6 +252,26 @@ fn fate_by_now(known: Known<'_>, name: Option<Named>, made: Made) -> (Fate, Opti
     }
 }
 
+// What becomes of a filter by the actions that it shares.
+fn fate_by_actions(
+    alloc: Global,
+    known: Known<'_>,
+    kind: Dump,
+    dump: &Made,
+    fate: Fate,
+) -> Result<Fate, Complaint> {
+    match (known.now, kind, &fate) {
+        (Some(now), Dump::Of(Object::Filter), Fate::Request) => {
+            let filter = TcMessage::parse(alloc, &dump.bytes)?;
+            match unlisted_in(alloc, now, known.listed, &dump.given, filter)? {
+                Some(name) => Ok(Fate::Refused(Reason::NoDump(name))),
+                None => Ok(fate),
+            }
+        }
+        _ => Ok(fate),
+    }
+}
+
 // What becomes of a dump by itself, and its request.
 fn fate_of(made: Result<Made, Complaint>) -> Result<(Fate, Option<Made>), Complaint> {
     match made {
@@ -358,46 +381,66 @@ fn keep_all(
 ) -> Result<(), AllocError> {
     let mut roots = Vec::new(alloc);
     let mut ingress = Vec::new(alloc);
+    let mut listed = Vec::new(alloc);
     for dump in dumps {
-        if let Err(complaint) = keep_shown(alloc, dump, &mut roots, &mut ingress) {
-            complain(alloc, remarks, dump.number, &complaint)?;
+        if let Err(complaint) = keep_shown(alloc, dump, &mut roots, &mut ingress, &mut listed) {
+            fail_with(alloc, remarks, dump.number, &complaint)?;
         }
     }
     let known = Known {
         roots: &roots,
         ingress: &ingress,
+        listed: &listed,
         now,
         replaces_actions,
     };
     for dump in dumps {
         if let Err(complaint) = requests.keep(alloc, known, dump) {
-            complain(alloc, remarks, dump.number, &complaint)?;
+            fail_with(alloc, remarks, dump.number, &complaint)?;
         }
     }
     Ok(())
 }
 
-// Keeps the root table and the ingress qdisc that a dump shows. What isn't a dump is complained about where its request is made.
+// Keeps the root table, the ingress qdisc and the actions that a dump shows. What isn't a dump is complained about where its request is made.
 fn keep_shown(
     alloc: Global,
     dump: &Dumped,
     roots: &mut Vec<RootTable>,
     ingress: &mut Vec<i32>,
+    listed: &mut Vec<Named>,
 ) -> Result<(), Complaint> {
-    if let Ok(Dump::Of(object)) = dump_of(dump.made.given.kind) {
-        let message = TcMessage::parse(alloc, &dump.made.bytes)?;
-        if let Some(root) = root_table(object, &message) {
-            roots.push(root)?;
+    match dump_of(dump.made.given.kind) {
+        Ok(Dump::Of(object)) => {
+            let message = TcMessage::parse(alloc, &dump.made.bytes)?;
+            if let Some(root) = root_table(object, &message) {
+                roots.push(root)?;
+            }
+            if let Some(index) = ingress_of(object, &message) {
+                ingress.push(index)?;
+            }
+            Ok(())
         }
-        if let Some(index) = ingress_of(object, &message) {
-            ingress.push(index)?;
+        Ok(Dump::Actions) => keep_listed(alloc, &dump.made.bytes, listed),
+        Err(_) => Ok(()),
+    }
+}
+
+fn keep_listed(alloc: Global, bytes: &[u8], listed: &mut Vec<Named>) -> Result<(), Complaint> {
+    for attribute in &TcActionMessage::parse(alloc, bytes)?.attributes {
+        if let TcActionMessageAttribute::Actions(actions) = attribute {
+            for action in actions {
+                if let Some(name) = name_of_action(action) {
+                    listed.push(name)?;
+                }
+            }
         }
     }
     Ok(())
 }
 
 // Keeps what is wrong with a line.
-fn complain(
+fn fail_with(
     alloc: Global,
     remarks: &mut Vec<Remark>,
     number: u64,
@@ -441,9 +484,9 @@ fn say_left(
     Ok(is_void)
 }
 
-// True of a reason for which no request at all is made: others hold an action that would have to be changed.
+// True of a reason for which no request at all is made: an action would have to be changed, and can't be.
 fn is_of_all(reason: &Reason) -> bool {
-    matches!(reason, Reason::Held(_))
+    matches!(reason, Reason::Held(_) | Reason::NoDump(_))
 }
 
 fn say_reason(
@@ -587,7 +630,7 @@ fn write_remark<E: Write>(
 
 fn write_requests<W: Write, E: Write>(
     alloc: Global,
-    form: Form,
+    form: OutputFormat,
     requests: &[LineRequest],
     writer: &mut W,
     errors: &mut E,

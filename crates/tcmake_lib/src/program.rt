@@ -1,7 +1,7 @@
 //! The program: what it is asked for is done over its streams, and how it ends is its exit status.
 
 ghost use Rattle.std.specs.Prelude.{◌≡◌, ◌≢◌, OnOk};
-ghost use Rattle.tc_streams.specs.Status.{status_of};
+ghost use Rattle.program_io.specs.Status.{status_of};
 ghost use Rattle.tcmake_lib.specs.Answer.{IsAnswer, IsMessage};
 ghost use Rattle.tcmake_lib.specs.declared.arguments.Making.TheVariants.{Restored};
 ghost use Rattle.tcmake_lines.specs.Parts.{Ran};
@@ -13,14 +13,14 @@ use crate::order::Asked;
 use crate::run::run;
 use clap::Error;
 use clap::error::ErrorKind;
+use forms_json::Tables;
+use program_io::{Stop, fail_with, status_of};
 use std::alloc::Global;
 use std::io::{self, BufRead, BufReader, Input, Print, Write};
 use std::process::ExitCode;
 use std::rt::{Env, Files};
 use std::{env, fs};
-use tc_forms::Tables;
-use tc_names::names_in;
-use tc_streams::{Stop, complain, status_of};
+use tc_select::names_in;
 
 /// The whole program: reads its arguments, makes messages of the lines of standard input, writes them to standard output, and
 /// returns the exit status. Complaints are written to `errors`.
@@ -32,9 +32,9 @@ pub fn tcmake<T: Tables, R: Env + AllocGlobal + Files + Input + Print + Eprint, 
     match env::args(rt) {
         Ok(words) => match Vec::from_iter(rt.alloc(), words) {
             Ok(words) => ExitCode::from(obey(rt, forms, words.as_slice(), errors)),
-            Err(_) => ExitCode::from(complain(errors, NO_MEMORY, 3)),
+            Err(_) => ExitCode::from(fail_with(errors, NO_MEMORY, 3)),
         },
-        Err(_) => ExitCode::from(complain(errors, "tcmake: an argument is no text\n", 2)),
+        Err(_) => ExitCode::from(fail_with(errors, "tcmake: an argument is no text\n", 2)),
     }
 }
 
@@ -54,7 +54,7 @@ fn obey<T: Tables, R: AllocGlobal + Files + Input + Print + Eprint, E: Write>(
 // Says what is wrong with the arguments, or the help or the version that they ask for.
 fn say<R: Print + Eprint, E: Write>(rt: &R, error: &Error, errors: &mut E) -> u8 {
     if error.kind() == ErrorKind::OutOfMemory {
-        return complain(errors, NO_MEMORY, 3);
+        return fail_with(errors, NO_MEMORY, 3);
     }
     let _ = error.print(rt);
     if error.use_stderr() { 2 } else { 0 }
@@ -120,15 +120,15 @@ fn with_names_in<T: Tables, R: AllocGlobal + Input + Print, E: Write>(
             make(rt, forms, request, &asked, errors)
         }
         Ok(Err(line)) => complain_of_names(rt.alloc(), line, errors),
-        Err(_) => complain(errors, NO_MEMORY, 3),
+        Err(_) => fail_with(errors, NO_MEMORY, 3),
     }
 }
 
 // Writes that a file can't be read, if it can, and returns the status of a wrong usage.
 fn complain_of_file<E: Write>(alloc: Global, path: &str, errors: &mut E) -> u8 {
     match format!(in alloc; "tcmake: {path}: the file can't be read\n") {
-        Ok(text) => complain(errors, text.as_str(), 2),
-        Err(_) => complain(errors, NO_MEMORY, 3),
+        Ok(text) => fail_with(errors, text.as_str(), 2),
+        Err(_) => fail_with(errors, NO_MEMORY, 3),
     }
 }
 
@@ -137,8 +137,8 @@ fn complain_of_names<E: Write>(alloc: Global, line: u64, errors: &mut E) -> u8 {
     match format!(in alloc;
         "tcmake: --names, line {line}: found no index and name, wanted lines as ip -o link writes them\n"
     ) {
-        Ok(text) => complain(errors, text.as_str(), 2),
-        Err(_) => complain(errors, NO_MEMORY, 3),
+        Ok(text) => fail_with(errors, text.as_str(), 2),
+        Err(_) => fail_with(errors, NO_MEMORY, 3),
     }
 }
 
@@ -160,7 +160,7 @@ fn make<T: Tables, R: AllocGlobal + Input + Print, E: Write>(
             &mut writer,
             errors,
         ),
-        Err(_) => complain(errors, NO_MEMORY, 3),
+        Err(_) => fail_with(errors, NO_MEMORY, 3),
     }
 }
 
@@ -212,8 +212,8 @@ pub fn serve_asked<T: Tables, R: BufRead, W: Write, E: Write>(
     let status = status_of(ended.outcome, ended.has_refused);
     match ended.outcome {
         Ok(()) | Err(Stop::Closed) => status,
-        Err(Stop::Read) => complain(errors, "tcmake: read failed\n", status),
-        Err(Stop::Write) => complain(errors, "tcmake: write failed\n", status),
-        Err(Stop::NoMemory) => complain(errors, NO_MEMORY, status),
+        Err(Stop::Read) => fail_with(errors, "tcmake: read failed\n", status),
+        Err(Stop::Write) => fail_with(errors, "tcmake: write failed\n", status),
+        Err(Stop::NoMemory) => fail_with(errors, NO_MEMORY, status),
     }
 }

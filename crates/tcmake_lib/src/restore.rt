@@ -13,10 +13,10 @@ use crate::made::Made;
 use nla_frames::{Emitable, ParseableBytes};
 use std::alloc::Global;
 use tc_action_messages::TcActionMessage;
-use tc_capture::Holds;
+use tc_capture::MessageType;
 use tc_messages::TcMessage;
 use tc_requests::{Object, RTM_NEWACTION, Request, RootTable, request_of, request_of_actions};
-use tcmake_lines::{Given, packet_at};
+use tcmake_lines::{NetlinkHeader, packet_at};
 
 /// What is dumped.
 #[derive(Clone, Copy, PartialEq, Eq)]
@@ -46,7 +46,7 @@ pub(crate) fn restored(alloc: Global, roots: &[RootTable], made: &Made) -> Resul
     let dump = dump_of(made.given.kind)?;
     let request = request_for(alloc, roots, dump, &made.bytes)?;
     Ok(Made {
-        given: Given {
+        given: NetlinkHeader {
             holds: held_by(dump),
             kind: Some(request.message_type),
             flags: request.flags,
@@ -60,12 +60,12 @@ pub(crate) fn restored(alloc: Global, roots: &[RootTable], made: &Made) -> Resul
 }
 
 // Which of the two messages the dump is.
-fn held_by(dump: Dump) -> Holds
+fn held_by(dump: Dump) -> MessageType
     ensures { result ≡ held_by dump }
 {
     match dump {
-        Dump::Of(_) => Holds::Tc,
-        Dump::Actions => Holds::Action,
+        Dump::Of(_) => MessageType::Tc,
+        Dump::Actions => MessageType::Action,
     }
 }
 

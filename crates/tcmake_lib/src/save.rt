@@ -10,7 +10,7 @@ use serde_json::Value;
 use std::alloc::Global;
 use std::fmt;
 
-/// True of the first line of a save, and of the last.
+/// True if the line is the first or the last line of a save.
 pub(crate) fn is_of_save(json: &Value) -> bool
     ensures { IsTrue result → IsOfSave (view json.now) }
 {
@@ -40,7 +40,7 @@ pub(crate) enum SaveFault {
     NoHead,
     /// A first line that isn't the first.
     LateHead,
-    /// A line behind the last one.
+    /// A line after the last one.
     Behind,
     /// It has another number of lines between the two than the last one says.
     Count { found: u64, wanted: u64 },
@@ -99,7 +99,7 @@ impl Save {
         self.names.as_ref()
     }
 
-    /// Takes a line that isn't blank, and that isn't read as JSON. Fails behind the last line of a save.
+    /// Takes a line that isn't blank, and that isn't read as JSON. Fails after the last line of a save.
     pub(crate) fn take_line(&mut self, number: u64) -> Result<(), SaveFault> {
         self.last = number;
         self.lines = self.lines.saturating_add(1);

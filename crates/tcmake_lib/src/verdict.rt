@@ -14,7 +14,7 @@ use serde_json::Value;
 use std::alloc::{AllocError, Global};
 use tc_action_messages::TcActionMessage;
 use tc_canon::{is_canonical_action, is_canonical_tc};
-use tc_capture::Holds;
+use tc_capture::MessageType;
 use tc_messages::TcMessage;
 
 /// What the codec finds of bytes.
@@ -47,12 +47,16 @@ pub(crate) enum Said {
 }
 
 /// What the codec finds of bytes.
-pub(crate) fn verdict_on(alloc: Global, holds: Holds, bytes: &[u8]) -> Result<Verdict, AllocError>
+pub(crate) fn verdict_on(
+    alloc: Global,
+    holds: MessageType,
+    bytes: &[u8],
+) -> Result<Verdict, AllocError>
     ensures { IfOk result (IsVerdictOn (words_of holds) bytes.now) }
 {
     match holds {
-        Holds::Tc => verdict_on_tc(alloc, bytes),
-        Holds::Action => verdict_on_action(alloc, bytes),
+        MessageType::Tc => verdict_on_tc(alloc, bytes),
+        MessageType::Action => verdict_on_action(alloc, bytes),
     }
 }
 

@@ -11,8 +11,8 @@ use Rattle.std.specs.Io.KnownBytes.{Consumes, IsAtEnd, Keeps}
 use Rattle.tcmake_lines.specs.Ends.{TakesPart, IsEmptyAtEnd, IsLast, with_end}
 use Rattle.tcmake_lines.specs.Lines.{lines_of, in_front, Reads, AreLines, IsFound, IsNext, EndsLine, is_end}
 use Rattle.tcmake_lines.specs.declared.input.Ends.{Ends}
-use Rattle.tcmake_lines.specs.declared.input.Found.{Found}
-use Rattle.tcmake_lines.specs.declared.input.Found.TheVariants.{Whole, TooLong, NoMemory, End}
+use Rattle.tcmake_lines.specs.declared.input.LineStatus.{LineStatus}
+use Rattle.tcmake_lines.specs.declared.input.LineStatus.TheVariants.{Whole, TooLong, NoMemory, End}
 use Rattle.tcmake_lines.specs.declared.input.Ends.TheVariants.{Nowhere, Interrupted, LineFeed, Input}
 
 -- a line and its line feed come before the lines behind them
@@ -109,11 +109,11 @@ takes_nothing a b kept = record {
   last = tt;
 }
 
-pub found_nothing : (found : Found) (text kept : List ℕ) → IsFound found text kept → IsFound found (text ++ []) kept
+pub found_nothing : (found : LineStatus) (text kept : List ℕ) → IsFound found text kept → IsFound found (text ++ []) kept
 found_nothing found text kept h = subst (λ l. IsFound found l kept) (sym (append-nil text)) h
 
 -- a line that ends with its line feed
-pub next_by_line_feed : (a b c : Option (List ℕ)) (found : Found) (kept text part : List ℕ) → All (λ x. x ≢ 10) text → Consumes a b text
+pub next_by_line_feed : (a b c : Option (List ℕ)) (found : LineStatus) (kept text part : List ℕ) → All (λ x. x ≢ 10) text → Consumes a b text
     → TakesPart LineFeed part b c → IsFound found (text ++ part) kept → IsNext found kept a c
 next_by_line_feed a b c found kept text part all taken p h = by_case found h
   where
@@ -125,14 +125,14 @@ next_by_line_feed a b c found kept text part all taken p h = by_case found h
         reads_line a c line (All-append (λ x. x ≢ 10) text part all p.no_line_feed)
         (subst (λ l. Consumes a c l) (sym (append_assoc text part (10 ∷ []))) (Consumes-trans a b c text (part ++ 10 ∷ []) taken p.taken))
 
-    by_case : (f : Found) → IsFound f line kept → IsNext f kept a c
+    by_case : (f : LineStatus) → IsFound f line kept → IsNext f kept a c
     by_case Whole k = (line, reads, k)
     by_case TooLong k = (line, reads, k)
     by_case NoMemory k = (line, reads, k)
     by_case End k = absurd k
 
 -- a line that ends with the input
-pub next_by_end : (a b c : Option (List ℕ)) (result found : Found) (kept text part : List ℕ) → All (λ x. x ≢ 10) text → Consumes a b text
+pub next_by_end : (a b c : Option (List ℕ)) (result found : LineStatus) (kept text part : List ℕ) → All (λ x. x ≢ 10) text → Consumes a b text
     → TakesPart Input part b c → IsFound found (text ++ part) kept → ((line : List ℕ) → IsFound found line kept → EndsLine result found line)
     → IsNext result kept a c
 next_by_end a b c result found kept text part all taken p h ends = by_case result (ends text here)
@@ -146,7 +146,7 @@ next_by_end a b c result found kept text part all taken p h ends = by_case resul
     reads : text ≢ [] → Reads a c (text ∷ [])
     reads some = reads_last a b c text all some taken kept_all p.last.1
 
-    by_case : (r : Found) → EndsLine r found text → IsNext r kept a c
+    by_case : (r : LineStatus) → EndsLine r found text → IsNext r kept a c
     by_case End e = reads_none a b c text e taken kept_all p.last.1
     by_case Whole e = (text, reads e.0, subst (λ f. IsFound f text kept) (sym e.1) here)
     by_case TooLong e = (text, reads e.0, subst (λ f. IsFound f text kept) (sym e.1) here)
@@ -157,13 +157,13 @@ next_by_end a b c result found kept text part all taken p h ends = by_case resul
 no_end : false ≡ true → ⊥
 no_end e = subst (λ b. cond b ⊥ ⊤) e tt
 
-pub at_end : (a c : Option (List ℕ)) (found : Found) (kept : List ℕ) → is_end found ≡ true → IsNext found kept a c → IsAtEnd a
+pub at_end : (a c : Option (List ℕ)) (found : LineStatus) (kept : List ℕ) → is_end found ≡ true → IsNext found kept a c → IsAtEnd a
 at_end a c Whole kept e h = absurd (no_end e)
 at_end a c TooLong kept e h = absurd (no_end e)
 at_end a c NoMemory kept e h = absurd (no_end e)
 at_end a c End kept e h = h
 
-pub line_found : (a c : Option (List ℕ)) (found : Found) (kept : List ℕ) → is_end found ≡ false → IsNext found kept a c
+pub line_found : (a c : Option (List ℕ)) (found : LineStatus) (kept : List ℕ) → is_end found ≡ false → IsNext found kept a c
     → (line : List ℕ) × Reads a c (line ∷ []) × IsFound found line kept
 line_found a c Whole kept e h = h
 line_found a c TooLong kept e h = h

@@ -4,27 +4,27 @@ use Rattle.std.proofs.KnownBytes.{Appends-trans, Appends-nil}
 use Rattle.std.specs.List.{flat_map}
 use Rattle.std.specs.Prelude.{Option, ◌||◌, if◌then◌else◌}
 use Rattle.std.specs.Io.KnownBytes.{Appends}
-use Rattle.tcmake_lines.specs.declared.form.Form.{Form}
-use Rattle.tcmake_lines.specs.declared.form.Form.TheVariants.{Hex, Bare, Stream, Capture}
-use Rattle.tcmake_lines.specs.declared.given.Given.{Given}
+use Rattle.tcmake_lines.specs.declared.format.OutputFormat.{OutputFormat}
+use Rattle.tcmake_lines.specs.declared.format.OutputFormat.TheVariants.{Hex, Bare, Stream, Capture}
+use Rattle.tcmake_lines.specs.declared.netlink.NetlinkHeader.{NetlinkHeader}
 use Rattle.tcmake_lines.specs.Parts.{Part, message, nothing, complaint, messages_of, is_complaint, has_complaint, Becomes, BecomeEach, Ran}
 use Rattle.tcmake_lines.specs.Lines.{AreLines, IsFound}
-use Rattle.tcmake_lines.specs.declared.input.Found.{Found}
-use Rattle.tcmake_lines.specs.declared.input.Found.TheVariants.{Whole}
+use Rattle.tcmake_lines.specs.declared.input.LineStatus.{LineStatus}
+use Rattle.tcmake_lines.specs.declared.input.LineStatus.TheVariants.{Whole}
 use Rattle.tcmake_lines.specs.State.{State, PutsPart, PutsLine, PutsOrNot, brought, held_then, ended}
-use Rattle.tcmake_lines.specs.Written.{Message, Packet, alone, joined, takes, packet_text, packets_behind, text_behind, header_of}
+use Rattle.tcmake_lines.specs.Written.{Message, Packet, alone, joined, takes, packet_text, packets_after, text_after, header_of}
 
 -- ---- a message more
 
 packets_more : (p : Packet) (m : Message) (ms : List Message) (b : Bool)
-    → flat_map packet_text (if b then packets_behind (Some (joined p m.given m.bytes)) ms else p ∷ packets_behind (Some (alone m.given m.bytes)) ms)
-    ≡ (if b then [] else packet_text p) ++ flat_map packet_text (packets_behind (Some (if b then joined p m.given m.bytes else alone m.given m.bytes)) ms)
+    → flat_map packet_text (if b then packets_after (Some (joined p m.given m.bytes)) ms else p ∷ packets_after (Some (alone m.given m.bytes)) ms)
+    ≡ (if b then [] else packet_text p) ++ flat_map packet_text (packets_after (Some (if b then joined p m.given m.bytes else alone m.given m.bytes)) ms)
 packets_more p m ms true = refl
 packets_more p m ms false = refl
 
 -- what is written of a message and of those behind it
-pub text_more : (form : Form) (held : Option Packet) (m : Message) (ms : List Message)
-    → text_behind form held (m ∷ ms) ≡ brought form held m.given m.bytes ++ text_behind form (held_then form held m.given m.bytes) ms
+pub text_more : (form : OutputFormat) (held : Option Packet) (m : Message) (ms : List Message)
+    → text_after form held (m ∷ ms) ≡ brought form held m.given m.bytes ++ text_after form (held_then form held m.given m.bytes) ms
 text_more Hex held m ms = refl
 text_more Bare held m ms = refl
 text_more Stream held m ms = refl
@@ -32,7 +32,7 @@ text_more Capture None m ms = refl
 text_more Capture (Some p) m ms = packets_more p m ms (takes p m.given m.bytes)
 
 -- what is written at the end
-text_end : (form : Form) (held : Option Packet) → text_behind form held [] ≡ ended form held
+text_end : (form : OutputFormat) (held : Option Packet) → text_after form held [] ≡ ended form held
 text_end Hex held = refl
 text_end Bare held = refl
 text_end Stream held = refl
@@ -61,7 +61,7 @@ complaint_one [] part = or_false (is_complaint part)
 complaint_one (p ∷ parts) part =
     ap (λ b. is_complaint p || b) (complaint_one parts part) ∙ sym (or_assoc (is_complaint p) (has_complaint parts) (is_complaint part))
 
-module _ (Makes : List ℕ → Given → List ℕ → Type 0) (Passes : List ℕ → Type 0) (form : Form) where
+module _ (Makes : List ℕ → NetlinkHeader → List ℕ → Type 0) (Passes : List ℕ → Type 0) (form : OutputFormat) where
   become_one : (lines : List (List ℕ)) (parts : List Part) (line : List ℕ) (part : Part) → BecomeEach Makes Passes form lines parts
       → Becomes Makes Passes form line part → BecomeEach Makes Passes form (lines ++ line ∷ []) (parts ++ part ∷ [])
   become_one [] [] line part h k = (k, tt)
@@ -80,7 +80,7 @@ module _ (Makes : List ℕ → Given → List ℕ → Type 0) (Passes : List ℕ
     pub bytes : List ℕ
     pub output : Appends old now bytes
     pub written : (later : List Message)
-        → header_of form ++ text_behind form None (messages_of parts ++ later) ≡ (bytes ++ state.text) ++ text_behind form state.held later
+        → header_of form ++ text_after form None (messages_of parts ++ later) ≡ (bytes ++ state.text) ++ text_after form state.held later
     pub said : bad ≡ has_complaint parts
 
   pub until_begin : (a : Option (List ℕ)) (s : State) → s.form ≡ form → s.held ≡ None → s.text ≡ header_of form → Until a a s false []
@@ -90,7 +90,7 @@ module _ (Makes : List ℕ → Given → List ℕ → Type 0) (Passes : List ℕ
     is_form = f;
     bytes = [];
     output = Appends-nil a;
-    written = λ later. ap (λ t. t ++ text_behind form None later) (sym header) ∙ ap (λ o. s.text ++ text_behind form o later) (sym none);
+    written = λ later. ap (λ t. t ++ text_after form None later) (sym header) ∙ ap (λ o. s.text ++ text_after form o later) (sym none);
     said = refl;
   }
 
@@ -104,25 +104,25 @@ module _ (Makes : List ℕ → Given → List ℕ → Type 0) (Passes : List ℕ
     bytes = h.bytes ++ s.text;
     output = Appends-trans a b c h.bytes s.text h.output more;
     written = λ later.
-        h.written later ∙ ap (λ t. t ++ text_behind form s.held later) (sym (append-nil (h.bytes ++ s.text)) ∙ ap (λ t. (h.bytes ++ s.text) ++ t) (sym none))
-        ∙ ap (λ o. ((h.bytes ++ s.text) ++ n.text) ++ text_behind form o later) (sym same);
+        h.written later ∙ ap (λ t. t ++ text_after form s.held later) (sym (append-nil (h.bytes ++ s.text)) ∙ ap (λ t. (h.bytes ++ s.text) ++ t) (sym none))
+        ∙ ap (λ o. ((h.bytes ++ s.text) ++ n.text) ++ text_after form o later) (sym same);
     said = h.said;
   }
 
   -- a part is put on the output
   put_text : (s n : State) (part : Part) (later : List Message) (bytes : List ℕ) → s.form ≡ form → PutsPart part s n
-      → (bytes ++ s.text) ++ text_behind form s.held (messages_of (part ∷ []) ++ later) ≡ (bytes ++ n.text) ++ text_behind form n.held later
+      → (bytes ++ s.text) ++ text_after form s.held (messages_of (part ∷ []) ++ later) ≡ (bytes ++ n.text) ++ text_after form n.held later
   put_text s n (message m) later bytes f h =
       let b = brought form s.held m.given m.bytes in
       let o = held_then form s.held m.given m.bytes in
       let text_is : n.text ≡ s.text ++ b = h.text ∙ ap (λ x. s.text ++ brought x s.held m.given m.bytes) f in
       let held_is : n.held ≡ o = h.held ∙ ap (λ x. held_then x s.held m.given m.bytes) f in
       ap (λ t. (bytes ++ s.text) ++ t) (text_more form s.held m later)
-      ∙ sym (append_assoc (bytes ++ s.text) b (text_behind form o later))
-      ∙ ap (λ t. t ++ text_behind form o later) (append_assoc bytes s.text b ∙ ap (λ t. bytes ++ t) (sym text_is))
-      ∙ ap (λ x. (bytes ++ n.text) ++ text_behind form x later) (sym held_is)
-  put_text s n nothing later bytes f h = ap (λ (x : State). (bytes ++ x.text) ++ text_behind form x.held later) (sym h)
-  put_text s n complaint later bytes f h = ap (λ (x : State). (bytes ++ x.text) ++ text_behind form x.held later) (sym h)
+      ∙ sym (append_assoc (bytes ++ s.text) b (text_after form o later))
+      ∙ ap (λ t. t ++ text_after form o later) (append_assoc bytes s.text b ∙ ap (λ t. bytes ++ t) (sym text_is))
+      ∙ ap (λ x. (bytes ++ n.text) ++ text_after form x later) (sym held_is)
+  put_text s n nothing later bytes f h = ap (λ (x : State). (bytes ++ x.text) ++ text_after form x.held later) (sym h)
+  put_text s n complaint later bytes f h = ap (λ (x : State). (bytes ++ x.text) ++ text_after form x.held later) (sym h)
 
   put_form : (s n : State) (part : Part) → PutsPart part s n → n.form ≡ s.form
   put_form s n (message m) h = h.form
@@ -138,7 +138,7 @@ module _ (Makes : List ℕ → Given → List ℕ → Type 0) (Passes : List ℕ
     bytes = h.bytes;
     output = h.output;
     written = λ later.
-        ap (λ ms. header_of form ++ text_behind form None ms) (messages_one h.parts p.0 later) ∙ h.written (messages_of (p.0 ∷ []) ++ later)
+        ap (λ ms. header_of form ++ text_after form None ms) (messages_one h.parts p.0 later) ∙ h.written (messages_of (p.0 ∷ []) ++ later)
         ∙ put_text s n p.0 later h.bytes h.is_form p.3;
     said = is ∙ ap (λ x. x || wrong) h.said ∙ ap (λ x. has_complaint h.parts || x) p.2 ∙ sym (complaint_one h.parts p.0);
   }
@@ -148,9 +148,9 @@ module _ (Makes : List ℕ → Given → List ℕ → Type 0) (Passes : List ℕ
       → n.text ≡ s.text ++ ended s.form s.held → Appends b c n.text → Ran Makes Passes form bad input a c
   until_end a b c input s n bad lines h all last more =
       let e = ended s.form s.held in
-      let last_is : text_behind form s.held [] ≡ e = text_end form s.held ∙ ap (λ f. ended f s.held) (sym h.is_form) in
-      let none = ap (λ ms. header_of form ++ text_behind form None ms) (sym (append-nil (messages_of h.parts))) in
-      let whole : header_of form ++ text_behind form None (messages_of h.parts) ≡ h.bytes ++ n.text =
+      let last_is : text_after form s.held [] ≡ e = text_end form s.held ∙ ap (λ f. ended f s.held) (sym h.is_form) in
+      let none = ap (λ ms. header_of form ++ text_after form None ms) (sym (append-nil (messages_of h.parts))) in
+      let whole : header_of form ++ text_after form None (messages_of h.parts) ≡ h.bytes ++ n.text =
       none ∙ h.written [] ∙ ap (λ t. (h.bytes ++ s.text) ++ t) last_is ∙ append_assoc h.bytes s.text e ∙ ap (λ t. h.bytes ++ t) (sym last) in
       record {
         lines = lines;
@@ -164,14 +164,14 @@ module _ (Makes : List ℕ → Given → List ℕ → Type 0) (Passes : List ℕ
 -- ---- a line
 
 -- a message that is put on the output, or can't be written
-pub puts_line : (Makes : List ℕ → Given → List ℕ → Type 0) (Passes : List ℕ → Type 0)
-    (line : List ℕ) (g : Given) (bytes : List ℕ) (wrong : Bool) (old new : State)
+pub puts_line : (Makes : List ℕ → NetlinkHeader → List ℕ → Type 0) (Passes : List ℕ → Type 0)
+    (line : List ℕ) (g : NetlinkHeader) (bytes : List ℕ) (wrong : Bool) (old new : State)
     → Makes line g bytes → PutsOrNot g bytes wrong old new → PutsLine Makes Passes line wrong old new
 puts_line Makes Passes line g bytes true old new made h = (complaint, tt, refl, h)
 puts_line Makes Passes line g bytes false old new made h = (message (record { given = g; bytes = bytes }), (made, h.0), refl, h.1)
 
 -- a line that is there
-pub puts_whole : (Makes : List ℕ → Given → List ℕ → Type 0) (Passes : List ℕ → Type 0) (found : Found) (line kept : List ℕ) (wrong : Bool) (old new : State)
+pub puts_whole : (Makes : List ℕ → NetlinkHeader → List ℕ → Type 0) (Passes : List ℕ → Type 0) (found : LineStatus) (line kept : List ℕ) (wrong : Bool) (old new : State)
     → found ≡ Whole → IsFound found line kept → PutsLine Makes Passes kept wrong old new → PutsLine Makes Passes line wrong old new
 puts_whole Makes Passes found line kept wrong old new is h p =
     let here = subst (λ f. IsFound f line kept) is h in

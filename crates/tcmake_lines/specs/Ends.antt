@@ -1,4 +1,4 @@
--- A part of a line, as a reader gives it.
+-- A part of a line, as read.
 use Rattle.std.specs.Prelude.{⊤, ◌≡◌, ◌≢◌, ℕ, List, [], ◌∷◌, ◌++◌, All, length, Option, OnSome}
 use Rattle.std.specs.Io.KnownBytes.{Consumes, IsAtEnd}
 use Rattle.tcmake_lines.specs.declared.input.Ends.{Ends}
@@ -11,7 +11,7 @@ with_end Nowhere part = part
 with_end Interrupted part = part
 with_end Input part = part
 
--- at the end of the input nothing is there
+-- at the end of the input there are no bytes
 abbrev pub IsEmptyAtEnd : Ends → List ℕ → Type 0
 IsEmptyAtEnd Input available = length available ≡ 0
 IsEmptyAtEnd Nowhere available = ⊤

@@ -1,8 +1,8 @@
--- What becomes of lines.
+-- The results for lines.
 use Rattle.std.specs.Prelude.{◌≡◌, ◌⊎◌, ⊤, ℕ, Bool, true, false, ◌||◌, List, [], ◌∷◌, Option}
 use Rattle.std.specs.Io.KnownBytes.{Appends}
-use Rattle.tcmake_lines.specs.declared.form.Form.{Form}
-use Rattle.tcmake_lines.specs.declared.given.Given.{Given}
+use Rattle.tcmake_lines.specs.declared.format.OutputFormat.{OutputFormat}
+use Rattle.tcmake_lines.specs.declared.netlink.NetlinkHeader.{NetlinkHeader}
 use Rattle.tcmake_lines.specs.declared.maker.Answer.{Answer}
 use Rattle.tcmake_lines.specs.declared.maker.Answer.TheVariants as answered
 use Rattle.tcmake_lines.specs.Lines.{AreLines, IsBlank}
@@ -31,29 +31,29 @@ abbrev pub has_complaint : List Part → Bool
 has_complaint [] = false
 has_complaint (part ∷ parts) = is_complaint part || has_complaint parts
 
--- what makes messages of lines says which message a line becomes, and which lines hold none
-module _ (Makes : List ℕ → Given → List ℕ → Type 0) (Passes : List ℕ → Type 0) where
-  -- its answer to a line
+-- a maker says which message a line becomes, and which lines have none
+module _ (Makes : List ℕ → NetlinkHeader → List ℕ → Type 0) (Passes : List ℕ → Type 0) where
+  -- its result for a line
   abbrev pub IsAnswer : List ℕ → Answer → Type 0
   IsAnswer line (answered.Message given bytes notices) = Makes line given bytes.items
   IsAnswer line (answered.Nothing notice) = Passes line
   IsAnswer line (answered.Complaint text) = ⊤
 
   -- a line becomes a message that can be written, nothing if it is blank or holds no message, or a complaint
-  abbrev pub Becomes : Form → List ℕ → Part → Type 0
+  abbrev pub Becomes : OutputFormat → List ℕ → Part → Type 0
   Becomes form line (message m) = Makes line m.given m.bytes × IsWritable form m.given m.bytes
   Becomes form line nothing = IsBlank line ⊎ Passes line
   Becomes form line complaint = ⊤
 
   -- each of some lines becomes one part
-  abbrev pub BecomeEach : Form → List (List ℕ) → List Part → Type 0
+  abbrev pub BecomeEach : OutputFormat → List (List ℕ) → List Part → Type 0
   BecomeEach form [] [] = ⊤
   BecomeEach form (line ∷ lines) (part ∷ parts) = Becomes form line part × BecomeEach form lines parts
   BecomeEach form [] (part ∷ parts) = ⊥
   BecomeEach form (line ∷ lines) [] = ⊥
 
-  -- a run that comes to the end of its input: the messages of its lines are written in their order, and whether there is a complaint is known
-  pub record Ran (form : Form) (bad : Bool) (input old new : Option (List ℕ)) : Type 0 where
+  -- a run that reaches the end of its input: the messages of its lines are written in order; `bad` says whether there is a complaint
+  pub record Ran (form : OutputFormat) (bad : Bool) (input old new : Option (List ℕ)) : Type 0 where
     pub lines : List (List ℕ)
     pub parts : List Part
     pub all : AreLines input lines

@@ -1,22 +1,22 @@
--- What is written of messages: lines of hex, a stream, or a capture.
+-- The output for messages: lines of hex, a stream, or a capture.
 use Rattle.std.specs.Prelude.{◌≡◌, ◌<◌, ◌≤◌, ◌==◌, ⊤, ℕ, ◌+◌, ◌^◌, Bool, false, ◌&&◌, List, [], ◌∷◌, ◌++◌}
 use Rattle.std.specs.Prelude.{length, replicate, Option, Some, None, unwrap_or, nat_le, if◌then◌else◌}
 use Rattle.std.specs.List.{flat_map}
 use Rattle.hex.specs.Hex.{encode_lower}
 use Rattle.tc_capture.specs.Message.{padding}
 pub use Rattle.tc_capture.specs.Written.{file_header, netlink_header, in_netlink, packet_header}
-use Rattle.tcmake_lines.specs.declared.form.Form.{Form}
-use Rattle.tcmake_lines.specs.declared.form.Form.TheVariants.{Hex, Bare, Stream, Capture}
-use Rattle.tcmake_lines.specs.declared.given.Given.{Given}
-use Rattle.tcmake_lines.specs.declared.given.PacketOf.{PacketOf}
+use Rattle.tcmake_lines.specs.declared.format.OutputFormat.{OutputFormat}
+use Rattle.tcmake_lines.specs.declared.format.OutputFormat.TheVariants.{Hex, Bare, Stream, Capture}
+use Rattle.tcmake_lines.specs.declared.netlink.NetlinkHeader.{NetlinkHeader}
+use Rattle.tcmake_lines.specs.declared.netlink.PacketOf.{PacketOf}
 
--- a message, and what its line says beside it
+-- a message and its header
 pub record Message : Type 0 where
-  pub given : Given
+  pub given : NetlinkHeader
   pub bytes : List ℕ
 
--- behind its netlink header
-abbrev pub whole : Given → List ℕ → List ℕ
+-- with its netlink header
+abbrev pub whole : NetlinkHeader → List ℕ → List ℕ
 whole g bytes = in_netlink (unwrap_or g.kind 0) g.flags g.sequence g.port bytes
 
 -- with zeros up to a multiple of four
@@ -27,8 +27,8 @@ padded bytes = bytes ++ replicate (padding (length bytes)) 0
 abbrev pub hex_line : List ℕ → List ℕ
 hex_line bytes = encode_lower bytes ++ 10 ∷ []
 
--- what is written of a message by itself
-abbrev pub text_of : Form → Given → List ℕ → List ℕ
+-- the output for one message, outside a capture
+abbrev pub text_of : OutputFormat → NetlinkHeader → List ℕ → List ℕ
 text_of Hex g bytes = hex_line (whole g bytes)
 text_of Bare g bytes = hex_line bytes
 text_of Stream g bytes = padded (whole g bytes)
@@ -36,12 +36,12 @@ text_of Capture g bytes = []
 
 -- ---- packets
 
--- a packet: what its lines say of it, and its messages behind their headers, each at a multiple of four
+-- a packet and its messages with their headers, each at a multiple of four
 pub record Packet : Type 0 where
   pub of : PacketOf
   pub bytes : List ℕ
 
--- the most bytes of messages that a packet has: with its two headers 1 MiB, which is as much as `tcshow` reads at once
+-- the most bytes of messages in a packet: with its two headers 1 MiB, the largest packet that `tcshow` reads
 abbrev pub most_messages : ℕ
 most_messages = 1048544
 
@@ -56,25 +56,25 @@ is_same p q =
     same_number p.number q.number && p.time.seconds == q.time.seconds && p.time.nanoseconds == q.time.nanoseconds && p.packet_type == q.packet_type
 
 -- a packet of one message
-abbrev pub alone : Given → List ℕ → Packet
+abbrev pub alone : NetlinkHeader → List ℕ → Packet
 alone g bytes = record { of = g.packet; bytes = whole g bytes }
 
 -- a packet with a message more
-abbrev pub joined : Packet → Given → List ℕ → Packet
+abbrev pub joined : Packet → NetlinkHeader → List ℕ → Packet
 joined p g bytes = record { of = p.of; bytes = padded p.bytes ++ whole g bytes }
 
--- the message is of the packet, and has room in it
-abbrev pub takes : Packet → Given → List ℕ → Bool
+-- the message belongs to the packet and has room in it
+abbrev pub takes : Packet → NetlinkHeader → List ℕ → Bool
 takes p g bytes = is_same p.of g.packet && nat_le (length (padded p.bytes ++ whole g bytes)) most_messages
 
--- the packets of messages, behind one that may take some of them
-abbrev pub packets_behind : Option Packet → List Message → List Packet
-packets_behind None [] = []
-packets_behind None (m ∷ ms) = packets_behind (Some (alone m.given m.bytes)) ms
-packets_behind (Some p) [] = p ∷ []
-packets_behind (Some p) (m ∷ ms) =
-    if takes p m.given m.bytes then packets_behind (Some (joined p m.given m.bytes)) ms
-    else p ∷ packets_behind (Some (alone m.given m.bytes)) ms
+-- the packets of messages, after one that can take some of them
+abbrev pub packets_after : Option Packet → List Message → List Packet
+packets_after None [] = []
+packets_after None (m ∷ ms) = packets_after (Some (alone m.given m.bytes)) ms
+packets_after (Some p) [] = p ∷ []
+packets_after (Some p) (m ∷ ms) =
+    if takes p m.given m.bytes then packets_after (Some (joined p m.given m.bytes)) ms
+    else p ∷ packets_after (Some (alone m.given m.bytes)) ms
 
 -- a packet in a capture
 abbrev pub packet_text : Packet → List ℕ
@@ -82,28 +82,28 @@ packet_text p = packet_header p.of.time.seconds p.of.time.nanoseconds (length p.
 
 -- ---- all messages
 
--- what is written of messages behind a packet that isn't written yet
-abbrev pub text_behind : Form → Option Packet → List Message → List ℕ
-text_behind Capture held ms = flat_map packet_text (packets_behind held ms)
-text_behind form held ms = flat_map (λ (m : Message). text_of form m.given m.bytes) ms
+-- the output for messages after a packet that isn't written yet
+abbrev pub text_after : OutputFormat → Option Packet → List Message → List ℕ
+text_after Capture held ms = flat_map packet_text (packets_after held ms)
+text_after form held ms = flat_map (λ (m : Message). text_of form m.given m.bytes) ms
 
--- what is written before the first message
-abbrev pub header_of : Form → List ℕ
+-- the output before the first message
+abbrev pub header_of : OutputFormat → List ℕ
 header_of Capture = file_header
 header_of form = []
 
--- what is written of messages
-abbrev pub written : Form → List Message → List ℕ
-written form ms = header_of form ++ text_behind form None ms
+-- the output for messages
+abbrev pub written : OutputFormat → List Message → List ℕ
+written form ms = header_of form ++ text_after form None ms
 
--- a message that can be written: it has a type, its length has room in its header, and in a capture its time and its length have room there
-abbrev pub HasHeader : Given → List ℕ → Type 0
+-- a message that can be written: it has a type, its length fits into its header, and in a capture its time and length fit
+abbrev pub HasHeader : NetlinkHeader → List ℕ → Type 0
 HasHeader g bytes = (kind : ℕ) × (g.kind ≡ Some kind) × (length bytes + 16 < 2 ^ 32)
 
-abbrev pub HasPacket : Given → List ℕ → Type 0
+abbrev pub HasPacket : NetlinkHeader → List ℕ → Type 0
 HasPacket g bytes = (g.packet.time.seconds < 2 ^ 32) × (length bytes + 16 ≤ most_messages)
 
-abbrev pub IsWritable : Form → Given → List ℕ → Type 0
+abbrev pub IsWritable : OutputFormat → NetlinkHeader → List ℕ → Type 0
 IsWritable Bare g bytes = ⊤
 IsWritable Capture g bytes = HasHeader g bytes × HasPacket g bytes
 IsWritable form g bytes = HasHeader g bytes

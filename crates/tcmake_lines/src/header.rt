@@ -1,9 +1,9 @@
-//! Headers.
+//! Headers of captures, packets and netlink messages; hex.
 
 ghost use Rattle.std.specs.Prelude.{◌≡◌, ◌+◌, ◌++◌, length, unwrap_or, OnOk, IfOk};
 ghost use Rattle.tcmake_lines.specs.Written.{HasHeader, file_header, hex_line, netlink_header, packet_header, padded, whole};
 
-use crate::given::Given;
+use crate::netlink::NetlinkHeader;
 use std::alloc::{AllocError, Global};
 
 /// The header of a capture: pcap in little-endian order, times with nanoseconds, packets of 1 MiB at most, link type 253
@@ -43,8 +43,12 @@ fn netlink_header_of(len: u32, kind: u16, flags: u16, sequence: u32, port: u32) 
     [a, b, c, d, e, f, g, h, i, j, k, l, m, n, o, p]
 }
 
-/// Appends a message behind its netlink header.
-pub(crate) fn put_whole(out: &mut Vec<u8>, given: &Given, bytes: &[u8]) -> Result<(), AllocError>
+/// Appends a netlink header and its message.
+pub(crate) fn put_whole(
+    out: &mut Vec<u8>,
+    given: &NetlinkHeader,
+    bytes: &[u8],
+) -> Result<(), AllocError>
     requires { HasHeader given.now bytes.now }
     ensures { OnOk result (out.new.items ≡ out.old.items ++ whole given.now bytes.now) }
 {
@@ -54,8 +58,8 @@ pub(crate) fn put_whole(out: &mut Vec<u8>, given: &Given, bytes: &[u8]) -> Resul
     Ok(())
 }
 
-// The header of a message.
-fn header_of(given: &Given, bytes: &[u8]) -> [u8; 16]
+// The netlink header of a message.
+fn header_of(given: &NetlinkHeader, bytes: &[u8]) -> [u8; 16]
     requires { HasHeader given.now bytes.now }
     ensures { result ≡ netlink_header (length bytes.now + 16) (unwrap_or given.now.kind 0) given.now.flags given.now.sequence given.now.port }
 {
@@ -64,8 +68,12 @@ fn header_of(given: &Given, bytes: &[u8]) -> [u8; 16]
     netlink_header_of(len, kind, given.flags, given.sequence, given.port)
 }
 
-/// The messages of a packet with one more.
-pub(crate) fn joined(packet: Vec<u8>, given: &Given, bytes: &[u8]) -> Result<Vec<u8>, AllocError>
+/// Appends a message to those of a packet.
+pub(crate) fn joined(
+    packet: Vec<u8>,
+    given: &NetlinkHeader,
+    bytes: &[u8],
+) -> Result<Vec<u8>, AllocError>
     requires { HasHeader given.now bytes.now }
     ensures made { IfOk result (λ made. made.items ≡ padded packet.items ++ whole given.now bytes.now) }
     ensures room { IfOk result (λ made. length made.items ≡ length (padded packet.items) + (length bytes.now + 16)) }
@@ -76,8 +84,12 @@ pub(crate) fn joined(packet: Vec<u8>, given: &Given, bytes: &[u8]) -> Result<Vec
     Ok(made)
 }
 
-/// A packet of this message alone.
-pub(crate) fn whole_of(alloc: Global, given: &Given, bytes: &[u8]) -> Result<Vec<u8>, AllocError>
+/// The messages of a packet with only this one.
+pub(crate) fn whole_of(
+    alloc: Global,
+    given: &NetlinkHeader,
+    bytes: &[u8],
+) -> Result<Vec<u8>, AllocError>
     requires { HasHeader given.now bytes.now }
     ensures made { IfOk result (λ made. made.items ≡ whole given.now bytes.now) }
     ensures room { IfOk result (λ made. length made.items ≡ length bytes.now + 16) }
@@ -99,7 +111,7 @@ pub(crate) fn pad(out: &mut Vec<u8>) -> Result<(), AllocError>
     }
 }
 
-/// Appends bytes in hex, as a line.
+/// Appends a line of hex.
 pub(crate) fn put_hex(alloc: Global, out: &mut Vec<u8>, bytes: &[u8]) -> Result<(), AllocError>
     ensures { OnOk result (out.new.items ≡ out.old.items ++ hex_line bytes.now) }
 {

@@ -1,52 +1,52 @@
-//! Lines of an input.
+//! Reading lines.
 
 ghost use Rattle.std.specs.Prelude.{◌≡◌, ◌≢◌, ◌≤◌, ℕ, true, List, ◌++◌, All, length, take, IfOk};
 ghost use Rattle.tcmake_lines.specs.Ends.{IsEmptyAtEnd, TakesPart, with_end};
 ghost use Rattle.tcmake_lines.specs.Lines.{EndsLine, IsBlank, IsFound, IsNext};
 
 use memchr::memchr;
+use program_io::Stop;
 use std::io::{BufRead, ErrorKind};
-use tc_streams::Stop;
 
-/// The longest line of which a message is made, in bytes.
+/// The longest line that is read, in bytes.
 pub const MOST_LINE: usize = 32 * 1024 * 1024;
 
-// How often a read that was interrupted is tried again.
+// How often an interrupted read is retried.
 const MOST_TRIES: u16 = 1024;
 
-/// What was found of a line.
+/// How reading a line ended.
 #[derive(Clone, Copy, PartialEq, Eq, Debug)]
-pub enum Found {
+pub enum LineStatus {
     /// The whole line.
     Whole,
-    /// A line that is too long.
+    /// The line is too long.
     TooLong,
-    /// A line for which memory ran out.
+    /// Memory ran out.
     NoMemory,
-    /// The end of the input, and no line.
+    /// The end of the input; no line.
     End,
 }
 
 // How a part of a line ends.
 #[derive(Clone, Copy, PartialEq, Eq)]
 pub(crate) enum Ends {
-    // Nowhere: more of it may come.
+    // The line continues.
     Nowhere,
-    // Nothing was read, since the read was interrupted.
+    // The read was interrupted.
     Interrupted,
-    // With a line feed.
+    // At a line feed.
     LineFeed,
-    // With the input.
+    // At the end of the input.
     Input,
 }
 
-/// Reads a line, without its line feed. Of a line that is too long the front is kept.
-pub fn next_line<R: BufRead>(input: &mut R, line: &mut Vec<u8>) -> Result<Found, Stop>
+/// Reads a line, without its line feed. If it is too long, its front is kept.
+pub fn next_line<R: BufRead>(input: &mut R, line: &mut Vec<u8>) -> Result<LineStatus, Stop>
     ensures next { IfOk result (λ found. IsNext found line.new.items (R.remaining input.old) (R.remaining input.new)) }
     ensures bound { length line.new.items ≤ 33554432 }
 {
     line.clear();
-    let mut found = Found::Whole;
+    let mut found = LineStatus::Whole;
     let mut tries = 0u16;
     for _ in 0..u64::MAX {
         let (ends, now) = next_part(input, line, found)?;
@@ -66,30 +66,30 @@ pub fn next_line<R: BufRead>(input: &mut R, line: &mut Vec<u8>) -> Result<Found,
     Err(Stop::Read)
 }
 
-// At the end of the input nothing is no line.
-fn found_at_end(line: &[u8], found: Found) -> Found
+// At the end of the input an empty line is none.
+fn found_at_end(line: &[u8], found: LineStatus) -> LineStatus
     ensures { (text : List ℕ) → IsFound found text line.now → EndsLine result found text }
 {
     match found {
-        Found::Whole => {
+        LineStatus::Whole => {
             if line.is_empty() {
-                Found::End
+                LineStatus::End
             } else {
-                Found::Whole
+                LineStatus::Whole
             }
         }
-        Found::TooLong => Found::TooLong,
-        Found::NoMemory => Found::NoMemory,
-        Found::End => Found::End,
+        LineStatus::TooLong => LineStatus::TooLong,
+        LineStatus::NoMemory => LineStatus::NoMemory,
+        LineStatus::End => LineStatus::End,
     }
 }
 
-// Reads a part of a line, and keeps it.
+// Reads a part of a line and appends it.
 fn next_part<R: BufRead>(
     input: &mut R,
     line: &mut Vec<u8>,
-    found: Found,
-) -> Result<(Ends, Found), Stop>
+    found: LineStatus,
+) -> Result<(Ends, LineStatus), Stop>
     requires { length line.old.items ≤ 33554432 }
     ensures bound { length line.new.items ≤ 33554432 }
     ensures part { IfOk result (λ r. (part : List ℕ) × TakesPart r.0 part (R.remaining input.old) (R.remaining input.new)
@@ -131,7 +131,7 @@ fn part_of(available: &[u8]) -> (&[u8], Ends)
     }
 }
 
-// How many bytes of the input a part has.
+// Length of a part with its line feed.
 fn len_of(part: &[u8], ends: Ends) -> usize
     ensures { result ≡ length (with_end ends part.now) }
 {
@@ -142,25 +142,25 @@ fn len_of(part: &[u8], ends: Ends) -> usize
     }
 }
 
-// Keeps more of a line.
-fn append(part: &[u8], line: &mut Vec<u8>, found: Found) -> Found
+// Appends a part of a line.
+fn append(part: &[u8], line: &mut Vec<u8>, found: LineStatus) -> LineStatus
     requires { length line.old.items ≤ 33554432 }
     ensures bound { length line.new.items ≤ 33554432 }
     ensures kept { (text : List ℕ) → IsFound found text line.old.items → IsFound result (text ++ part.now) line.new.items }
 {
-    if found != Found::Whole || part.is_empty() {
+    if found != LineStatus::Whole || part.is_empty() {
         return found;
     }
     if line.len().saturating_add(part.len()) > MOST_LINE {
-        return Found::TooLong;
+        return LineStatus::TooLong;
     }
     match line.extend_from_slice(part) {
-        Ok(()) => Found::Whole,
-        Err(_) => Found::NoMemory,
+        Ok(()) => LineStatus::Whole,
+        Err(_) => LineStatus::NoMemory,
     }
 }
 
-/// True of a line of blanks.
+/// True if the line is blank.
 pub fn is_blank(line: &[u8]) -> bool
     ensures { result ≡ true → IsBlank line.now }
 {

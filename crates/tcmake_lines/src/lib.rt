@@ -1,19 +1,19 @@
-//! Lines of an input, of each of which a message is made, and what is written of the messages: lines of hex, a stream of netlink
-//! messages, or a capture.
+//! Turns the lines of an input into messages, and writes them: as lines of hex, as a stream of netlink messages, or as a
+//! capture. A [`Maker`] builds the message of a line.
 //!
-//! What makes a message of a line is a [`Maker`]; lines, packets and streams are the same for each.
+//! Calls that take an allocator fail with `AllocError` or `Stop::Memory` if it fails.
 #![tactic(auto)]
 
-mod form;
-mod given;
+mod format;
 mod header;
 mod input;
 mod maker;
+mod netlink;
 mod output;
 pub mod run;
 
-pub use form::{Form, Unwritable, check};
-pub use given::{Given, OUTGOING, PacketOf, packet_at};
-pub use input::{Found, MOST_LINE, is_blank, next_line};
+pub use format::{OutputFormat, Unwritable, check};
+pub use input::{LineStatus, MOST_LINE, is_blank, next_line};
 pub use maker::{Answer, Maker};
+pub use netlink::{NetlinkHeader, OUTGOING, PacketOf, packet_at};
 pub use output::Output;

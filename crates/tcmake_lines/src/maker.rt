@@ -1,38 +1,38 @@
-//! What makes messages of lines.
+//! Building messages from lines.
 
 ghost use Rattle.std.specs.Prelude.{ℕ, List, IfOk};
 ghost use Rattle.tcmake_lines.specs.Parts.{IsAnswer};
-ghost use Rattle.tcmake_lines.specs.declared.given.Given.{Given as GivenType};
+ghost use Rattle.tcmake_lines.specs.declared.netlink.NetlinkHeader.{NetlinkHeader as HeaderType};
 
-use crate::given::Given;
+use crate::netlink::NetlinkHeader;
 use std::alloc::AllocError;
 
-/// What is made of a line.
+/// The result for a line.
 #[derive(Drop)]
 pub enum Answer {
-    /// A message, what the line says beside it, and what is said of places that were changed in it.
+    /// A message, its header, and notices on fields that were changed.
     Message {
-        given: Given,
+        given: NetlinkHeader,
         bytes: Vec<u8>,
         notices: Vec<String>,
     },
-    /// Nothing, since the line holds no message; maybe something is said of it.
+    /// No message in the line, with an optional notice.
     Nothing {
         notice: Option<String>,
     },
-    /// Nothing, since something is wrong with the line.
+    /// An error in the line.
     Complaint(String),
 }
 
-/// What makes messages of lines.
+/// Builds messages from lines.
 pub trait Maker {
-    // Of a line this message is made, of which the line says this.
-    ghost Makes: { Self → List ℕ → GivenType → List ℕ → Type 0 };
+    // This message and header are built from the line.
+    ghost Makes: { Self → List ℕ → HeaderType → List ℕ → Type 0 };
 
-    // A line holds no message, and nothing is wrong with it.
+    // The line has no message, and no error.
     ghost Passes: { Self → List ℕ → Type 0 };
 
-    /// What is made of a line. Fails only where memory runs out.
+    /// Builds the message of a line. Fails only if memory runs out.
     fn make(&self, line: &[u8]) -> Result<Answer, AllocError>
         ensures { IfOk result (IsAnswer (Makes self.now) (Passes self.now) line.now) };
 }

@@ -1,26 +1,26 @@
-//! Messages on their way to an output.
+//! Buffered output of messages.
 
 ghost use Rattle.std.specs.Prelude.{◌≤◌, ◌<◌, ◌^◌, length};
 ghost use Rattle.std.specs.Option.{ForSome};
 
-use crate::form::{Form, MOST_MESSAGES};
-use crate::given::{Given, PacketOf, is_same};
+use crate::format::{MOST_MESSAGES, OutputFormat};
 use crate::header::{file_header, joined, packet_header_of, pad, put_hex, whole_of};
+use crate::netlink::{NetlinkHeader, PacketOf, is_same};
+use program_io::{Stop, write_all};
 use std::alloc::{AllocError, Global};
 use std::io::Write;
 use std::mem;
-use tc_streams::{Stop, write_all};
 
-/// Messages on their way to an output.
+/// Messages that aren't written yet.
 #[derive(Drop)]
 pub struct Output {
     alloc: Global,
-    form: Form,
-    // The packet that may take the next message; none before the first.
+    form: OutputFormat,
+    // The packet that can take the next message; none before the first.
     of: Option<PacketOf>,
-    // Its messages, behind their netlink headers.
+    // Its messages with their netlink headers.
     packet: Vec<u8>,
-    // What is to be written.
+    // Text to be written.
     text: Vec<u8>,
     ghost time: { ForSome of (λ p. p.time.seconds < 2 ^ 32) },
     ghost room: { length packet.items ≤ 1048544 },
@@ -30,11 +30,11 @@ impl Output {
     ghost use Rattle.std.specs.Prelude.{◌≡◌, ◌≤◌, ◌+◌, ◌++◌, [], true, None, Some, OnOk, nat_le, length};
     ghost use Rattle.std.specs.Io.KnownBytes.{Appends};
     ghost use Rattle.tcmake_lines.specs.State.{brought, ended, ended_by, is_taken, held_in, held_then, held_with};
-    ghost use Rattle.tcmake_lines.specs.declared.form.Form.TheVariants.{Capture};
+    ghost use Rattle.tcmake_lines.specs.declared.format.OutputFormat.TheVariants.{Capture};
     ghost use Rattle.tcmake_lines.specs.Written.{HasHeader, HasPacket, IsWritable, header_of, padded};
 
-    /// Nothing yet.
-    pub fn new(alloc: Global, form: Form) -> Output
+    /// An empty output.
+    pub fn new(alloc: Global, form: OutputFormat) -> Output
         ensures form { result.form ≡ form }
         ensures held { held_in result ≡ None }
         ensures text { result.text.items ≡ [] }
@@ -48,8 +48,8 @@ impl Output {
         }
     }
 
-    /// The form that messages are written in.
-    pub fn form(&self) -> Form
+    /// The output format.
+    pub fn form(&self) -> OutputFormat
         ensures { result ≡ self.now.form }
     {
         self.form
@@ -68,20 +68,20 @@ impl Output {
             <= MOST_MESSAGES
     }
 
-    /// What comes before the first message.
+    /// Appends the header of the format.
     pub fn begin(&mut self) -> Result<(), AllocError>
         ensures form { self.new.form ≡ self.old.form }
         ensures held { held_in self.new ≡ held_in self.old }
         ensures text { OnOk result (self.new.text.items ≡ self.old.text.items ++ header_of self.old.form) }
     {
-        if self.form == Form::Capture {
+        if self.form == OutputFormat::Capture {
             return self.text.extend_from_slice(&file_header());
         }
         Ok(())
     }
 
-    /// Puts a message on it.
-    pub fn put(&mut self, given: &Given, bytes: &[u8]) -> Result<(), AllocError>
+    /// Appends a message.
+    pub fn put(&mut self, given: &NetlinkHeader, bytes: &[u8]) -> Result<(), AllocError>
         requires { IsWritable self.old.form given.now bytes.now }
         ensures form { self.new.form ≡ self.old.form }
         ensures held { OnOk result (held_in self.new ≡ held_then self.old.form (held_in self.old) given.now bytes.now) }
@@ -89,22 +89,22 @@ impl Output {
             ≡ self.old.text.items ++ brought self.old.form (held_in self.old) given.now bytes.now) }
     {
         match self.form {
-            Form::Hex => {
+            OutputFormat::Hex => {
                 let whole = whole_of(self.alloc, given, bytes)?;
                 put_hex(self.alloc, &mut self.text, &whole)
             }
-            Form::Bare => put_hex(self.alloc, &mut self.text, bytes),
-            Form::Stream => {
+            OutputFormat::Bare => put_hex(self.alloc, &mut self.text, bytes),
+            OutputFormat::Stream => {
                 let mut whole = whole_of(self.alloc, given, bytes)?;
                 pad(&mut whole)?;
                 self.text.extend_from_slice(&whole)
             }
-            Form::Capture => self.put_in_packet(given, bytes),
+            OutputFormat::Capture => self.put_in_packet(given, bytes),
         }
     }
 
-    // Puts a message into its packet; the packet before it, if that ends here, is to be written.
-    fn put_in_packet(&mut self, given: &Given, bytes: &[u8]) -> Result<(), AllocError>
+    // Appends a message to its packet; if that is a new one, the packet before it is ended.
+    fn put_in_packet(&mut self, given: &NetlinkHeader, bytes: &[u8]) -> Result<(), AllocError>
         requires capture { self.old.form ≡ Capture }
         requires header { HasHeader given.now bytes.now }
         requires packet { HasPacket given.now bytes.now }
@@ -125,8 +125,8 @@ impl Output {
         Ok(())
     }
 
-    // True if a message is of the packet, and has room in it.
-    fn takes(&self, given: &Given, bytes: &[u8]) -> bool
+    // True if the message belongs to the packet and has room in it.
+    fn takes(&self, given: &NetlinkHeader, bytes: &[u8]) -> bool
         ensures is { result ≡ is_taken (held_in self.now) given.now bytes.now }
         ensures room { result ≡ true → length (padded self.now.packet.items) + (length bytes.now + 16) ≤ 1048544 }
     {
@@ -136,13 +136,13 @@ impl Output {
         }
     }
 
-    /// Ends the packet, if there is one.
+    /// Ends the packet, if any.
     pub fn end(&mut self) -> Result<(), AllocError>
         ensures form { self.new.form ≡ self.old.form }
         ensures held { OnOk result (held_in self.new ≡ None) }
         ensures text { OnOk result (self.new.text.items ≡ self.old.text.items ++ ended self.old.form (held_in self.old)) }
     {
-        if self.form != Form::Capture {
+        if self.form != OutputFormat::Capture {
             self.of = None;
             return Ok(());
         }
@@ -161,7 +161,7 @@ impl Output {
         Ok(())
     }
 
-    /// Writes what is to be written.
+    /// Writes the text so far.
     pub fn write<W: Write>(&mut self, writer: &mut W) -> Result<(), Stop>
         ensures form { self.new.form ≡ self.old.form }
         ensures held { held_in self.new ≡ held_in self.old }

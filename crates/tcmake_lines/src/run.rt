@@ -1,36 +1,36 @@
-//! A whole run.
+//! A run over an input.
 
 ghost use Rattle.std.specs.Prelude.{◌≡◌, ◌||◌, ℕ, true, false, List, IfOk, OnOk};
 ghost use Rattle.tcmake_lines.specs.Lines.{IsFound, is_end};
 ghost use Rattle.tcmake_lines.specs.Parts.{Ran};
 ghost use Rattle.tcmake_lines.specs.State.{PutsLine, PutsOrNot, state_of};
 
-use crate::form::{Form, check};
-use crate::given::Given;
-use crate::input::{Found, is_blank, next_line};
+use crate::format::{OutputFormat, check};
+use crate::input::{LineStatus, is_blank, next_line};
 use crate::maker::{Answer, Maker};
+use crate::netlink::NetlinkHeader;
 use crate::output::Output;
+use program_io::{Stop, write_all};
 use std::alloc::{AllocError, Global};
 use std::io::{BufRead, Write};
-use tc_streams::{Stop, write_all};
 
-/// What is said of a line that is longer than [`MOST_LINE`](crate::MOST_LINE).
+/// The error for a line longer than [`MOST_LINE`](crate::MOST_LINE).
 pub const LONG_LINE: &str = "longer than 33554432 bytes";
 
 /// How a run ended.
 #[derive(Clone, Copy, PartialEq, Eq, Debug)]
 pub struct Ended {
-    /// Why it ended before the end of its input, if it did.
+    /// The error that ended it early, if any.
     pub outcome: Result<(), Stop>,
-    /// True if something was wrong with a line.
+    /// True if a line had an error.
     pub has_refused: bool,
 }
 
-/// Makes messages of all lines of an input, and writes them. Complaints and notices are written to `errors`.
+/// Builds the messages of all lines of an input, and writes them. Errors and notices are written to `errors`.
 pub fn run<M: Maker, R: BufRead, W: Write, E: Write>(
     alloc: Global,
     maker: &M,
-    form: Form,
+    form: OutputFormat,
     reader: &mut R,
     writer: &mut W,
     errors: &mut E,
@@ -49,7 +49,7 @@ pub fn run<M: Maker, R: BufRead, W: Write, E: Write>(
 fn make_all<M: Maker, R: BufRead, W: Write, E: Write>(
     alloc: Global,
     maker: &M,
-    form: Form,
+    form: OutputFormat,
     reader: &mut R,
     writer: &mut W,
     errors: &mut E,
@@ -76,10 +76,10 @@ fn make_all<M: Maker, R: BufRead, W: Write, E: Write>(
     Err(Stop::Read)
 }
 
-fn is_end(found: Found) -> bool
+fn is_end(found: LineStatus) -> bool
     ensures { result ≡ is_end found }
 {
-    matches!(found, Found::End)
+    matches!(found, LineStatus::End)
 }
 
 fn either(one: bool, other: bool) -> bool
@@ -88,11 +88,11 @@ fn either(one: bool, other: bool) -> bool
     one || other
 }
 
-// Puts what becomes of a line on the output. True if something is wrong with the line.
+// Appends the message of a line to the output. True if the line has an error.
 fn put_line<M: Maker, E: Write>(
     alloc: Global,
     maker: &M,
-    found: Found,
+    found: LineStatus,
     line: &[u8],
     number: u64,
     output: &mut Output,
@@ -102,14 +102,14 @@ fn put_line<M: Maker, E: Write>(
         (state_of output.old) (state_of output.new)) }
 {
     match found {
-        Found::Whole => put_whole_line(alloc, maker, line, number, output, errors),
-        Found::TooLong => complain(alloc, errors, number, LONG_LINE),
-        Found::NoMemory => complain(alloc, errors, number, "out of memory"),
-        Found::End => Ok(false),
+        LineStatus::Whole => put_whole_line(alloc, maker, line, number, output, errors),
+        LineStatus::TooLong => report(alloc, errors, number, LONG_LINE),
+        LineStatus::NoMemory => report(alloc, errors, number, "out of memory"),
+        LineStatus::End => Ok(false),
     }
 }
 
-// The same of a line that is there.
+// Appends the message of a whole line.
 fn put_whole_line<M: Maker, E: Write>(
     alloc: Global,
     maker: &M,
@@ -136,14 +136,14 @@ fn put_whole_line<M: Maker, E: Write>(
             }
             Ok(false)
         }
-        Answer::Complaint(complaint) => complain(alloc, errors, number, complaint.as_str()),
+        Answer::Complaint(complaint) => report(alloc, errors, number, complaint.as_str()),
     }
 }
 
-/// Puts a message on the output, and says what was changed in it. True if it can't be written, which is said then.
+/// Appends a message to the output, and prints its notices. True if it can't be written; then the error is printed.
 pub fn put_message<E: Write>(
     alloc: Global,
-    given: &Given,
+    given: &NetlinkHeader,
     bytes: &[u8],
     notices: &[String],
     number: u64,
@@ -154,7 +154,7 @@ pub fn put_message<E: Write>(
 {
     if let Err(fault) = check(output.form(), given, bytes) {
         let complaint = format!(in alloc; "{fault}")?;
-        return complain(alloc, errors, number, complaint.as_str());
+        return report(alloc, errors, number, complaint.as_str());
     }
     output.put(given, bytes)?;
     for notice in notices {
@@ -163,15 +163,15 @@ pub fn put_message<E: Write>(
     Ok(false)
 }
 
-// Says what is wrong with a line.
-fn complain<E: Write>(alloc: Global, errors: &mut E, number: u64, text: &str) -> Result<bool, Stop>
+// Prints an error.
+fn report<E: Write>(alloc: Global, errors: &mut E, number: u64, text: &str) -> Result<bool, Stop>
     ensures { IfOk result (λ is_wrong. is_wrong ≡ true) }
 {
     say(alloc, errors, number, text)?;
     Ok(true)
 }
 
-/// Says something of a line, if it can. Fails only where memory runs out.
+/// Prints a text about a line, if possible. Fails only if memory runs out.
 pub fn say<E: Write>(
     alloc: Global,
     errors: &mut E,

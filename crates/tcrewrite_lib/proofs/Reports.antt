@@ -12,31 +12,31 @@ use Rattle.tc_meaning.specs.Own.{kind_of_attribute}
 use Rattle.tc_meaning.specs.Message.{Message}
 use Rattle.tc_meaning.specs.Whole.{Correspond}
 use Rattle.tc_meaning.proofs.MessageTheorems.{tc_correspond, action_correspond}
-use Rattle.tc_meaning.proofs.Telling.{Told}
-use Rattle.tc_meaning.proofs.FitTests.{told_fits}
-use Rattle.tc_meaning.proofs.SettledTests.{told_settled}
+use Rattle.tc_meaning.proofs.Decidable.{Decidable}
+use Rattle.tc_meaning.proofs.FitTests.{decidable_fits}
+use Rattle.tc_meaning.proofs.SettledTests.{decidable_settled}
 use Rattle.tcrewrite_lib.specs.Text.{most_text, without_spaces}
 use Rattle.tcrewrite_lib.specs.Report.{Report, one_line, words_of, ReportsDecoded, IsReport}
-use Rattle.tcrewrite_lib.specs.declared.mode.Mode.{Mode}
-use Rattle.tcrewrite_lib.specs.declared.mode.Mode.TheVariants.{Tc, Action}
+use Rattle.tc_capture.specs.declared.kind.MessageType.{MessageType}
+use Rattle.tc_capture.specs.declared.kind.MessageType.TheVariants.{Tc, Action}
 use Rattle.tcrewrite_lib.proofs.Decoding.{wire_decoded}
 use Rattle.tcrewrite_lib.proofs.Outcomes as outcomes
 
 -- the laws of a mode's messages, and the tests of what fits and what is settled
-laws : (mode : Mode) (bytes : List ℕ) → IsWireBytes bytes → Correspond (words_of mode) bytes
+laws : (mode : MessageType) (bytes : List ℕ) → IsWireBytes bytes → Correspond (words_of mode) bytes
 laws Tc = tc_correspond
 laws Action = action_correspond
 
-fits : (mode : Mode) (m : Message) → Told ((words_of mode).Fits m)
-fits Tc = told_fits tc_header attributes
-fits Action = told_fits action_message_header action_message_attributes
+fits : (mode : MessageType) (m : Message) → Decidable ((words_of mode).Fits m)
+fits Tc = decidable_fits tc_header attributes
+fits Action = decidable_fits action_message_header action_message_attributes
 
-settled : (mode : Mode) (m : Message) → Told ((words_of mode).Settled m)
-settled Tc = told_settled tc_header attributes kind_of_attribute
-settled Action = told_settled action_message_header action_message_attributes keep
+settled : (mode : MessageType) (m : Message) → Decidable ((words_of mode).Settled m)
+settled Tc = decidable_settled tc_header attributes kind_of_attribute
+settled Action = decidable_settled action_message_header action_message_attributes keep
 
 -- a text of a length that is read, without its spaces, decoded
-module _ (mode : Mode) (text : List ℕ) (short : length text ≤ most_text) where
+module _ (mode : MessageType) (text : List ℕ) (short : length text ≤ most_text) where
   some_of_decoded : (decoded : Result (List ℕ) FromHexError) → decode_of (without_spaces text) ≡ decoded → (r : Report) × ReportsDecoded mode decoded r
   some_of_decoded (Ok bytes) is =
       outcomes.some_report (words_of mode) bytes (laws mode bytes (wire_decoded text bytes short is)) (fits mode) (settled mode)
@@ -48,18 +48,18 @@ module _ (mode : Mode) (text : List ℕ) (short : length text ≤ most_text) whe
       outcomes.one_report (words_of mode) bytes (laws mode bytes (wire_decoded text bytes short is)) (fits mode) (settled mode) r s this that
   one_of_decoded (Err e) is r s this that = this ∙ sym that
 
-some_of_length : (mode : Mode) (text : List ℕ) → (most_text < length text) ⊎ (length text ≤ most_text) → (r : Report) × IsReport mode text r
+some_of_length : (mode : MessageType) (text : List ℕ) → (most_text < length text) ⊎ (length text ≤ most_text) → (r : Report) × IsReport mode text r
 some_of_length mode text (inl long) = (one_line (codes "too long") 2, inl (long, refl))
 some_of_length mode text (inr short) =
     let some = some_of_decoded mode text short (decode_of (without_spaces text)) refl in
     (some.0, inr (short, some.1))
 
 -- a text has a report
-pub some_report : (mode : Mode) (text : List ℕ) → (r : Report) × IsReport mode text r
+pub some_report : (mode : MessageType) (text : List ℕ) → (r : Report) × IsReport mode text r
 some_report mode text = some_of_length mode text (cases_lt most_text (length text))
 
 -- it has no other
-pub one_report : (mode : Mode) (text : List ℕ) (r s : Report) → IsReport mode text r → IsReport mode text s → r ≡ s
+pub one_report : (mode : MessageType) (text : List ℕ) (r s : Report) → IsReport mode text r → IsReport mode text s → r ≡ s
 one_report mode text r s (inl this) (inl that) = this.1 ∙ sym that.1
 one_report mode text r s (inl this) (inr that) = absurd (omega (arith, this.0, that.0))
 one_report mode text r s (inr this) (inl that) = absurd (omega (arith, this.0, that.0))

@@ -1,4 +1,3 @@
-pub mod Word
 pub mod Arguments
 pub mod Text
 pub mod Report

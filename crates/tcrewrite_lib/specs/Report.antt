@@ -1,14 +1,14 @@
--- The report on a text: what is written for it, and the exit status.
+-- The report on a text: the text that is written, and the exit status.
 use Rattle.std.specs.Prelude.{◌≡◌, ◌⊎◌, ◌↔◌, ℕ, ◌<◌, ◌≤◌, Bool, true, false, IsTrue, Result, Ok, Err}
 use Rattle.std.specs.Prelude.{List, [], ◌++◌, length, codes}
 use Rattle.hex.specs.Hex.{decode_of, encode_lower}
 use Rattle.hex.specs.declared.error.FromHexError.{FromHexError}
 use Rattle.tc_wire.specs.Facade.{DecodeError, name_of, OutOfMemory, Message, Words, tc_words, action_words}
 use Rattle.tcrewrite_lib.specs.Text.{most_text, without_spaces}
-use Rattle.tcrewrite_lib.specs.declared.mode.Mode.{Mode}
-use Rattle.tcrewrite_lib.specs.declared.mode.Mode.TheVariants.{Tc, Action}
+use Rattle.tc_capture.specs.declared.kind.MessageType.{MessageType}
+use Rattle.tc_capture.specs.declared.kind.MessageType.TheVariants.{Tc, Action}
 
--- what is written, and the exit status
+-- the text that is written, and the exit status
 pub record Report : Type 0 where
   pub text : List ℕ
   pub status : ℕ
@@ -26,12 +26,12 @@ abbrev pub yes_or_no : Bool → List ℕ
 yes_or_no true = codes "yes"
 yes_or_no false = codes "no"
 
--- the line of the emitted bytes, where the message fits
+-- the line of the emitted bytes, if the message fits
 abbrev pub bytes_line : Bool → List ℕ → List ℕ
 bytes_line true bytes = line (codes "bytes " ++ encode_lower bytes)
 bytes_line false bytes = []
 
--- the lines for an accepted message: whether it fits, is settled and came canonical, and its bytes
+-- the lines for an accepted message: whether it fits, is settled and was canonical, and its bytes
 abbrev pub accepted : Bool → Bool → Bool → List ℕ → List ℕ
 accepted fits settled canonical bytes =
     line (codes "fits " ++ yes_or_no fits)
@@ -40,16 +40,16 @@ accepted fits settled canonical bytes =
     ++ bytes_line fits bytes
 
 module _ {X : Type 0} (words : Words X) where
-  -- the bytes read as a message: what holds of it and of them is reported, and its bytes
+  -- the bytes read as a message: its properties are reported, and its bytes
   pub record Accepts (bytes : List ℕ) (r : Report) : Type 0 where
     pub message : X
     pub fits : Bool
     pub settled : Bool
     pub canonical : Bool
     pub reads : words.Reads bytes message
-    pub tells_fits : IsTrue fits ↔ words.Fits message
-    pub tells_settled : IsTrue settled ↔ words.Settled message
-    pub tells_canonical : IsTrue canonical ↔ words.Canonical bytes
+    pub fits_iff : IsTrue fits ↔ words.Fits message
+    pub settled_iff : IsTrue settled ↔ words.Settled message
+    pub canonical_iff : IsTrue canonical ↔ words.Canonical bytes
     pub is : r ≡ record { text = accepted fits settled canonical (words.bytes message); status = 0 }
 
   -- the bytes have a first fault: its name is reported
@@ -62,26 +62,26 @@ module _ {X : Type 0} (words : Words X) where
   abbrev pub ReportsAs : List ℕ → Report → Type 0
   ReportsAs bytes r = Accepts bytes r ⊎ Refuses bytes r
 
--- the words of a mode
-abbrev pub words_of : Mode → Words Message
+-- the definitions for a type of message
+abbrev pub words_of : MessageType → Words Message
 words_of Tc = tc_words
 words_of Action = action_words
 
--- the report on bytes in a mode
-abbrev pub ReportsBytes : Mode → List ℕ → Report → Type 0
+-- the report on bytes as a message of a type
+abbrev pub ReportsBytes : MessageType → List ℕ → Report → Type 0
 ReportsBytes mode bytes r = ReportsAs (words_of mode) bytes r
 
--- the report on what hex digits are decoded to
-abbrev pub ReportsDecoded : Mode → Result (List ℕ) FromHexError → Report → Type 0
+-- the report on decoded hex
+abbrev pub ReportsDecoded : MessageType → Result (List ℕ) FromHexError → Report → Type 0
 ReportsDecoded mode (Ok bytes) r = ReportsBytes mode bytes r
 ReportsDecoded mode (Err e) r = r ≡ one_line (codes "bad hex") 2
 
 -- the report on a text
-abbrev pub IsReport : Mode → List ℕ → Report → Type 0
+abbrev pub IsReport : MessageType → List ℕ → Report → Type 0
 IsReport mode text r =
     ((most_text < length text) × (r ≡ one_line (codes "too long") 2))
     ⊎ ((length text ≤ most_text) × ReportsDecoded mode (decode_of (without_spaces text)) r)
 
--- what is written in place of a report where memory ran out
+-- the report if memory ran out
 abbrev pub no_memory : Report
 no_memory = one_line (codes "refused " ++ name_of OutOfMemory) 1

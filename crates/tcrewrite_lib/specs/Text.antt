@@ -1,8 +1,8 @@
--- The text that is read.
+-- The text of the input.
 use Rattle.std.specs.Prelude.{ℕ, ◌+◌, ◌==◌, ◌||◌, not, Bool, List, take}
 use Rattle.std.specs.List.{filter}
 
--- the most bytes of text that are taken
+-- the maximum length of a text in bytes
 abbrev pub most_text : ℕ
 most_text = 1048576
 

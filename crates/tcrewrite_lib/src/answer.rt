@@ -1,14 +1,14 @@
-//! The report on a text, in memory.
+//! Reports in memory.
 
 ghost use Rattle.std.specs.Prelude.{◌≡◌, ◌≢◌, IfOk, IsTrue, codes, string_bytes};
 ghost use Rattle.hex.specs.declared.error.FromHexError.TheVariants.{OutOfMemory};
 ghost use Rattle.tcrewrite_lib.specs.Answer.{report_of};
 ghost use Rattle.tcrewrite_lib.specs.Report.{one_line, yes_or_no, bytes_line, accepted, ReportsAs, ReportsBytes, IsReport};
 
-use crate::mode::Mode;
 use crate::text::{MOST_TEXT, drop_spaces};
 use hex::FromHexError;
 use std::alloc::{AllocError, Allocator};
+use tc_capture::MessageType;
 use tc_wire::{DecodeError, TcActionMessage, TcMessage, WholeMessage};
 
 /// A report in memory, ready to be written.
@@ -45,7 +45,7 @@ fn emitted<A: Allocator, M: WholeMessage<A>>(
     Ok(bytes)
 }
 
-// The line of the emitted bytes, where the message fits.
+// The line of the emitted bytes, if the message fits.
 fn bytes_line<A: Allocator + Copy, M: WholeMessage<A>>(
     alloc: A,
     message: &M,
@@ -110,21 +110,21 @@ fn answer_as<A: Allocator + Copy, M: WholeMessage<A> + Drop>(
 // The report on the bytes of a message.
 fn answer_bytes<A: Allocator + Copy>(
     alloc: A,
-    mode: Mode,
+    mode: MessageType,
     bytes: &[u8],
 ) -> Result<Answer<A>, AllocError>
     ensures { IfOk result (λ answer. ReportsBytes mode bytes.now (report_of answer)) }
 {
     match mode {
-        Mode::Tc => answer_as::<A, TcMessage<A>>(alloc, bytes),
-        Mode::Action => answer_as::<A, TcActionMessage<A>>(alloc, bytes),
+        MessageType::Tc => answer_as::<A, TcMessage<A>>(alloc, bytes),
+        MessageType::Action => answer_as::<A, TcActionMessage<A>>(alloc, bytes),
     }
 }
 
 /// The report on a text.
 pub(crate) fn answer_text<A: Allocator + Copy>(
     alloc: A,
-    mode: Mode,
+    mode: MessageType,
     mut text: Vec<u8, A>,
 ) -> Result<Answer<A>, AllocError>
     ensures { IfOk result (λ answer. IsReport mode text.items (report_of answer)) }
@@ -139,7 +139,7 @@ pub(crate) fn answer_text<A: Allocator + Copy>(
     }
 }
 
-// The report on a text that isn't valid hex, unless memory ran out.
+// The report on a text that isn't valid hex, or an error if memory ran out.
 fn answer_fault<A: Allocator>(alloc: A, fault: &FromHexError) -> Result<Answer<A>, AllocError>
     ensures { IfOk result (λ answer. (fault.now ≢ OutOfMemory)
         × report_of answer ≡ one_line (codes "bad hex") 2) }

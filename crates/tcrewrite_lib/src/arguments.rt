@@ -1,73 +1,73 @@
-//! What the program's arguments ask for.
+//! The program's arguments.
 
 ghost use Rattle.std.specs.Prelude.{◌≡◌, ◌≢◌, ◌↔◌, ◌⊎◌, IfOk, IfErr, map, string_bytes};
 ghost use Rattle.std.specs.Vec.Iter.{into_iter_items};
 ghost use Rattle.std.specs.IoError.{error_kind};
-ghost use Rattle.tcrewrite_lib.specs.Arguments.{AsksFor};
-ghost use Rattle.tcrewrite_lib.specs.declared.mode.Mode.{Mode};
-ghost use Rattle.tcrewrite_lib.specs.declared.arguments.Request.TheVariants.{Report, NoMemory};
+ghost use Rattle.tcrewrite_lib.specs.Arguments.{HasMode};
+ghost use Rattle.tc_capture.specs.declared.kind.MessageType.{MessageType};
+ghost use Rattle.tcrewrite_lib.specs.declared.arguments.Arguments.TheVariants.{Report, NoMemory};
 
-use crate::mode::Mode;
 use std::alloc::Allocator;
 use std::env::Args;
 use std::io::{Error, ErrorKind};
+use tc_capture::MessageType;
 
-/// What is asked for.
+/// Parsed command-line arguments.
 #[derive(PartialEq, Eq, Clone, Copy, Debug)]
-pub enum Request {
-    /// A report on the text.
-    Report(Mode),
+pub enum Arguments {
+    /// Report on a message of this type.
+    Report(MessageType),
 
-    /// Nothing that the program knows: how it is called is said.
+    /// Unknown arguments: the usage is printed.
     Usage,
 
-    /// Nothing that could be read, as there was no memory for it.
+    /// The arguments couldn't be read, because memory ran out.
     NoMemory,
 }
 
-/// What the arguments ask for, the program's name first.
-pub fn request_of<A: Allocator>(arguments: &[String<A>]) -> Request
-    ensures report { (mode : Mode)
-        → (result ≡ Report mode) ↔ AsksFor (map string_bytes arguments.now) mode }
+/// Parses the arguments; the first is the program's name.
+pub fn parse_arguments<A: Allocator>(arguments: &[String<A>]) -> Arguments
+    ensures report { (mode : MessageType)
+        → (result ≡ Report mode) ↔ HasMode (map string_bytes arguments.now) mode }
     ensures read { result ≢ NoMemory }
 {
     match arguments {
-        [] | [_] => Request::Report(Mode::Tc),
-        [_, word] => match Mode::from_word(word.as_str()) {
-            Some(mode) => Request::Report(mode),
-            None => Request::Usage,
+        [] | [_] => Arguments::Report(MessageType::Tc),
+        [_, word] => match MessageType::from_word(word.as_str()) {
+            Some(mode) => Arguments::Report(mode),
+            None => Arguments::Usage,
         },
-        _ => Request::Usage,
+        _ => Arguments::Usage,
     }
 }
 
-// What arguments ask for that couldn't be read: memory ran out, or one isn't UTF-8 and so names no mode.
-fn request_of_fault(fault: &Error) -> Request
+// The result if the arguments couldn't be read: memory ran out, or one of them isn't UTF-8, so it names no type of
+// message.
+fn arguments_of_fault(fault: &Error) -> Arguments
     ensures memory { (result ≡ NoMemory) ↔ (error_kind fault.now ≡ ErrorKind.OutOfMemory) }
-    ensures no_report { (mode : Mode) → result ≢ Report mode }
+    ensures no_report { (mode : MessageType) → result ≢ Report mode }
 {
     if fault.kind() == ErrorKind::OutOfMemory {
-        Request::NoMemory
+        Arguments::NoMemory
     } else {
-        Request::Usage
+        Arguments::Usage
     }
 }
 
-/// What the program's own arguments ask for, as they were read: with memory enough, what they ask for, and where one
-/// isn't UTF-8, nothing that is known.
-pub fn request_from<A: Allocator>(alloc: A, arguments: Result<Args<A>, Error>) -> Request
+/// Parses the program's arguments as they were read. If one isn't UTF-8, they are unknown.
+pub fn read_arguments<A: Allocator>(alloc: A, arguments: Result<Args<A>, Error>) -> Arguments
     ensures read { IfOk arguments (λ words. (result ≡ NoMemory)
-        ⊎ ((mode : Mode) → (result ≡ Report mode)
-        ↔ AsksFor (map string_bytes (into_iter_items words)) mode)) }
+        ⊎ ((mode : MessageType) → (result ≡ Report mode)
+        ↔ HasMode (map string_bytes (into_iter_items words)) mode)) }
     ensures fault { IfErr arguments (λ fault.
         (result ≡ NoMemory) ↔ (error_kind fault ≡ ErrorKind.OutOfMemory)) }
-    ensures no_report { IfErr arguments (λ fault. (mode : Mode) → result ≢ Report mode) }
+    ensures no_report { IfErr arguments (λ fault. (mode : MessageType) → result ≢ Report mode) }
 {
     match arguments {
         Ok(words) => match Vec::from_iter(alloc, words) {
-            Ok(words) => request_of(&words),
-            Err(_) => Request::NoMemory,
+            Ok(words) => parse_arguments(&words),
+            Err(_) => Arguments::NoMemory,
         },
-        Err(fault) => request_of_fault(&fault),
+        Err(fault) => arguments_of_fault(&fault),
     }
 }

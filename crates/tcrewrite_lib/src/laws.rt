@@ -1,12 +1,12 @@
-//! The law of the report's definition.
+//! The law of the definition of the report.
 
 ghost use Rattle.std.specs.Prelude.{◌≡◌};
 ghost use Rattle.tcrewrite_lib.specs.Report.{Report, IsReport};
 
-use crate::mode::Mode;
+use tc_capture::MessageType;
 
-/// Every text has one report in each mode.
-pub fn one_report(mode: Mode, text: &[u8])
+/// Every text has exactly one report for each type of message.
+pub fn one_report(mode: MessageType, text: &[u8])
     ensures some { (r : Report) × IsReport mode text.now r }
     ensures only { (r s : Report) → IsReport mode text.now r → IsReport mode text.now s → r ≡ s }
 {}

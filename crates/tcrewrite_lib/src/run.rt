@@ -1,4 +1,4 @@
-//! A whole run: a text is read, and a report on it is written.
+//! A run: reads a text and writes the report on it.
 
 ghost use Rattle.std.specs.Prelude.{◌≡◌, Err, IfOk, IfErr, IfSome};
 ghost use Rattle.std.specs.Io.KnownBytes.{Consumes};
@@ -8,14 +8,13 @@ ghost use Rattle.tcrewrite_lib.specs.Report.{IsReport, no_memory};
 ghost use Rattle.tcrewrite_lib.specs.Run.{Reports, RunReports};
 
 use crate::answer::{Answer, answer_text};
-use crate::mode::Mode;
-use crate::patience::Patience;
 use crate::text::{TextError, read_text};
+use program_io::{Retries, write_all};
 use std::alloc::Allocator;
 use std::io::{Read, Write};
-use tc_streams::write_all;
+use tc_capture::MessageType;
 
-/// Why a run ended early.
+/// The reason why a run ended early.
 #[derive(Drop, PartialEq, Eq, Debug)]
 pub enum RunError {
     /// The reader failed.
@@ -25,22 +24,22 @@ pub enum RunError {
     Write,
 }
 
-// The report on what the reader gives.
+// The report on the bytes of the reader.
 fn prepare<A: Allocator + Copy, R: Read>(
     alloc: A,
-    mode: Mode,
+    mode: MessageType,
     reader: &mut R,
-    patience: &mut Patience,
+    retries: &mut Retries,
 ) -> Result<Answer<A>, TextError>
     ensures { IfOk result (λ answer. IfSome (R.remaining reader.old) (λ all.
         Consumes (R.remaining reader.old) (R.remaining reader.new) (looked_at all)
         × IsReport mode (looked_at all) (report_of answer))) }
 {
-    let text = read_text(alloc, reader, patience)?;
+    let text = read_text(alloc, reader, retries)?;
     Ok(answer_text(alloc, mode, text)?)
 }
 
-// Writes a report that is ready, and returns its status.
+// Writes a report and returns its status.
 fn finish<W: Write>(writer: &mut W, text: &str, status: u8) -> Result<u8, RunError>
     ensures written { IfOk result (λ s.
         Reports (W.contents writer.old) (W.contents writer.new) s
@@ -53,7 +52,7 @@ fn finish<W: Write>(writer: &mut W, text: &str, status: u8) -> Result<u8, RunErr
     }
 }
 
-// Writes that a growth was refused, and returns the status of that.
+// Writes that memory ran out, and returns the status for that.
 fn finish_without_memory<W: Write>(writer: &mut W) -> Result<u8, RunError>
     ensures written { IfOk result (λ status.
         Reports (W.contents writer.old) (W.contents writer.new) status no_memory) }
@@ -62,11 +61,11 @@ fn finish_without_memory<W: Write>(writer: &mut W) -> Result<u8, RunError>
     finish(writer, "refused OutOfMemory\n", 1)
 }
 
-/// Reads a text, writes the report on it, and returns the exit status. No memory is asked for once it
-/// writes. A read that was interrupted is tried again, 1,024 times in all, and so is each write.
+/// Reads a text, writes the report on it, and returns the exit status. It allocates nothing while it writes. Reads
+/// that are interrupted are tried again, 1,024 times in all, and so is each write.
 pub fn run<A: Allocator + Copy, R: Read, W: Write>(
     alloc: A,
-    mode: Mode,
+    mode: MessageType,
     reader: &mut R,
     writer: &mut W,
 ) -> Result<u8, RunError>
@@ -75,15 +74,15 @@ pub fn run<A: Allocator + Copy, R: Read, W: Write>(
         (W.contents writer.old) (W.contents writer.new) status) }
     ensures nothing_written { result ≡ Err RunError.Read → writer.new ≡ writer.old }
 {
-    let mut patience = Patience::new();
-    match prepare(alloc, mode, reader, &mut patience) {
+    let mut retries = Retries::new();
+    match prepare(alloc, mode, reader, &mut retries) {
         Ok(answer) => finish(writer, answer.text.as_str(), answer.status),
         Err(TextError::OutOfMemory) => finish_without_memory(writer),
         Err(TextError::Fault) => Err(RunError::Read),
     }
 }
 
-/// Writes that a growth was refused before there was a text, and returns the exit status.
+/// Writes that memory ran out before a text was read, and returns the exit status.
 pub(crate) fn without_memory<W: Write>(writer: &mut W) -> Result<u8, RunError>
     ensures { IfOk result (λ status.
         Reports (W.contents writer.old) (W.contents writer.new) status no_memory) }

@@ -1,29 +1,30 @@
-//! The text: reading it, and its spaces.
+//! The text of the input.
 
 ghost use Rattle.std.specs.Prelude.{◌≡◌, ◌+◌, ◌<◌, ◌≤◌, IfOk, length, OnOk, true, false};
 ghost use Rattle.std.specs.Io.{appended_bytes, StartsWith};
 ghost use Rattle.std.specs.Io.KnownBytes.{Consumes, IsAtEnd};
+ghost use Rattle.program_io.specs.Retries.{retries_left};
 ghost use Rattle.tcrewrite_lib.specs.Text.{is_space, without_spaces, most_text};
 ghost use Rattle.tcrewrite_lib.specs.Run.{IsTextOf};
 ghost use Rattle.tcrewrite_lib.specs.declared.text.TextError.TheVariants.{OutOfMemory};
 
-use crate::patience::Patience;
+use program_io::Retries;
 use std::alloc::{AllocError, Allocator};
 use std::io::Read;
 
-/// The most bytes of text that are taken.
+/// The maximum length of a text in bytes.
 pub(crate) const MOST_TEXT: usize = 1_048_576;
 
-// The most bytes that one read asks for.
+// The maximum number of bytes of one read.
 const MOST_PART: usize = 4096;
 
-/// Why there is no text.
+/// The reason why there is no text.
 #[derive(Drop)]
 pub(crate) enum TextError {
     /// The reader failed.
     Fault,
 
-    /// A growth was refused.
+    /// Memory ran out.
     OutOfMemory,
 }
 
@@ -35,11 +36,11 @@ impl From<AllocError> for TextError {
     }
 }
 
-// One read, put at the end of the text. It returns whether there may be more.
+// Appends the bytes of one read. Returns whether there may be more.
 fn read_part<A: Allocator, R: Read>(
     reader: &mut R,
     text: &mut Vec<u8, A>,
-    patience: &mut Patience,
+    retries: &mut Retries,
 ) -> Result<bool, TextError>
     requires { length text.old.items ≤ most_text }
     ensures starts { StartsWith text.new.items text.old.items }
@@ -49,8 +50,8 @@ fn read_part<A: Allocator, R: Read>(
     ensures end { IfOk result (λ more. more ≡ false → IsAtEnd (R.remaining reader.new)) }
     ensures falls { IfOk result (λ more.
         more ≡ true
-        → length text.old.items + patience.new.left
-        < length text.new.items + patience.old.left) }
+        → length text.old.items + retries_left retries.new
+        < length text.new.items + retries_left retries.old) }
 {
     let mut part = [0u8; MOST_PART];
     let room = MOST_PART.min(MOST_TEXT + 1 - text.len());
@@ -61,7 +62,7 @@ fn read_part<A: Allocator, R: Read>(
             Ok(true)
         }
         Err(fault) => {
-            if patience.tries_again(&fault) {
+            if retries.tries_again(&fault) {
                 Ok(true)
             } else {
                 Err(TextError::Fault)
@@ -70,18 +71,18 @@ fn read_part<A: Allocator, R: Read>(
     }
 }
 
-/// Reads a text to its end, or to the byte that makes it too long.
+/// Reads a text to its end, or up to the byte that makes it too long.
 pub(crate) fn read_text<A: Allocator, R: Read>(
     alloc: A,
     reader: &mut R,
-    patience: &mut Patience,
+    retries: &mut Retries,
 ) -> Result<Vec<u8, A>, TextError>
     ensures { IfOk result (λ text.
         IsTextOf (R.remaining reader.old) (R.remaining reader.new) text.items) }
 {
     let mut text = Vec::new(alloc);
     'parts: while text.len() <= MOST_TEXT {
-        if !read_part(reader, &mut text, patience)? {
+        if !read_part(reader, &mut text, retries)? {
             break;
         }
     }
@@ -95,7 +96,7 @@ fn is_space(byte: u8) -> bool
     matches!(byte, b'\t' | b'\n' | 12 | b'\r' | b' ')
 }
 
-/// Takes the spaces out of a text.
+/// Removes the spaces of a text.
 pub(crate) fn drop_spaces<A: Allocator>(text: &mut Vec<u8, A>)
     ensures { text.new.items ≡ without_spaces text.old.items }
 {

@@ -1,10 +1,1 @@
 pub mod Status
-pub mod Writing
-pub mod Found
-pub mod Line
-pub mod ByWords
-pub mod Chosen
-pub mod Shown
-pub mod Replies
-pub mod Reading
-pub mod State

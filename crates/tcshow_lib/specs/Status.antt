@@ -1,14 +1,15 @@
 -- The exit status.
 use Rattle.std.specs.Prelude.{ℕ, Bool, true, false, Result, Ok, Err}
-use Rattle.tcshow_lib.specs.declared.status.Stop.{Stop}
-use Rattle.tcshow_lib.specs.declared.status.Stop.TheVariants.{NoCapture, NoRoute, Closed, Read, Write, NoMemory}
+use Rattle.tcshow_input.specs.declared.stop.Stop.{Stop}
+use Rattle.tcshow_input.specs.declared.stop.Stop.TheVariants.{NoCapture, NoRoute, Closed, Read, Write, NoMemory}
 
 -- 1 if something was refused
 abbrev pub refused_status : Bool → ℕ
 refused_status true = 1
 refused_status false = 0
 
--- a stream that failed comes before an input without route netlink, and this before what was refused; a closed output ends a run as its input does
+-- 3 for a failed stream, 2 for an input without messages of route netlink, else 1 if something was refused; a closed output counts as the end of
+-- the input
 abbrev pub status_of : {X : Type 0} → Result X Stop → Bool → ℕ
 status_of (Err Read) refused = 3
 status_of (Err Write) refused = 3

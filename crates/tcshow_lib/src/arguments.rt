@@ -1,66 +1,66 @@
-//! The arguments of the program.
+//! Arguments of the program.
 
-use crate::asked::Form;
+use crate::options::OutputFormat;
 use clap::{Arg, ArgAction, ArgGroup, ArgMatches, Command, Error, value_parser};
 use std::alloc::{AllocError, Global};
 use std::convert::AsStr;
-use tc_capture::Holds;
+use tc_capture::MessageType;
 
-/// What the program does.
+/// Operation.
 #[derive(Clone, Copy, PartialEq, Eq)]
 pub enum Task<'a> {
-    /// It shows messages.
+    /// Print messages.
     Show,
-    /// It says what the attributes of this kind are; without a kind those of all.
+    /// Print the attributes of a kind, or the names of all kinds.
     Explain(Option<&'a str>),
-    /// It prints the JSON Schema of a line.
+    /// Print the JSON Schema of a line.
     Schema,
 }
 
-/// What the arguments say. Words of options are as they were given.
+/// Arguments. Values of filters are unparsed.
 #[derive(Drop)]
-pub struct Request<'a> {
-    /// What the program does.
+pub struct Arguments<'a> {
+    /// Operation.
     pub task: Task<'a>,
-    /// The file that is read; standard input where there is none.
+    /// Input file; `None` for standard input.
     pub file: Option<&'a str>,
-    /// The file with the names of interfaces.
+    /// File with names of interfaces (`--names`).
     pub names: Option<&'a str>,
-    /// How messages are shown.
-    pub form: Form,
-    /// True if paddings are shown too.
+    /// Output format.
+    pub format: OutputFormat,
+    /// True if outlines have padding attributes too (`--all`).
     pub all: bool,
-    /// What lines of hex without a netlink header are.
-    pub without_header: Option<Holds>,
-    /// The kinds of the messages that are shown, or of their actions.
+    /// Message type of lines of hex that have no netlink header (`--no-header`).
+    pub without_header: Option<MessageType>,
+    /// Kinds given with `--kind`.
     pub kinds: Vec<&'a str>,
-    /// Their types.
+    /// Message types given with `--type`, unparsed.
     pub types: Vec<&'a str>,
-    /// The numbers or the names of their interfaces.
+    /// Interfaces given with `--dev`, by number or name.
     pub interfaces: Vec<&'a str>,
-    /// Their handles.
+    /// Handles given with `--handle`, unparsed.
     pub handles: Vec<&'a str>,
-    /// Their parents.
+    /// Parents given with `--parent`, unparsed.
     pub parents: Vec<&'a str>,
-    /// The chains of filters.
+    /// Chains given with `--chain`.
     pub chains: Vec<u32>,
-    /// The priorities of filters.
+    /// Priorities given with `--pref`.
     pub priorities: Vec<u32>,
-    /// When they were captured at the earliest.
+    /// Earliest time of capture (`--since`), unparsed.
     pub since: Option<&'a str>,
-    /// When they were captured at the latest.
+    /// Latest time of capture (`--until`), unparsed.
     pub until: Option<&'a str>,
-    /// True if only refused messages are shown.
+    /// True if only refused messages are printed (`--refused`).
     pub refused: bool,
-    /// True if the messages are counted at the end.
+    /// True if a summary is printed at the end (`--summary`).
     pub has_summary: bool,
-    /// When outlines are in colours.
+    /// When outlines are colored (`--color`).
     pub colours: Colours,
-    /// True if they are, where that is settled.
+    /// Whether outlines are colored, once decided.
     pub in_colours: bool,
 }
 
-/// When outlines are in colours.
+/// When outlines are colored.
 #[derive(Clone, Copy, PartialEq, Eq)]
 pub enum Colours {
     /// On a terminal.
@@ -72,7 +72,7 @@ pub enum Colours {
 }
 
 impl Colours {
-    // True if they are, on a terminal that allows them or not.
+    // Whether outlines are colored, if the terminal allows color or not.
     pub(crate) fn are_on(self, is_allowed: bool) -> bool {
         match self {
             Colours::Auto => is_allowed,
@@ -100,35 +100,35 @@ Captures of big-endian hosts can be opened, but their netlink messages, which ar
 Exit status: 0; 1 if a message that is shown is refused, or the input is broken or cut; 2 for a wrong usage, no capture,
 or a capture without route netlink; 3 if a stream failed or memory ran out";
 
-// What the options are below in the help.
+// Headings of the help.
 const INPUT: &str = "What is read";
 
 const FORMS: &str = "How messages are shown";
 
-const CHOICE: &str = "Which messages are shown";
+const FILTERS: &str = "Which messages are shown";
 
 const TABLES: &str = "What there is";
 
-// What stands behind an option.
+// The value of an option.
 #[derive(Clone, Copy)]
 enum Value {
-    // Nothing.
+    // No value.
     Nothing,
-    // A text, called so.
+    // A text; the placeholder in the help.
     Text(&'static str),
-    // A text or nothing.
+    // A text, or no value.
     TextOrNothing(&'static str),
     // One of these words.
     Word(&'static str, &'static [&'static str]),
-    // A text, as often as the option is given.
+    // Texts: the option can be repeated.
     Texts(&'static str),
-    // A number of 32 bits, as often.
+    // Numbers of 32 bits: the option can be repeated.
     Numbers(&'static str),
-    // A number of 16 bits, as often.
+    // Numbers of 16 bits: the option can be repeated.
     ShortNumbers(&'static str),
 }
 
-// The options: the name, what stands behind it, and what the help says below which heading.
+// The options: name, value, heading and text of the help.
 static OPTIONS: [(&str, Value, &str, &str); 19] = [
     (
         "no-header",
@@ -175,61 +175,61 @@ static OPTIONS: [(&str, Value, &str, &str); 19] = [
     (
         "kind",
         Value::Texts("KIND"),
-        CHOICE,
+        FILTERS,
         "Show messages of this kind, and filters and action messages with an action of it",
     ),
     (
         "type",
         Value::Texts("TYPE"),
-        CHOICE,
+        FILTERS,
         "Show messages of this type: newtclass, RTM_NEWTCLASS, tclass for all three, or a number",
     ),
     (
         "dev",
         Value::Texts("DEV"),
-        CHOICE,
+        FILTERS,
         "Show messages of the interface with this number or name",
     ),
     (
         "handle",
         Value::Texts("HANDLE"),
-        CHOICE,
+        FILTERS,
         "Show messages with this handle",
     ),
     (
         "parent",
         Value::Texts("HANDLE"),
-        CHOICE,
+        FILTERS,
         "Show messages with this parent",
     ),
     (
         "chain",
         Value::Numbers("CHAIN"),
-        CHOICE,
+        FILTERS,
         "Show filters of this chain, and the chain",
     ),
     (
         "pref",
         Value::ShortNumbers("PREF"),
-        CHOICE,
+        FILTERS,
         "Show filters of this priority",
     ),
     (
         "since",
         Value::Text("TIME"),
-        CHOICE,
+        FILTERS,
         "Show messages captured at this time or later",
     ),
     (
         "until",
         Value::Text("TIME"),
-        CHOICE,
+        FILTERS,
         "Show messages captured at this time or earlier",
     ),
     (
         "refused",
         Value::Nothing,
-        CHOICE,
+        FILTERS,
         "Show messages that are refused, and refusals and warnings of the kernel",
     ),
     (
@@ -301,12 +301,12 @@ fn with_form<'a>(option: Arg<'a>, value: Value) -> Arg<'a> {
     }
 }
 
-// A text or nothing, which is the empty text then.
+// A text, which is empty if the option has no value.
 fn or_nothing<'a>(option: Arg<'a>) -> Arg<'a> {
     option.num_args(0..=1).default_missing_value("")
 }
 
-// The file, which may stand behind `--read` too.
+// The input file, which `--read` can name too.
 fn file<'a>(alloc: Global) -> Result<Arg<'a>, AllocError> {
     Arg::new(alloc, "FILE")
         .value_name("FILE")
@@ -335,12 +335,12 @@ fn begun<'a>(alloc: Global) -> Result<Command<'a>, AllocError> {
         .arg(file)
 }
 
-// How messages are shown; no two of these go together.
+// Output formats, which exclude one another.
 fn form_group<'a>(alloc: Global) -> Result<ArgGroup<'a>, AllocError> {
     ArgGroup::new(alloc, "forms").arg("oneline")?.arg("json")
 }
 
-// What is shown of the tables; no two of these go together.
+// Options about the tables, which exclude one another.
 fn table_group<'a>(alloc: Global) -> Result<ArgGroup<'a>, AllocError> {
     ArgGroup::new(alloc, "tables").arg("explain")?.arg("schema")
 }
@@ -363,13 +363,13 @@ fn command<'a>(alloc: Global) -> Result<Command<'a>, AllocError> {
     Ok(command)
 }
 
-fn form_of(matches: &ArgMatches<'_>) -> Form {
+fn format_of(matches: &ArgMatches<'_>) -> OutputFormat {
     if matches.get_flag("json") {
-        Form::Json
+        OutputFormat::Json
     } else if matches.get_flag("oneline") {
-        Form::OneLine
+        OutputFormat::OneLine
     } else {
-        Form::Lines
+        OutputFormat::Lines
     }
 }
 
@@ -381,10 +381,10 @@ fn colours_of(matches: &ArgMatches<'_>) -> Colours {
     }
 }
 
-fn without_header(matches: &ArgMatches<'_>) -> Option<Holds> {
+fn without_header(matches: &ArgMatches<'_>) -> Option<MessageType> {
     match matches.get_str("no-header") {
-        Some("tc") => Some(Holds::Tc),
-        Some("action") => Some(Holds::Action),
+        Some("tc") => Some(MessageType::Tc),
+        Some("action") => Some(MessageType::Action),
         _ => None,
     }
 }
@@ -400,7 +400,7 @@ fn task_of<'a>(matches: &ArgMatches<'a>) -> Task<'a> {
     }
 }
 
-// Puts the words of an option behind those that are there.
+// Appends the words of an option.
 fn put_words<'a>(
     matches: &ArgMatches<'a>,
     name: &str,
@@ -412,7 +412,7 @@ fn put_words<'a>(
     }
 }
 
-// The numbers of an option, which the parser knows to be numbers.
+// Appends the numbers of an option. The parser has checked that they are numbers.
 fn put_numbers(matches: &ArgMatches<'_>, name: &str, all: &mut Vec<u32>) -> Result<(), AllocError> {
     let Some(words) = matches.get_strs(name) else {
         return Ok(());
@@ -425,16 +425,16 @@ fn put_numbers(matches: &ArgMatches<'_>, name: &str, all: &mut Vec<u32>) -> Resu
     Ok(())
 }
 
-// What the arguments say beside the values that choose messages.
-fn begun_request<'a>(alloc: Global, matches: &ArgMatches<'a>) -> Request<'a> {
-    Request {
+// The arguments without the values of filters.
+fn base_arguments<'a>(alloc: Global, matches: &ArgMatches<'a>) -> Arguments<'a> {
+    Arguments {
         task: task_of(matches),
         file: match matches.get_str("FILE") {
             Some(file) => Some(file),
             None => matches.get_str("read"),
         },
         names: matches.get_str("names"),
-        form: form_of(matches),
+        format: format_of(matches),
         all: matches.get_flag("all"),
         without_header: without_header(matches),
         kinds: Vec::new(alloc),
@@ -453,26 +453,29 @@ fn begun_request<'a>(alloc: Global, matches: &ArgMatches<'a>) -> Request<'a> {
     }
 }
 
-// Puts the values that choose messages.
-fn put_choice<'a>(matches: &ArgMatches<'a>, request: &mut Request<'a>) -> Result<(), AllocError> {
-    put_words(matches, "kind", &mut request.kinds)?;
-    put_words(matches, "type", &mut request.types)?;
-    put_words(matches, "dev", &mut request.interfaces)?;
-    put_words(matches, "handle", &mut request.handles)?;
-    put_words(matches, "parent", &mut request.parents)?;
-    put_numbers(matches, "chain", &mut request.chains)?;
-    put_numbers(matches, "pref", &mut request.priorities)
+// Adds the values of filters.
+fn put_filter_values<'a>(
+    matches: &ArgMatches<'a>,
+    arguments: &mut Arguments<'a>,
+) -> Result<(), AllocError> {
+    put_words(matches, "kind", &mut arguments.kinds)?;
+    put_words(matches, "type", &mut arguments.types)?;
+    put_words(matches, "dev", &mut arguments.interfaces)?;
+    put_words(matches, "handle", &mut arguments.handles)?;
+    put_words(matches, "parent", &mut arguments.parents)?;
+    put_numbers(matches, "chain", &mut arguments.chains)?;
+    put_numbers(matches, "pref", &mut arguments.priorities)
 }
 
-fn request_in<'a>(alloc: Global, matches: &ArgMatches<'a>) -> Result<Request<'a>, Error> {
-    let mut request = begun_request(alloc, matches);
-    put_choice(matches, &mut request)?;
-    Ok(request)
+fn arguments_in<'a>(alloc: Global, matches: &ArgMatches<'a>) -> Result<Arguments<'a>, Error> {
+    let mut arguments = base_arguments(alloc, matches);
+    put_filter_values(matches, &mut arguments)?;
+    Ok(arguments)
 }
 
-/// What the arguments say, the program's name first. The error is a mistake in them, a request for help or for the
-/// version, or that memory ran out.
-pub fn request_of<'a, S: AsStr>(alloc: Global, words: &'a [S]) -> Result<Request<'a>, Error> {
+/// Parses arguments, the program's name first. The error is a mistake in them, a request for help or for the version, or
+/// that memory ran out.
+pub fn arguments_of<'a, S: AsStr>(alloc: Global, words: &'a [S]) -> Result<Arguments<'a>, Error> {
     let matches = command(alloc)?.try_get_matches_from(words)?;
-    request_in(alloc, &matches)
+    arguments_in(alloc, &matches)
 }

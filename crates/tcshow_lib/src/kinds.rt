@@ -1,20 +1,20 @@
-//! The kinds that the tables have.
+//! The kinds in the tables.
 
 use crate::notes::{notes_of_kinds, places_of_kinds};
+use forms_kinds::{ACTION_LIST, ACTION_MESSAGE, TC_LIST, TC_MESSAGE, TcTables};
 use std::alloc::{AllocError, Allocator};
 use std::fmt;
-use tc_kinds::{ACTION_LIST, ACTION_MESSAGE, TC_LIST, TC_MESSAGE, TcTables};
 use tc_schema::{Note, kinds_of, knows_kind, put_kind, put_schema};
 
-/// The places of the lists with kinds: of qdiscs and filters, and of actions.
+// The places of the lists with kinds: of qdiscs and filters, and of actions.
 const LISTS: [usize; 2] = [TC_LIST, ACTION_LIST];
 
-/// True of a kind that a table has.
+/// True if the tables have the kind.
 pub(crate) fn is_known(kind: &str) -> bool {
     knows_kind(TcTables, TC_LIST, kind) || knows_kind(TcTables, ACTION_LIST, kind)
 }
 
-/// Writes all kinds, one a line.
+/// Writes the names of all kinds, one a line.
 pub fn write_all_kinds<W: fmt::Write>(out: &mut W) -> fmt::Result {
     for place in &LISTS {
         for one in kinds_of(TcTables, *place) {
@@ -25,7 +25,7 @@ pub fn write_all_kinds<W: fmt::Write>(out: &mut W) -> fmt::Result {
     Ok(())
 }
 
-/// Puts what the attributes of a kind are; nothing for a kind that no table has.
+/// Appends the attributes of a kind: names, forms and units. Appends nothing for an unknown kind.
 pub fn explain<A: Allocator + Copy>(
     alloc: A,
     kind: &str,
@@ -35,7 +35,6 @@ pub fn explain<A: Allocator + Copy>(
     put_kinds(notes.as_slice(), kind, out)
 }
 
-// Puts what both lists of kinds have of one.
 fn put_kinds<A: Allocator>(
     notes: &[Note],
     kind: &str,
@@ -47,7 +46,7 @@ fn put_kinds<A: Allocator>(
     Ok(())
 }
 
-/// Puts the JSON Schema of a line.
+/// Appends the JSON Schema of a line.
 pub(crate) fn put_schema_of_line<A: Allocator + Copy>(
     alloc: A,
     out: &mut Vec<u8, A>,

@@ -1,8 +1,8 @@
-//! The names of interfaces.
+//! Names of interfaces.
 
-pub use tc_names::names_in;
+pub use tc_select::names_in;
 
-/// The number of an interface that is given by its number or its name.
+/// The number of an interface, from its number or its name.
 pub(crate) fn interface_of(names: &[(u32, &str)], word: &str) -> Option<u32> {
     for (number, name) in names {
         if *name == word {

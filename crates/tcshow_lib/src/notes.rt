@@ -1,10 +1,10 @@
 //! What the columns tell of each member of the table, for explanations.
 
+use forms_kinds::{PLACES, TcTables};
+use forms_values::{Form, Part, Tables};
 use std::alloc::{AllocError, Allocator};
 use tc_columns::{KindColumns, Root, kernel_name};
-use tc_form_values::{Form, Part, Tables};
-use tc_kinds::{PLACES, TcTables};
-use tc_lines::{Column, Columns, How};
+use tc_lines::{Column, Columns, Display};
 use tc_schema::{Note, unit_in_words};
 use tc_units::{Name, Unit};
 
@@ -70,11 +70,11 @@ fn kernel_of(names: &[Name<'static>], number: u64) -> &'static str {
 }
 
 fn note_of_column(place: usize, column: Column<'static>) -> Note {
-    let (unit, names, numbers) = match column.how {
-        How::Number(unit) => (unit_in_words(unit), 0, Unit::Plain),
-        How::Named(unit, names) => (unit_in_words(unit), names, unit_of_numbers(unit)),
-        How::Flags(names) => ("", names, Unit::Hex),
-        How::Interface => ("interface", 0, Unit::Plain),
+    let (unit, names, numbers) = match column.display {
+        Display::Number(unit) => (unit_in_words(unit), 0, Unit::Plain),
+        Display::Named(unit, names) => (unit_in_words(unit), names, unit_of_numbers(unit)),
+        Display::Flags(names) => ("", names, Unit::Hex),
+        Display::Interface => ("interface", 0, Unit::Plain),
         _ => ("", 0, Unit::Plain),
     };
     Note {

@@ -1,142 +1,137 @@
-//! A whole run.
+//! A run over an input.
 
 ghost use Rattle.std.specs.Prelude.{◌≡◌, ◌≢◌, false, List, OnOk};
 ghost use Rattle.tc_input.specs.Left.{rest_of, left_of};
-ghost use Rattle.tcshow_lib.specs.Found.{Thing};
-ghost use Rattle.tcshow_lib.specs.Reading.{AreIn, Begins};
-ghost use Rattle.tcshow_lib.specs.declared.asked.Form.TheVariants.{Json};
-ghost use Rattle.tcshow_lib.specs.State.{state_of, Progress, Ends, Completes, Ran};
-ghost use Rattle.tcshow_lib.specs.Writing.{GrowsClean};
+ghost use Rattle.tcshow_json.specs.Messages.{Thing};
+ghost use Rattle.tcshow_input.specs.Reading.{AreIn, Begins};
+ghost use Rattle.tcshow_input.specs.declared.options.OutputFormat.TheVariants.{Json};
+ghost use Rattle.tcshow_input.specs.State.{state_of, Progress, Ends, Completes, Ran};
+ghost use Rattle.tcshow_input.specs.Writing.{GrowsClean};
 
-use crate::asked::Asked;
-use crate::capture::show_capture;
-use crate::lines::{is_hex_text, show_lines};
-use crate::packets::Packets;
-use crate::shower::Shower;
-use crate::status::Stop;
 use std::alloc::{Allocator, Global};
 use std::io::{Read, Write};
 use tc_capture::Capture;
 use tc_input::Input;
+use tcshow_input::{Options, Packets, Printer, Stop, is_hex_text, show_capture, show_lines};
 
 /// How a run ended.
 #[derive(Clone, Copy)]
 pub struct Ended {
     /// Why it ended before the end of its input, if it did.
     pub outcome: Result<(), Stop>,
-    /// True if a message was refused, or the input is broken or cut somewhere.
+    /// True if a message was refused, or the input is broken or cut.
     pub has_refused: bool,
-    /// The packets of the capture.
+    /// Counts of the capture's packets.
     pub packets: Packets,
 }
 
-/// Shows all messages of an input. What is shown is written before the next read, and at the end.
+/// Prints the messages of an input. Text is written before each read, and at the end.
 pub fn run<A: Allocator + Copy, R: Read, W: Write>(
     alloc: A,
     json: Global,
-    asked: &Asked<'_>,
+    options: &Options<'_>,
     reader: &mut R,
     writer: &mut W,
 ) -> Ended
-    ensures ran { OnOk result.outcome (Ran asked.now result.has_refused (R.remaining reader.old) (W.contents writer.old) (W.contents writer.new)) }
-    ensures clean { asked.now.form ≢ Json → GrowsClean (W.contents writer.old) (W.contents writer.new) }
+    ensures ran { OnOk result.outcome (Ran options.now result.has_refused (R.remaining reader.old) (W.contents writer.old) (W.contents writer.new)) }
+    ensures clean { options.now.format ≢ Json → GrowsClean (W.contents writer.old) (W.contents writer.new) }
 {
-    let mut shower = Shower::new(alloc, json, asked);
-    let mut packets = Packets::default();
-    let outcome = show_and_write(&mut shower, &mut packets, reader, writer);
+    let mut printer = Printer::new(alloc, json, options);
+    let mut packets = Packets::new();
+    let outcome = show_and_write(&mut printer, &mut packets, reader, writer);
     Ended {
         outcome,
-        has_refused: shower.counts.has_refused(),
+        has_refused: printer.counts.has_refused(),
         packets,
     }
 }
 
-// Shows all messages, and writes what is shown, however it ends.
+// Prints all messages, and writes the rest of the text, however the run ends.
 fn show_and_write<A: Allocator + Copy, R: Read, W: Write>(
-    shower: &mut Shower<'_, A>,
+    printer: &mut Printer<'_, A>,
     packets: &mut Packets,
     reader: &mut R,
     writer: &mut W,
 ) -> Result<(), Stop>
     requires { packets.old.count ≡ 0 }
-    ensures clean { shower.old.output.is_json ≡ false → GrowsClean (W.contents writer.old) (W.contents writer.new) }
-    ensures ran { OnOk result ((things : List Thing) × AreIn (R.remaining reader.old) (state_of shower.old).header things
-        × Completes things (W.contents writer.old) (W.contents writer.new) (state_of shower.old) (state_of shower.new)) }
+    ensures clean { printer.old.output.is_json ≡ false → GrowsClean (W.contents writer.old) (W.contents writer.new) }
+    ensures ran { OnOk result ((things : List Thing) × AreIn (R.remaining reader.old) (state_of printer.old).header things
+        × Completes things (W.contents writer.old) (W.contents writer.new) (state_of printer.old) (state_of printer.new)) }
 {
-    match show(shower, packets, reader, writer) {
-        Ok(()) => shower.write(writer),
+    match show(printer, packets, reader, writer) {
+        Ok(()) => printer.write(writer),
         Err(stop) => {
-            let _ = shower.write(writer);
+            let _ = printer.write(writer);
             Err(stop)
         }
     }
 }
 
-// Shows all messages, and their summary.
-#[tactic(auto, using(crate::proofs::Clean::clean_none))]
+// Prints all messages and the summary.
+#[tactic(auto, using(tcshow_input::proofs::Clean::clean_none))]
 fn show<A: Allocator + Copy, R: Read, W: Write>(
-    shower: &mut Shower<'_, A>,
+    printer: &mut Printer<'_, A>,
     packets: &mut Packets,
     reader: &mut R,
     writer: &mut W,
 ) -> Result<(), Stop>
     requires { packets.old.count ≡ 0 }
-    ensures form { shower.new.output.is_json ≡ shower.old.output.is_json }
-    ensures clean { shower.old.output.is_json ≡ false → GrowsClean (W.contents writer.old) (W.contents writer.new) }
-    ensures ran { OnOk result ((things : List Thing) × AreIn (R.remaining reader.old) (state_of shower.old).header things
-        × Ends things (W.contents writer.old) (W.contents writer.new) (state_of shower.old) (state_of shower.new)) }
+    ensures form { printer.new.output.is_json ≡ printer.old.output.is_json }
+    ensures clean { printer.old.output.is_json ≡ false → GrowsClean (W.contents writer.old) (W.contents writer.new) }
+    ensures ran { OnOk result ((things : List Thing) × AreIn (R.remaining reader.old) (state_of printer.old).header things
+        × Ends things (W.contents writer.old) (W.contents writer.new) (state_of printer.old) (state_of printer.new)) }
 {
-    let mut input = Input::begin(shower.alloc, reader)?;
-    show_all(shower, packets, &mut input, reader, writer)
+    let mut input = Input::begin(printer.alloc, reader)?;
+    show_all(printer, packets, &mut input, reader, writer)
 }
 
-// The same of an input of which the first bytes were read.
-#[tactic(auto, using(crate::proofs::Clean::clean_none))]
+// Prints the messages of an input whose first bytes were read, and the summary.
+#[tactic(auto, using(tcshow_input::proofs::Clean::clean_none))]
 fn show_all<A: Allocator + Copy, R: Read, W: Write>(
-    shower: &mut Shower<'_, A>,
+    printer: &mut Printer<'_, A>,
     packets: &mut Packets,
     input: &mut Input<A>,
     reader: &mut R,
     writer: &mut W,
 ) -> Result<(), Stop>
     requires { packets.old.count ≡ 0 }
-    ensures form { shower.new.output.is_json ≡ shower.old.output.is_json }
-    ensures clean { shower.old.output.is_json ≡ false → GrowsClean (W.contents writer.old) (W.contents writer.new) }
+    ensures form { printer.new.output.is_json ≡ printer.old.output.is_json }
+    ensures clean { printer.old.output.is_json ≡ false → GrowsClean (W.contents writer.old) (W.contents writer.new) }
     ensures ran { OnOk result ((things : List Thing)
-        × Begins (rest_of input.old) (left_of input.old (R.remaining reader.old)) (state_of shower.old).header things
-        × Ends things (W.contents writer.old) (W.contents writer.new) (state_of shower.old) (state_of shower.new)) }
+        × Begins (rest_of input.old) (left_of input.old (R.remaining reader.old)) (state_of printer.old).header things
+        × Ends things (W.contents writer.old) (W.contents writer.new) (state_of printer.old) (state_of printer.new)) }
 {
-    show_input(shower, packets, input, reader, writer)?;
-    shower.put_summary()?;
+    show_input(printer, packets, input, reader, writer)?;
+    printer.put_summary()?;
     if packets.are_foreign() {
         return Err(Stop::NoRoute);
     }
     Ok(())
 }
 
-// Shows a capture, or lines of hex.
-#[tactic(auto, using(crate::proofs::Clean::clean_none))]
+// Prints the messages of a capture, or of lines of hex.
+#[tactic(auto, using(tcshow_input::proofs::Clean::clean_none))]
 fn show_input<A: Allocator + Copy, R: Read, W: Write>(
-    shower: &mut Shower<'_, A>,
+    printer: &mut Printer<'_, A>,
     packets: &mut Packets,
     input: &mut Input<A>,
     reader: &mut R,
     writer: &mut W,
 ) -> Result<(), Stop>
     requires { packets.old.count ≡ 0 }
-    ensures form { shower.new.output.is_json ≡ shower.old.output.is_json }
-    ensures clean { shower.old.output.is_json ≡ false → GrowsClean (W.contents writer.old) (W.contents writer.new) }
+    ensures form { printer.new.output.is_json ≡ printer.old.output.is_json }
+    ensures clean { printer.old.output.is_json ≡ false → GrowsClean (W.contents writer.old) (W.contents writer.new) }
     ensures ran { OnOk result ((things : List Thing)
-        × Begins (rest_of input.old) (left_of input.old (R.remaining reader.old)) (state_of shower.old).header things
-        × Progress things (W.contents writer.old) (W.contents writer.new) (state_of shower.old) (state_of shower.new)) }
+        × Begins (rest_of input.old) (left_of input.old (R.remaining reader.old)) (state_of printer.old).header things
+        × Progress things (W.contents writer.old) (W.contents writer.new) (state_of printer.old) (state_of printer.new)) }
 {
     match Capture::of_first(input.first()) {
-        Some(capture) => show_capture(shower, packets, input, capture, reader, writer),
+        Some(capture) => show_capture(printer, packets, input, capture, reader, writer),
         None => {
             if !is_hex_text(input.first()) {
                 return Err(Stop::NoCapture);
             }
-            show_lines(shower, input, reader, writer)
+            show_lines(printer, input, reader, writer)
         }
     }
 }

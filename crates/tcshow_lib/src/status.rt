@@ -2,48 +2,11 @@
 
 ghost use Rattle.std.specs.Prelude.{◌≡◌};
 ghost use Rattle.tcshow_lib.specs.Status.{refused_status, status_of};
-ghost use Rattle.tcshow_lib.specs.declared.status.Stop.TheVariants.{NoMemory};
 
-use std::alloc::AllocError;
+use tcshow_input::Stop;
 
-/// Why a run ended before the end of its input.
-#[derive(Clone, Copy, PartialEq, Eq)]
-pub enum Stop {
-    /// The input is no capture, and no lines of hex.
-    NoCapture,
-    /// The capture has packets, but none of route netlink.
-    NoRoute,
-    /// The output was closed.
-    Closed,
-    /// The input failed.
-    Read,
-    /// The output failed.
-    Write,
-    /// Memory ran out.
-    NoMemory,
-}
-
-impl From<AllocError> for Stop {
-    ghost from_gives = { λ _ e. e ≡ NoMemory };
-
-    fn from(_e: AllocError) -> Stop {
-        Stop::NoMemory
-    }
-}
-
-impl From<tc_streams::Stop> for Stop {
-    fn from(stop: tc_streams::Stop) -> Stop {
-        match stop {
-            tc_streams::Stop::Closed => Stop::Closed,
-            tc_streams::Stop::Read => Stop::Read,
-            tc_streams::Stop::Write => Stop::Write,
-            tc_streams::Stop::NoMemory => Stop::NoMemory,
-        }
-    }
-}
-
-/// The exit status: 3 if a stream failed or memory ran out, 2 if there was no capture or none of route netlink, 1 if
-/// something was refused, else 0.
+/// The exit status: 3 if a stream failed or memory ran out, 2 if the input is neither a capture nor hex or has no route
+/// netlink, 1 if something was refused, broken or cut, else 0. A closed output isn't a failure.
 pub fn status_of(outcome: Result<(), Stop>, has_refused: bool) -> u8
     ensures { result ≡ status_of outcome has_refused }
 {

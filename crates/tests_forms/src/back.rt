@@ -1,13 +1,11 @@
 //! Messages come back, whole, cut short and changed.
 
+use forms_json::{Form, Shown};
+use forms_kinds::{ACTION_MESSAGE, TC_MESSAGE, TcTables};
+use forms_text::bytes_of_text;
 use std::alloc::Global;
 use std::test::Fail;
-use tc_forms::{Form, Shown};
-use tc_forms_text::bytes_of_text;
-use tc_kinds::{ACTION_MESSAGE, TC_MESSAGE, TcTables};
-use tests_messages::{
-    self as messages, Input, Row, captured, cut_and_changed, large_messages, made,
-};
+use tests_data::{self as messages, Input, Row, captured, cut_and_changed, large_messages, made};
 
 /// The form of a message.
 pub(crate) fn form_of(form: messages::Form) -> Form {
@@ -17,7 +15,7 @@ pub(crate) fn form_of(form: messages::Form) -> Form {
     }
 }
 
-/// True if bytes are made of the text of what is shown of them.
+/// True if the text of the JSON of bytes leads back to them.
 pub(crate) fn come_back(alloc: Global, form: Form, bytes: &[u8]) -> Result<bool, Fail> {
     let shown = Shown {
         table: TcTables,
@@ -32,7 +30,7 @@ pub(crate) fn come_back(alloc: Global, form: Form, bytes: &[u8]) -> Result<bool,
     }
 }
 
-// How many of these don't come back.
+// Counts the inputs that don't come back.
 fn lost(alloc: Global, inputs: &[Input]) -> Result<usize, Fail> {
     let mut lost = 0usize;
     for input in inputs {
@@ -43,7 +41,7 @@ fn lost(alloc: Global, inputs: &[Input]) -> Result<usize, Fail> {
     Ok(lost)
 }
 
-// How many there are of these messages, cut at every length and with each byte changed, and how many of them don't come back.
+// The number of these messages, cut at every length and with each byte changed, and how many of them don't come back.
 fn lost_of(alloc: Global, rows: &[Row]) -> Result<(usize, usize), Fail> {
     let (mut count, mut missing) = (0usize, 0usize);
     for row in rows {

@@ -1,10 +1,10 @@
-//! Tests alone, of messages through JSON and back by forms: whatever the bytes are, they come back; and of JSON of which none are made.
+//! Tests of bytes through JSON and back: all bytes come back; and of JSON that can't be turned into bytes.
 #![tactic(auto)]
 
 #[cfg(test)]
 mod back;
 #[cfg(test)]
-mod lines;
+mod known;
 #[cfg(test)]
 mod order;
 #[cfg(test)]

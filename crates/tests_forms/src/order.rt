@@ -1,12 +1,12 @@
 //! The order of members makes no difference.
 
+use forms_kinds::{TC_MESSAGE, TcTables};
+use forms_text::bytes_of_text;
 use std::alloc::Global;
 use std::test::Fail;
-use tc_forms_text::bytes_of_text;
-use tc_kinds::{TC_MESSAGE, TcTables};
 
-// The same message twice: its members as they are shown, and in another order. Its bytes in hex: a header with padding, a kind without
-// its NUL and with a flag, options with another word, a record with a byte behind it, and an attribute that is padded with other bytes.
+// The same message twice: its members in the order of showing, and in another order. Its bytes in hex: a header with padding, a kind without
+// its NUL and with a flag, options with another `nla_type`, a record with a byte after it, and an attribute with other padding.
 #[rattlefmt::skip]
 static TEXTS: [&str; 2] = [
     r#"{"header":{"family":"Inet","padding":"010203","index":-3,"handle":"1:10","parent":"root","info":5},"attributes":[

@@ -1,11 +1,11 @@
-//! Pseudo-random bytes come back in both modes.
+//! Pseudo-random bytes come back as both messages.
 
 use crate::back::come_back;
+use forms_kinds::{ACTION_MESSAGE, TC_MESSAGE};
 use rand_core::Rng;
 use rand_pcg::Pcg32;
 use std::alloc::{AllocError, Global};
 use std::test::Fail;
-use tc_kinds::{ACTION_MESSAGE, TC_MESSAGE};
 
 // Up to 199 bytes.
 fn random_bytes(alloc: Global, random: &mut Pcg32) -> Result<Vec<u8>, AllocError> {
@@ -15,7 +15,7 @@ fn random_bytes(alloc: Global, random: &mut Pcg32) -> Result<Vec<u8>, AllocError
     Ok(bytes)
 }
 
-// The same bytes as attributes of up to 27 bytes and of the types up to 15, from a place on.
+// Turns bytes from a place on into attributes of up to 27 bytes, of types up to 15.
 fn cut_into_attributes(bytes: &mut [u8], first: usize) {
     let mut at = first;
     for _ in 0..bytes.len() {
@@ -31,7 +31,7 @@ fn cut_into_attributes(bytes: &mut [u8], first: usize) {
     }
 }
 
-// How many of so many don't come back: a third random bytes, a third attributes behind either header.
+// Counts the inputs that don't come back: one third is random, one third has attributes after each header.
 fn lost(alloc: Global, rounds: u32) -> Result<usize, Fail> {
     let mut random = Pcg32::new(42, 54);
     let mut lost = 0usize;

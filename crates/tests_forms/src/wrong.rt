@@ -1,11 +1,11 @@
-//! Texts of which no bytes are made: the error names the place, what was found and what is wanted.
+//! Texts that can't be turned into bytes: the error has the place, the JSON that was found and the JSON that is wanted.
 
+use forms_kinds::{TC_MESSAGE, TcTables};
+use forms_text::{TextError, bytes_of_text};
 use std::alloc::Global;
 use std::test::Fail;
-use tc_forms_text::{TextError, bytes_of_text};
-use tc_kinds::{TC_MESSAGE, TcTables};
 
-// Attributes of a traffic control message, and the error of the message.
+// Attributes of a traffic control message, and the message's error.
 #[rattlefmt::skip]
 static ATTRIBUTES: [(&str, &str); 31] = [
     // names
@@ -78,7 +78,7 @@ fn error_of(alloc: Global, text: &[u8]) -> Result<String, Fail> {
     }
 }
 
-// The error of a message with a header and these attributes.
+// The error for a message with a header and these attributes.
 fn error_of_attributes(alloc: Global, attributes: &str) -> Result<String, Fail> {
     let header =
         r#"{"header":{"family":"Unspec","index":2,"handle":"1:","parent":"root","info":0},"attributes":["#;
@@ -117,7 +117,7 @@ fn a_thousand_levels(rt: HostRuntime) -> Result<(), Fail> {
     Ok(())
 }
 
-// One byte more than an attribute has room for.
+// One byte more than fits into an attribute.
 #[test]
 fn a_value_that_is_too_long(rt: HostRuntime) -> Result<(), Fail> {
     let alloc = rt.alloc();

@@ -1,5 +1,6 @@
-//! Units and names that a kind has of its own, beside what tc of iproute2 6.1 prints. The messages are Linux's and iproute2's without
-//! their statistics; GRED has one queue of a dump, FQ one option, QFQ its statistics alone, and SKBEDIT a priority too.
+//! Units and names that only one kind has, with the output of tc (iproute2 6.1) in comments. The messages are Linux's
+//! and iproute2's without statistics; GRED has one queue of a dump, FQ one option, QFQ only its statistics, and SKBEDIT
+//! a priority too.
 
 use crate::known::{Known, is_known};
 use tc_columns::Root;
@@ -200,7 +201,7 @@ static PEDIT: Known = Known {
     ],
 };
 
-// A request for a chain, which has the protocol of its template where a filter has it.
+// A request for a chain; the protocol of its template is where a filter's is.
 static CHAIN: Known = Known {
     root: Root::Chain,
     digits: "000000000400000000000000f3ffffff0800000008000b0009000000",

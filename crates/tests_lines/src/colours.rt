@@ -1,8 +1,8 @@
-//! Outlines in colours.
+//! Colored outlines.
 
+use program_io::{Coloured, paint};
 use std::io::{Result, Write};
 use std::test::Fail;
-use tc_colours::{Coloured, paint};
 
 static PLAIN: &str =
     "RTM_NEWQDISC seq 5\nkind htb\noptions\n  limit 10240p\nrefused NotUtf8 offset 4\n\ncut: 212 bytes\n\nsummary\n  4 messages\n";

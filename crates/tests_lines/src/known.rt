@@ -1,19 +1,19 @@
-//! Lines of messages, written by hand from what their bytes say. The messages are Linux's and iproute2's,
-//! but for KEYS, TWICE, GOTO, CLASS and SHORT.
+//! Lines of messages, written by hand from the bytes. The messages are Linux's and iproute2's, except KEYS, TWICE,
+//! GOTO, CLASS and SHORT.
 
+use forms_kinds::TcTables;
 use std::alloc::{AllocError, Global};
 use tc_columns::{KindColumns, Root};
-use tc_kinds::TcTables;
 use tc_lines::lines_of;
 
-/// A message: its root, its bytes in hex, and its lines, of which the first goes on with the line of the header.
+/// A message: its root, its bytes in hex, and its lines, the first of which continues the line of the header.
 pub(crate) struct Known {
     pub(crate) root: Root,
     pub(crate) digits: &'static str,
     pub(crate) lines: &'static [&'static str],
 }
 
-// The lines of a message; as without memory, where its digits are none.
+// The lines of a message. Fails as if out of memory if the hex is malformed.
 fn text_of(alloc: Global, known: &Known, all: bool) -> Result<Vec<u8>, AllocError> {
     let columns = KindColumns {
         root: known.root,
@@ -336,7 +336,7 @@ static FLUSH: Known = Known {
     lines: &["", "actions", "  action 0", "    kind ct", "    count 1"],
 };
 
-// A filter of a block: a mask of a prefix and one of none, a range, flags, and an attribute that isn't known.
+// A filter of a block: a prefix mask and another mask, a range, flags, and an unknown attribute.
 static KEYS: Known = Known {
     root: Root::Filter,
     digits: "00000000ffffffff020000001500000086dd03000b000100666c6f77657200006c0002001400100020010db80000000000000000000000\
@@ -357,7 +357,7 @@ static KEYS: Known = Known {
     ],
 };
 
-// A mask and the greatest of a range, each twice: the second isn't in the line of the first.
+// A mask and the maximum of a range, each twice: the second has a line of its own.
 static TWICE: Known = Known {
     root: Root::Filter,
     digits: "000000000300000000000000f2ffffff080001000b000100666c6f77657200003400020008000c000a08000108000d00ffff000008000d00\

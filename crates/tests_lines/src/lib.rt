@@ -1,4 +1,4 @@
-//! Tests alone: of the lines of messages, of the values in them, and of colours.
+//! Tests of the lines of messages, of the values in them, and of colors.
 #![tactic(auto)]
 
 #[cfg(test)]

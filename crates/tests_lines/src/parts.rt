@@ -1,13 +1,13 @@
 //! Each attribute, field and choice of the tables of all kinds has a column.
 
+use forms_kinds::TcTables;
+use forms_values::{Choice, Field, Part, Row, Tables};
 use tc_columns::{KindColumns, Root};
-use tc_form_values::{Choice, Field, Part, Row, Tables};
-use tc_kinds::TcTables;
 use tc_lines::{Column, Columns};
 
 const PLACES: usize = 6000;
 
-// How many of the columns have this name in JSON.
+// The number of columns with this name in JSON.
 fn count(columns: &[Column<'static>], key: &str) -> usize {
     columns.iter().filter(|column| column.key == key).count()
 }
@@ -16,7 +16,7 @@ fn have_fields(columns: &[Column<'static>], fields: &[Field<'static>]) -> bool {
     fields.iter().all(|field| count(columns, field.name) == 1)
 }
 
-// An attribute that depends on the kind may stand twice among those of every kind.
+// An attribute that depends on the kind may be twice among those of every kind.
 fn have_rows(columns: &[Column<'static>], layer: &str, rows: &[Row<'static>]) -> bool {
     rows.iter().all(|row| count(columns, row.name) == 1)
         && (layer.is_empty() || count(columns, layer) == 1)

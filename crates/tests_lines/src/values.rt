@@ -1,5 +1,5 @@
-//! Known texts: what is in brackets, verdicts and handles as `tc` 6.1 writes them of a message (`tc -d monitor file`); the names of
-//! verdicts that `tc` has no name for as linux/pkt_cls.h has them.
+//! Known texts. The texts in parentheses, verdicts and handles are as `tc` 6.1 writes them (`tc -d monitor file`);
+//! verdicts without a name in `tc` have their name in linux/pkt_cls.h.
 
 use std::alloc::{AllocError, Global};
 use tc_units::{
@@ -7,7 +7,7 @@ use tc_units::{
     put_verdict,
 };
 
-// What is put.
+// The function under test.
 enum Put {
     Number(Unit),
     Verdict,
@@ -183,14 +183,14 @@ static SIGNED: [(Unit, i64, &str); 16] = [
     (Unit::Probability, -1, "-1"),
 ];
 
-// True if a number that may be below zero has this text.
+// True if a signed number has this text.
 fn is_signed(alloc: Global, unit: Unit, n: i64, text: &str) -> bool {
     let mut out = Vec::new(alloc);
     put_signed(&mut out, unit, n).is_ok() && out.as_slice() == text.as_bytes()
 }
 
 #[test]
-fn numbers_below_zero(rt: HostRuntime) {
+fn negative_numbers(rt: HostRuntime) {
     let alloc = rt.alloc();
     for (unit, n, text) in &SIGNED {
         assert!(rt; is_signed(alloc, *unit, *n, text), "{text}");

@@ -1,10 +1,10 @@
 //! Messages and their JSON, written by hand.
 
+use forms_json::{Form, Shown};
+use forms_kinds::{ACTION_MESSAGE, TC_MESSAGE, TcTables};
 use std::alloc::Global;
-use tc_forms::{Form, Shown};
-use tc_kinds::{ACTION_MESSAGE, TC_MESSAGE, TcTables};
 
-// What there is in a message, its bytes in hex, and its JSON.
+// A description of a message, its bytes in hex, and its JSON.
 static TC: &str = r#"an address family with a name, a negative interface, handles
 02000000fdffffff1000010000000180ff0102ff
 {"header":{"family":"Inet","index":-3,"handle":"1:10","parent":"8001:","info":4278321663},"attributes":[]}
@@ -36,7 +36,7 @@ two kinds in one message, a text that JSON escapes, a tag, handles
 000000000000000000000000000000000000000008000100627066004400020008000300f1ffffff08000600040302010c00070061202262225c0a00080008000100000008000900060000000c000a000123456789abcdef08000b002a0000000d0001006d61746368616c6c000000001c000200080001000000000008000300020000000500040077000000
 {"header":{"family":"Unspec","index":0,"handle":"0:0","parent":"0:0","info":0},"attributes":[{"Kind":"bpf"},{"Options":[{"Bpf":{"ClassId":"ffff:fff1"}},{"Bpf":{"ProgFd":16909060}},{"Bpf":{"ProgName":"a \"b\"\\\n"}},{"Bpf":{"Flags":1}},{"Bpf":{"FlagsGeneric":6}},{"Bpf":{"ProgTag":"0123456789abcdef"}},{"Bpf":{"ProgId":42}}]},{"Kind":"matchall"},{"Options":[{"MatchAll":{"ClassId":"0:0"}},{"MatchAll":{"Flags":2}},{"MatchAll":{"Pnct":{"raw":"77"}}}]}]}"#;
 
-// The same of action messages.
+// Action messages: description, bytes in hex, JSON.
 static ACTION: &str = r#"actions of each kind, an outcome without a name, records in records
 110000003c010100740001000b0001006d6972726564000008000300050000004c00028020000200010000000200000004000000fdffffff0400000001000000070000002400010001000000000000000200000000000000030000000000000004000000000000000400060007000600c0ffee0008000a000600000038000200080001006e6174002c000200280001000100000002000000fffffffffdffffff040000000a0000010a000002ffffff0001000000700003000f00010074756e6e656c5f6b657900005c0002001c000200010000000200000063000000fdffffff04000000f7ffffff080003000102030414000500fe80000000000000000000000000000a08000700000000640600090012b5000005000a000000000005000c00050000001c0004000900010067616374000000000c0002000500010011000000
 {"header":{"family":"Packet"},"attributes":[{"Actions":[{"tab":1,"attributes":[{"Kind":"mirred"},{"Index":5},{"Options":[{"Mirror":{"Parms":{"generic":{"index":1,"capab":2,"action":"Stolen","refcnt":-3,"bindcnt":4},"eaction":"EgressRedir","ifindex":7}}},{"Mirror":{"Tm":{"install":1,"lastuse":2,"expires":3,"firstuse":4}}},{"Mirror":{"Other":{"word":6,"value":""}}}]},{"Cookie":"c0ffee"},{"InHwCount":6}]},{"tab":2,"attributes":[{"Kind":"nat"},{"Options":[{"Nat":{"Parms":{"generic":{"index":1,"capab":2,"action":"Unspec","refcnt":-3,"bindcnt":4},"old_addr":"10.0.0.1","new_addr":"10.0.0.2","mask":"255.255.255.0","flags":1}}}],"word":2}]},{"tab":3,"attributes":[{"Kind":"tunnel_key"},{"Options":[{"TunnelKey":{"Parms":{"generic":{"index":1,"capab":2,"action":{"Other":99},"refcnt":-3,"bindcnt":4},"t_action":-9}}},{"TunnelKey":{"EncIpv4Src":"1.2.3.4"}},{"TunnelKey":{"EncIpv6Src":"fe80::a"}},{"TunnelKey":{"EncKeyId":100}},{"TunnelKey":{"EncDstPort":4789}},{"TunnelKey":{"NoCsum":false}},{"TunnelKey":{"EncTos":5}}],"word":2}]},{"tab":4,"attributes":[{"Kind":"gact"},{"Options":[{"Gact":{"Tm":{"raw":"11"}}}],"word":2}]}]}]}

@@ -1,4 +1,4 @@
-//! Tests alone, of messages that are shown: attributes with their places, outlines, JSON, and the program `tcshow`.
+//! Tests of printed messages: attributes with their places, outlines, JSON, and the program `tcshow`.
 #![tactic(auto)]
 
 #[cfg(test)]

@@ -2,7 +2,7 @@
 //! here; and in the ematch `meta`, whose values are an index or something else by what they are compared with.
 
 use crate::tc_columns::{KindColumns, Root};
-use crate::tc_lines::{Column, Columns, How};
+use crate::tc_lines::{Column, Columns, Display};
 use ::serde_json::Value;
 use std::collections::BTreeSet;
 
@@ -57,14 +57,14 @@ fn walk_column(
     value: &Value,
     found: &mut BTreeSet<u32>,
 ) -> usize {
-    match column.how {
-        How::Kind => return value.as_str().map_or(place, |kind| columns.under(base, kind)),
-        How::Interface | How::Index(_) => found.extend(index_in(value)),
-        How::Within(within)
-        | How::Through(within)
-        | How::Below(within)
-        | How::Elements(within)
-        | How::InLine(within) => {
+    match column.display {
+        Display::Kind => return value.as_str().map_or(place, |kind| columns.under(base, kind)),
+        Display::Interface | Display::Index(_) => found.extend(index_in(value)),
+        Display::Nested(within)
+        | Display::Inline(within)
+        | Display::Below(within)
+        | Display::Elements(within)
+        | Display::SameLine(within) => {
             walk(columns, within, within, value, found);
         }
         _ => {}
@@ -140,7 +140,7 @@ mod tests {
         let len = message.len() as u32;
         message[..4].copy_from_slice(&len.to_ne_bytes());
         let shown = lines_of(&[message]).expect("a line");
-        indices_in(&from_str(&shown.lines[0]).expect("JSON")).into_iter().collect()
+        indices_in(&from_str(&shown.text).expect("JSON")).into_iter().collect()
     }
 
     fn filter(index: i32) -> Vec<u8> {

@@ -57,7 +57,7 @@ pub use {restore::tcrestore, tcnl::tcnl, tcsave::tcsave};
 use host::HostRuntime;
 use std::io::IsTerminal as _;
 use std::process::ExitCode;
-use tc_kinds::{ACTION_MESSAGE, TC_MESSAGE, TcTables};
+use forms_kinds::{ACTION_MESSAGE, TC_MESSAGE, TcTables};
 use tcmake_lib::message::Forms;
 
 /// Shows the traffic control messages of a capture, or of lines of hex.

@@ -39,7 +39,7 @@ impl<'a> Stream<'a> {
     }
 }
 
-/// Sends all requests, each once, and tells `hear` of each that the kernel refuses why. Returns how many it refused. Ends at the first whose answer
+/// Sends all requests, each once, and calls `hear` with the reason for each that the kernel refuses. Returns how many it refused. Ends at the first whose answer
 /// isn't known.
 pub fn send_all<T: Transport>(
     kernel: &mut Kernel<T>,

@@ -11,20 +11,16 @@ use std::time::SystemTime;
 pub const VERSION: u32 = 1;
 
 /// The text of a save of some interfaces. `lines` are those of their objects, `devices` all interfaces of the namespace.
-pub fn save_of(saved: &[&Device], devices: &Devices, lines: &[String]) -> Result<String, Error> {
-    let mut text = to_string(&Head { saved, names: &names_of(saved, devices, lines)? })?;
-    for line in lines {
-        text.push('\n');
-        text.push_str(line);
-    }
-    text.push_str(&format!("\n{{\"end\":{}}}\n", lines.len()));
-    Ok(text)
+pub fn save_of(saved: &[&Device], devices: &Devices, lines: &str) -> Result<String, Error> {
+    let head = to_string(&Head { saved, names: &names_of(saved, devices, lines)? })?;
+    let end = format!("{{\"end\":{}}}\n", lines.lines().count());
+    Ok([&head, "\n", lines, &end].concat())
 }
 
 // The name of each interface that a line has the index of, as far as it is there.
-fn names_of(saved: &[&Device], devices: &Devices, lines: &[String]) -> Result<BTreeMap<u32, String>, Error> {
+fn names_of(saved: &[&Device], devices: &Devices, lines: &str) -> Result<BTreeMap<u32, String>, Error> {
     let mut indices: BTreeSet<u32> = saved.iter().map(|device| device.index).collect();
-    for line in lines {
+    for line in lines.lines() {
         indices.extend(indices_in(&from_str(line)?));
     }
     Ok(indices.into_iter().filter_map(|index| Some((index, devices.at(index)?.name.clone()))).collect())
@@ -59,7 +55,7 @@ impl Serialize for Saved<'_> {
     }
 }
 
-// What tells an interface from another of the same name.
+// What distinguishes an interface from another of the same name.
 struct SavedDevice<'a>(&'a Device);
 
 impl Serialize for SavedDevice<'_> {

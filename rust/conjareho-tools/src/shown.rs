@@ -1,16 +1,16 @@
 //! Messages as lines of JSON, as `tcshow --json` writes them.
 
 use crate::netlink::Fault;
-use crate::tc_chosen::Chosen;
+use crate::tc_select::Filter;
 use crate::tc_outline::Interfaces;
-use crate::tcshow_lib::asked::{Asked, Form};
+use crate::tcshow_lib::options::{Options, OutputFormat};
 use crate::tcshow_lib::program::serve;
 
 /// What `tcshow --json` writes of messages.
 #[derive(Clone, PartialEq, Eq, Debug, Default)]
 pub struct Shown {
-    /// A line each, without its line feed.
-    pub lines: Vec<String>,
+    /// A line each, with its line feed.
+    pub text: String,
     /// True if the codec refuses one of them; its line says why.
     pub has_refused: bool,
 }
@@ -21,22 +21,21 @@ pub fn lines_of(messages: &[Vec<u8>]) -> Result<Shown, Fault> {
         return Ok(Shown::default());
     }
     let stream = stream_of(messages);
-    let asked = Asked {
-        form: Form::Json,
+    let options = Options {
+        format: OutputFormat::Json,
         without_header: None,
-        chosen: Chosen::ALL,
+        filter: Filter::ALL,
         all: false,
         names: Interfaces { names: &[] },
         has_summary: false,
     };
     let (mut written, mut complaints) = (Vec::new(), Vec::new());
-    let status = serve(&asked, &mut stream.as_slice(), &mut written, &mut complaints);
+    let status = serve(&options, &mut stream.as_slice(), &mut written, &mut complaints);
     let text = String::from_utf8(written).map_err(|_| Fault::Broken("a message that isn't shown as text"))?;
-    let lines: Vec<String> = text.lines().map(str::to_string).collect();
-    if status > 1 || lines.len() != messages.len() {
+    if status > 1 || text.lines().count() != messages.len() || !text.ends_with('\n') {
         return Err(Fault::Broken("a message that isn't shown as one line"));
     }
-    Ok(Shown { lines, has_refused: status == 1 })
+    Ok(Shown { text, has_refused: status == 1 })
 }
 
 /// Messages as a stream: each padded to a multiple of four bytes.

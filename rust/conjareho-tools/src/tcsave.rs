@@ -52,9 +52,10 @@ fn save(words: &[String]) -> Result<(), Ending> {
     let indices: Vec<u32> = found.iter().map(|device| device.index).collect();
     let Dump { messages, devices, .. } = state_of(&mut kernel, &mut listener, &indices)?;
     let shown = lines_of(&messages)?;
+    drop(messages);
     let saved = found.iter().map(|device| same_in(&devices, device)).collect::<Result<Vec<_>, _>>()?;
     let text =
-        save_of(&saved, &devices, &shown.lines).map_err(|_| Fault::Broken("a message that isn't shown as JSON"))?;
+        save_of(&saved, &devices, &shown.text).map_err(|_| Fault::Broken("a message that isn't shown as JSON"))?;
     let mut output = std::io::stdout().lock();
     output
         .write_all(text.as_bytes())

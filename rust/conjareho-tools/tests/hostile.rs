@@ -276,6 +276,7 @@ fn dumped(kind: u16, request: &[u8]) -> Vec<Vec<u8>> {
         }
         RTM_GETTFILTER if asked.parent == 0xffff_fff2 => vec![object(RTM_NEWTFILTER, -1, 1, 22, "matchall")],
         RTM_GETCHAIN if asked.parent == 0xffff_fff2 => vec![object(RTM_NEWCHAIN, asked.index, 0, 0xffff_0000, "")],
+        RTM_GETCHAIN if ROOTS.contains_key(&asked.parent) => vec![object(RTM_NEWCHAIN, 2, 0, 0x1_0000, "")],
         _ => Vec::new(),
     }
 }
@@ -299,10 +300,11 @@ fn saved(peer: Peer, interfaces: &[u32]) -> Result<Vec<String>, Fault> {
     let dump = state_of(&mut Kernel::over(peer), &mut quiet(), interfaces)?;
     let shown = lines_of(&dump.messages)?;
     let devices: Vec<_> = dump.devices.iter().filter(|device| interfaces.contains(&device.index)).collect();
-    let text = save_of(&devices, &dump.devices, &shown.lines).expect("lines are JSON");
-    assert_eq!(text.lines().count(), shown.lines.len() + 2);
-    assert!(text.ends_with(&format!("{{\"end\":{}}}\n", shown.lines.len())));
-    Ok(shown.lines)
+    let text = save_of(&devices, &dump.devices, &shown.text).expect("lines are JSON");
+    let lines: Vec<String> = shown.text.lines().map(str::to_string).collect();
+    assert_eq!(text.lines().count(), lines.len() + 2);
+    assert!(text.ends_with(&format!("{{\"end\":{}}}\n", lines.len())));
+    Ok(lines)
 }
 
 // Lines without sequence numbers, which differ between dumps.
@@ -314,11 +316,11 @@ fn without_sequences(lines: Vec<String>) -> Vec<String> {
 #[test]
 fn honest() {
     let lines = saved(Peer::new(1, Manners::default()), &[2, 3]).expect("nothing is broken");
-    // Five qdiscs, nineteen classes of htb and four of mq, a chain and a filter of a shared block, two priorities of u32 with a table and a key; each
-    // once.
-    assert_eq!(lines.len(), 5 + 19 + 4 + 2 + 2 * 3);
+    // Five qdiscs, nineteen classes of htb and four of mq, a chain and a filter of a shared block, two chains with a priority of u32, a table and a
+    // key; each once.
+    assert_eq!(lines.len(), 5 + 19 + 4 + 2 + 2 * 4);
     let lines = saved(Peer::new(1, Manners::default()), &[2, 4]).expect("nothing is broken");
-    assert_eq!(lines.len(), 4 + 19 + 2 + 1 + 2 * 3, "the filter of the block that both have is there once");
+    assert_eq!(lines.len(), 4 + 19 + 2 + 1 + 2 * 4, "the filter of the block that both have is there once");
 }
 
 #[test]
@@ -339,13 +341,13 @@ fn a_dump_that_is_refused_or_lost_is_an_error() {
         let refusing = Manners { refuses: 20, ..Manners::default() };
         match saved(Peer::new(seed, refusing), &[2]) {
             // Without an answer about root tables, a priority has those of the other too.
-            Ok(lines) => assert!([30, 32, 34].contains(&lines.len()), "seed {seed}: {}", lines.len()),
+            Ok(lines) => assert!([32, 34, 36].contains(&lines.len()), "seed {seed}: {}", lines.len()),
             Err(Fault::Refused(refusal) | Fault::Cut(refusal)) => assert_eq!(refusal.name(), "ENOMEM", "seed {seed}"),
             Err(fault) => panic!("seed {seed}: {fault}"),
         }
         let losing = Manners { loses: 40, ..Manners::default() };
         if let Ok(lines) = saved(Peer::new(seed, losing), &[2]) {
-            assert_eq!(lines.len(), 30, "seed {seed}");
+            assert_eq!(lines.len(), 32, "seed {seed}");
         }
     }
 }

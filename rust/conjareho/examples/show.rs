@@ -7,7 +7,7 @@ use std::io::{self, BufRead};
 fn main() -> Result<(), Box<dyn std::error::Error>> {
     for line in io::stdin().lock().lines() {
         let digits: Vec<u8> = line?.bytes().filter(|byte| !byte.is_ascii_whitespace()).collect();
-        let octets = digits.chunks(2).map(|pair| Ok(u8::from_str_radix(str::from_utf8(pair)?, 16)?));
+        let octets = digits.chunks(2).map(|pair| Ok(u8::from_str_radix(std::str::from_utf8(pair)?, 16)?));
         match TcMessage::parse(&octets.collect::<Result<Vec<u8>, Box<dyn std::error::Error>>>()?) {
             Ok(message) => println!("{message:#?}"),
             Err(e) => println!("{}: {e}", e.name()),

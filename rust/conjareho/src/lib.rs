@@ -2,6 +2,7 @@
 #![no_std]
 #![forbid(unsafe_code)]
 #![warn(missing_docs)]
+#![allow(rustdoc::redundant_explicit_links)] // generated links have whole paths
 
 #[cfg(not(target_endian = "little"))]
 compile_error!("the codec reads and writes little-endian numbers, as little-endian kernels do");
@@ -30,10 +31,16 @@ mod strict;
 #[allow(dead_code)] // what programs and tests use besides
 mod user;
 
+pub mod answers;
 mod bytes;
+pub mod constants;
+mod handles;
 #[cfg(feature = "kinds")]
 pub mod kinds;
+#[cfg(feature = "serde")]
+mod located;
 mod netlink;
+mod verb;
 
 use small::{arrayvec, itoa};
 
@@ -42,6 +49,9 @@ include!(concat!(env!("OUT_DIR"), "/codec.rs"));
 
 pub use bitflags::Flags;
 pub use fallible::AllocError;
+pub use handles::ParseError;
+#[cfg(feature = "serde")]
+pub use located::{Located, locate_action, locate_tc};
 pub use netlink::{Netlink, NetlinkError, Payload};
 pub use tc_wire::{
     AddressFamily, DecodeError, DefaultNla, Emitable, NLA_F_NESTED, NLA_F_NET_BYTEORDER, NLA_HEADER_SIZE,
@@ -51,28 +61,63 @@ pub use tc_wire::{
 
 /// Messages of traffic control and their parts, under the names of the module `tc` of netlink-packet-route.
 pub mod tc {
-    pub use crate::tc_wire::*;
+    #[doc(hidden)]
+    pub use crate::tc_wire::helpers;
+    pub use crate::tc_wire::{
+        TcAction, TcActionAttribute, TcActionGeneric, TcActionGenericBuffer, TcActionMessage, TcActionMessageAttribute,
+        TcActionMessageBuffer, TcActionMessageFlags, TcActionMessageFlagsWithSelector, TcActionMessageHeader,
+        TcActionMirror, TcActionMirrorOption, TcActionNat, TcActionNatOption, TcActionOption, TcActionTunnelKey,
+        TcActionTunnelKeyOption, TcActionType, TcAttribute, TcBpfFlags, TcFilterBpf, TcFilterBpfOption, TcFilterFlower,
+        TcFilterFlowerMplsLseOption, TcFilterFlowerMplsOption, TcFilterFlowerOption, TcFilterMatchAll,
+        TcFilterMatchAllOption, TcFilterU32, TcFilterU32Option, TcFqCodelClStats, TcFqCodelClStatsBuffer,
+        TcFqCodelQdStats, TcFqCodelQdStatsBuffer, TcFqCodelXstats, TcHandle, TcHeader, TcMessage, TcMessageBuffer,
+        TcMirror, TcMirrorActionType, TcMirrorBuffer, TcNat, TcNatBuffer, TcNatFlags, TcOption, TcQdiscFqCodel,
+        TcQdiscFqCodelOption, TcQdiscIngress, TcQdiscIngressOption, TcStats, TcStats2, TcStatsBasic,
+        TcStatsBasicBuffer, TcStatsBuffer, TcStatsQueue, TcStatsQueueBuffer, TcTunnelKey, TcTunnelKeyBuffer, TcU32Key,
+        TcU32KeyBuffer, TcU32OptionFlags, TcU32Selector, TcU32SelectorBuffer, TcU32SelectorFlags, TcXstats, Tcf,
+        TcfBuffer, VecTcAttribute, VecTcOption, WholeMessage,
+    };
+    pub use crate::tc_wire::{
+        canon_action, canon_action_options, canon_actions, canon_lse, canon_mpls, canon_options, canon_stats2,
+        emit_list, emit_u16, emit_u16_be, emit_u32, emit_u32_be, is_canonical_action, is_canonical_tc, is_known_kind,
+        list_fits, list_len, parse_frames_with, parse_ipv4_addr, parse_ipv6_addr, parse_list, parse_list_with,
+        parse_mac, parse_string, parse_u8, parse_u16, parse_u16_be, parse_u32, parse_u32_be, put_list, rewrite_action,
+        rewrite_tc, settle_action, settle_tc,
+    };
 }
 
 /// Requests built from typed parts, and dumps made into the requests that restore them.
 pub mod requests {
-    pub use crate::tc_requests::*;
+    pub use crate::tc_requests::{
+        ActionKindOption, FilterOption, NEW_FLAGS, Notice, Object, OfKind, OptionOf, QdiscOption, RTM_NEWACTION,
+        Request, RequestError, RestoreError, RootTable, Target, TcKindOption, TcText, Use, action, action_message,
+        chain, filter, kind_of_action, notice_of, plain_qdisc, qdisc, raw_action, request_of, request_of_actions,
+        root_table, standing_index, use_of_action,
+    };
+    pub use crate::verb::Verb;
 }
 
 /// All attributes of a message, each before those in it, without memory.
 pub mod index {
-    pub use crate::tc_index::*;
+    pub use crate::tc_index::{
+        Attribute, Attributes, BrokenFrame, Node, Slot, Table, fill_action, fill_tc, index_action, index_tc, list_in,
+    };
 }
 
 /// Captures of netlink: pcap, pcapng, files of `rtmon` and streams.
 pub mod capture {
-    pub use crate::tc_capture::*;
+    pub use crate::tc_capture::{
+        Answer, Capture, CaptureError, Contents, Link, MessageType, Messages, NLMSG_ERROR, NLMSG_HEADER_LEN,
+        NLMSG_TSTAMP, NetlinkMessage, Packet, Piece, RtmType, Time, answer_in, errno_name, rtm_of,
+    };
 }
 
 /// Any bytes as JSON and back, without loss, by the tables of all kinds that Linux has.
 #[cfg(feature = "serde")]
 pub mod forms {
-    pub use crate::tc_forms::*;
-    pub use crate::tc_forms_text::*;
-    pub use crate::tc_kinds::*;
+    pub use crate::forms_json::{
+        Choice, Field, Form, KindRows, MakeError, Name, Number, Part, Row, Shown, Tables, Wanted, made, send_shown,
+    };
+    pub use crate::forms_kinds::{ACTION_LIST, ACTION_MESSAGE, PLACES, TC_LIST, TC_MESSAGE, TcTables};
+    pub use crate::forms_text::{ReadError, TextError, bytes_of_text, read_json};
 }

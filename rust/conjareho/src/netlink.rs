@@ -1,14 +1,16 @@
 //! Whole netlink messages: `struct nlmsghdr` and a message of traffic control.
 
-use crate::bytes::bytes_behind;
+use crate::bytes::bytes_after;
+use crate::capture::{CaptureError, MessageType, NLMSG_HEADER_LEN, rtm_of};
+use crate::requests::{Object, Verb};
+use crate::tc::{TcActionMessage, TcMessage};
 use crate::tc_capture::message::next_message;
-use crate::tc_capture::{CaptureError, Holds, NLMSG_HEADER_LEN, rtm_of};
-use crate::tc_wire::{DecodeError, ParseableBytes, RewriteError, TcActionMessage, TcMessage};
+use crate::{DecodeError, ParseableBytes, RewriteError};
 use alloc::vec::Vec;
 use core::fmt;
 
 /// A netlink message of traffic control, with its header.
-#[derive(Clone, PartialEq, Eq, Debug)]
+#[derive(Clone, PartialEq, Eq, Hash, Debug, Default)]
 pub struct Netlink {
     /// `nlmsg_type`, such as 36, `RTM_NEWQDISC`.
     pub message_type: u16,
@@ -23,7 +25,7 @@ pub struct Netlink {
 }
 
 /// What a netlink message of traffic control holds.
-#[derive(Clone, PartialEq, Eq, Debug)]
+#[derive(Clone, PartialEq, Eq, Hash, Debug)]
 pub enum Payload {
     /// `struct tcmsg` and its attributes: a qdisc, a class, a filter or a chain.
     Tc(TcMessage),
@@ -31,8 +33,14 @@ pub enum Payload {
     Action(TcActionMessage),
 }
 
+impl Default for Payload {
+    fn default() -> Self {
+        Payload::Tc(TcMessage::default())
+    }
+}
+
 /// Why bytes are no netlink message of traffic control.
-#[derive(PartialEq, Eq, Debug)]
+#[derive(Clone, PartialEq, Eq, Hash, Debug)]
 pub enum NetlinkError {
     /// The header is short or broken, or the message is cut.
     Header(CaptureError),
@@ -55,15 +63,33 @@ impl fmt::Display for NetlinkError {
 impl core::error::Error for NetlinkError {}
 
 impl Netlink {
+    /// A request for an object, with the type and the flags that iproute2 sends.
+    #[must_use]
+    pub fn request(object: Object, verb: Verb, sequence: u32, message: TcMessage) -> Netlink {
+        let payload = Payload::Tc(message);
+        Netlink { message_type: verb.message_type(object), flags: verb.flags(object), sequence, port: 0, payload }
+    }
+
+    /// A request for actions, with the type and the flags that iproute2 sends.
+    #[must_use]
+    pub fn action_request(verb: Verb, sequence: u32, message: TcActionMessage) -> Netlink {
+        let payload = Payload::Action(message);
+        Netlink { message_type: verb.action_type(), flags: verb.action_flags(), sequence, port: 0, payload }
+    }
+
     /// The message at the front of the bytes, and what follows it and its padding.
     ///
-    /// A message of another type is an `OtherType`; [`capture::Messages`](crate::capture::Messages) goes over messages of any.
+    /// [`capture::Messages`](crate::capture::Messages) goes over messages of any type, and [`answers`](crate::answers) reads the kernel's answers.
+    ///
+    /// # Errors
+    ///
+    /// `Header` if the message is cut, `OtherType` if it is of another type, `Payload` if the codec refuses it.
     pub fn parse(bytes: &[u8]) -> Result<(Netlink, &[u8]), NetlinkError> {
         let (message, rest) = next_message(bytes).map_err(NetlinkError::Header)?;
         let holds = rtm_of(message.kind).ok_or(NetlinkError::OtherType(message.kind))?.holds;
         let payload = match holds {
-            Holds::Tc => TcMessage::parse(message.payload).map(Payload::Tc),
-            Holds::Action => TcActionMessage::parse(message.payload).map(Payload::Action),
+            MessageType::Tc => TcMessage::parse(message.payload).map(Payload::Tc),
+            MessageType::Action => TcActionMessage::parse(message.payload).map(Payload::Action),
         };
         let netlink = Netlink {
             message_type: message.kind,
@@ -75,11 +101,15 @@ impl Netlink {
         Ok((netlink, rest))
     }
 
-    /// Its bytes, header first. `DoesNotFit` where it can't be written, or has 4 GiB or more.
+    /// Its bytes, header first.
+    ///
+    /// # Errors
+    ///
+    /// `DoesNotFit` if it can't be written, or has 4 GiB or more; `OutOfMemory` if there is no memory.
     pub fn to_bytes(&self) -> Result<Vec<u8>, RewriteError> {
         let mut bytes = match &self.payload {
-            Payload::Tc(message) => bytes_behind(NLMSG_HEADER_LEN, message)?,
-            Payload::Action(message) => bytes_behind(NLMSG_HEADER_LEN, message)?,
+            Payload::Tc(message) => bytes_after(NLMSG_HEADER_LEN, message)?,
+            Payload::Action(message) => bytes_after(NLMSG_HEADER_LEN, message)?,
         };
         let len = u32::try_from(bytes.len()).map_err(|_| RewriteError::DoesNotFit)?;
         bytes[..4].copy_from_slice(&len.to_le_bytes());

@@ -1,4 +1,4 @@
-//! Forms on the lines of the repository's `tcforms`, and what it answers.
+//! Forms on the repository's labelled messages, and the JSON that its stored run of `tcshow` has of them.
 #![cfg(feature = "serde")]
 
 use conjareho::forms::{ACTION_MESSAGE, Shown, TC_MESSAGE, TcTables, TextError, bytes_of_text};
@@ -10,35 +10,31 @@ fn bytes_of(hex: &str) -> Option<Vec<u8>> {
     if hex.len().is_multiple_of(2) { octets.collect() } else { None }
 }
 
-/// The answer to a line, if it says a message.
-fn answer(line: &[u8]) -> Option<String> {
-    let mut words = std::str::from_utf8(line).ok()?.splitn(3, ' ');
-    let (label, mode) = (words.next()?, words.next()?);
-    let form = match mode {
-        "tc" => TC_MESSAGE,
-        "action" => ACTION_MESSAGE,
-        _ => return None,
-    };
-    let bytes = bytes_of(words.next().unwrap_or(""))?;
+/// The JSON of the message in a line: a label, `tc` or `action`, and hex.
+fn json_of(line: &str) -> String {
+    let words: Vec<&str> = line.split(' ').collect();
+    let form = if words[1] == "tc" { TC_MESSAGE } else { ACTION_MESSAGE };
+    let bytes = bytes_of(words[2]).expect("hex");
     let shown = Shown { table: TcTables, form, bytes: &bytes };
     let json = serde_json::to_string(&shown).expect("memory");
     let made = bytes_of_text(TcTables, form, json.as_bytes()).expect("what is shown can be made");
     let tree = serde_json::to_vec_pretty(&serde_json::to_value(&shown).expect("memory")).expect("memory");
     assert_eq!(bytes_of_text(TcTables, form, &tree).expect("in any order of members"), bytes);
-    Some(format!("{label} {mode} {} {json}", if made == bytes { "same" } else { "differs" }))
+    assert_eq!(made, bytes);
+    json
 }
 
 #[test]
-fn the_stored_lines_are_answered_as_stored() {
-    let folder = Path::new(env!("CARGO_MANIFEST_DIR")).join("../../crates/tcforms");
-    let lines = std::fs::read(folder.join("stdin")).expect("the stored lines");
-    let stored = std::fs::read_to_string(folder.join("stdout")).expect("the stored answers");
-    let lines = lines.split(|byte| *byte == b'\n').filter(|line| !line.starts_with(b"#"));
-    let answers: Vec<String> = lines.filter_map(answer).collect();
-    for (ours, theirs) in answers.iter().zip(stored.lines()) {
-        assert_eq!(ours, theirs);
+fn the_json_of_labelled_messages_is_that_stored() {
+    let top = Path::new(env!("CARGO_MANIFEST_DIR")).join("../..");
+    let labelled = std::fs::read_to_string(top.join("model/labelled")).expect("the messages");
+    let stored = std::fs::read_to_string(top.join("crates/tcmake_stored_shown/stdout")).expect("the stored lines");
+    let json: Vec<String> = labelled.lines().filter(|line| !line.starts_with('#')).map(json_of).collect();
+    // The last of the stored lines of JSON are those of these messages.
+    let lines: Vec<&str> = stored.lines().filter(|line| line.starts_with('{')).collect();
+    for (ours, line) in json.iter().zip(&lines[lines.len() - json.len()..]) {
+        assert!(line.ends_with(&format!(",\"message\":{ours}}}")), "{line}");
     }
-    assert_eq!(answers.len(), stored.lines().count());
 }
 
 /// Why no bytes are made of a text.

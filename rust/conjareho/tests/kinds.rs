@@ -11,8 +11,8 @@ use conjareho::kinds::qdiscs::htb::{HtbAttr, HtbOpt};
 use conjareho::kinds::qdiscs::red::TcRedBits;
 use conjareho::kinds::shared::{Ratespec, TcLinklayer};
 use conjareho::kinds::{
-    ActionMessage, ActionOptions, Attrs, Bytes, Handle, HtbClass, Message, Options, Prob, Rate, Statistics, Ticks,
-    police,
+    ActionMessage, ActionOptions, Attrs, Bytes, Handle, HtbClass, Mac, Message, Options, Prob, Rate, Sizes, Statistics,
+    Ticks, police,
 };
 use conjareho::tc::{TcActionMessage, TcAttribute, TcHandle, TcMessage, TcOption, TcQdiscFqCodelOption};
 use conjareho::{DecodeError, Flags, RewriteError};
@@ -224,7 +224,7 @@ fn a_handle_is_the_text_of_tc() {
 
 /// The stored messages that iproute2 sent: a mode, `tc` or `action`, and the bytes.
 fn sent() -> Vec<(String, Vec<u8>)> {
-    let path = std::path::Path::new(env!("CARGO_MANIFEST_DIR")).join("../../crates/tcforms/stdin");
+    let path = std::path::Path::new(env!("CARGO_MANIFEST_DIR")).join("../../model/labelled");
     let text = std::fs::read_to_string(path).expect("the stored messages");
     let octet = |hex: &str, at: usize| u8::from_str_radix(&hex[at..at + 2], 16).expect("hex");
     let octets = |hex: &str| (0..hex.len()).step_by(2).map(|at| octet(hex, at)).collect::<Vec<u8>>();
@@ -238,7 +238,8 @@ fn rate_tables_are_those_of_iproute2() {
     let mut compare = |spec: &Ratespec, table: Option<&Bytes>| {
         if let (Some(table), 0) = (table, spec.mpu) {
             let mtu = if spec.cell_log == 3 { 2047 } else { 2048 };
-            assert_eq!(Ratespec::with_table(Rate(spec.rate.into()), mtu), (spec.clone(), table.clone()));
+            let sizes = Sizes { mtu, ..Sizes::default() };
+            assert_eq!(Ratespec::with_table(Rate(spec.rate.into()), sizes), (spec.clone(), table.clone()));
             compared += 1;
         }
     };
@@ -296,7 +297,8 @@ fn a_rate_is_the_text_of_tc() {
         (Rate(0).to_string(), Rate(u64::MAX).to_string()),
         ("0bit".to_string(), format!("{}bit", u128::from(u64::MAX) * 8))
     );
-    for text in ["", "mbit", "1.2.3mbit", "1 mbit", "-1mbit", "1miles"] {
+    assert_eq!(("1mibit".parse(), "1.0625kibps".parse()), (Ok(Rate(131_072)), Ok(Rate(1088))));
+    for text in ["", "mbit", ".mbit", "1.2.3mbit", "1 mbit", "-1mbit", "1miles", "18446744073709551616bps"] {
         assert!(text.parse::<Rate>().is_err(), "{text}");
     }
 }
@@ -309,9 +311,56 @@ fn units_are_those_of_tc() {
     assert_eq!((Prob::percent(100.0), Prob::percent(-1.0)), (Prob(u32::MAX), Prob(0)));
     assert_eq!(Duration::from(Ticks(1_562_500)), Duration::from_millis(100));
     assert_eq!(Rate(0).ticks(1), Ticks(u32::MAX));
-    let class = Options::from(HtbClass { mtu: u32::MAX, ..HtbClass::new(Rate(5_000_000_000)) });
+    let sizes = Sizes { mtu: u32::MAX, ..Sizes::default() };
+    let class = Options::from(HtbClass { sizes, ..HtbClass::new(Rate(5_000_000_000)) });
     let Options::Htb(list) = class else { panic!("no htb") };
     assert_eq!((list.rate64(), list.parms().map(|it| it.rate.rate)), (Some(&5_000_000_000), Some(u32::MAX)));
+}
+
+/// Numbers of each width: the smallest and the largest of each number of bits, and some between.
+fn of_all_widths(bits: u32) -> impl Iterator<Item = u64> {
+    let top = |width: u32| u64::MAX.checked_shr(64 - width).unwrap_or(0);
+    let edges = (0..=bits).flat_map(move |width| [top(width), top(width) / 2 + 1, top(width) / 3, top(width) / 7 * 5]);
+    let between = (1..2000u64).map(move |at| at.wrapping_mul(0x9e37_79b9_7f4a_7c15) & top(bits));
+    edges.chain(between).chain(0..2000)
+}
+
+#[test]
+fn units_are_read_as_they_were_written() {
+    use std::fmt::{Debug, Display};
+    use std::str::FromStr;
+    fn again<T: Display + FromStr<Err: Debug> + PartialEq + Debug>(value: T) {
+        let text = value.to_string();
+        assert_eq!(text.parse::<T>().unwrap_or_else(|e| panic!("{text}: {e:?}")), value, "{text}");
+    }
+    of_all_widths(64).for_each(|number| again(Rate(number)));
+    for number in of_all_widths(32).map(|number| number as u32) {
+        again(Ticks(number));
+        again(Prob(number));
+        again(Handle(number));
+        again(TcHandle::from(number));
+        again(conjareho::tc::TcActionType::from(number as i32));
+    }
+    for octets in of_all_widths(48).map(u64::to_le_bytes) {
+        again(Mac(octets[..6].try_into().expect("six bytes")));
+        again(Bytes(octets[..usize::from(octets[0]) % 9].to_vec()));
+    }
+    assert_eq!((Ticks(1_562_500).to_string(), Ticks(1).to_string()), ("100ms".to_string(), "64ns".to_string()));
+    assert_eq!((Prob(42_949_673).to_string(), "0.5%".parse()), ("1%".to_string(), Ok(Prob(21_474_836))));
+    assert_eq!(("1.5s".parse(), "20".parse()), (Ok(Ticks(23_437_500)), Ok(Ticks(312))));
+    for text in ["", "ms", "1parsec", "5 min", "-1s", "300s", "1..5s"] {
+        assert!(text.parse::<Ticks>().is_err(), "{text}");
+    }
+    for text in ["", "%", "101%", "-1%", "1%%", "100.1", "half"] {
+        assert!(text.parse::<Prob>().is_err(), "{text}");
+    }
+    for text in ["", "02:00:00:00:00", "02:00:00:00:00:01:02", "2:0:0:0:0:1", "+2:00:00:00:00:01"] {
+        assert!(text.parse::<Mac>().is_err(), "{text}");
+    }
+    assert!("123".parse::<Bytes>().is_err() && "+1".parse::<Bytes>().is_err());
+    assert!(
+        "1:+2".parse::<TcHandle>().is_err() && "1:x".parse::<TcHandle>().is_err() && "1".parse::<TcHandle>().is_err()
+    );
 }
 
 #[test]

@@ -1,8 +1,9 @@
 //! What is written beside the erased code, and what a caller's duty turned into.
 
 use conjareho::capture::CaptureError;
-use conjareho::tc::{RewriteError, TcActionMessage, TcAttribute, TcHandle, TcMessage};
-use conjareho::{DecodeError, DefaultNla, Emitable, Netlink, NetlinkError, Nla, ParseableBytes, Payload};
+use conjareho::requests::{Object, Target, Verb};
+use conjareho::tc::{TcActionMessage, TcActionType, TcAttribute, TcHandle, TcMessage, TcOption};
+use conjareho::{DecodeError, DefaultNla, Emitable, Netlink, NetlinkError, Nla, ParseableBytes, Payload, RewriteError};
 
 /// `tc qdisc add dev .. handle 8001: root fq`, as the kernel tells it, for the interface 0x0403_0201.
 const QDISC: [u8; 44] = [
@@ -91,4 +92,66 @@ fn a_message_is_an_ordinary_value() {
     let error: Box<dyn std::error::Error + Send + Sync> = DecodeError::NotUtf8.into();
     assert_eq!(error.to_string(), "text is not UTF-8");
     assert_eq!(DefaultNla::new(0x8001, vec![1]).kind(), 0x8001);
+}
+
+#[test]
+fn options_of_an_untyped_kind_keep_their_nesting() {
+    let glob = [3u32, 10, 0x30, 0, 0].iter().flat_map(|word| word.to_le_bytes()).collect::<Vec<u8>>();
+    let options = TcAttribute::options_raw(&[TcOption::Other(DefaultNla::new(2, glob.clone()))]).expect("memory");
+    let mut message = TcMessage::with_index(1);
+    message.attributes = vec![TcAttribute::Kind("htb".to_string()), options];
+    assert!(message.is_settled());
+    let bytes = message.to_bytes().expect("it fits");
+    assert_eq!((bytes.len(), &bytes[28..36]), (56, &[28, 0, 2, 0, 24, 0, 2, 0][..]));
+    assert_eq!((TcMessage::parse(&bytes), &bytes[36..]), (Ok(message), &glob[..]));
+    let long = TcOption::Other(DefaultNla::new(1, vec![0; 65532]));
+    assert_eq!(TcAttribute::options_raw(&[long]), Err(RewriteError::DoesNotFit));
+}
+
+#[test]
+fn equal_values_have_equal_hashes() {
+    use std::hash::{BuildHasher, RandomState};
+    let state = RandomState::new();
+    let (message, rest) = Netlink::parse(&QDISC).expect("a message");
+    assert!(rest.is_empty());
+    assert_eq!(state.hash_one(&message), state.hash_one(message.clone()));
+    for number in -2..12 {
+        let one = TcActionType::from(number);
+        assert_eq!(state.hash_one(one), state.hash_one(TcActionType::from(i32::from(one))));
+    }
+    let (one, another) = (TcHandle::from(0x10010), TcHandle { major: 1, minor: 16 });
+    assert_eq!((one, state.hash_one(one)), (another, state.hash_one(another)));
+    assert!(one < TcHandle::from(0x10011) && TcHandle::from(0xffff) < one);
+    assert_eq!(Target::default(), Target { index: 0, ..Target::default() });
+    assert_eq!(Netlink::default().to_bytes().map(|bytes| bytes.len()), Ok(36));
+}
+
+#[test]
+fn handles_and_results_are_read_as_they_are_shown() {
+    assert_eq!(
+        (TcHandle::from(0x10010).to_string(), "1:16".parse()),
+        ("1:16".to_string(), Ok(TcHandle::from(0x10010)))
+    );
+    assert_eq!((TcActionType::Shot.to_string(), "drop".parse()), ("drop".to_string(), Ok(TcActionType::Shot)));
+    assert_eq!(("shot".parse(), "77".parse()), (Ok(TcActionType::Shot), Ok(TcActionType::Other(77))));
+    assert_eq!(
+        "dropped".parse::<TcActionType>().map_err(|e| e.to_string()),
+        Err("not the result of an action, such as drop".to_string())
+    );
+}
+
+#[test]
+fn a_request_has_the_type_and_the_flags_of_its_verb() {
+    let types = |verb: Verb| {
+        [Object::Qdisc, Object::Class, Object::Filter, Object::Chain].map(|object| verb.message_type(object))
+    };
+    assert_eq!(
+        (types(Verb::Add), types(Verb::Delete), types(Verb::Dump)),
+        ([36, 40, 44, 100], [37, 41, 45, 101], [38, 42, 46, 102])
+    );
+    assert_eq!((Verb::Change.action_type(), Verb::Delete.action_type(), Verb::Get.action_type()), (48, 49, 50));
+    let request = Netlink::request(Object::Class, Verb::Replace, 7, TcMessage::with_index(1));
+    assert_eq!((request.message_type, request.flags, request.sequence), (40, 0x405, 7));
+    let request = Netlink::action_request(Verb::Dump, 8, TcActionMessage::default());
+    assert_eq!((request.message_type, request.flags, request.to_bytes().map(|bytes| bytes.len())), (50, 0x301, Ok(20)));
 }

@@ -144,7 +144,7 @@ pub fn serialize<T: Serialize, S: ::serde::Serializer>(value: &T, to: S) -> Resu
     ::serde::Serialize::serialize(&Next(&Cell::new(&events)), to)
 }
 
-impl<T: crate::tc_forms::Tables> ::serde::Serialize for crate::tc_forms::Shown<'_, T> {
+impl<T: crate::forms_json::Tables> ::serde::Serialize for crate::forms_json::Shown<'_, T> {
     fn serialize<S: ::serde::Serializer>(&self, to: S) -> Result<S::Ok, S::Error> {
         serialize(self, to)
     }

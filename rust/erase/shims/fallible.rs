@@ -5,7 +5,7 @@ use prelude::{String, Vec};
 
 /// What each erased module imports.
 pub(crate) mod prelude {
-    pub(crate) use crate::fallible::{self, AllocError, Fallible as _};
+    pub(crate) use crate::fallible::{self, AllocError, Fallible as _, Signed as _, Unsigned as _};
     pub(crate) use alloc::{string::String, string::ToString as _, vec::Vec};
     pub(crate) use core::{fmt::Write as _, str::FromStr as _};
 }
@@ -75,3 +75,30 @@ impl<T> Fallible<T> for Vec<T> {
         Ok(())
     }
 }
+
+/// A number without a sign as one with a sign: `cast_signed`, which numbers have themselves since Rust 1.87.
+pub(crate) trait Unsigned {
+    type Signed;
+    fn as_signed(self) -> Self::Signed;
+}
+
+/// A number with a sign as one without.
+pub(crate) trait Signed {
+    type Unsigned;
+    fn as_unsigned(self) -> Self::Unsigned;
+}
+
+macro_rules! casts {
+    ($($unsigned:ident $signed:ident,)*) => { $(
+        impl Unsigned for $unsigned {
+            type Signed = $signed;
+            fn as_signed(self) -> $signed { self as $signed }
+        }
+        impl Signed for $signed {
+            type Unsigned = $unsigned;
+            fn as_unsigned(self) -> $unsigned { self as $unsigned }
+        }
+    )* };
+}
+
+casts! { u8 i8, u16 i16, u32 i32, u64 i64, usize isize, }

@@ -1,6 +1,6 @@
-//! JSON in which no object has a name twice, by the real `serde_json`. It stands for `read` and `repeated` of `tc_forms_text`.
+//! JSON in which no object has a name twice, by the real `serde_json`. It stands for `read` and `repeated` of `forms_text`.
 
-use crate::tc_forms_text::ReadError;
+use crate::forms_text::ReadError;
 use ::serde::de::{DeserializeSeed, Deserializer, MapAccess, SeqAccess, Visitor};
 use alloc::string::{String, ToString as _};
 use alloc::{format, vec::Vec};

@@ -1,18 +1,21 @@
 //! The last steps on a file: the rules, the refusal of what is left, and paths.
 
 use crate::pattern::rewrite;
-use crate::rules::{ATTRIBUTES, CORE, MACROS, MODULES, RULES, SHIMS, SHOW_RULES, STD, UNKNOWN, USER_RULES};
+use crate::rules::{ATTRIBUTES, CORE, MACROS, MODULES, RULES, SHIMS, SHOW_CRATES, SHOW_RULES, STD, UNKNOWN, USER_RULES};
 use crate::token::text_of;
-use crate::{Fault, Source, duties, refuse};
+use crate::{Fault, Source, additions, duties, refuse};
 
 /// A file in Rust. Tests and programs have more rules.
 pub(crate) fn finished(mut file: Source, crates: &[&str], is_user: bool) -> Result<String, Fault> {
     let all = &mut file.tokens;
     duties::check(all)?;
-    let own = if file.path[0] == "tcshow_lib" { SHOW_RULES } else { &[] };
+    let own = if SHOW_CRATES.contains(&file.path[0].as_str()) { SHOW_RULES } else { &[] };
     let (users, prelude) = if is_user { (USER_RULES, "user") } else { (&[][..], "fallible") };
     own.iter().chain(users).chain(RULES).for_each(|rule| rewrite(all, rule));
     refuse(all, UNKNOWN)?;
+    if !is_user {
+        additions::add(all)?;
+    }
     let own: Vec<_> = all.windows(3).filter(|words| words[0].is("mod") && words[2].is(";")).map(|words| words[1].text).collect();
     for at in (0..all.len().saturating_sub(3)).rev() {
         let (token, next) = (all[at], all[at + 3].text);

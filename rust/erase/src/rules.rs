@@ -6,7 +6,7 @@ use crate::pattern::Rule;
 pub(crate) const LAW_CRATES: &[&str] = &["tc_meaning"];
 
 /// Modules for which a shim stands.
-pub(crate) const STOOD_FOR: &[(&str, &str)] = &[("tc_forms_text::read", "pub use crate::strict::*;"), ("tc_forms_text::repeated", ""), ("tc_lines::log", "")];
+pub(crate) const STOOD_FOR: &[(&str, &str)] = &[("forms_text::read", "pub use crate::strict::*;"), ("forms_text::repeated", ""), ("tc_lines::log", "")];
 
 /// Classes of words: types of allocators, the names of their values, traits that only contracts name (one that isn't listed stays
 /// as a trait with nothing in it), and modules of `std` for which `host` stands.
@@ -140,6 +140,9 @@ pub(crate) const RULES: &[Rule] = &[
     (". reserve ( $*x ) ?", ".try_grow($*x)?"),
     (". extend_from_slice (", ".try_extend("),
     (". push_reserved (", ".push("),
+    // Handles have an order, and targets can be compared.
+    ("# [ derive ( $*d ) ] pub struct TcHandle {", "#[derive($*d, PartialOrd, Ord)]\npub struct TcHandle {"),
+    ("# [ derive ( $*d ) ] pub struct Target {", "#[derive($*d, PartialEq, Eq)]\npub struct Target {"),
     // A clone can't fail, so the one that is written by hand is derived.
     ("impl Clone for TcFilterFlowerOption { $;b }", ""),
     ("pub enum TcFilterFlowerOption {", "#[derive(Clone)]\npub enum TcFilterFlowerOption {"),
@@ -153,7 +156,7 @@ pub(crate) const RULES: &[Rule] = &[
     ("let word = self . kind ( ) ; let len = put_padded ( & mut buffer [ NLA_HEADER_SIZE .. ] , self ) ; put_header ( buffer ,", PUT_FRAME),
     ("fn put_padded < T : Nla > ( buffer : & mut [ u8 ] , item : & T ) -> usize { let len = item . put_value ( buffer ) ; $;b len }", PUT_PADDED),
     // A frame that tells no kind leaves the kinds found as they are.
-    ("only = only . and ( kind_told ( $*f ) ? ) ;", "if let told @ Some(_) = kind_told($*f)? {\n            only = only.and(told);\n        }"),
+    ("only = only . and ( kind_set_by_frame ( $*f ) ? ) ;", "if let told @ Some(_) = kind_set_by_frame($*f)? {\n            only = only.and(told);\n        }"),
     // An attribute's word and value in one step, since rustc tells its variant twice otherwise.
     ("fn put_value ( & self , buffer : & mut [ u8 ] ) -> usize ;", PUT_ROW),
     ("fn put_value ( & self , buffer : & mut [ u8 ] ) -> usize { self . $v ( ) . 1 . put ( buffer ) }", PUT_VIEW),
@@ -162,6 +165,10 @@ pub(crate) const RULES: &[Rule] = &[
     ("# [ rattlefmt :: skip ]", "#[rustfmt::skip]"),
     // Calls of std that Rust has under another name, or had later.
     ("parse_ascii ( $x . as_bytes ( ) )", "from_str($x)"),
+    (". cast_signed ( )", ".as_signed()"),
+    (". cast_unsigned ( )", ".as_unsigned()"),
+    ("std :: str :: from_utf8 (", "str::from_utf8("),
+    ("str :: from_utf8 (", "core::str::from_utf8("),
     ("Ipv4Addr :: from_octets (", "Ipv4Addr::from("),
     ("Ipv6Addr :: from_octets (", "Ipv6Addr::from("),
     (":: self ;", ";"),
@@ -172,6 +179,9 @@ pub(crate) const RULES: &[Rule] = &[
     ("read_u16 ::", "u16::"),
     ("read_u32 ::", "u32::"),
     ("read_u64 ::", "u64::"),
+    // What can't fail in Rust.
+    (". append ( $*x ) ?", ".append($*x)"),
+    (". clone ( ) ?", ".clone()"),
 ];
 
 /// Rules of programs and tests, before those above.
@@ -188,9 +198,9 @@ pub(crate) const USER_RULES: &[Rule] = &[
     ("Fail :: new (", "Fail::from("),
     ("format ! ( in %v ; $*x )", "crate::user::formatted(format_args!($*x))"),
     (". push_str ( $*x ) ?", ".try_push_str($*x)?"),
+    ("=> $x . push_str ( $*y ) ,", "=> $x.try_push_str($*y),"),
     (". to_vec ( %v )", ".try_to_vec()"),
     (". to_string ( %v )", ".try_to_string()"),
-    (". clone ( ) ?", ".clone()"),
     // Over the real `serde` and `serde_json`.
     ("match $*x . push ( $*y ) {", "match $*x.try_push($*y) {"),
     (". push ( $*y ) . is_err ( )", ".try_push($*y).is_err()"),
@@ -216,7 +226,10 @@ pub(crate) const USER_RULES: &[Rule] = &[
     ("W : Write", "W: crate::host::io::Write"),
 ];
 
-/// Rules of `tcshow_lib`, before those of programs: it has a second allocator.
+/// The crates of `tcshow`, which have a second allocator.
+pub(crate) const SHOW_CRATES: &[&str] = &["tcshow_json", "tcshow_input", "tcshow_lib"];
+
+/// Rules of these crates, before those of programs.
 pub(crate) const SHOW_RULES: &[Rule] = &[
     ("alloc , alloc ,", "alloc,"),
     ("alloc , json ,", "alloc,"),
@@ -266,10 +279,10 @@ pub(crate) const UNKNOWN: &[&str] =
 /// Attributes that Rust has too, and macros: of `core` and `std`, and of the sources' own.
 pub(crate) const ATTRIBUTES: &[&str] = &["allow", "cfg", "default", "doc", "derive", "inline", "must_use", "repr", "rustfmt", "test"];
 pub(crate) const MACROS: &[&str] = &[
-    "any_of", "assert", "assert_eq", "done", "flags", "format", "format_args", "macro_rules", "matches", "sent", "stringify", "unreachable", "value_parser",
-    "write",
+    "any_of", "assert", "assert_eq", "done", "flags", "format", "format_args", "macro_rules", "matches", "name_of", "sent", "stringify", "type_of", "unreachable",
+    "value_parser", "write",
 ];
 
 /// Lints that erased modules don't meet: contracts used what is now unused, and some code is easier to prove than what clippy prefers.
-pub(crate) const LINTS: &str = "dead_code, missing_docs, unused_doc_comments, unused_imports, unused_labels, unused_variables, clippy::complexity, \
-    clippy::style, clippy::large_enum_variant, clippy::manual_unwrap_or_default, clippy::result_large_err, rustdoc::broken_intra_doc_links";
+pub(crate) const LINTS: &str = "dead_code, missing_docs, unused_doc_comments, unused_imports, unused_labels, unused_must_use, unused_variables, clippy::complexity, \
+    clippy::style, clippy::large_enum_variant, clippy::manual_unwrap_or_default, clippy::result_large_err, clippy::derived_hash_with_manual_eq, rustdoc::broken_intra_doc_links";

@@ -29,13 +29,13 @@ fn left_of_one(test: &str, text: &str) -> Result<String, String> {
 #[test]
 fn contracts_and_ghosts_go() {
     let text = "ghost use Rattle.std.specs.Prelude.{◌≡◌};\n/// One.\n#[tactic(auto, using(crate::a::b))]\npub fn one() -> u8\n    ensures { result ≡ 1 }\n{\n    1\n}\n";
-    assert_eq!(left_of_one("contracts", text).unwrap(), "/// One.\npub fn one() -> u8\n{\n    1\n}\n");
+    assert_eq!(left_of_one("contracts", text).unwrap(), "/// One.\n#[must_use]\npub fn one() -> u8\n{\n    1\n}\n");
 }
 
 #[test]
 fn braces_in_texts_do_not_count() {
     let text = "pub fn f() -> u8\n    ensures { codes \"}\" ≡ [] }\n{\n    g(b'{', '}', \"{\", r#\"}\"}\"#, 'a')\n}\n";
-    assert_eq!(left_of_one("braces", text).unwrap(), "pub fn f() -> u8\n{\n    g(b'{', '}', \"{\", r#\"}\"}\"#, 'a')\n}\n");
+    assert_eq!(left_of_one("braces", text).unwrap(), "#[must_use]\npub fn f() -> u8\n{\n    g(b'{', '}', \"{\", r#\"}\"}\"#, 'a')\n}\n");
 }
 
 #[test]
@@ -85,10 +85,21 @@ fn a_cut_length_panics() {
 fn errors_are_written_out() {
     let text = "use thiserror::Error;\n#[derive(Debug, Error)]\npub enum E {\n    /// A.\n    #[error(\"a {n}\")]\n    A { n: usize },\n    #[error(\"{0}\")]\n    B(F),\n}\n";
     let left = left_of_one("errors", text).unwrap();
-    assert!(left.starts_with("#[derive(Debug)]\npub enum E {\n    /// A.\n    A { n: usize },\n    B(F),}\n"), "{left}");
+    assert!(left.starts_with("#[derive(Debug, Clone)]\npub enum E {\n    /// A.\n    A { n: usize },\n    B(F),}\n"), "{left}");
     assert!(left.contains("A { n } => write!(f, \"a {n}\"),"), "{left}");
     assert!(left.contains("B(it) => write!(f, \"{0}\", it),"), "{left}");
     assert!(left.contains("impl core::error::Error for E {}"), "{left}");
+}
+
+#[test]
+fn what_one_expects_of_a_crate_is_added() {
+    let errors = left_of_one("fails", "/// Reads it.\npub fn read(bytes: &[u8]) -> Result<u8, Fault> {\n    g(bytes)\n}\n").unwrap();
+    assert_eq!(errors, "/// Reads it.\n///\n/// # Errors\n///\n/// A [`Fault`].\npub fn read(bytes: &[u8]) -> Result<u8, Fault> {\n    g(bytes)\n}\n");
+    let kept = "pub fn change(bytes: &mut [u8]) -> u8 {\n    g(bytes)\n}\nfn own() -> u8 {\n    1\n}\n#[must_use]\npub fn two() -> u8 {\n    2\n}\n";
+    assert_eq!(left_of_one("kept", kept).unwrap(), kept);
+    let types = "#[derive(Clone, PartialEq, Eq)]\npub struct One(u8);\n#[derive(Clone)]\npub struct Two(u8);\nimpl Eq for Two {}\n#[derive(Clone)]\npub struct Three(u8);\n";
+    let left = left_of_one("hash", types).unwrap();
+    assert_eq!(left, types.replace("PartialEq, Eq)", "PartialEq, Eq, Hash)").replace("(Clone)]\npub struct Two", "(Clone, Hash)]\npub struct Two"));
 }
 
 #[test]

@@ -28,6 +28,13 @@ pub fn types(folder: &Path) -> Result<String, Fault> {
     types_of(&files)
 }
 
+/// Writes a page in Markdown: every kind, with the types of its options and statistics. Fails if a table can't be read.
+pub fn page(folder: &Path) -> Result<String, Fault> {
+    let mut files = Vec::new();
+    read_files(folder, "", &mut files).map_err(|e| format!("{}: {e}", folder.display()))?;
+    Ok(write::page(&notation::read(&files)?))
+}
+
 /// Writes the types of these files.
 pub fn types_of(files: &[File]) -> Result<String, Fault> {
     write::types(&notation::read(files)?)

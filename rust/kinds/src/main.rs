@@ -1,13 +1,15 @@
-//! `kinds FOLDER`: prints the types of the tables in a folder.
+//! `kinds FOLDER [--page]`: prints the types of the tables in a folder, or the page of all kinds.
 
 use std::process::ExitCode;
 
 fn main() -> ExitCode {
-    let Some(folder) = std::env::args_os().nth(1) else {
-        eprintln!("usage: kinds FOLDER");
-        return ExitCode::from(2);
+    let words: Vec<String> = std::env::args().skip(1).collect();
+    let printed = match words.iter().map(String::as_str).collect::<Vec<_>>().as_slice() {
+        [folder] => kinds::types(folder.as_ref()),
+        [folder, "--page"] => kinds::page(folder.as_ref()),
+        _ => Err("usage: kinds FOLDER [--page]".to_string()),
     };
-    match kinds::types(folder.as_ref()) {
+    match printed {
         Ok(text) => print!("{text}"),
         Err(fault) => {
             eprintln!("{fault}");

@@ -49,6 +49,21 @@ pub(crate) fn types(tables: &Tables) -> Result<String, Fault> {
     Ok(root + &writer.prelude())
 }
 
+/// Writes the page of all kinds.
+pub(crate) fn page(tables: &Tables) -> String {
+    let writer = Writer { tables, uses: Uses::of(tables) };
+    let mut page = "Every kind, with the types of its options and statistics.\n\n| Kind | | Options | Statistics |\n|---|---|---|---|\n".to_string();
+    for block in tables.blocks.iter().filter(|block| KINDS.contains(&&*block.sort)) {
+        let types = |what: &str| {
+            let forms = block.lines.iter().filter(|line| line.name == what).filter_map(|line| line.form.as_ref());
+            forms.map(|form| writer.linked(form)).collect::<Vec<_>>().join(", ")
+        };
+        let names = block.names.iter().map(|name| format!("`{name}`")).collect::<Vec<_>>().join(", ");
+        _ = writeln!(page, "| {names} | {} | {} | {} |", block.sort, types("options"), types("statistics"));
+    }
+    page
+}
+
 fn module(name: &str, about: &str, text: &str) -> String {
     format!("#[doc = {about:?}]\npub mod {} {{\n#[allow(unused_imports)]\nuse crate::kinds::prelude::*;\n{text}}}\n", ident(name))
 }
@@ -93,6 +108,19 @@ impl Writer<'_> {
         let outside: BTreeSet<String> = self.typed().filter(|it| !self.is_at_root(it)).map(path).collect();
         let uses: String = outside.iter().map(|path| format!("pub(super) use super::{path}::*;\n")).collect();
         format!("mod prelude {{\npub(super) use super::*;\n{uses}}}\n")
+    }
+
+    /// The type of a form, with a link if it is one of the tables.
+    fn linked(&self, form: &Form) -> String {
+        let value = self.form(form, "").value;
+        let name = value.strip_prefix("Attrs<").and_then(|value| value.strip_suffix('>')).unwrap_or(&value);
+        match self.typed().find(|block| type_name(&block.sort, &block.names[0]) == name) {
+            Some(block) => {
+                let path = block.file.split('/').map(ident).collect::<Vec<_>>().join("::");
+                format!("[`{name}`](crate::kinds::{path}::{name})")
+            }
+            None => format!("`{value}`"),
+        }
     }
 
     fn block(&self, block: &Block) -> String {

@@ -1,6 +1,6 @@
 //! What the generator reads of the tables, and what it skips.
 
-use kinds::{Fault, types, types_of};
+use kinds::{Fault, page, types, types_of};
 use std::path::Path;
 
 fn written(path: &str, text: &str) -> Result<String, Fault> {
@@ -65,5 +65,17 @@ fn the_tables_of_the_repository_are_written() {
         "Flower actions,",
     ] {
         assert!(types.contains(part), "{part} isn't there");
+    }
+}
+
+#[test]
+fn the_page_lists_every_kind() {
+    let page = page(&Path::new(env!("CARGO_MANIFEST_DIR")).join("../../kinds")).expect("a page");
+    for row in [
+        "| `htb` | qdisc | [`HtbAttr`](crate::kinds::qdiscs::htb::HtbAttr) | [`HtbXstats`](crate::kinds::qdiscs::htb::HtbXstats) |",
+        "| `netem` | qdisc | [`NetemQopt`](crate::kinds::qdiscs::netem::NetemQopt) |  |",
+        "| `gact` | action | [`GactAttr`](crate::kinds::actions::gact::GactAttr) |  |",
+    ] {
+        assert!(page.contains(row), "{row} isn't in\n{page}");
     }
 }

@@ -4,8 +4,7 @@ include!("../../conjareho/crates.rs");
 
 /// The crates of tests. Those of refused memory are left out: `rust/tests/refusals` does the same for the erased codec.
 const TESTS: &[&str] = &[
-    "tests_messages",
-    "tests_captures",
+    "tests_data",
     "tests_parts",
     "tc_vectors",
     "tests_input",
@@ -16,7 +15,7 @@ const TESTS: &[&str] = &[
 /// Tests of how large Rattle's values are, of refused memory, of random bytes, and of lines of a program. Where a text isn't JSON, `serde_json` says another column than Rattle's.
 const OMITTED: &[&str] = &[
     "failing_alloc",
-    "tcforms_lib",
+    "tests_data::streams",
     "tcrewrite_lib",
     "tc_vectors::hostile",
     "tc_vectors::program",

@@ -1,4 +1,4 @@
-//! Where a frame ends.
+//! Splitting the first frame from the bytes after it.
 
 ghost use Rattle.std.specs.Prelude.{◌≡◌};
 ghost use Rattle.nla_frames.specs.Fault.{seen};
@@ -9,7 +9,7 @@ use super::NlaBuffer;
 use crate::error::{DecodeError, Res};
 use crate::nla::NLA_HEADER_SIZE;
 
-// The first frame, and what follows it and its padding.
+// The first frame, and the bytes after its padding.
 #[tactic(auto, using(crate::proofs::Front::after_padding), unfolding(crate::specs::Cutting::next_frame))]
 pub(crate) fn split_first(bytes: &[u8]) -> Res<(NlaBuffer<'_>, &[u8])>
     ensures { seen (λ x. (frame_of x.0, x.1.now)) result ≡ next_frame bytes.now }

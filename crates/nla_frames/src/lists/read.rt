@@ -1,7 +1,7 @@
 //! Reading lists of frames.
 
 ghost use Rattle.std.specs.Prelude.{◌≡◌, ◌/◌, List, ℕ, [], min, map, length, IfOk};
-ghost use Rattle.nla_frames.specs.Fault.{Gives, IfRefused, seen};
+ghost use Rattle.nla_frames.specs.Fault.{Returns, IfRefused, seen};
 ghost use Rattle.nla_frames.specs.Buffer.{frame_of};
 ghost use Rattle.nla_frames.specs.ListGrammar.{ReadEach, ListReads, IsListFault, IsFirstRefusal};
 ghost use Rattle.nla_frames.specs.Reading.{read_list, read_each, whole, keep};
@@ -17,12 +17,12 @@ use std::alloc::Allocator;
 pub trait FrameReader<A: Allocator, T: FrameMeaning> {
     ghost kind: { Self → List ℕ };
 
-    /// The value of a frame under that kind, or its first fault.
+    /// Reads the frame under that kind, or fails with its first fault.
     fn read(&self, alloc: A, buf: &NlaBuffer<'_>) -> Res<T>
-        ensures { Gives (seen T.see result) (T.codec.read (kind self.now) (frame_of buf.now)) };
+        ensures { Returns (seen T.see result) (T.codec.read (kind self.now) (frame_of buf.now)) };
 }
 
-// Reads frames where no kind is set.
+// Reads frames before any kind is set.
 #[derive(Drop)]
 struct KindlessReader;
 
@@ -46,7 +46,7 @@ impl<A: Allocator, T: ParseableParametrized<A>> FrameReader<A, T> for KindReader
     }
 }
 
-/// The values of the frames that the bytes are, or the first fault.
+/// Reads the bytes as a list of frames, or fails with the first fault.
 pub fn parse_list<A: Allocator + Copy, T: Parseable<A> + Drop>(
     alloc: A,
     bytes: &[u8],
@@ -54,13 +54,13 @@ pub fn parse_list<A: Allocator + Copy, T: Parseable<A> + Drop>(
     ensures found { IfOk result (λ v.
         ListReads T.codec.read keep [] bytes.now (map T.see v.items)) }
     ensures refused { IfRefused result (IsListFault T.codec.read keep [] bytes.now) }
-    ensures exact { Gives (seen (λ v. map T.see v.items) result)
+    ensures exact { Returns (seen (λ v. map T.see v.items) result)
         (read_list T.codec.read keep [] bytes.now) }
 {
     parse_list_by(alloc, bytes, &KindlessReader)
 }
 
-/// The values of the frames that the bytes are, each read under one kind, or the first fault.
+/// Reads the bytes as a list of frames, each under this kind, or fails with the first fault.
 pub fn parse_list_with<A: Allocator + Copy, T: ParseableParametrized<A> + Drop>(
     alloc: A,
     bytes: &[u8],
@@ -69,13 +69,13 @@ pub fn parse_list_with<A: Allocator + Copy, T: ParseableParametrized<A> + Drop>(
     ensures found { IfOk result (λ v.
         ListReads T.codec.read keep kind.now bytes.now (map T.see v.items)) }
     ensures refused { IfRefused result (IsListFault T.codec.read keep kind.now bytes.now) }
-    ensures exact { Gives (seen (λ v. map T.see v.items) result)
+    ensures exact { Returns (seen (λ v. map T.see v.items) result)
         (read_list T.codec.read keep kind.now bytes.now) }
 {
     parse_list_by(alloc, bytes, &KindReader(kind))
 }
 
-/// The values of the frames that the bytes are, each read by this reader, or the first fault.
+/// Reads the bytes as a list of frames, each with this reader, or fails with the first fault.
 pub fn parse_list_by<A: Allocator + Copy, T: FrameMeaning + Drop, R: FrameReader<A, T>>(
     alloc: A,
     bytes: &[u8],
@@ -85,7 +85,7 @@ pub fn parse_list_by<A: Allocator + Copy, T: FrameMeaning + Drop, R: FrameReader
         ListReads T.codec.read keep (R.kind reader.now) bytes.now (map T.see v.items)) }
     ensures refused { IfRefused result
         (IsListFault T.codec.read keep (R.kind reader.now) bytes.now) }
-    ensures exact { Gives (seen (λ v. map T.see v.items) result)
+    ensures exact { Returns (seen (λ v. map T.see v.items) result)
         (read_list T.codec.read keep (R.kind reader.now) bytes.now) }
 {
     read_all(alloc, bytes, reader)
@@ -96,13 +96,14 @@ fn read_all<A: Allocator + Copy, T: FrameMeaning + Drop, R: FrameReader<A, T>>(
     bytes: &[u8],
     reader: &R,
 ) -> Res<Vec<T, A>>
-    ensures { Gives (seen (λ v. map T.see v.items) result)
+    ensures { Returns (seen (λ v. map T.see v.items) result)
         (read_list T.codec.read keep (R.kind reader.now) bytes.now) }
 {
     let mut list = Vec::with_capacity(alloc, first_capacity(bytes))?;
     for frame in NlasIterator::new(bytes) {
         let frame = frame?;
-        // There is a place for the value before it is read, so that it is made there: a push that fails would hand it back.
+        // Space is reserved before the value is read, so that the value is built in place: a push that fails would
+        // return it.
         list.reserve(1)?;
         let item = reader.read(alloc, &frame)?;
         list.push_reserved(item);
@@ -110,7 +111,7 @@ fn read_all<A: Allocator + Copy, T: FrameMeaning + Drop, R: FrameReader<A, T>>(
     Ok(list)
 }
 
-/// The values of frames that are already cut, each read under one kind, or the first fault.
+/// Reads frames that are already cut, each under this kind, or fails with the first fault.
 pub fn parse_frames_with<A: Allocator + Copy, T: ParseableParametrized<A> + Drop>(
     alloc: A,
     frames: &[NlaBuffer<'_>],
@@ -120,7 +121,7 @@ pub fn parse_frames_with<A: Allocator + Copy, T: ParseableParametrized<A> + Drop
         ReadEach T.codec.read keep kind.now (map frame_of frames.now) (map T.see v.items)) }
     ensures refused { IfRefused result
         (IsFirstRefusal T.codec.read kind.now (map frame_of frames.now)) }
-    ensures exact { Gives (seen (λ v. map T.see v.items) result)
+    ensures exact { Returns (seen (λ v. map T.see v.items) result)
         (read_each T.codec.read keep kind.now (whole (map frame_of frames.now))) }
 {
     read_frames(alloc, frames, kind)
@@ -131,7 +132,7 @@ fn read_frames<A: Allocator + Copy, T: ParseableParametrized<A> + Drop>(
     frames: &[NlaBuffer<'_>],
     kind: &str,
 ) -> Res<Vec<T, A>>
-    ensures { Gives (seen (λ v. map T.see v.items) result)
+    ensures { Returns (seen (λ v. map T.see v.items) result)
         (read_each T.codec.read keep kind.now (whole (map frame_of frames.now))) }
 {
     let mut list = Vec::with_capacity(alloc, frames.len())?;
@@ -143,8 +144,8 @@ fn read_frames<A: Allocator + Copy, T: ParseableParametrized<A> + Drop>(
     Ok(list)
 }
 
-/// How many elements a list of frames gets room for at first: one for every eight bytes, and not more than 16, so
-/// that a short list takes one allocation and a wrong guess costs little.
+/// The initial capacity of a list of frames: one element for every eight bytes, and at most 16, so that a short list
+/// takes one allocation and a wrong guess costs little.
 pub fn first_capacity(bytes: &[u8]) -> usize
     ensures { result ≡ min (length bytes.now / 8) 16 }
 {

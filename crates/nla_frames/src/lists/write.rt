@@ -6,8 +6,8 @@ ghost use Rattle.nla_frames.specs.Emission.{list_bytes, ListFits, NestedFits, Me
 
 use crate::nla::{NLA_VALUE_MAX_SIZE, Nla};
 
-/// How many bytes the frames have, or `None` where the list can't be written: where an attribute doesn't fit, or no
-/// `usize` counts all their bytes.
+/// The length of the frames in bytes, or `None` if the list can't be encoded: an attribute doesn't fit, or the total
+/// overflows `usize`.
 pub fn list_checked_len<T: Nla>(items: &[T]) -> Option<usize>
     ensures { Measures result (ListFits T.codec.Fits T.codec.write (map T.see items.now))
         (list_bytes T.codec.write (map T.see items.now)) }
@@ -27,8 +27,8 @@ pub fn list_checked_len<T: Nla>(items: &[T]) -> Option<usize>
     Some(total)
 }
 
-/// How many bytes the frames have, or `None` where they can't be written as the value of an attribute: where the list
-/// can't be written, or has more than 65531 bytes.
+/// The length of the frames in bytes, or `None` if they can't be encoded as the value of an attribute: the list can't
+/// be encoded, or has more than 65,531 bytes.
 pub fn nested_checked_len<T: Nla>(items: &[T]) -> Option<usize>
     ensures { Measures result (NestedFits T.codec.Fits T.codec.write (map T.see items.now))
         (list_bytes T.codec.write (map T.see items.now)) }
@@ -39,21 +39,21 @@ pub fn nested_checked_len<T: Nla>(items: &[T]) -> Option<usize>
     }
 }
 
-/// True if the list can be written: each attribute fits, and a `usize` counts all their bytes.
+/// True if the list can be encoded: each attribute fits, and the total length fits in `usize`.
 pub fn list_fits<T: Nla>(items: &[T]) -> bool
     ensures { IsTrue result ↔ ListFits T.codec.Fits T.codec.write (map T.see items.now) }
 {
     list_checked_len(items).is_some()
 }
 
-/// True if the list can be written as the value of an attribute: it can be written, in at most 65531 bytes.
+/// True if the list can be encoded as the value of an attribute: in at most 65,531 bytes.
 pub fn nested_fits<T: Nla>(items: &[T]) -> bool
     ensures { IsTrue result ↔ NestedFits T.codec.Fits T.codec.write (map T.see items.now) }
 {
     nested_checked_len(items).is_some()
 }
 
-/// How many bytes the frames have.
+/// The length of the frames in bytes.
 pub fn list_len<T: Nla>(items: &[T]) -> usize
     requires { ListFits T.codec.Fits T.codec.write (map T.see items.now) }
     ensures { result ≡ length (list_bytes T.codec.write (map T.see items.now)) }
@@ -61,7 +61,7 @@ pub fn list_len<T: Nla>(items: &[T]) -> usize
     list_checked_len(items).unwrap_or(0)
 }
 
-/// Writes the frames at the front of the buffer, each padded with zeros, and returns how many bytes that took.
+/// Writes the frames at the front of the buffer, each padded with zeros, and returns their length.
 pub fn put_list<T: Nla>(items: &[T], buffer: &mut [u8]) -> usize
     requires fits { ListFits T.codec.Fits T.codec.write (map T.see items.now) }
     requires room { HasRoom (list_bytes T.codec.write (map T.see items.now)) buffer.old }

@@ -1,4 +1,4 @@
-//! The bytes of a number, as `le_bytes` and `be_bytes` have them. A record is written as one array of such bytes.
+//! The bytes of a number, as `le_bytes` and `be_bytes` define them. A record is written as one array of such bytes.
 
 ghost use Rattle.std.specs.Prelude.{◌≡◌};
 ghost use Rattle.std.specs.Int.{w32, cast_unsigned};

@@ -1,8 +1,7 @@
-//! Reading plain values. A number, an address or an array takes its exact width, and any other is refused as
-//! `WrongLength`.
+//! Reading plain values. Numbers, addresses and arrays have a fixed length; any other fails with `WrongLength`.
 
 ghost use Rattle.std.specs.Prelude.{◌≡◌, string_bytes, length};
-ghost use Rattle.nla_frames.specs.Fault.{Gives, seen};
+ghost use Rattle.nla_frames.specs.Fault.{Returns, seen};
 ghost use Rattle.nla_frames.specs.Value.{exactly, le_number, be_number, text, strip};
 ghost use Rattle.std.specs.Net.Addr.{ipv4_octets, ipv6_octets};
 ghost use Rattle.nla_frames.specs.declared.error.DecodeError.TheVariants.{WrongLength};
@@ -11,7 +10,7 @@ use crate::error::{DecodeError, Res};
 use std::alloc::Allocator;
 use std::net::{Ipv4Addr, Ipv6Addr};
 
-/// A number of one byte; `WrongLength` of any other width.
+/// Reads a number of one byte. Any other length is `WrongLength`.
 pub fn parse_u8(value: &[u8]) -> Res<u8>
     ensures { result ≡ le_number 1 value.now }
 {
@@ -21,7 +20,7 @@ pub fn parse_u8(value: &[u8]) -> Res<u8>
     }
 }
 
-/// A number of two bytes, little-endian; `WrongLength` of any other width.
+/// Reads a number of two bytes, little-endian. Any other length is `WrongLength`.
 pub fn parse_u16(value: &[u8]) -> Res<u16>
     ensures { result ≡ le_number 2 value.now }
 {
@@ -31,7 +30,7 @@ pub fn parse_u16(value: &[u8]) -> Res<u16>
     }
 }
 
-/// A number of four bytes, little-endian; `WrongLength` of any other width.
+/// Reads a number of four bytes, little-endian. Any other length is `WrongLength`.
 pub fn parse_u32(value: &[u8]) -> Res<u32>
     ensures { result ≡ le_number 4 value.now }
 {
@@ -41,7 +40,7 @@ pub fn parse_u32(value: &[u8]) -> Res<u32>
     }
 }
 
-/// A number of two bytes, big-endian; `WrongLength` of any other width.
+/// Reads a number of two bytes, big-endian. Any other length is `WrongLength`.
 pub fn parse_u16_be(value: &[u8]) -> Res<u16>
     ensures { result ≡ be_number 2 value.now }
 {
@@ -51,7 +50,7 @@ pub fn parse_u16_be(value: &[u8]) -> Res<u16>
     }
 }
 
-/// A number of four bytes, big-endian; `WrongLength` of any other width.
+/// Reads a number of four bytes, big-endian. Any other length is `WrongLength`.
 pub fn parse_u32_be(value: &[u8]) -> Res<u32>
     ensures { result ≡ be_number 4 value.now }
 {
@@ -61,7 +60,7 @@ pub fn parse_u32_be(value: &[u8]) -> Res<u32>
     }
 }
 
-/// A MAC address of six bytes; `WrongLength` of any other width.
+/// Reads a MAC address of six bytes. Any other length is `WrongLength`.
 pub fn parse_mac(value: &[u8]) -> Res<[u8; 6]>
     ensures { result ≡ exactly 6 value.now }
 {
@@ -73,7 +72,7 @@ pub fn parse_mac(value: &[u8]) -> Res<[u8; 6]>
     Ok(mac)
 }
 
-/// An IPv4 address of four bytes; `WrongLength` of any other width.
+/// Reads an IPv4 address of four bytes. Any other length is `WrongLength`.
 pub fn parse_ipv4_addr(value: &[u8]) -> Res<Ipv4Addr>
     ensures { seen ipv4_octets result ≡ exactly 4 value.now }
 {
@@ -83,7 +82,7 @@ pub fn parse_ipv4_addr(value: &[u8]) -> Res<Ipv4Addr>
     }
 }
 
-/// An IPv6 address of sixteen bytes; `WrongLength` of any other width.
+/// Reads an IPv6 address of sixteen bytes. Any other length is `WrongLength`.
 #[tactic(auto, using(crate::proofs::Addresses::octets_again))]
 pub fn parse_ipv6_addr(value: &[u8]) -> Res<Ipv6Addr>
     ensures { seen ipv6_octets result ≡ exactly 16 value.now }
@@ -96,9 +95,9 @@ pub fn parse_ipv6_addr(value: &[u8]) -> Res<Ipv6Addr>
     Ok(Ipv6Addr::from_octets(octets))
 }
 
-/// A text, without the one NUL that may end it; `NotUtf8` where the rest is none, and `OutOfMemory`.
+/// Reads a text, without the one NUL that may end it. Fails with `NotUtf8` if it isn't UTF-8.
 pub fn parse_string<A: Allocator>(alloc: A, value: &[u8]) -> Res<String<A>>
-    ensures { Gives (seen string_bytes result) (text value.now) }
+    ensures { Returns (seen string_bytes result) (text value.now) }
 {
     let text = match std::str::from_utf8(strip_nul(value)) {
         Ok(text) => text,

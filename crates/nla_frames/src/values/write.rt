@@ -1,4 +1,4 @@
-//! Writing plain values, each at the front of a buffer. The rest of the buffer stays unchanged.
+//! Writing plain values, each at the front of a buffer. The rest of the buffer is unchanged.
 
 ghost use Rattle.std.specs.Prelude.{◌≡◌, ℕ, List, ◌∷◌, [], length};
 ghost use Rattle.std.specs.Prelude.{◌≤◌, ◌<◌, ◌^◌};
@@ -8,7 +8,7 @@ ghost use Rattle.nla_frames.specs.Value.{IsBytes, IsText, le_bytes, be_bytes, te
 use crate::nla::NLA_VALUE_MAX_SIZE;
 use crate::values::bytes::{u16_be_bytes, u16_bytes, u32_be_bytes, u32_bytes, u64_bytes};
 
-/// How many bytes these are, or `None` where they are too many for a value.
+/// The number of bytes, or `None` if they are too many for a value.
 pub fn checked_value_len(bytes: &[u8]) -> Option<usize>
     ensures { Measures result (length bytes.now ≤ 65531) bytes.now }
 {
@@ -19,7 +19,7 @@ pub fn checked_value_len(bytes: &[u8]) -> Option<usize>
     }
 }
 
-/// Writes bytes as they are, and returns how many.
+/// Writes the bytes and returns their number.
 pub fn put_bytes(buffer: &mut [u8], bytes: &[u8]) -> usize
     requires { HasRoom bytes.now buffer.old }
     ensures written { Writes bytes.now buffer.old buffer.new }
@@ -30,7 +30,7 @@ pub fn put_bytes(buffer: &mut [u8], bytes: &[u8]) -> usize
     bytes.len()
 }
 
-/// Writes a text and one NUL after it, and returns how many bytes both have.
+/// Writes a text and one NUL after it, and returns the length of both.
 pub fn put_text(buffer: &mut [u8], text: &str) -> usize
     requires { HasRoom (terminated text.now) buffer.old }
     ensures written { Writes (terminated text.now) buffer.old buffer.new }

@@ -1,7 +1,7 @@
 //! An action: one attribute, whose payload is a list of attributes that holds its own kind.
 
 ghost use Rattle.std.specs.Prelude.{◌≡◌, [], IfOk};
-ghost use Rattle.nla_frames.specs.Fault.{Gives, IfRefused, seen};
+ghost use Rattle.nla_frames.specs.Fault.{Returns, IfRefused, seen};
 ghost use Rattle.nla_frames.specs.Buffer.{frame_of};
 ghost use Rattle.tc_meaning.specs.OwnGrammar.{OwnReads, OwnFault};
 ghost use Rattle.tc_laws.specs.Order.{read_action_attribute};
@@ -11,7 +11,7 @@ ghost use Rattle.tc_actions.specs.Action.{an_action, listed, tc_action, KeepsOrd
 use crate::actions::attribute::TcActionAttribute;
 use crate::actions::scan::parse_list_own;
 use crate::actions::types::TCA_ACT_TAB;
-use nla_frames::laws::in_hand::u16_in_hand;
+use nla_frames::laws::in_range::u16_is_in_range;
 use nla_frames::{
     FrameMeaning, NLA_TYPE_MASK, Nla, NlaBuffer, Parseable, Res, Settle, list_settled_own,
     nested_checked_len, put_list,
@@ -19,16 +19,15 @@ use nla_frames::{
 use std::alloc::{Allocator, Global};
 use tc_laws::places::order_in_an_action;
 
-/// An action. Its kind is the text of its one [`Kind`](TcActionAttribute::Kind), at whatever place in the list, and its
-/// options and statistics are read under it.
+/// An action. Exactly one attribute is its [`Kind`](TcActionAttribute::Kind), anywhere in the list, and selects the format
+/// of its options and statistics.
 #[derive(Drop)]
 #[derive_where(Debug)]
 #[derive_where(Clone; A)]
 pub struct TcAction<A: Allocator = Global> {
-    /// The type of its attribute, which in a list of actions is its place, counted from 1. It is written as the whole
-    /// `nla_type`.
+    /// The attribute type, which in a list of actions is the order number, from 1. Written as the whole `nla_type`.
     pub tab: u16,
-    /// Its attributes.
+    /// The attributes, in order.
     pub attributes: Vec<TcActionAttribute<A>, A>,
 }
 
@@ -54,20 +53,20 @@ impl<A: Allocator> FrameMeaning for TcAction<A> {
 }
 
 impl<A: Allocator + Copy> Parseable<A> for TcAction<A> {
-    /// The action that is the payload of a frame of any type, or its first fault: a broken frame or a kind that isn't
-    /// UTF-8, then `MissingKind` or `DuplicateKind`, then a fault of an attribute.
+    /// Reads the payload of a frame of any type. The first fault is a broken frame or a kind that isn't UTF-8, else
+    /// `MissingKind` or `DuplicateKind`, else a fault of an attribute.
     fn parse(alloc: A, buf: &NlaBuffer<'_>) -> Res<TcAction<A>>
         ensures tab { IfOk result (λ action. action.tab ≡ type_of (frame_of buf.now).word) }
-        // Its attributes are what the grammar reads of the value.
+        // The attributes are the grammar's reading of the value.
         ensures found { IfOk result (λ action.
             OwnReads read_action_attribute (frame_of buf.now).value (listed action)) }
-        // What is refused has this fault, which is the first.
+        // A refusal is the first fault.
         ensures refused { IfRefused result
             (OwnFault read_action_attribute (frame_of buf.now).value) }
         // Two neighbours exchanged, where all are padded in full, exchange what they read as, and change nothing else.
         ensures order { IfOk result (λ action. KeepsOrder (frame_of buf.now) (listed action)) }
-        // What is found and what is refused, by the function that computes both.
-        ensures exact { Gives (seen tc_action result)
+        // The result is what the reading function computes, unless memory ran out.
+        ensures exact { Returns (seen tc_action result)
             ((table_codec an_action).read [] (frame_of buf.now)) }
     {
         // Does nothing at run time: its law gives the clause `order`.
@@ -91,7 +90,7 @@ impl<A: Allocator> Nla for TcAction<A> {
 
     fn put_value(&self, buffer: &mut [u8]) -> usize {
         // Does nothing at run time: it says that `tab` is below 2^16, for the clause `typed`.
-        u16_in_hand(self.tab);
+        u16_is_in_range(self.tab);
         put_list(&self.attributes, buffer)
     }
 
@@ -103,7 +102,7 @@ impl<A: Allocator> Settle for TcAction<A> {
     /// around the action doesn't matter.
     fn is_settled_under(&self, _kind: &str) -> bool {
         // Does nothing at run time: it says that `tab` is below 2^16, for the clause `typed`.
-        u16_in_hand(self.tab);
+        u16_is_in_range(self.tab);
         self.tab <= NLA_TYPE_MASK && list_settled_own(&self.attributes)
     }
 }

@@ -1,7 +1,7 @@
 //! The attributes of an action.
 
 ghost use Rattle.std.specs.Prelude.{◌≡◌, string_bytes};
-ghost use Rattle.nla_frames.specs.Fault.{Gives, seen};
+ghost use Rattle.nla_frames.specs.Fault.{Returns, seen};
 ghost use Rattle.nla_frames.specs.Value.{text};
 ghost use Rattle.tc_canon.specs.Tables.Actions.{action_attributes};
 ghost use Rattle.tc_meaning.specs.Own.{kind_of_attribute};
@@ -9,15 +9,15 @@ ghost use Rattle.tc_values.specs.AttributeWords.{on, type_of, table, Attribute, 
 ghost use Rattle.tc_values.specs.Row.{attribute_of, IsRow, ShownAs, reads_at};
 ghost use Rattle.tc_actions.specs.ActionAttribute.{action_attribute, attribute_body};
 
+use crate::actions::option::{TcActionOption, read_options};
 use crate::actions::types::*;
+use crate::stats::stats2::TcStats2;
 use nla_frames::{
     DefaultNla, FrameMeaning, NLA_F_NESTED, NLA_TYPE_MASK, Nla, NlaBuffer, Parseable,
     ParseableParametrized, Res, SetsKind, Settle, parse_list_with, parse_string, parse_u32,
     strip_nul,
 };
 use std::alloc::{Allocator, Global};
-use tc_action_options::{TcActionOption, read_options};
-use tc_stats::TcStats2;
 use tc_values::{Either, Items, Value, same_row};
 
 /// An attribute of an action.
@@ -38,11 +38,11 @@ pub enum TcActionAttribute<A: Allocator = Global> {
     Kind(String<A>),
     /// The options: `TCA_ACT_OPTIONS`.
     Options(Vec<TcActionOption<A>, A>),
-    /// The number of the action among those of its kind: `TCA_ACT_INDEX`.
+    /// The index of the action among those of its kind: `TCA_ACT_INDEX`.
     Index(u32),
     /// Statistics: `TCA_ACT_STATS`.
     Stats(Vec<TcStats2<A>, A>),
-    /// Bytes that the user keeps with the action: `TCA_ACT_COOKIE`.
+    /// Bytes that the user stored with the action: `TCA_ACT_COOKIE`.
     Cookie(Vec<u8, A>),
     /// How many times the action is offloaded to hardware: `TCA_ACT_IN_HW_COUNT`.
     InHwCount(u32),
@@ -50,7 +50,7 @@ pub enum TcActionAttribute<A: Allocator = Global> {
     Other(DefaultNla<A>),
 }
 
-// What attributes nest.
+// Nested values of the attributes.
 type Body<'a, A> = Either<Items<'a, TcActionOption<A>>, Items<'a, TcStats2<A>>>;
 
 impl<A: Allocator> FrameMeaning for TcActionAttribute<A> {
@@ -76,10 +76,9 @@ impl<A: Allocator + Copy> ParseableParametrized<A> for TcActionAttribute<A> {
     }
 }
 
-// The text of a kind. Where its bytes are those of the kind in force, as in every action, they are a text: that isn't
-// tested again.
+// Reads the text of a kind. Bytes equal to the kind in force, as in every action, aren't tested for UTF-8 again.
 fn read_kind<A: Allocator>(alloc: A, value: &[u8], kind: &str) -> Res<String<A>>
-    ensures { Gives (seen string_bytes result) (text value.now) }
+    ensures { Returns (seen string_bytes result) (text value.now) }
 {
     if strip_nul(value) == kind.as_bytes() {
         return Ok(String::from_str(alloc, kind)?);
@@ -88,7 +87,7 @@ fn read_kind<A: Allocator>(alloc: A, value: &[u8], kind: &str) -> Res<String<A>>
 }
 
 impl<A: Allocator> TcActionAttribute<A> {
-    // The row, with what it says of the attribute: how it is written, that it fits and is settled.
+    // The row; its contract says how the attribute is written, when it fits and when it is settled.
     fn view(&self) -> (u16, Value<'_, Body<'_, A>>)
         ensures { ShownAs attribute_body action_attributes (action_attribute self.now)
             result.0 result.1 }
@@ -96,8 +95,7 @@ impl<A: Allocator> TcActionAttribute<A> {
         self.row()
     }
 
-    /// The attribute's `nla_type` (type and flags) and its value, in the form that the row of its type in the table says; of
-    /// `Other` the word and the payload that it keeps.
+    /// The `nla_type` (type and flags) and the value in the format of the type's row; both of `Other` are as read.
     pub fn row(&self) -> (u16, Value<'_, Body<'_, A>>)
         ensures seen { action_attribute self.now ≡ attribute_of attribute_body result.0 result.1 }
         ensures row { IsRow attribute_body action_attributes result.0 result.1 }

@@ -1,9 +1,9 @@
-//! A list of frames that holds its own kind, read with one scan: it cuts the frames, and meets the broken ones and the
-//! kinds that aren't UTF-8 in their order.
+//! Reads a list of frames that holds its own kind. One scan cuts the frames and finds broken frames and kinds that aren't
+//! UTF-8 in order.
 
 ghost use Rattle.std.specs.Prelude.{◌≡◌, List, ℕ, [], Option, map, IfOk};
 ghost use Rattle.std.specs.Result.{MatchResult};
-ghost use Rattle.nla_frames.specs.Fault.{Gives, IfRefused, seen, refused};
+ghost use Rattle.nla_frames.specs.Fault.{Returns, IfRefused, seen, refused};
 ghost use Rattle.nla_frames.specs.Buffer.{frame_of};
 ghost use Rattle.nla_frames.specs.Reading.{read_list, keep};
 ghost use Rattle.tc_meaning.specs.Own.{read_own};
@@ -16,17 +16,17 @@ use nla_frames::{
 };
 use std::alloc::Allocator;
 use tc_meaning::laws::own_grammar;
-use tc_values::kind_told;
+use tc_values::kind_set_by_frame;
 
-/// The values of the frames that the bytes are, each read under the kind that one of them sets, or the first fault: of
-/// a broken frame or of a kind that isn't UTF-8, of no kind or of several, of a frame that is refused.
+/// Reads each frame under the kind that one of them sets. The first fault is a broken frame or a kind that isn't UTF-8,
+/// else no kind or several, else that of a frame.
 pub(crate) fn parse_list_own<A: Allocator + Copy, T: ParseableParametrized<A> + Drop>(
     alloc: A,
     bytes: &[u8],
 ) -> Res<Vec<T, A>>
     ensures found { IfOk result (λ v. OwnReads T.codec.read bytes.now (map T.see v.items)) }
     ensures refused { IfRefused result (OwnFault T.codec.read bytes.now) }
-    ensures exact { Gives (seen (λ v. map T.see v.items) result) (read_own T.codec.read bytes.now) }
+    ensures exact { Returns (seen (λ v. map T.see v.items) result) (read_own T.codec.read bytes.now) }
 {
     // Does nothing at run time: its law, that `read_own` is what the grammar reads, gives the clauses `found` and `refused`.
     own_grammar::<T>(bytes);
@@ -37,7 +37,7 @@ fn parse_own<A: Allocator + Copy, T: ParseableParametrized<A> + Drop>(
     alloc: A,
     bytes: &[u8],
 ) -> Res<Vec<T, A>>
-    ensures { Gives (seen (λ v. map T.see v.items) result) (read_own T.codec.read bytes.now) }
+    ensures { Returns (seen (λ v. map T.see v.items) result) (read_own T.codec.read bytes.now) }
 {
     let (frames, only) = scan(alloc, bytes)?;
     match only {
@@ -47,16 +47,16 @@ fn parse_own<A: Allocator + Copy, T: ParseableParametrized<A> + Drop>(
     }
 }
 
-// The frames that the bytes are, and the kinds that they set; or the first broken frame or kind that isn't UTF-8.
+// The frames and the kinds that they set, or the first broken frame or kind that isn't UTF-8.
 fn scan<'a, A: Allocator>(alloc: A, bytes: &'a [u8]) -> Res<(Vec<NlaBuffer<'a>, A>, OnlyKind<'a>)>
     ensures { MatchResult result (λ found. Scanned bytes.now found.0.items found.1) (λ e.
-        Gives (refused e) (read_list first_look keep [] bytes.now)) }
+        Returns (refused e) (read_list first_look keep [] bytes.now)) }
 {
     let mut frames = Vec::with_capacity(alloc, first_capacity(bytes))?;
     let mut only = OnlyKind::Missing;
     for frame in NlasIterator::new(bytes) {
         let frame = frame?;
-        only = only.and(kind_told(&frame)?);
+        only = only.and(kind_set_by_frame(&frame)?);
         frames.push(frame)?;
     }
     Ok((frames, only))

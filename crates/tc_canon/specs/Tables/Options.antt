@@ -1,4 +1,4 @@
--- The tables of options, but flower's, and the known kinds of a message.
+-- The tables of options except flower's, and the known kinds of a message.
 use Rattle.std.specs.Prelude.{codes}
 use Rattle.tc_canon.specs.Descriptor.{Rows, Kinds, others, unknown, kind, le, array, raw, text, selector, ◌▹◌, at, from}
 use Rattle.tc_canon.specs.Tables.Actions.{actions}

@@ -15,8 +15,7 @@ use crate::piece::Piece;
 use crate::stream::next_in_stream;
 
 impl Capture {
-    /// The capture whose first four bytes these are, to be read from these on; `None` where they are of none that is
-    /// known.
+    /// The capture that begins with these four bytes, before they are read; `None` if the format is unknown.
     pub fn of_first(first: &[u8]) -> Option<Capture>
         ensures { option_map state_of result ≡ capture_at first.now }
     {
@@ -33,8 +32,8 @@ impl Capture {
         }
     }
 
-    /// The piece at the front of the bytes that are left. `Short` says how many bytes it takes, and other errors that it
-    /// is broken, so that nothing after it can be found; the capture is unchanged then.
+    /// Reads the piece at the front of the bytes that are left. Fails with `Short` if the piece has more bytes, and
+    /// with another error if it is broken and the next piece can't be found. Then the capture is unchanged.
     pub fn next<'a>(&mut self, bytes: &'a [u8]) -> Res<Piece<'a>>
         ensures exact { paired result front_of (state_of self.new)
             ≡ next_piece (state_of self.old) bytes.now }

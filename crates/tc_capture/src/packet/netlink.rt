@@ -9,8 +9,8 @@ use crate::error::{CaptureError, Res};
 use crate::order::Order;
 
 impl<'a> Packet<'a> {
-    /// What it holds, and its netlink messages if they are of `NETLINK_ROUTE`. `Short` where it ends within the cooked
-    /// header.
+    /// The contents of the packet, with its netlink messages if they are of `NETLINK_ROUTE`. Fails with `Short` if it
+    /// ends within the cooked header.
     pub fn contents(&self) -> Res<Contents<'a>>
         ensures { seen contents_of result ≡ contents_in self.now.link self.now.bytes.now }
     {

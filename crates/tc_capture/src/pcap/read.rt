@@ -1,4 +1,4 @@
-//! Reading what a file of classic pcap holds.
+//! Reading classic pcap files.
 
 ghost use Rattle.std.specs.Prelude.{◌≡◌, ◌≤◌, ◌+◌, length};
 ghost use Rattle.tc_capture.specs.Outcome.{seen};
@@ -26,7 +26,7 @@ fn variant_of(magic: u32) -> Option<Variant>
     }
 }
 
-// The byte order and the variant, by the magic number.
+// The byte order and the variant, from the magic number.
 pub(crate) fn magic_at(bytes: &[u8]) -> Option<(Order, Variant)>
     requires { 4 ≤ length bytes.now }
     ensures { result ≡ magic_at bytes.now }
@@ -74,19 +74,21 @@ pub(crate) fn next_in_pcap<'a>(file: &Pcap, bytes: &'a [u8]) -> Res<Piece<'a>>
         });
     }
     let length = file.order.u32_at(bytes, 8) as usize;
-    if bytes.len() < header + length {
+    // If `usize` has 32 bits, a sum that overflows is longer than any slice.
+    let whole = header.saturating_add(length);
+    if bytes.len() < whole {
         return Err(CaptureError::Short {
-            needed: header + length,
+            needed: whole,
             left: bytes.len(),
         });
     }
     Ok(Piece {
-        used: header + length,
+        used: whole,
         packet: Ok(Some(packet_of_length(file, length, bytes))),
     })
 }
 
-// The packet of that many bytes after its header.
+// The packet with `long` bytes after its header.
 fn packet_of_length<'a>(file: &Pcap, long: usize, bytes: &'a [u8]) -> Packet<'a>
     requires { record_header_len file.now.variant + long ≤ length bytes.now }
     ensures { captured_of result ≡ packet_of_length file.now long bytes.now }
@@ -106,7 +108,7 @@ fn packet_of_length<'a>(file: &Pcap, long: usize, bytes: &'a [u8]) -> Packet<'a>
     }
 }
 
-// How long what is before the bytes of a packet is.
+// The length of the header of a packet in bytes.
 fn record_header_len(variant: Variant) -> usize
     ensures exact { result ≡ record_header_len variant }
     ensures above { 16 ≤ result }

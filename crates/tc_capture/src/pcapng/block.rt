@@ -1,4 +1,4 @@
-//! One block of pcapng.
+//! pcapng blocks.
 
 mod read;
 

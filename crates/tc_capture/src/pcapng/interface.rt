@@ -1,16 +1,16 @@
-//! What a section of pcapng says of an interface.
+//! Interfaces of a pcapng section.
 
 use crate::packet::Link;
 
 /// An interface from which packets were captured.
 #[derive(Clone, Copy, PartialEq, Eq, Debug)]
 pub struct Interface {
-    /// What comes before the netlink messages of a packet.
+    /// The header before the netlink messages of a packet.
     pub link: Link,
-    /// How many bytes of a packet are kept; all if it is 0.
+    /// The number of bytes kept of a packet (snaplen); 0 for all.
     pub most: u32,
-    /// How many units of time a second has; `None` where a u64 can't hold it.
+    /// The number of time units in a second; `None` if it overflows `u64`.
     pub units: Option<u64>,
-    /// How many seconds are added to each time, in two's complement; `None` where the option has another length.
+    /// The seconds to add to each time, in two's complement; `None` if the option has a wrong length.
     pub shift: Option<u64>,
 }

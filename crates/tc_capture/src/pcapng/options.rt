@@ -1,4 +1,4 @@
-//! The options of an interface.
+//! Options of an interface.
 
 ghost use Rattle.std.specs.Prelude.{◌≡◌};
 ghost use Rattle.tc_capture.specs.Options.{units_of, units_in, shift_in, seconds_later, later};
@@ -12,7 +12,7 @@ const RESOLUTION: u16 = 9;
 
 const SHIFT: u16 = 14;
 
-// How many units of time a second has.
+// The number of time units in a second.
 pub(crate) fn units_in(order: Order, bytes: &[u8]) -> Option<u64>
     ensures { result ≡ units_in order bytes.now }
 {
@@ -23,7 +23,7 @@ pub(crate) fn units_in(order: Order, bytes: &[u8]) -> Option<u64>
     }
 }
 
-// How many units of time a second has, by a resolution.
+// The number of time units in a second, from the value of if_tsresol.
 fn units_of(resolution: u8) -> Option<u64>
     ensures { result ≡ units_of resolution }
 {
@@ -34,7 +34,7 @@ fn units_of(resolution: u8) -> Option<u64>
     }
 }
 
-// How many seconds are added to each time, in two's complement.
+// The seconds to add to each time, in two's complement.
 pub(crate) fn shift_in(order: Order, bytes: &[u8]) -> Option<u64>
     ensures { result ≡ shift_in order bytes.now }
 {
@@ -45,7 +45,7 @@ pub(crate) fn shift_in(order: Order, bytes: &[u8]) -> Option<u64>
     }
 }
 
-// A time so many seconds later, in two's complement; none before 1970.
+// A time shifted by seconds in two's complement; `None` if it is before 1970 or overflows.
 pub(crate) fn later(shift: u64, time: Time) -> Option<Time>
     ensures { result ≡ later shift time }
 {

@@ -1,4 +1,4 @@
-//! The packets of pcapng, and the interfaces that they are from.
+//! pcapng packets, and the interfaces that they are from.
 
 ghost use Rattle.std.specs.Prelude.{◌≡◌, ◌+◌, ◌≤◌, length};
 ghost use Rattle.tc_capture.specs.Outcome.{seen};
@@ -31,7 +31,7 @@ pub(crate) fn interface_in(order: Order, body: &[u8]) -> Res<Interface>
     })
 }
 
-// The interface of this number.
+// The interface with this number.
 fn interface_at(interfaces: &[Option<Interface>], number: usize) -> Res<Interface>
     ensures { result ≡ interface_at interfaces.now number }
 {
@@ -41,7 +41,7 @@ fn interface_at(interfaces: &[Option<Interface>], number: usize) -> Res<Interfac
     }
 }
 
-// The time of an interface after so many of its units.
+// The time after `ticks` time units of the interface.
 fn time_after(ticks: u64, interface: Interface) -> Option<Time>
     ensures { result ≡ time_after ticks interface }
 {
@@ -51,7 +51,7 @@ fn time_after(ticks: u64, interface: Interface) -> Option<Time>
     }
 }
 
-// The packet of so many bytes at a place of a body.
+// The packet with `long` bytes at an offset in a body.
 fn held_in<'a>(
     interface: Interface,
     time: Option<Time>,
@@ -121,7 +121,7 @@ pub(crate) fn packet_block<'a>(
     }
 }
 
-// What both blocks have after the interface.
+// The fields after the interface, which both blocks have.
 fn timed_packet<'a>(interface: Interface, order: Order, body: &'a [u8]) -> Res<Packet<'a>>
     requires { 20 ≤ length body.now }
     ensures { seen captured_of result ≡ timed_of interface order body.now }
@@ -139,14 +139,14 @@ fn timed_packet<'a>(interface: Interface, order: Order, body: &'a [u8]) -> Res<P
     )
 }
 
-// How many bytes of a packet are kept.
+// The number of bytes kept of a packet.
 fn kept_of(most: u32, long: u32) -> u32
     ensures { result ≡ kept_of most long }
 {
     if most == 0 { long } else { long.min(most) }
 }
 
-// A simple packet block, which is from the first interface.
+// A simple packet block, which belongs to the first interface.
 pub(crate) fn simple_packet<'a>(
     interfaces: &[Option<Interface>],
     order: Order,

@@ -1,4 +1,4 @@
-//! A section of pcapng.
+//! pcapng sections.
 
 use crate::error::{CaptureError, Res};
 use crate::order::Order;
@@ -9,10 +9,10 @@ use crate::pcapng::packets::{enhanced_packet, interface_in, packet_block, simple
 use crate::piece::Piece;
 use arrayvec::ArrayVec;
 
-/// How many interfaces a section may describe.
+/// The maximum number of interfaces in a section.
 pub const MOST_INTERFACES: usize = 64;
 
-/// What a section has said so far.
+/// The state of a section: its byte order, and the interfaces described so far.
 #[derive(Drop)]
 pub struct Section {
     order: Order,
@@ -25,10 +25,10 @@ impl Section {
     ghost use Rattle.tc_capture.specs.Packet.{captured_of};
     ghost use Rattle.tc_capture.specs.Front.{front_of};
     ghost use Rattle.tc_capture.specs.Block.{block_of};
-    ghost use Rattle.tc_capture.specs.PcapNg.{with_interface, new_section, said_by, next_in_section};
+    ghost use Rattle.tc_capture.specs.PcapNg.{with_interface, new_section, effect_of, next_in_section};
     ghost use Rattle.tc_capture.specs.Section.{section_of};
 
-    /// One that has said nothing, before the first section header block.
+    /// The state before the first section header block.
     pub(crate) fn new() -> Section
         ensures { section_of result ≡ record { order = Order.Little; interfaces = [] } }
     {
@@ -38,7 +38,7 @@ impl Section {
         }
     }
 
-    // A section header block.
+    // Begins a section with its header block.
     fn begin(&mut self, block: &Block<'_>) -> Res<()>
         ensures { (seen (λ _. None) result, section_of self.new) ≡ new_section (block_of block.now) }
     {
@@ -53,7 +53,7 @@ impl Section {
         Ok(())
     }
 
-    // An interface is described.
+    // Adds an interface.
     fn describe(&mut self, interface: Res<Interface>) -> Res<()>
         ensures { (seen (λ _. None) result, section_of self.new) ≡ with_interface (section_of self.old) interface }
     {
@@ -72,10 +72,10 @@ impl Section {
         }
     }
 
-    // What a block says.
-    #[tactic(auto, unfolding(crate::specs::PcapNg::said_by))]
-    fn hear<'a>(&mut self, block: &Block<'a>) -> Res<Option<Packet<'a>>>
-        ensures { (seen (option_map captured_of) result, section_of self.new) ≡ said_by (section_of self.old) (block_of block.now) }
+    // Handles a block, and returns its packet, if any.
+    #[tactic(auto, unfolding(crate::specs::PcapNg::effect_of))]
+    fn handle<'a>(&mut self, block: &Block<'a>) -> Res<Option<Packet<'a>>>
+        ensures { (seen (option_map captured_of) result, section_of self.new) ≡ effect_of (section_of self.old) (block_of block.now) }
     {
         match block.kind {
             SECTION => match self.begin(block) {
@@ -102,7 +102,7 @@ impl Section {
         }
     }
 
-    /// The block at the front.
+    /// Reads the block at the front.
     #[tactic(auto, unfolding(crate::specs::PcapNg::next_in_section))]
     pub(crate) fn next<'a>(&mut self, bytes: &'a [u8]) -> Res<Piece<'a>>
         ensures exact { paired result front_of (section_of self.new) ≡ next_in_section (section_of self.old) bytes.now }
@@ -112,7 +112,7 @@ impl Section {
             Ok(block) => block,
             Err(e) => return Err(e),
         };
-        let packet = self.hear(&block);
+        let packet = self.handle(&block);
         Ok(Piece {
             used: 12 + block.body.len(),
             packet,

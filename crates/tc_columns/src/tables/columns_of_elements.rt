@@ -4,23 +4,23 @@ ghost use Rattle.std.specs.Prelude.{map, ◌≡◌};
 ghost use Rattle.tc_columns.specs.Arrays.{columns_of_elements};
 ghost use Rattle.tc_lines.specs.Columns.{columns_view};
 
-use tc_lines::{Column, How};
+use tc_lines::{Column, Display};
 
 #[rattlefmt::skip]
 static COLUMNS_OF_ELEMENTS: [&'static [Column<'static>]; 7] = [
     &[], &[],
     &[ // 506, what an array holds
-        Column { key: "tab", name: "match", how: How::Plain, kernel: "" },
-        Column { key: "attributes", name: "attributes", how: How::Below(530), kernel: "" },
+        Column { key: "tab", name: "match", display: Display::Plain, kernel: "" },
+        Column { key: "attributes", name: "attributes", display: Display::Below(530), kernel: "" },
     ],
     &[ // 507, what an array holds
-        Column { key: "tab", name: "action", how: How::Plain, kernel: "" },
-        Column { key: "attributes", name: "attributes", how: How::Below(0), kernel: "" },
+        Column { key: "tab", name: "action", display: Display::Plain, kernel: "" },
+        Column { key: "attributes", name: "attributes", display: Display::Below(0), kernel: "" },
     ],
     &[], &[],
     &[ // 510, what an array holds
-        Column { key: "tab", name: "tin", how: How::Plain, kernel: "" },
-        Column { key: "attributes", name: "attributes", how: How::Below(866), kernel: "" },
+        Column { key: "tab", name: "tin", display: Display::Plain, kernel: "" },
+        Column { key: "attributes", name: "attributes", display: Display::Below(866), kernel: "" },
     ],
 ];
 

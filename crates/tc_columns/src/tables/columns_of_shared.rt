@@ -4,43 +4,43 @@ ghost use Rattle.std.specs.Prelude.{map, ◌≡◌};
 ghost use Rattle.tc_columns.specs.Arrays.{columns_of_shared};
 ghost use Rattle.tc_lines.specs.Columns.{columns_view};
 
-use tc_lines::{Column, How};
+use tc_lines::{Column, Display};
 use tc_units::Unit;
 
 #[rattlefmt::skip]
 static COLUMNS_OF_SHARED: [&'static [Column<'static>]; 6] = [
     &[ // 1632, `struct tc_ratespec`
-        Column { key: "cell_log", name: "cell_log", how: How::Number(Unit::Power), kernel: "" },
-        Column { key: "linklayer", name: "linklayer", how: How::Text(1633), kernel: "" },
-        Column { key: "overhead", name: "overhead", how: How::Number(Unit::Bytes), kernel: "" },
-        Column { key: "cell_align", name: "cell_align", how: How::Plain, kernel: "" },
-        Column { key: "mpu", name: "mpu", how: How::Number(Unit::Bytes), kernel: "" },
-        Column { key: "rate", name: "rate", how: How::Number(Unit::BytesPerSecond), kernel: "" },
+        Column { key: "cell_log", name: "cell_log", display: Display::Number(Unit::Power), kernel: "" },
+        Column { key: "linklayer", name: "linklayer", display: Display::Text(1633), kernel: "" },
+        Column { key: "overhead", name: "overhead", display: Display::Number(Unit::Bytes), kernel: "" },
+        Column { key: "cell_align", name: "cell_align", display: Display::Plain, kernel: "" },
+        Column { key: "mpu", name: "mpu", display: Display::Number(Unit::Bytes), kernel: "" },
+        Column { key: "rate", name: "rate", display: Display::Number(Unit::BytesPerSecond), kernel: "" },
     ],
     &[],
     &[ // 1634, `list stab`
-        Column { key: "Base", name: "base", how: How::Within(1635), kernel: "TCA_STAB_BASE" },
-        Column { key: "Data", name: "data", how: How::Plain, kernel: "TCA_STAB_DATA" },
+        Column { key: "Base", name: "base", display: Display::Nested(1635), kernel: "TCA_STAB_BASE" },
+        Column { key: "Data", name: "data", display: Display::Plain, kernel: "TCA_STAB_DATA" },
     ],
     &[ // 1635, `struct tc_sizespec`
-        Column { key: "cell_log", name: "cell_log", how: How::Number(Unit::Power), kernel: "" },
-        Column { key: "size_log", name: "size_log", how: How::Number(Unit::Power), kernel: "" },
-        Column { key: "cell_align", name: "cell_align", how: How::Plain, kernel: "" },
-        Column { key: "overhead", name: "overhead", how: How::Number(Unit::Bytes), kernel: "" },
-        Column { key: "linklayer", name: "linklayer", how: How::Text(1633), kernel: "" },
-        Column { key: "mpu", name: "mpu", how: How::Number(Unit::Bytes), kernel: "" },
-        Column { key: "mtu", name: "mtu", how: How::Number(Unit::Bytes), kernel: "" },
-        Column { key: "tsize", name: "tsize", how: How::Plain, kernel: "" },
+        Column { key: "cell_log", name: "cell_log", display: Display::Number(Unit::Power), kernel: "" },
+        Column { key: "size_log", name: "size_log", display: Display::Number(Unit::Power), kernel: "" },
+        Column { key: "cell_align", name: "cell_align", display: Display::Plain, kernel: "" },
+        Column { key: "overhead", name: "overhead", display: Display::Number(Unit::Bytes), kernel: "" },
+        Column { key: "linklayer", name: "linklayer", display: Display::Text(1633), kernel: "" },
+        Column { key: "mpu", name: "mpu", display: Display::Number(Unit::Bytes), kernel: "" },
+        Column { key: "mtu", name: "mtu", display: Display::Number(Unit::Bytes), kernel: "" },
+        Column { key: "tsize", name: "tsize", display: Display::Plain, kernel: "" },
     ],
     &[ // 1636, `struct tc_estimator`
-        Column { key: "interval", name: "interval", how: How::Number(Unit::Power), kernel: "" },
-        Column { key: "ewma_log", name: "ewma_log", how: How::Number(Unit::Power), kernel: "" },
+        Column { key: "interval", name: "interval", display: Display::Number(Unit::Power), kernel: "" },
+        Column { key: "ewma_log", name: "ewma_log", display: Display::Number(Unit::Power), kernel: "" },
     ],
     &[ // 1637, `struct sock_filter`
-        Column { key: "code", name: "code", how: How::Number(Unit::Hex), kernel: "" },
-        Column { key: "jt", name: "jt", how: How::Plain, kernel: "" },
-        Column { key: "jf", name: "jf", how: How::Plain, kernel: "" },
-        Column { key: "k", name: "k", how: How::Number(Unit::Hex), kernel: "" },
+        Column { key: "code", name: "code", display: Display::Number(Unit::Hex), kernel: "" },
+        Column { key: "jt", name: "jt", display: Display::Plain, kernel: "" },
+        Column { key: "jf", name: "jf", display: Display::Plain, kernel: "" },
+        Column { key: "k", name: "k", display: Display::Number(Unit::Hex), kernel: "" },
     ],
 ];
 

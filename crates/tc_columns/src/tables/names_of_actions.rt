@@ -64,7 +64,7 @@ pub(crate) fn names_of_actions_mpls() -> &'static [&'static [Name<'static>]]
 #[rattlefmt::skip]
 static NAMES_OF_ACTIONS_PEDIT: [&'static [Name<'static>]; 7] = [
     &[], &[],
-    &[ // 314, what each is called
+    &[ // 314, the name of each element
         Name { number: 0, name: "key", kernel: "" },
     ],
     &[], &[],

@@ -15,7 +15,7 @@ static NAMES_OF_EMATCH: [&'static [Name<'static>]; 18] = [
         Name { number: 2, name: "lt", kernel: "TCF_EM_OPND_LT" },
     ],
     &[], &[], &[],
-    &[ // 545, what each is called
+    &[ // 545, the name of each element
         Name { number: 0, name: "id", kernel: "" },
     ],
 ];

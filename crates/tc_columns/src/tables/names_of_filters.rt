@@ -25,7 +25,7 @@ pub(crate) fn names_of_filters_flow() -> &'static [&'static [Name<'static>]]
 #[rattlefmt::skip]
 static NAMES_OF_FILTERS_U32: [&'static [Name<'static>]; 3] = [
     &[], &[],
-    &[ // 794, what each is called
+    &[ // 794, the name of each element
         Name { number: 0, name: "key", kernel: "" },
     ],
 ];

@@ -1,4 +1,4 @@
-//! The names of bits and of numbers that stay numbers. Written by `kinds/columns`.
+//! The names of bits, and of numbers that JSON has as numbers. Written by `kinds/columns`.
 
 ghost use Rattle.std.specs.Prelude.{map, ◌≡◌};
 ghost use Rattle.tc_columns.specs.Arrays.{names_of_names_1000, names_of_names_1001, names_of_names_1002, names_of_names_1003, names_of_names_1004};

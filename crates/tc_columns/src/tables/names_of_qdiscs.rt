@@ -49,7 +49,7 @@ pub(crate) fn names_of_qdiscs_cake() -> &'static [&'static [Name<'static>]]
 #[rattlefmt::skip]
 static NAMES_OF_QDISCS_FQ: [&'static [Name<'static>]; 3] = [
     &[], &[],
-    &[ // 1106, what each is called
+    &[ // 1106, the name of each element
         Name { number: 0, name: "since", kernel: "" },
     ],
 ];
@@ -64,7 +64,7 @@ pub(crate) fn names_of_qdiscs_fq() -> &'static [&'static [Name<'static>]]
 #[rattlefmt::skip]
 static NAMES_OF_QDISCS_GRED: [&'static [Name<'static>]; 2] = [
     &[],
-    &[ // 1177, what each is called
+    &[ // 1177, the name of each element
         Name { number: 0, name: "queue", kernel: "" },
     ],
 ];

@@ -15,7 +15,7 @@ static NAMES_OF_SHARED: [&'static [Name<'static>]; 7] = [
         Name { number: 2, name: "atm", kernel: "TC_LINKLAYER_ATM" },
     ],
     &[], &[], &[],
-    &[ // 1637, what each is called
+    &[ // 1637, the name of each element
         Name { number: 0, name: "op", kernel: "" },
     ],
     &[ // 1638, `enum tc_fp` for people

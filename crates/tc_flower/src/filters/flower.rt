@@ -1,3 +1,4 @@
 //! The filter `flower`.
 
+pub mod mpls;
 pub mod options;

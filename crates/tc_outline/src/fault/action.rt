@@ -1,4 +1,4 @@
-//! The faults of an action itself: a broken frame, a kind that is no text, no kind or several.
+//! The faults of an action itself: a malformed frame, a kind that isn't UTF-8, no kind or several.
 
 ghost use Rattle.std.specs.Prelude.{◌≡◌};
 ghost use Rattle.tc_outline.specs.Fault.{action_fault, one_more, count_error};
@@ -8,7 +8,7 @@ use crate::path::Path;
 use nla_frames::{DecodeError, NLA_HEADER_SIZE, NlasIterator};
 use tc_index::Attribute;
 
-// What is wrong with the frames of an action.
+// The fault of an action's frames.
 #[tactic(auto, using(crate::proofs::OwnKinds::error_after_is))]
 pub(super) fn own_error(value: &[u8]) -> Option<DecodeError>
     ensures { result ≡ action_fault value.now }
@@ -30,8 +30,8 @@ pub(super) fn own_error(value: &[u8]) -> Option<DecodeError>
     count_error(kinds)
 }
 
-// The place of the first frame of an action that is broken, or a kind that is no text; of the action where there is
-// none.
+// Offset and path of the first frame of an action that is malformed or a kind that isn't UTF-8; of the action itself if
+// there is none.
 pub(super) fn place_in(action: &Attribute<'_>, path: &Path) -> (usize, Path) {
     let mut inside = *path;
     let mut at = action.offset;
@@ -54,14 +54,14 @@ pub(super) fn place_in(action: &Attribute<'_>, path: &Path) -> (usize, Path) {
     (action.offset, *path)
 }
 
-// One kind more than none, than one, or than several.
+// Counts kinds: none, one, or several.
 fn one_more(kinds: u8) -> u8
     ensures { result ≡ one_more kinds }
 {
     if kinds == 0 { 1 } else { 2 }
 }
 
-// What is wrong with so many kinds.
+// The fault of a number of kinds.
 fn count_error(kinds: u8) -> Option<DecodeError>
     ensures { result ≡ count_error kinds }
 {

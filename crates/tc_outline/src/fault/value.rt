@@ -1,4 +1,4 @@
-//! What is wrong with a value.
+//! The faults of values.
 
 ghost use Rattle.std.specs.Prelude.{◌≡◌, None, Some, length, nat_lt, if◌then◌else◌};
 ghost use Rattle.std.specs.Str.{is_utf8};
@@ -12,7 +12,7 @@ use super::action::own_error;
 use crate::check::Check;
 use nla_frames::{DecodeError, parse_u32, strip_nul};
 
-// What is wrong with a value, under this kind.
+// The fault of a value under this kind, if it fails the check.
 pub(super) fn error_of(check: Check, value: &[u8], kind: &[u8]) -> Option<DecodeError>
     ensures { result ≡ check_fault check kind.now value.now }
 {
@@ -46,7 +46,7 @@ fn text_error(value: &[u8]) -> Option<DecodeError>
     Some(DecodeError::NotUtf8)
 }
 
-// True if a value is a text.
+// True if a value is UTF-8, before a final NUL.
 pub(super) fn is_text(value: &[u8]) -> bool
     ensures { result ≡ is_utf8 (strip value.now) }
 {

@@ -1,11 +1,13 @@
-//! Which texts are written as they are.
+//! Texts that need no escaping or quotes.
 
 ghost use Rattle.std.specs.List.{list_all};
 ghost use Rattle.std.specs.Prelude.{◌↔◌, ◌≡◌, ◌≤◌, IsTrue, length, take, true};
-ghost use Rattle.tc_outline.specs.Page.{IsPrintable, IsShown, is_printable, is_shown};
+ghost use Rattle.tc_outline.specs.Page.{IsPrintable, IsShown, is_shown};
+
+use tc_texts::is_printable;
 
 // True if each byte is printable ASCII.
-pub(super) fn is_printable(text: &[u8]) -> bool
+pub(super) fn are_printable(text: &[u8]) -> bool
     ensures { IsTrue result ↔ IsPrintable text.now }
 {
     text.iter().all(|byte| 0x20 <= *byte && *byte <= 0x7e)
@@ -19,7 +21,7 @@ pub(super) fn are_shown(text: &[u8]) -> bool
     all_shown(text)
 }
 
-// The same. It looks at each byte, whatever the others are, so that many are looked at at once.
+// The same, without an early end, so that many bytes are compared at once.
 #[tactic(auto, using(std::proofs::lemmas::List::Folds::list_all_more))]
 fn all_shown(text: &[u8]) -> bool
     ensures { result ≡ list_all (is_shown true) text.now }
@@ -37,25 +39,19 @@ fn is_shown(byte: u8) -> bool
     0x20 <= byte && byte <= 0x7e || byte == b'\n'
 }
 
-// How many bytes of a text are printable ASCII, up to the first that isn't.
+// The number of printable bytes at the front of a text.
 pub(super) fn run_of(text: &[u8]) -> usize
     ensures within { result ≤ length text.now }
     ensures printable { IsPrintable (take result text.now) }
 {
     let mut at = 0;
-    while at < text.len() && is_printable_byte(text[at]) {
+    while at < text.len() && is_printable(text[at]) {
         at += 1;
     }
     at
 }
 
-fn is_printable_byte(byte: u8) -> bool
-    ensures { result ≡ is_printable byte }
-{
-    0x20 <= byte && byte <= 0x7e
-}
-
-// How many blanks a line begins with.
+// The number of blanks at the front of a line.
 pub(super) fn margin_of(line: &[u8]) -> usize
     ensures { result ≤ length line.now }
 {

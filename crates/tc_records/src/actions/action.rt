@@ -1,4 +1,4 @@
-//! What every action's record begins with.
+//! The part that every action's record begins with, and the verdicts of actions.
 
 ghost use Rattle.std.specs.Prelude.{◌≡◌, ◌∷◌, ◌↔◌, [], IsTrue, List, refl};
 ghost use Rattle.tc_canon.specs.Descriptor.{named};
@@ -14,26 +14,26 @@ use tc_fields::{
     Fields, FixedRecord, Octets, emit_record, is_settled_record, parse_record, record_len,
 };
 
-/// How long the generic part is, in bytes.
+/// The length of `tc_gen` in bytes.
 pub const TC_ACTION_GENERIC_LEN: usize = 20;
 
-/// What becomes of a packet after an action, `TC_ACT_*` of `linux/pkt_cls.h`.
+/// The verdict of an action: what happens to the packet next (`TC_ACT_*` of `linux/pkt_cls.h`).
 #[derive(Clone, Copy, Default, Debug)]
 pub enum TcActionType {
-    /// `TC_ACT_UNSPEC`, -1: what the action does by default.
+    /// `TC_ACT_UNSPEC`, -1: the action's default.
     #[default]
     Unspec,
 
-    /// `TC_ACT_OK`, 0: no more rules are looked at, and the packet goes on.
+    /// `TC_ACT_OK`, 0: classification ends, and the packet is accepted.
     Ok,
 
-    /// `TC_ACT_RECLASSIFY`, 1: classification starts anew.
+    /// `TC_ACT_RECLASSIFY`, 1: classification restarts at the first filter.
     Reclassify,
 
     /// `TC_ACT_SHOT`, 2: the packet is dropped.
     Shot,
 
-    /// `TC_ACT_PIPE`, 3: the next action, if there is one, gets the packet.
+    /// `TC_ACT_PIPE`, 3: the next action, if any, runs.
     Pipe,
 
     /// `TC_ACT_STOLEN`, 4: the action has taken the packet over.
@@ -45,10 +45,10 @@ pub enum TcActionType {
     /// `TC_ACT_REPEAT`, 6: the action runs again.
     Repeat,
 
-    /// `TC_ACT_REDIRECT`, 7: the packet goes elsewhere.
+    /// `TC_ACT_REDIRECT`, 7: the packet is redirected, by bpf.
     Redirect,
 
-    /// `TC_ACT_TRAP`, 8: the packet comes from the hardware into software; in software it is dropped.
+    /// `TC_ACT_TRAP`, 8: hardware passes the packet to software; in software it is dropped.
     Trap,
 
     /// Any other number.
@@ -135,16 +135,16 @@ impl FixedRecord<4> for TcActionType {
         }
     }
 
-    fn again(&self) -> Self {
+    fn copied(&self) -> Self {
         *self
     }
 
-    fn in_hand(self, _other: Self) {}
+    fn in_range(self, _other: Self) {}
 
     ghost whole = { refl };
 }
 
-/// What the record of every action begins with, `tc_gen` of `linux/pkt_cls.h`: five numbers, little-endian.
+/// The part that every action's record begins with, `tc_gen` of `linux/pkt_cls.h`. Numbers are little-endian.
 ///
 /// | Offset | Field | Type |
 /// |---|---|---|
@@ -155,15 +155,15 @@ impl FixedRecord<4> for TcActionType {
 /// | 16 | `bindcnt` | i32 |
 #[derive(Clone, Copy, Default, Debug)]
 pub struct TcActionGeneric {
-    /// The number of the action among those of its kind; at 0 the kernel chooses one.
+    /// The index of the action among those of its kind; in a request, 0 means that the kernel chooses one.
     pub index: u32,
     /// Not used by the kernel.
     pub capab: u32,
-    /// What becomes of a packet after the action.
+    /// The verdict.
     pub action: TcActionType,
-    /// How many references the action has.
+    /// The number of references to the action.
     pub refcnt: i32,
-    /// How many filters the action is bound to.
+    /// The number of filters that the action is bound to.
     pub bindcnt: i32,
 }
 
@@ -208,17 +208,17 @@ impl FixedRecord<TC_ACTION_GENERIC_LEN> for TcActionGeneric {
         self.action.is_settled()
     }
 
-    fn again(&self) -> Self {
+    fn copied(&self) -> Self {
         *self
     }
 
-    fn in_hand(self, _other: Self) {}
+    fn in_range(self, _other: Self) {}
 
     ghost whole = { refl };
 }
 
 impl TcActionGeneric {
-    // True if both are equal, and what follows them is.
+    // True if both are equal and `rest`, the comparison of the fields after them, is true.
     pub(crate) fn same_then(&self, other: &TcActionGeneric, rest: bool) -> bool
         ensures { result ≡ same_generic_then self.now other.now rest }
     {
@@ -230,14 +230,15 @@ impl TcActionGeneric {
         both(self.index == other.index, rest)
     }
 
-    /// The generic part that bytes begin with; what follows is dropped, and fewer bytes are `BufferTooSmall`.
+    /// Parses `tc_gen` at the front of the payload and ignores what follows. Fails with
+    /// `BufferTooSmall` if there are fewer bytes.
     pub fn parse(payload: &[u8]) -> Res<TcActionGeneric>
         ensures { seen generic_scalars result ≡ read_record action_generic payload.now }
     {
         parse_record(payload)
     }
 
-    /// True if it reads back as itself: the outcome is no `Other` of a number that has a name.
+    /// True if encoding and parsing returns an equal record: if `action` isn't an `Other` of a number that has a name.
     pub fn is_settled(&self) -> bool
         ensures { IsTrue result ↔ SettledFields action_generic (generic_scalars self.now) }
     {

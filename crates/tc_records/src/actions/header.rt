@@ -12,10 +12,10 @@ use tc_fields::{
     same_family,
 };
 
-/// How long a header is, in bytes.
+/// The length of `struct tcamsg` in bytes.
 pub const TCA_HEADER_LEN: usize = 4;
 
-/// The header of an action message, `struct tcamsg` of `linux/rtnetlink.h`: a family, then three bytes of padding.
+/// The header of an action message, `struct tcamsg` of `linux/rtnetlink.h`.
 ///
 /// | Offset | Field | Type |
 /// |---|---|---|
@@ -23,7 +23,7 @@ pub const TCA_HEADER_LEN: usize = 4;
 /// | 1 | padding | 3 bytes |
 #[derive(Clone, Default, Drop, Debug)]
 pub struct TcActionMessageHeader {
-    /// The family of addresses, `Unspec` as a rule.
+    /// `tca_family`: the address family, usually `Unspec`.
     pub family: AddressFamily,
 }
 
@@ -61,24 +61,25 @@ impl FixedRecord<TCA_HEADER_LEN> for TcActionMessageHeader {
         self.family.is_settled()
     }
 
-    fn again(&self) -> Self {
+    fn copied(&self) -> Self {
         Self { ..*self }
     }
 
-    fn in_hand(self, _other: Self) {}
+    fn in_range(self, _other: Self) {}
 
     ghost whole = { refl };
 }
 
 impl TcActionMessageHeader {
-    /// The header that bytes begin with; what follows is dropped, and fewer bytes are `BufferTooSmall`.
+    /// Parses the header at the front of the payload and ignores what follows. Fails with
+    /// `BufferTooSmall` if there are fewer bytes.
     pub fn parse(payload: &[u8]) -> Res<TcActionMessageHeader>
         ensures { seen action_message_header_scalars result ≡ read_record action_message_header payload.now }
     {
         parse_record(payload)
     }
 
-    /// True if it reads back as itself: the family is no `Other` of a number that has a name.
+    /// True if encoding and parsing returns an equal record: if `family` isn't an `Other` of a number that has a name.
     pub fn is_settled(&self) -> bool
         ensures { IsTrue result ↔ SettledFields action_message_header (action_message_header_scalars self.now) }
     {

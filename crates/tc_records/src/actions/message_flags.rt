@@ -3,17 +3,17 @@
 use crate::flags::flags;
 use bitflags::{Flag, Flags};
 
-/// What is asked of a dump of actions: `TCA_ACT_FLAG_*` of `linux/rtnetlink.h`. Bits without a name are kept; the
-/// order is that of the word.
+/// Options of a dump of actions: `TCA_ACT_FLAG_*` of `linux/rtnetlink.h`. Unnamed bits are kept; flags are ordered as
+/// their words.
 #[derive(PartialEq, Eq, PartialOrd, Ord, Hash, Clone, Copy, Default, Debug)]
 pub struct TcActionMessageFlags(u32);
 
 #[allow(non_upper_case_globals)]
 impl TcActionMessageFlags {
-    /// More than 32 actions in a message: `TCA_ACT_FLAG_LARGE_DUMP_ON`.
+    /// Allow more than 32 actions in a message: `TCA_ACT_FLAG_LARGE_DUMP_ON`.
     pub const LargeDump: TcActionMessageFlags = TcActionMessageFlags(0x1);
 
-    /// The chief attributes of an action alone: `TCA_ACT_FLAG_TERSE_DUMP`.
+    /// Dump only the essential attributes of each action: `TCA_ACT_FLAG_TERSE_DUMP`.
     pub const TerseDump: TcActionMessageFlags = TcActionMessageFlags(0x2);
 
     const FLAGS: &'static [Flag<TcActionMessageFlags>] =

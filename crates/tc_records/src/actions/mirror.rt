@@ -1,4 +1,4 @@
-//! Packets that go to another interface.
+//! The action mirred: packets redirected or mirrored to an interface.
 
 ghost use Rattle.std.specs.Prelude.{◌≡◌, ◌∷◌, ◌↔◌, [], IsTrue, List, refl};
 ghost use Rattle.tc_canon.specs.Descriptor.{named};
@@ -15,23 +15,23 @@ use tc_fields::{
     Fields, FixedRecord, Octets, emit_record, is_settled_record, parse_record, record_len,
 };
 
-/// How long a mirror's record is, in bytes.
+/// The length of `struct tc_mirred` in bytes.
 pub const TC_MIRROR_LEN: usize = 28;
 
-/// Where a packet or its copy goes, `TCA_EGRESS_REDIR` and its like of `linux/tc_act/tc_mirred.h`.
+/// Redirect or mirror, and in which direction (`TCA_EGRESS_REDIR` and the following of `linux/tc_act/tc_mirred.h`).
 #[derive(Clone, Copy, Default, Debug)]
 pub enum TcMirrorActionType {
-    /// `TCA_EGRESS_REDIR`, 1: the packet itself is sent out.
+    /// `TCA_EGRESS_REDIR`, 1: the packet leaves through the interface.
     #[default]
     EgressRedir,
 
-    /// `TCA_EGRESS_MIRROR`, 2: a copy is sent out.
+    /// `TCA_EGRESS_MIRROR`, 2: a copy leaves through the interface.
     EgressMirror,
 
-    /// `TCA_INGRESS_REDIR`, 3: the packet itself comes in.
+    /// `TCA_INGRESS_REDIR`, 3: the packet arrives at the interface.
     IngressRedir,
 
-    /// `TCA_INGRESS_MIRROR`, 4: a copy comes in.
+    /// `TCA_INGRESS_MIRROR`, 4: a copy arrives at the interface.
     IngressMirror,
 
     /// Any other number.
@@ -106,16 +106,16 @@ impl FixedRecord<4> for TcMirrorActionType {
         }
     }
 
-    fn again(&self) -> Self {
+    fn copied(&self) -> Self {
         *self
     }
 
-    fn in_hand(self, _other: Self) {}
+    fn in_range(self, _other: Self) {}
 
     ghost whole = { refl };
 }
 
-/// Packets that are redirected or copied to an interface, `struct tc_mirred` of `linux/tc_act/tc_mirred.h`: numbers,
+/// Packets redirected or mirrored to an interface, `struct tc_mirred` of `linux/tc_act/tc_mirred.h`. Numbers are
 /// little-endian.
 ///
 /// | Offset | Field | Type |
@@ -125,9 +125,9 @@ impl FixedRecord<4> for TcMirrorActionType {
 /// | 24 | `ifindex` | u32 |
 #[derive(Clone, Default, Drop, Debug)]
 pub struct TcMirror {
-    /// What every action has.
+    /// The part that all actions have.
     pub generic: TcActionGeneric,
-    /// Which of both, and in which direction.
+    /// Redirect or mirror, and in which direction.
     pub eaction: TcMirrorActionType,
     /// The index of the interface.
     pub ifindex: u32,
@@ -172,27 +172,29 @@ impl FixedRecord<TC_MIRROR_LEN> for TcMirror {
         self.generic.is_settled() && self.eaction.is_settled()
     }
 
-    fn again(&self) -> Self {
+    fn copied(&self) -> Self {
         Self { ..*self }
     }
 
-    fn in_hand(self, other: Self) {
-        self.eaction.in_hand(other.eaction);
-        self.generic.in_hand(other.generic);
+    fn in_range(self, other: Self) {
+        self.eaction.in_range(other.eaction);
+        self.generic.in_range(other.generic);
     }
 
     ghost whole = { refl };
 }
 
 impl TcMirror {
-    /// The record that bytes begin with; what follows is dropped, and fewer bytes are `BufferTooSmall`.
+    /// Parses the record at the front of the payload and ignores what follows. Fails with
+    /// `BufferTooSmall` if there are fewer bytes.
     pub fn parse(payload: &[u8]) -> Res<TcMirror>
         ensures { seen mirror_scalars result ≡ read_record mirror payload.now }
     {
         parse_record(payload)
     }
 
-    /// True if it reads back as itself: neither of its named numbers is an `Other` of a number that has a name.
+    /// True if encoding and parsing returns an equal record: if neither `generic.action` nor `eaction` is an `Other` of
+    /// a number that has a name.
     pub fn is_settled(&self) -> bool
         ensures { IsTrue result ↔ SettledFields mirror (mirror_scalars self.now) }
     {

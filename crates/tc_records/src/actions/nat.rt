@@ -14,13 +14,13 @@ use tc_fields::{
     Fields, FixedRecord, Octets, emit_record, is_settled_record, parse_record, record_len,
 };
 
-/// How long a translation's record is, in bytes.
+/// The length of `struct tc_nat` in bytes.
 pub const TC_NAT_LEN: usize = 36;
 
 const NOWHERE: Ipv4Addr = Ipv4Addr::UNSPECIFIED;
 
-/// A translation of addresses, `struct tc_nat` of `linux/tc_act/tc_nat.h`. An address is its four bytes; numbers
-/// are little-endian.
+/// Stateless translation of IPv4 addresses, `struct tc_nat` of `linux/tc_act/tc_nat.h`. Addresses are in network order,
+/// numbers little-endian.
 ///
 /// | Offset | Field | Type |
 /// |---|---|---|
@@ -31,15 +31,15 @@ const NOWHERE: Ipv4Addr = Ipv4Addr::UNSPECIFIED;
 /// | 32 | `flags` | u32 |
 #[derive(Clone, Drop, Debug)]
 pub struct TcNat {
-    /// What every action has.
+    /// The part that all actions have.
     pub generic: TcActionGeneric,
-    /// The addresses that are translated.
+    /// The network whose addresses are translated.
     pub old_addr: Ipv4Addr,
-    /// The addresses that they become.
+    /// The network that they are translated into.
     pub new_addr: Ipv4Addr,
-    /// Which bits of an address count.
+    /// The mask of both networks.
     pub mask: Ipv4Addr,
-    /// How it is translated.
+    /// Source or destination addresses, and the kernel's flags of the action.
     pub flags: TcNatFlags,
 }
 
@@ -104,24 +104,26 @@ impl FixedRecord<TC_NAT_LEN> for TcNat {
         self.generic.is_settled()
     }
 
-    fn again(&self) -> Self {
+    fn copied(&self) -> Self {
         Self { ..*self }
     }
 
-    fn in_hand(self, _other: Self) {}
+    fn in_range(self, _other: Self) {}
 
     ghost whole = { refl };
 }
 
 impl TcNat {
-    /// The record that bytes begin with; what follows is dropped, and fewer bytes are `BufferTooSmall`.
+    /// Parses the record at the front of the payload and ignores what follows. Fails with
+    /// `BufferTooSmall` if there are fewer bytes.
     pub fn parse(payload: &[u8]) -> Res<TcNat>
         ensures { seen nat_scalars result ≡ read_record nat payload.now }
     {
         parse_record(payload)
     }
 
-    /// True if it reads back as itself: the outcome is no `Other` of a number that has a name.
+    /// True if encoding and parsing returns an equal record: if `generic.action` isn't an `Other` of a number that has
+    /// a name.
     pub fn is_settled(&self) -> bool
         ensures { IsTrue result ↔ SettledFields nat (nat_scalars self.now) }
     {

@@ -3,26 +3,27 @@
 use crate::flags::flags;
 use bitflags::{Flag, Flags};
 
-/// How a network address translation works: `TCA_NAT_FLAG_EGRESS` of `linux/tc_act/tc_nat.h`, and in the upper half
-/// the kernel's own flags of actions, `TCA_ACT_FLAGS_*` of `net/act_api.h`. Bits without a name are kept.
+/// Flags of network address translation: `TCA_NAT_FLAG_EGRESS` of `linux/tc_act/tc_nat.h`, and in the upper half the
+/// kernel's own flags of actions, `TCA_ACT_FLAGS_*` of `net/act_api.h`. Unnamed bits are kept.
 #[derive(PartialEq, Eq, Clone, Copy, Default, Debug)]
 pub struct TcNatFlags(u32);
 
 #[allow(non_upper_case_globals)]
 impl TcNatFlags {
-    /// Source addresses are translated, on the way out; else destinations, on the way in: `TCA_NAT_FLAG_EGRESS`.
+    /// Translate source addresses of outgoing packets; without it, destinations of incoming ones:
+    /// `TCA_NAT_FLAG_EGRESS`.
     pub const Egress: TcNatFlags = TcNatFlags(0x1);
 
-    /// Made as an action of a policer: `TCA_ACT_FLAGS_POLICE`.
+    /// Created for a policer: `TCA_ACT_FLAGS_POLICE`.
     pub const Police: TcNatFlags = TcNatFlags(0x1_0000);
 
     /// Bound to a filter: `TCA_ACT_FLAGS_BIND`.
     pub const Bind: TcNatFlags = TcNatFlags(0x2_0000);
 
-    /// Takes the place of the action that has its index: `TCA_ACT_FLAGS_REPLACE`.
+    /// Replaces the action with its index: `TCA_ACT_FLAGS_REPLACE`.
     pub const Replace: TcNatFlags = TcNatFlags(0x4_0000);
 
-    /// Made without the lock of routing: `TCA_ACT_FLAGS_NO_RTNL`.
+    /// Created without the RTNL lock: `TCA_ACT_FLAGS_NO_RTNL`.
     pub const NoRtnl: TcNatFlags = TcNatFlags(0x8_0000);
 
     /// At ingress: `TCA_ACT_FLAGS_AT_INGRESS`.

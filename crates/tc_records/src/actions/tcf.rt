@@ -10,10 +10,10 @@ use tc_fields::{
     Fields, FixedRecord, Octets, emit_record, is_settled_record, parse_record, record_len,
 };
 
-/// How long the times of an action are, in bytes.
+/// The length of `struct tcf_t` in bytes.
 pub const TCF_LEN: usize = 32;
 
-/// The times of an action, `struct tcf_t` of `linux/pkt_cls.h`: four numbers of clock ticks, little-endian.
+/// The times of an action, `struct tcf_t` of `linux/pkt_cls.h`, in clock ticks (`USER_HZ`), little-endian.
 ///
 /// | Offset | Field | Type |
 /// |---|---|---|
@@ -27,7 +27,7 @@ pub struct Tcf {
     pub install: u64,
     /// Since it was last used.
     pub lastuse: u64,
-    /// Until it expires, as the kernel has it.
+    /// Until it expires, as the kernel reports it.
     pub expires: u64,
     /// Since it was first used.
     pub firstuse: u64,
@@ -58,17 +58,18 @@ impl FixedRecord<TCF_LEN> for Tcf {
         true
     }
 
-    fn again(&self) -> Self {
+    fn copied(&self) -> Self {
         Self { ..*self }
     }
 
-    fn in_hand(self, _other: Self) {}
+    fn in_range(self, _other: Self) {}
 
     ghost whole = { refl };
 }
 
 impl Tcf {
-    /// The times that bytes begin with; what follows is dropped, and fewer bytes are `BufferTooSmall`.
+    /// Parses the times at the front of the payload and ignores what follows. Fails with
+    /// `BufferTooSmall` if there are fewer bytes.
     pub fn parse(payload: &[u8]) -> Res<Tcf>
         ensures { seen tcf_scalars result ≡ read_record tcf payload.now }
     {

@@ -1,4 +1,4 @@
-//! The metadata of a tunnel.
+//! The action tunnel_key: tunnel metadata set or released.
 
 ghost use Rattle.std.specs.Prelude.{◌≡◌, ◌↔◌, IsTrue, List, refl};
 ghost use Rattle.tc_canon.specs.Layouts.{tunnel_key};
@@ -12,11 +12,11 @@ use tc_fields::{
     Fields, FixedRecord, Octets, emit_record, is_settled_record, parse_record, record_len,
 };
 
-/// How long a tunnel key's record is, in bytes.
+/// The length of `struct tc_tunnel_key` in bytes.
 pub const TC_TUNNEL_KEY_LEN: usize = 24;
 
-/// A tunnel's metadata is set on packets or released, `struct tc_tunnel_key` of
-/// `linux/tc_act/tc_tunnel_key.h`: numbers, little-endian.
+/// Sets or releases the tunnel metadata of packets, `struct tc_tunnel_key` of `linux/tc_act/tc_tunnel_key.h`. Numbers
+/// are little-endian.
 ///
 /// | Offset | Field | Type |
 /// |---|---|---|
@@ -24,9 +24,9 @@ pub const TC_TUNNEL_KEY_LEN: usize = 24;
 /// | 20 | `t_action` | i32 |
 #[derive(Clone, Default, Drop, Debug)]
 pub struct TcTunnelKey {
-    /// What every action has.
+    /// The part that all actions have.
     pub generic: TcActionGeneric,
-    /// Which of both: `TCA_TUNNEL_KEY_ACT_SET`, 1, or `TCA_TUNNEL_KEY_ACT_RELEASE`, 2.
+    /// Set (`TCA_TUNNEL_KEY_ACT_SET`, 1) or release (`TCA_TUNNEL_KEY_ACT_RELEASE`, 2).
     pub t_action: i32,
 }
 
@@ -66,24 +66,26 @@ impl FixedRecord<TC_TUNNEL_KEY_LEN> for TcTunnelKey {
         self.generic.is_settled()
     }
 
-    fn again(&self) -> Self {
+    fn copied(&self) -> Self {
         Self { ..*self }
     }
 
-    fn in_hand(self, _other: Self) {}
+    fn in_range(self, _other: Self) {}
 
     ghost whole = { refl };
 }
 
 impl TcTunnelKey {
-    /// The record that bytes begin with; what follows is dropped, and fewer bytes are `BufferTooSmall`.
+    /// Parses the record at the front of the payload and ignores what follows. Fails with
+    /// `BufferTooSmall` if there are fewer bytes.
     pub fn parse(payload: &[u8]) -> Res<TcTunnelKey>
         ensures { seen tunnel_key_scalars result ≡ read_record tunnel_key payload.now }
     {
         parse_record(payload)
     }
 
-    /// True if it reads back as itself: the outcome is no `Other` of a number that has a name.
+    /// True if encoding and parsing returns an equal record: if `generic.action` isn't an `Other` of a number that has
+    /// a name.
     pub fn is_settled(&self) -> bool
         ensures { IsTrue result ↔ SettledFields tunnel_key (tunnel_key_scalars self.now) }
     {

@@ -3,13 +3,13 @@
 use crate::flags::flags;
 use bitflags::{Flag, Flags};
 
-/// The flags of a bpf filter, `TCA_BPF_FLAG_*` of `linux/pkt_cls.h`. Bits without a name are kept.
+/// The flags of a bpf filter, `TCA_BPF_FLAG_*` of `linux/pkt_cls.h`. Unnamed bits are kept.
 #[derive(PartialEq, Eq, Clone, Copy, Debug)]
 pub struct TcBpfFlags(u32);
 
 #[allow(non_upper_case_globals)]
 impl TcBpfFlags {
-    /// What the program returns is an action: `TCA_BPF_FLAG_ACT_DIRECT`.
+    /// Direct action: the program's return value is a verdict, `TC_ACT_*` (`TCA_BPF_FLAG_ACT_DIRECT`).
     pub const DirectAction: TcBpfFlags = TcBpfFlags(0x1);
 
     const FLAGS: &'static [Flag<TcBpfFlags>] = flags!(DirectAction; TcBpfFlags(0xFFFF_FFFF));

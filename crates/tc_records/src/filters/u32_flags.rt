@@ -3,22 +3,22 @@
 use crate::flags::flags;
 use bitflags::{Flag, Flags};
 
-/// The flags of a selector, one byte: `TC_U32_*` of `linux/pkt_cls.h`. Bits without a name are kept.
+/// The flags of a selector, one byte: `TC_U32_*` of `linux/pkt_cls.h`. Unnamed bits are kept.
 #[derive(PartialEq, Eq, Clone, Copy, Default, Debug)]
 pub struct TcU32SelectorFlags(u8);
 
 #[allow(non_upper_case_globals)]
 impl TcU32SelectorFlags {
-    /// A match ends the search: `TC_U32_TERMINAL`.
+    /// A match ends classification: `TC_U32_TERMINAL`.
     pub const Terminal: TcU32SelectorFlags = TcU32SelectorFlags(0x1);
 
-    /// The next header is `off` bytes further: `TC_U32_OFFSET`.
+    /// The next header is `off` bytes after this one: `TC_U32_OFFSET`.
     pub const Offset: TcU32SelectorFlags = TcU32SelectorFlags(0x2);
 
-    /// How much further it is comes from the packet: `TC_U32_VAROFFSET`.
+    /// The offset of the next header is read from the packet: `TC_U32_VAROFFSET`.
     pub const VarOffset: TcU32SelectorFlags = TcU32SelectorFlags(0x4);
 
-    /// The keys that follow count from there: `TC_U32_EAT`.
+    /// The keys of the next filter count from the next header: `TC_U32_EAT`.
     pub const Eat: TcU32SelectorFlags = TcU32SelectorFlags(0x8);
 
     const FLAGS: &'static [Flag<TcU32SelectorFlags>] =
@@ -50,25 +50,26 @@ impl Flags for TcU32SelectorFlags {
     }
 }
 
-/// Where a filter is to be, and where it is: `TCA_CLS_FLAGS_*` of `linux/pkt_cls.h`. Bits without a name are kept.
+/// Hardware offload (`TCA_CLS_FLAGS_*` of `linux/pkt_cls.h`): requested (`SkipHw`, `SkipSw`) and reported (`InHw`,
+/// `NotInHw`). Unnamed bits are kept.
 #[derive(PartialEq, Eq, Clone, Copy, Debug)]
 pub struct TcU32OptionFlags(u32);
 
 #[allow(non_upper_case_globals)]
 impl TcU32OptionFlags {
-    /// Not to be put into hardware: `TCA_CLS_FLAGS_SKIP_HW`.
+    /// Don't offload to hardware: `TCA_CLS_FLAGS_SKIP_HW`.
     pub const SkipHw: TcU32OptionFlags = TcU32OptionFlags(0x1);
 
-    /// Not to be used in software: `TCA_CLS_FLAGS_SKIP_SW`.
+    /// Don't process in software: `TCA_CLS_FLAGS_SKIP_SW`.
     pub const SkipSw: TcU32OptionFlags = TcU32OptionFlags(0x2);
 
-    /// It is in hardware: `TCA_CLS_FLAGS_IN_HW`.
+    /// Offloaded to hardware: `TCA_CLS_FLAGS_IN_HW`.
     pub const InHw: TcU32OptionFlags = TcU32OptionFlags(0x4);
 
-    /// It isn't in hardware: `TCA_CLS_FLAGS_NOT_IN_HW`.
+    /// Not offloaded to hardware: `TCA_CLS_FLAGS_NOT_IN_HW`.
     pub const NotInHw: TcU32OptionFlags = TcU32OptionFlags(0x8);
 
-    /// Where it can't be put into hardware, the reason is reported: `TCA_CLS_FLAGS_VERBOSE`.
+    /// Report why an offload failed: `TCA_CLS_FLAGS_VERBOSE`.
     pub const Verbose: TcU32OptionFlags = TcU32OptionFlags(0x10);
 
     const FLAGS: &'static [Flag<TcU32OptionFlags>] =

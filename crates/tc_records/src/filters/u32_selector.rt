@@ -4,7 +4,7 @@ ghost use Rattle.std.specs.Prelude.{◌≡◌, ◌≤◌, ◌<◌, ◌^◌, ◌*
 ghost use Rattle.std.specs.List.{AllByRecursion};
 ghost use Rattle.std.specs.Int.{w16, cast_unsigned};
 ghost use Rattle.std.specs.Ordering.{on};
-ghost use Rattle.nla_frames.specs.Fault.{Gives, seen, read_as};
+ghost use Rattle.nla_frames.specs.Fault.{Returns, seen, read_as};
 ghost use Rattle.nla_frames.specs.Emission.{Writes, HasRoom};
 ghost use Rattle.tc_canon.specs.Layouts.{selector_head, selector_key};
 ghost use Rattle.tc_meaning.specs.Tree.{Scalar};
@@ -16,20 +16,21 @@ ghost use Rattle.tc_records.specs.Selector.{key_scalars, keys_bytes, head_scalar
 use crate::TcU32SelectorFlags;
 use crate::same::both;
 use bitflags::Flags;
-use nla_frames::laws::in_hand::{u8_in_hand, u16_in_hand, u32_in_hand};
+use nla_frames::laws::in_range::{u8_is_in_range, u16_is_in_range, u32_is_in_range};
 use nla_frames::{BytesMeaning, DecodeError, Emitable, Res, SettleBytes, put_bytes};
 use std::alloc::{Allocator, Global};
 use tc_fields::{
     Fields, FixedRecord, Octets, emit_record, is_settled_record, parse_record, record_len,
 };
 
-/// How long a key is, in bytes.
+/// The length of `struct tc_u32_key` in bytes.
 pub const TC_U32_KEY_LEN: usize = 16;
 
-/// How long a selector without its keys is, in bytes.
+/// The length of `struct tc_u32_sel` without its keys, in bytes.
 pub const TC_U32_SELECTOR_LEN: usize = 16;
 
-/// A word of a packet that is compared, `struct tc_u32_key` of `linux/pkt_cls.h`.
+/// A comparison with one 32-bit word of the packet, `struct tc_u32_key` of `linux/pkt_cls.h`: the key matches if
+/// `word & mask == val`.
 ///
 /// | Offset | Field | Type |
 /// |---|---|---|
@@ -39,13 +40,13 @@ pub const TC_U32_SELECTOR_LEN: usize = 16;
 /// | 12 | `offmask` | i32 |
 #[derive(Clone, Default, Drop, Debug)]
 pub struct TcU32Key {
-    /// The bits that are compared, big-endian.
+    /// The bits to compare, big-endian.
     pub mask: u32,
-    /// What they are to be, big-endian.
+    /// Their value, big-endian.
     pub val: u32,
-    /// The offset of the word, in bytes; little-endian, as the field after it.
+    /// The offset of the word in bytes, little-endian.
     pub off: i32,
-    /// The bits of the offset read of the packet that count here.
+    /// The bits to use of the offset that was read from the packet, little-endian.
     pub offmask: i32,
 }
 
@@ -98,17 +99,18 @@ impl FixedRecord<TC_U32_KEY_LEN> for TcU32Key {
         true
     }
 
-    fn again(&self) -> Self {
+    fn copied(&self) -> Self {
         Self { ..*self }
     }
 
-    fn in_hand(self, _other: Self) {}
+    fn in_range(self, _other: Self) {}
 
     ghost whole = { refl };
 }
 
 impl TcU32Key {
-    /// The key that bytes begin with; what follows is dropped, and fewer bytes are `BufferTooSmall`.
+    /// Parses the key at the front of the payload and ignores what follows. Fails with
+    /// `BufferTooSmall` if there are fewer bytes.
     pub fn parse(payload: &[u8]) -> Res<TcU32Key>
         ensures { seen key_scalars result ≡ read_record selector_key payload.now }
     {
@@ -140,10 +142,10 @@ impl SettleBytes for TcU32Key {
     }
 }
 
-// So many keys, one after the other.
+// Reads `count` keys.
 fn parse_keys<A: Allocator>(alloc: A, count: u8, fields: Fields<'_>) -> Res<Vec<TcU32Key, A>>
     requires { 16 * count ≤ length fields.0.now }
-    ensures { Gives (seen (λ v. map key_scalars v.items) result)
+    ensures { Returns (seen (λ v. map key_scalars v.items) result)
         (read_as (read_keys count fields.entry.0.now)) }
 {
     let mut keys = Vec::with_capacity(alloc, count as usize)?;
@@ -154,7 +156,7 @@ fn parse_keys<A: Allocator>(alloc: A, count: u8, fields: Fields<'_>) -> Res<Vec<
     Ok(keys)
 }
 
-// Writes the keys at the front of the buffer, one after the other.
+// Writes the keys at the front of the buffer.
 fn put_keys(buffer: &mut [u8], keys: &[TcU32Key])
     requires { HasRoom (keys_bytes (map key_scalars keys.now)) buffer.old }
     ensures written { Writes (keys_bytes (map key_scalars keys.now)) buffer.old buffer.new }
@@ -167,8 +169,8 @@ fn put_keys(buffer: &mut [u8], keys: &[TcU32Key])
     }
 }
 
-/// What a u32 filter compares with a packet, `struct tc_u32_sel` of `linux/pkt_cls.h`. The filter matches where
-/// each of its keys does. Numbers are little-endian unless said otherwise; a byte of padding follows `nkeys`.
+/// The selector of a u32 filter, `struct tc_u32_sel` of `linux/pkt_cls.h`. The filter matches a packet if all keys do.
+/// Numbers are little-endian unless stated otherwise; a byte of padding follows `nkeys`.
 ///
 /// | Offset | Field | Type |
 /// |---|---|---|
@@ -186,28 +188,28 @@ fn put_keys(buffer: &mut [u8], keys: &[TcU32Key])
 #[derive_where(Debug)]
 #[derive_where(Clone; A)]
 pub struct TcU32Selector<A: Allocator = Global> {
-    /// What becomes of a match, and how the next header is found.
+    /// Whether a match ends classification, and how the next header is found.
     pub flags: TcU32SelectorFlags,
-    /// How far an offset that is read of the packet is shifted to the right, in bits.
+    /// The right shift of the offset read from the packet, in bits.
     pub offshift: u8,
-    /// How many keys there are, which is to be the length of `keys`.
+    /// The number of keys. A selector can be encoded only if this is the length of `keys`.
     pub nkeys: u8,
-    /// The bits of the offset that is read of the packet, big-endian.
+    /// The bits to use of the offset read from the packet, big-endian.
     pub offmask: u16,
-    /// The offset of the next header, in bytes.
+    /// The fixed offset of the next header, in bytes.
     pub off: u16,
-    /// Where in the packet its offset is read, in bytes.
+    /// Where in the packet the variable offset is read, in bytes.
     pub offoff: i16,
-    /// The offset in the packet of the word that is hashed, in bytes.
+    /// The offset in the packet of the word to hash, in bytes.
     pub hoff: i16,
-    /// The bits of that word that are hashed, big-endian.
+    /// The bits of that word to hash, big-endian.
     pub hmask: u32,
-    /// What is compared.
+    /// The comparisons; all have to match.
     pub keys: Vec<TcU32Key, A>,
 }
 
 impl<A: Allocator> TcU32Selector<A> {
-    // True if the two are equal but for their keys.
+    // True if the two are equal except in their keys.
     fn same_head(&self, other: &TcU32Selector<A>) -> bool
         ensures { result ≡ same_scalars (head_scalars self.now) (head_scalars other.now) }
     {
@@ -237,7 +239,7 @@ impl<A: Allocator> Eq for TcU32Selector<A> {
 }
 
 impl<A: Allocator> TcU32Selector<A> {
-    /// A selector of no keys, each of its numbers 0. It takes no memory.
+    /// A selector without keys, every number 0. Doesn't allocate.
     pub fn default_in(alloc: A) -> TcU32Selector<A>
         ensures { selector_of result ≡ empty_selector }
     {
@@ -254,10 +256,10 @@ impl<A: Allocator> TcU32Selector<A> {
         }
     }
 
-    /// The selector that bytes begin with, and the keys that it counts; what follows is dropped. Where they aren't
-    /// all there, that is `SelectorShort`; it may be `OutOfMemory`.
+    /// Parses the selector at the front of the payload with its `nkeys` keys, and ignores what follows. Fails with
+    /// `SelectorShort` if there are fewer bytes, with `OutOfMemory` if the allocator does.
     pub fn parse(alloc: A, payload: &[u8]) -> Res<TcU32Selector<A>>
-        ensures { Gives (seen selector_of result) (read_selector payload.now) }
+        ensures { Returns (seen selector_of result) (read_selector payload.now) }
     {
         if payload.len() < TC_U32_SELECTOR_LEN {
             return Err(DecodeError::SelectorShort {
@@ -296,8 +298,8 @@ impl<A: Allocator> TcU32Selector<A> {
         })
     }
 
-    /// The bytes of the selector without its keys, its padding zero. `nkeys` stands in them as it is, also where it
-    /// isn't the number of keys.
+    /// The bytes of the selector without its keys, with zero padding. `nkeys` is unchanged, even if it isn't the number
+    /// of keys.
     pub fn head_bytes(&self) -> [u8; TC_U32_SELECTOR_LEN]
         ensures { result ≡ fields_bytes selector_head (head_scalars self.now) }
     {
@@ -335,7 +337,7 @@ impl<A: Allocator> Emitable for TcU32Selector<A> {
     }
 
     fn emit(&self, buffer: &mut [u8]) {
-        selector_head_in_hand(self);
+        selector_head_in_range(self);
         put_keys(&mut buffer[TC_U32_SELECTOR_LEN..], &self.keys);
         put_bytes(buffer, &self.head_bytes());
     }
@@ -343,43 +345,43 @@ impl<A: Allocator> Emitable for TcU32Selector<A> {
 
 impl<A: Allocator> SettleBytes for TcU32Selector<A> {
     fn is_settled_under(&self, _kind: &str) -> bool {
-        selector_in_hand(self);
+        selector_in_range(self);
         true
     }
 }
 
-/// Does nothing. The fields of a selector in hand and of its keys have the widths of their layouts.
-pub fn selector_in_hand<A: Allocator>(selector: &TcU32Selector<A>)
+/// Does nothing. Its contract: each field of a selector and of its keys is in the range of its layout's width.
+pub fn selector_in_range<A: Allocator>(selector: &TcU32Selector<A>)
     ensures { selector_codec.Typed (selector_of selector.now) }
 {
-    selector_head_in_hand(selector);
-    keys_in_hand(&selector.keys);
+    selector_head_in_range(selector);
+    keys_in_range(&selector.keys);
 }
 
-// A selector of a u32 filter without its keys.
-fn selector_head_in_hand<A: Allocator>(selector: &TcU32Selector<A>)
+// The same for the fields of the selector itself.
+fn selector_head_in_range<A: Allocator>(selector: &TcU32Selector<A>)
     ensures { TypedFields selector_head (head_scalars selector.now) }
 {
-    u8_in_hand(selector.flags.bits());
-    u8_in_hand(selector.offshift);
-    u8_in_hand(selector.nkeys);
-    u16_in_hand(selector.offmask);
-    u16_in_hand(selector.off);
-    i16_in_hand(selector.offoff);
-    i16_in_hand(selector.hoff);
-    u32_in_hand(selector.hmask);
+    u8_is_in_range(selector.flags.bits());
+    u8_is_in_range(selector.offshift);
+    u8_is_in_range(selector.nkeys);
+    u16_is_in_range(selector.offmask);
+    u16_is_in_range(selector.off);
+    i16_in_range(selector.offoff);
+    i16_in_range(selector.hoff);
+    u32_is_in_range(selector.hmask);
 }
 
-// Keys of a selector.
-fn keys_in_hand(keys: &[TcU32Key])
+// The same for its keys.
+fn keys_in_range(keys: &[TcU32Key])
     ensures { AllByRecursion (TypedFields selector_key) (map key_scalars keys.now) }
 {
     for key in keys {
-        key.held();
+        key.ref_in_range();
     }
 }
 
-// A signed number of two bytes.
-fn i16_in_hand(number: i16)
+// The two's complement of an `i16` is in the range of two bytes.
+fn i16_in_range(number: i16)
     ensures { cast_unsigned w16 number < 256 ^ 2 }
 {}

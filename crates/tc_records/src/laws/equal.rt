@@ -1,4 +1,4 @@
-//! `==` is true if and only if what contracts see of the two values is equal.
+//! `==` is true if and only if the abstract values are equal.
 
 ghost use Rattle.nla_frames.specs.DefaultNla.{kept_frame};
 ghost use Rattle.tc_fields.specs.Numbers.{family_scalar};
@@ -12,7 +12,7 @@ ghost use Rattle.tc_records.specs.Selector.{key_scalars, selector_of};
 ghost use Rattle.tc_records.specs.NatFlags.{nat_flags_word};
 ghost use Rattle.tc_records.specs.MessageFlags.{message_flags_word};
 ghost use Rattle.tc_records.specs.FilterFlags.{bpf_flags_word, selector_flags_byte, option_flags_word};
-ghost use Rattle.tc_meaning.specs.Equal.{TellsSeen};
+ghost use Rattle.tc_meaning.specs.Equal.{IsEqualityOf};
 
 use crate::{
     TcActionGeneric, TcActionMessageFlags, TcActionMessageHeader, TcActionType, TcBpfFlags,
@@ -23,40 +23,40 @@ use crate::{
 use nla_frames::{AddressFamily, DefaultNla};
 use std::alloc::Allocator;
 
-/// Headers and statistics are equal if and only if their fields are, padding aside.
+/// Headers and statistics are equal if and only if their fields are; padding isn't a field.
 pub fn equal_statistics()
-    ensures family { TellsSeen ⟦<AddressFamily as PartialEq>⟧.eq family_scalar }
-    ensures handle { TellsSeen ⟦<TcHandle as PartialEq>⟧.eq handle_number }
-    ensures header { TellsSeen ⟦<TcHeader as PartialEq>⟧.eq header_scalars }
-    ensures action_header { TellsSeen ⟦<TcActionMessageHeader as PartialEq>⟧.eq
+    ensures family { IsEqualityOf ⟦<AddressFamily as PartialEq>⟧.eq family_scalar }
+    ensures handle { IsEqualityOf ⟦<TcHandle as PartialEq>⟧.eq handle_number }
+    ensures header { IsEqualityOf ⟦<TcHeader as PartialEq>⟧.eq header_scalars }
+    ensures action_header { IsEqualityOf ⟦<TcActionMessageHeader as PartialEq>⟧.eq
         action_message_header_scalars }
-    ensures stats { TellsSeen ⟦<TcStats as PartialEq>⟧.eq stats_scalars }
-    ensures basic { TellsSeen ⟦<TcStatsBasic as PartialEq>⟧.eq basic_scalars }
-    ensures queue { TellsSeen ⟦<TcStatsQueue as PartialEq>⟧.eq queue_scalars }
-    ensures qdisc { TellsSeen ⟦<TcFqCodelQdStats as PartialEq>⟧.eq qd_stats_scalars }
-    ensures class { TellsSeen ⟦<TcFqCodelClStats as PartialEq>⟧.eq cl_stats_scalars }
+    ensures stats { IsEqualityOf ⟦<TcStats as PartialEq>⟧.eq stats_scalars }
+    ensures basic { IsEqualityOf ⟦<TcStatsBasic as PartialEq>⟧.eq basic_scalars }
+    ensures queue { IsEqualityOf ⟦<TcStatsQueue as PartialEq>⟧.eq queue_scalars }
+    ensures qdisc { IsEqualityOf ⟦<TcFqCodelQdStats as PartialEq>⟧.eq qd_stats_scalars }
+    ensures class { IsEqualityOf ⟦<TcFqCodelClStats as PartialEq>⟧.eq cl_stats_scalars }
 {}
 
 /// Records of actions and keys of selectors are equal if and only if their fields are.
 pub fn equal_actions()
-    ensures times { TellsSeen ⟦<Tcf as PartialEq>⟧.eq tcf_scalars }
-    ensures outcome { TellsSeen ⟦<TcActionType as PartialEq>⟧.eq action_type_scalar }
-    ensures direction { TellsSeen ⟦<TcMirrorActionType as PartialEq>⟧.eq mirror_action_type_scalar }
-    ensures generic { TellsSeen ⟦<TcActionGeneric as PartialEq>⟧.eq generic_scalars }
-    ensures mirror { TellsSeen ⟦<TcMirror as PartialEq>⟧.eq mirror_scalars }
-    ensures nat { TellsSeen ⟦<TcNat as PartialEq>⟧.eq nat_scalars }
-    ensures tunnel { TellsSeen ⟦<TcTunnelKey as PartialEq>⟧.eq tunnel_key_scalars }
-    ensures key { TellsSeen ⟦<TcU32Key as PartialEq>⟧.eq key_scalars }
+    ensures times { IsEqualityOf ⟦<Tcf as PartialEq>⟧.eq tcf_scalars }
+    ensures outcome { IsEqualityOf ⟦<TcActionType as PartialEq>⟧.eq action_type_scalar }
+    ensures direction { IsEqualityOf ⟦<TcMirrorActionType as PartialEq>⟧.eq mirror_action_type_scalar }
+    ensures generic { IsEqualityOf ⟦<TcActionGeneric as PartialEq>⟧.eq generic_scalars }
+    ensures mirror { IsEqualityOf ⟦<TcMirror as PartialEq>⟧.eq mirror_scalars }
+    ensures nat { IsEqualityOf ⟦<TcNat as PartialEq>⟧.eq nat_scalars }
+    ensures tunnel { IsEqualityOf ⟦<TcTunnelKey as PartialEq>⟧.eq tunnel_key_scalars }
+    ensures key { IsEqualityOf ⟦<TcU32Key as PartialEq>⟧.eq key_scalars }
 {}
 
-/// Flags are equal if and only if their words are, kept attributes if and only if their words and bytes are, and
-/// selectors if and only if their fields and their keys are.
+/// Flags are equal if and only if their words are, raw attributes if and only if their words and bytes are, and
+/// selectors if and only if their fields and keys are.
 pub fn equal_words<A: Allocator>()
-    ensures selected { TellsSeen ⟦<TcU32Selector<A> as PartialEq>⟧.eq selector_of }
-    ensures kept { TellsSeen ⟦<DefaultNla<A> as PartialEq>⟧.eq kept_frame }
-    ensures nat { TellsSeen ⟦<TcNatFlags as PartialEq>⟧.eq nat_flags_word }
-    ensures message { TellsSeen ⟦<TcActionMessageFlags as PartialEq>⟧.eq message_flags_word }
-    ensures bpf { TellsSeen ⟦<TcBpfFlags as PartialEq>⟧.eq bpf_flags_word }
-    ensures selector { TellsSeen ⟦<TcU32SelectorFlags as PartialEq>⟧.eq selector_flags_byte }
-    ensures option { TellsSeen ⟦<TcU32OptionFlags as PartialEq>⟧.eq option_flags_word }
+    ensures selected { IsEqualityOf ⟦<TcU32Selector<A> as PartialEq>⟧.eq selector_of }
+    ensures kept { IsEqualityOf ⟦<DefaultNla<A> as PartialEq>⟧.eq kept_frame }
+    ensures nat { IsEqualityOf ⟦<TcNatFlags as PartialEq>⟧.eq nat_flags_word }
+    ensures message { IsEqualityOf ⟦<TcActionMessageFlags as PartialEq>⟧.eq message_flags_word }
+    ensures bpf { IsEqualityOf ⟦<TcBpfFlags as PartialEq>⟧.eq bpf_flags_word }
+    ensures selector { IsEqualityOf ⟦<TcU32SelectorFlags as PartialEq>⟧.eq selector_flags_byte }
+    ensures option { IsEqualityOf ⟦<TcU32OptionFlags as PartialEq>⟧.eq option_flags_word }
 {}

@@ -1,4 +1,4 @@
-//! What contracts see of a selector forgets nothing.
+//! Selectors with equal abstract values have equal fields.
 
 ghost use Rattle.std.specs.Prelude.{◌≡◌, map};
 ghost use Rattle.std.specs.Int.{w16, cast_unsigned};
@@ -8,7 +8,7 @@ use crate::{TcU32Key, TcU32Selector};
 use std::alloc::Allocator;
 use tc_fields::FixedRecord;
 
-/// Selectors that contracts see alike have the same fields and the same keys.
+/// Selectors with equal abstract values have the same fields and the same keys.
 pub fn selector_forgets_nothing<A: Allocator>(a: &TcU32Selector<A>, b: &TcU32Selector<A>)
     ensures flags { selector_of a.now ≡ selector_of b.now → a.now.flags ≡ b.now.flags }
     ensures offshift { selector_of a.now ≡ selector_of b.now → a.now.offshift ≡ b.now.offshift }
@@ -25,17 +25,17 @@ pub fn selector_forgets_nothing<A: Allocator>(a: &TcU32Selector<A>, b: &TcU32Sel
     keys_forget_nothing(&a.keys, &b.keys);
 }
 
-// Keys that contracts see alike are the same.
+// Keys with equal abstract values are equal.
 fn keys_forget_nothing(a: &[TcU32Key], b: &[TcU32Key])
     ensures { map key_scalars a.now ≡ map key_scalars b.now → a.now ≡ b.now }
 {
     if let (Some((x, xs)), Some((y, ys))) = (a.split_first(), b.split_first()) {
-        x.again().in_hand(y.again());
+        x.copied().in_range(y.copied());
         keys_forget_nothing(xs, ys);
     }
 }
 
-// A signed number of two bytes.
+// Signed numbers with equal two's complements are equal.
 fn i16_forgets_nothing(a: i16, b: i16)
     ensures { cast_unsigned w16 a ≡ cast_unsigned w16 b → a ≡ b }
 {}

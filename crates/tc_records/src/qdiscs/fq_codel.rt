@@ -10,13 +10,13 @@ use tc_fields::{
     Fields, FixedRecord, Octets, emit_record, is_settled_record, parse_record, record_len,
 };
 
-/// How long the statistics of a qdisc are, in bytes.
+/// The length of `struct tc_fq_codel_qd_stats` in bytes.
 pub const TC_FQ_CODEL_QD_STATS_LEN: usize = 36;
 
-/// How long the statistics of a class are, in bytes.
+/// The length of `struct tc_fq_codel_cl_stats` in bytes.
 pub const TC_FQ_CODEL_CL_STATS_LEN: usize = 24;
 
-/// The statistics of a qdisc, `struct tc_fq_codel_qd_stats` of `linux/pkt_sched.h`: nine numbers, little-endian.
+/// The statistics of the qdisc, `struct tc_fq_codel_qd_stats` of `linux/pkt_sched.h`. Numbers are little-endian.
 ///
 /// | Offset | Field | Type |
 /// |---|---|---|
@@ -31,11 +31,11 @@ pub const TC_FQ_CODEL_CL_STATS_LEN: usize = 24;
 /// | 32 | `drop_overmemory` | u32 |
 #[derive(PartialEq, Eq, Clone, Copy, Default, Debug)]
 pub struct TcFqCodelQdStats {
-    /// The bytes of the largest packet that was seen.
+    /// The length of the largest packet seen, in bytes.
     pub maxpacket: u32,
-    /// Packets that were dropped, as the queue was full.
+    /// Packets dropped because the queue was full.
     pub drop_overlimit: u32,
-    /// Packets that were marked in place of being dropped.
+    /// Packets marked with ECN instead of being dropped.
     pub ecn_mark: u32,
     /// How often a packet began a new flow.
     pub new_flow_count: u32,
@@ -43,11 +43,11 @@ pub struct TcFqCodelQdStats {
     pub new_flows_len: u32,
     /// Flows in the list of old flows.
     pub old_flows_len: u32,
-    /// Packets that waited longer than the threshold of marking.
+    /// Packets marked because they waited longer than the CE threshold.
     pub ce_mark: u32,
     /// Memory in use, in bytes.
     pub memory_usage: u32,
-    /// Packets that were dropped, as the memory was used up.
+    /// Packets dropped because the memory limit was reached.
     pub drop_overmemory: u32,
 }
 
@@ -86,17 +86,18 @@ impl FixedRecord<TC_FQ_CODEL_QD_STATS_LEN> for TcFqCodelQdStats {
         true
     }
 
-    fn again(&self) -> Self {
+    fn copied(&self) -> Self {
         *self
     }
 
-    fn in_hand(self, _other: Self) {}
+    fn in_range(self, _other: Self) {}
 
     ghost whole = { refl };
 }
 
 impl TcFqCodelQdStats {
-    /// The statistics that bytes begin with; what follows is dropped, and fewer bytes are `BufferTooSmall`.
+    /// Parses the statistics at the front of the payload and ignores what follows. Fails with
+    /// `BufferTooSmall` if there are fewer bytes.
     pub fn parse(payload: &[u8]) -> Res<TcFqCodelQdStats>
         ensures { seen qd_stats_scalars result ≡ read_record fq_codel_qd_stats payload.now }
     {
@@ -128,8 +129,8 @@ impl SettleBytes for TcFqCodelQdStats {
     }
 }
 
-/// The statistics of a class, which is one flow, `struct tc_fq_codel_cl_stats` of `linux/pkt_sched.h`: six numbers,
-/// little-endian. They are read and written, and shown by `Debug`.
+/// The statistics of a class, that is, of one flow, `struct tc_fq_codel_cl_stats` of `linux/pkt_sched.h`. Numbers are
+/// little-endian. The fields are private: only `Debug` shows them.
 ///
 /// | Offset | Field | Type |
 /// |---|---|---|
@@ -141,17 +142,17 @@ impl SettleBytes for TcFqCodelQdStats {
 /// | 20 | `drop_next` | i32 |
 #[derive(Clone, Copy, Default, Debug)]
 pub struct TcFqCodelClStats {
-    // Bytes that the flow may send before the next one's turn; negative once it sent more.
+    // Bytes that the flow may still send in this round; negative after it sent more.
     deficit: i32,
-    // How long the last packet waited, in microseconds.
+    // How long the last dequeued packet waited, in microseconds.
     ldelay: u32,
-    // Packets that were dropped or marked since the flow began to drop.
+    // Packets dropped or marked since the flow entered the dropping state.
     count: u32,
-    // What that count was when the flow last began to drop.
+    // `count` when the flow last entered the dropping state.
     lastcount: u32,
-    // 1 while the flow drops packets.
+    // 1 in the dropping state.
     dropping: u32,
-    // When the next packet is to be dropped, in microseconds from now; negative for one that is due.
+    // Time until the next drop, in microseconds; negative if it is overdue.
     drop_next: i32,
 }
 
@@ -212,17 +213,18 @@ impl FixedRecord<TC_FQ_CODEL_CL_STATS_LEN> for TcFqCodelClStats {
         true
     }
 
-    fn again(&self) -> Self {
+    fn copied(&self) -> Self {
         *self
     }
 
-    fn in_hand(self, _other: Self) {}
+    fn in_range(self, _other: Self) {}
 
     ghost whole = { refl };
 }
 
 impl TcFqCodelClStats {
-    /// The statistics that bytes begin with; what follows is dropped, and fewer bytes are `BufferTooSmall`.
+    /// Parses the statistics at the front of the payload and ignores what follows. Fails with
+    /// `BufferTooSmall` if there are fewer bytes.
     pub fn parse(payload: &[u8]) -> Res<TcFqCodelClStats>
         ensures { seen cl_stats_scalars result ≡ read_record fq_codel_cl_stats payload.now }
     {

@@ -1,4 +1,4 @@
-//! What went through a queue.
+//! Basic statistics.
 
 ghost use Rattle.std.specs.Prelude.{◌≡◌, List, refl};
 ghost use Rattle.tc_canon.specs.Layouts.{stats_basic};
@@ -10,11 +10,11 @@ use tc_fields::{
     Fields, FixedRecord, Octets, emit_record, is_settled_record, parse_record, record_len,
 };
 
-/// How long basic statistics are, in bytes.
+/// The length of `struct gnet_stats_basic` in bytes.
 pub const TC_STATS_BASIC_LEN: usize = 16;
 
-/// What went through a queue, `struct gnet_stats_basic` of `linux/gen_stats.h`: two numbers, little-endian, and
-/// four bytes of padding.
+/// Basic statistics, `struct gnet_stats_basic` of `linux/gen_stats.h`: the bytes and packets of a qdisc, a class or an
+/// action since it was created. Numbers are little-endian.
 ///
 /// | Offset | Field | Type |
 /// |---|---|---|
@@ -23,9 +23,9 @@ pub const TC_STATS_BASIC_LEN: usize = 16;
 /// | 12 | padding | 4 bytes |
 #[derive(PartialEq, Eq, Clone, Copy, Default, Debug)]
 pub struct TcStatsBasic {
-    /// Bytes that were seen.
+    /// Bytes seen.
     pub bytes: u64,
-    /// Packets that were seen.
+    /// Packets seen.
     pub packets: u32,
 }
 
@@ -51,17 +51,18 @@ impl FixedRecord<TC_STATS_BASIC_LEN> for TcStatsBasic {
         true
     }
 
-    fn again(&self) -> Self {
+    fn copied(&self) -> Self {
         *self
     }
 
-    fn in_hand(self, _other: Self) {}
+    fn in_range(self, _other: Self) {}
 
     ghost whole = { refl };
 }
 
 impl TcStatsBasic {
-    /// The statistics that bytes begin with; what follows is dropped, and fewer bytes are `BufferTooSmall`.
+    /// Parses the statistics at the front of the payload and ignores what follows. Fails with
+    /// `BufferTooSmall` if there are fewer bytes.
     pub fn parse(payload: &[u8]) -> Res<TcStatsBasic>
         ensures { seen basic_scalars result ≡ read_record stats_basic payload.now }
     {

@@ -1,4 +1,4 @@
-//! The statistics of a queue as one record.
+//! Statistics as one record, from before `TCA_STATS2`.
 
 ghost use Rattle.std.specs.Prelude.{◌≡◌, List, refl};
 ghost use Rattle.tc_canon.specs.Layouts.{stats};
@@ -10,11 +10,10 @@ use tc_fields::{
     Fields, FixedRecord, Octets, emit_record, is_settled_record, parse_record, record_len,
 };
 
-/// How long the statistics of a queue are, in bytes.
+/// The length of `struct tc_stats` in bytes, with its padding.
 pub const TC_STATS_LEN: usize = 40;
 
-/// The statistics of a queue, `struct tc_stats` of `linux/pkt_sched.h`: eight numbers, little-endian, and four
-/// bytes of padding.
+/// The statistics of a queue, `struct tc_stats` of `linux/pkt_sched.h` (`TCA_STATS`). Numbers are little-endian.
 ///
 /// | Offset | Field | Type |
 /// |---|---|---|
@@ -29,17 +28,17 @@ pub const TC_STATS_LEN: usize = 40;
 /// | 36 | padding | 4 bytes |
 #[derive(PartialEq, Eq, Clone, Copy, Default, Debug)]
 pub struct TcStats {
-    /// Bytes that were queued.
+    /// Bytes enqueued.
     pub bytes: u64,
-    /// Packets that were queued.
+    /// Packets enqueued.
     pub packets: u32,
-    /// Packets that were dropped, as there was no room for them.
+    /// Packets dropped for lack of space.
     pub drops: u32,
-    /// How often the queue was held back for its rate.
+    /// How often the queue was throttled by its rate.
     pub overlimits: u32,
-    /// The rate now, in bytes a second.
+    /// The current rate in bytes per second.
     pub bps: u32,
-    /// The rate now, in packets a second.
+    /// The current rate in packets per second.
     pub pps: u32,
     /// Packets in the queue.
     pub qlen: u32,
@@ -83,17 +82,18 @@ impl FixedRecord<TC_STATS_LEN> for TcStats {
         true
     }
 
-    fn again(&self) -> Self {
+    fn copied(&self) -> Self {
         *self
     }
 
-    fn in_hand(self, _other: Self) {}
+    fn in_range(self, _other: Self) {}
 
     ghost whole = { refl };
 }
 
 impl TcStats {
-    /// The statistics that bytes begin with; what follows is dropped, and fewer bytes are `BufferTooSmall`.
+    /// Parses the statistics at the front of the payload and ignores what follows. Fails with
+    /// `BufferTooSmall` if there are fewer bytes.
     pub fn parse(payload: &[u8]) -> Res<TcStats>
         ensures { seen stats_scalars result ≡ read_record stats payload.now }
     {

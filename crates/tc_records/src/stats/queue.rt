@@ -1,4 +1,4 @@
-//! What waits in a queue, and what it refused.
+//! Queue statistics.
 
 ghost use Rattle.std.specs.Prelude.{◌≡◌, List, refl};
 ghost use Rattle.tc_canon.specs.Layouts.{stats_queue};
@@ -10,11 +10,10 @@ use tc_fields::{
     Fields, FixedRecord, Octets, emit_record, is_settled_record, parse_record, record_len,
 };
 
-/// How long queue statistics are, in bytes.
+/// The length of `struct gnet_stats_queue` in bytes.
 pub const TC_STATS_QUEUE_LEN: usize = 20;
 
-/// What waits in a queue and what it refused, `struct gnet_stats_queue` of `linux/gen_stats.h`: five numbers,
-/// little-endian.
+/// Queue statistics, `struct gnet_stats_queue` of `linux/gen_stats.h`. Numbers are little-endian.
 ///
 /// | Offset | Field | Type |
 /// |---|---|---|
@@ -29,9 +28,9 @@ pub struct TcStatsQueue {
     pub qlen: u32,
     /// Bytes in the queue.
     pub backlog: u32,
-    /// Packets that were dropped.
+    /// Packets dropped.
     pub drops: u32,
-    /// Packets that were put back into the queue.
+    /// Packets put back into the queue.
     pub requeues: u32,
     /// How often the queue was over its limit.
     pub overlimits: u32,
@@ -64,17 +63,18 @@ impl FixedRecord<TC_STATS_QUEUE_LEN> for TcStatsQueue {
         true
     }
 
-    fn again(&self) -> Self {
+    fn copied(&self) -> Self {
         *self
     }
 
-    fn in_hand(self, _other: Self) {}
+    fn in_range(self, _other: Self) {}
 
     ghost whole = { refl };
 }
 
 impl TcStatsQueue {
-    /// The statistics that bytes begin with; what follows is dropped, and fewer bytes are `BufferTooSmall`.
+    /// Parses the statistics at the front of the payload and ignores what follows. Fails with
+    /// `BufferTooSmall` if there are fewer bytes.
     pub fn parse(payload: &[u8]) -> Res<TcStatsQueue>
         ensures { seen queue_scalars result ≡ read_record stats_queue payload.now }
     {

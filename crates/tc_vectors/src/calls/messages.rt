@@ -1,10 +1,10 @@
-//! Whether a message is what it has to be: read from bytes, or made by hand. It is `shown` by `Debug` as a front and, behind that, its attributes; and
+//! Whether a message is what it has to be: read from bytes, or made by hand. It is `shown` by `Debug` as a front and then its attributes; and
 //! `written` as bytes, and settled or not, or `None` where only its text is looked at.
 
 use std::alloc::{AllocError, Global};
 use std::fmt::Debug;
 use tc_wire::{DecodeError, Emitable, ParseableBytes, TcActionMessage, TcMessage};
-use tests_messages::Form;
+use tests_data::Form;
 
 // The bytes of a message, if it fits. It is emitted to a longer buffer, whose other bytes stay.
 fn emitted_of<M: Emitable>(alloc: Global, message: &M) -> Result<Option<Vec<u8>>, AllocError> {

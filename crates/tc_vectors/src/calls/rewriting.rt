@@ -5,7 +5,7 @@ use tc_wire::{
     RewriteError, is_canonical_action, is_canonical_tc, rewrite_action, rewrite_tc, settle_action,
     settle_tc,
 };
-use tests_messages::Form;
+use tests_data::Form;
 
 /// True if bytes are canonical.
 pub(crate) fn is_canonical(form: Form, bytes: &[u8]) -> bool {

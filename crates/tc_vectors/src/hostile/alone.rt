@@ -15,7 +15,7 @@ use tc_wire::{
     TcFilterMatchAllOption, TcFilterU32Option, TcOption, TcQdiscFqCodelOption,
     TcQdiscIngressOption, TcU32Selector, VecTcAttribute, VecTcOption,
 };
-use tests_messages::{ACTION_KINDS, Form, Input, KINDS, LAST_TYPE, LENGTHS, swept};
+use tests_data::{ACTION_KINDS, Form, Input, KINDS, LAST_TYPE, LENGTHS, swept};
 
 // Whether memory sufficed.
 fn had<T: Drop>(answer: Res<T>) -> bool {
@@ -72,7 +72,7 @@ fn had_for_all_under(alloc: Global, frame: &NlaBuffer<'_>, bytes: &[u8], kind: &
         && had::<TcXstats>(TcXstats::parse_with_param(alloc, frame, kind))
 }
 
-/// Whether memory sufficed for the attributes of a message behind its header, if that is whole.
+/// Whether memory sufficed for the attributes of a message after its header, if that is whole.
 pub(crate) fn had_for_attributes(alloc: Global, input: &Input) -> bool {
     match (input.form, input.bytes.get(20..)) {
         (Form::Tc, Some(frames)) => had::<VecTcAttribute>(VecTcAttribute::parse(alloc, frames)),

@@ -5,7 +5,7 @@ use bumpalo::Bump;
 use std::alloc::Global;
 use std::test::Fail;
 use tc_wire::{DecodeError, Emitable, ParseableBytes, TcActionMessage, TcMessage};
-use tests_messages::{Expected, Form, Row, captured, large_messages, made};
+use tests_data::{Expected, Form, Row, captured, large_messages, made};
 
 fn length_as<'a, M: ParseableBytes<&'a Bump> + Emitable + Drop>(
     arena: &'a Bump,

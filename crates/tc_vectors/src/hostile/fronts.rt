@@ -5,7 +5,7 @@ use crate::messages::{FQ_CODEL, FRONT};
 use crate::worked::is_message;
 use std::alloc::Global;
 use tc_wire::DecodeError;
-use tests_messages::Form;
+use tests_data::Form;
 
 // The fault of so many of its first bytes.
 fn fault_of_front(count: usize) -> Option<DecodeError> {

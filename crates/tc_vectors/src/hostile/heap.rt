@@ -7,7 +7,7 @@ use std::alloc::{AllocError, Global};
 use std::mem::size_of;
 use std::test::Fail;
 use tc_wire::{DecodeError, ParseableBytes, TcActionMessage, TcAttribute, TcMessage, TcOption};
-use tests_messages::{Form, Row, captured, large_messages, made};
+use tests_data::{Form, Row, captured, large_messages, made};
 
 /// How many bytes the heap takes for so many: units of 16, and one at least.
 fn block(size: usize) -> usize {

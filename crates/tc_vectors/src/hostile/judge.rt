@@ -1,4 +1,4 @@
-//! What holds of untrusted input.
+//! Properties of every untrusted input.
 
 use crate::calls::{
     Message, emitted, fault_of, is_canonical, is_cloned, is_settled, reads_back, settle,
@@ -6,7 +6,7 @@ use crate::calls::{
 use crate::rewriting::{becomes, cause_of, is_fault, is_outcome, rewritten};
 use std::alloc::Global;
 use tc_wire::{DecodeError, ParseableBytes, RewriteError, TcActionMessage, TcMessage};
-use tests_messages::{Form, Input};
+use tests_data::{Form, Input};
 
 /// What is wrong with what a call returned, if anything is.
 pub(crate) type Complaint = Option<&'static str>;

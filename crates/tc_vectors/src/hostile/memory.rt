@@ -5,7 +5,7 @@ use failing_alloc::Failing;
 use std::alloc::{AllocError, Global};
 use std::test::Fail;
 use tc_wire::{DecodeError, Emitable, ParseableBytes, RewriteError, TcActionMessage, TcMessage};
-use tests_messages::{Expected, Form, Row, made};
+use tests_data::{Expected, Form, Row, made};
 
 /// What is wrong with what a call returned.
 #[derive(Clone, Copy, Debug)]

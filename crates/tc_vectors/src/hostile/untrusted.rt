@@ -5,7 +5,7 @@ use super::judge::judge;
 use std::alloc::Global;
 use std::process::Abort;
 use std::test::Fail;
-use tests_messages::{
+use tests_data::{
     Form, Input, Row, all_around, captured, cut_and_changed, large_messages, made, too_long,
 };
 

@@ -4,7 +4,7 @@ use failing_alloc::Failing;
 use std::alloc::Global;
 use std::env::{self, FillError};
 use std::rt::Env;
-use tcrewrite_lib::arguments::{Request, request_from};
+use tcrewrite_lib::arguments::{Arguments, read_arguments};
 use tcrewrite_lib::mode::Mode;
 
 // The arguments of a program.
@@ -33,28 +33,28 @@ impl Env for Words {
 }
 
 // What is asked for by these arguments where the request for memory of this number is refused (0: none), and whether one was.
-fn request_at(alloc: Global, words: &'static [&'static str], at: u64) -> (Request, bool) {
+fn request_at(alloc: Global, words: &'static [&'static str], at: u64) -> (Arguments, bool) {
     let failing = Failing::new(alloc, at);
-    let request = request_from(&failing, env::args(&(Words(words), &failing)));
+    let request = read_arguments(&failing, env::args(&(Words(words), &failing)));
     (request, failing.has_refused())
 }
 
-const TC: Request = Request::Report(Mode::Tc);
+const TC: Arguments = Arguments::Report(Mode::Tc);
 
-const ACTION: Request = Request::Report(Mode::Action);
+const ACTION: Arguments = Arguments::Report(Mode::Action);
 
 // Arguments, of which the program's name comes first, and what is asked for.
-static ASKED: [(&[&str], Request); 10] = [
+static ASKED: [(&[&str], Arguments); 10] = [
     (&[], TC),
     (&["tcrewrite"], TC),
     (&["tcrewrite", "tc"], TC),
     (&["tcrewrite", "action"], ACTION),
-    (&["tcrewrite", "actions"], Request::Usage),
-    (&["tcrewrite", "TC"], Request::Usage),
-    (&["tcrewrite", ""], Request::Usage),
-    (&["tcrewrite", "--help"], Request::Usage),
-    (&["tcrewrite", "tc", "action"], Request::Usage),
-    (&["tc", "tc", "tc", "tc"], Request::Usage),
+    (&["tcrewrite", "actions"], Arguments::Usage),
+    (&["tcrewrite", "TC"], Arguments::Usage),
+    (&["tcrewrite", ""], Arguments::Usage),
+    (&["tcrewrite", "--help"], Arguments::Usage),
+    (&["tcrewrite", "tc", "action"], Arguments::Usage),
+    (&["tc", "tc", "tc", "tc"], Arguments::Usage),
 ];
 
 #[test]
@@ -71,7 +71,7 @@ fn arguments_take_memory(rt: HostRuntime) {
     let mut refusals = 0;
     for at in 1..1000u64 {
         let (request, is_refused) = request_at(rt.alloc(), &["tcrewrite", "tc"], at);
-        if request != Request::NoMemory {
+        if request != Arguments::NoMemory {
             assert!(rt; request == TC, "request {at}");
             if !is_refused {
                 break;

@@ -7,7 +7,7 @@ use std::process::Abort;
 use std::test::Fail;
 use tcrewrite_lib::mode::Mode;
 use tcrewrite_lib::run::run;
-use tests_messages::{Expected, Form, Row, captured, large_messages, made, too_long};
+use tests_data::{Expected, Form, Row, captured, large_messages, made, too_long};
 
 // True if bytes are these texts, one after the other.
 fn are(bytes: &[u8], texts: &[&str]) -> bool {

@@ -1,7 +1,7 @@
 //! The exit status of the program: that of the report, and 3 only where a stream fails, in both modes.
 
 use crate::program::streams::{LIMIT_OF_FQ_CODEL, REPORT_ON_LIMIT, serves};
-use tcrewrite_lib::arguments::Request;
+use tcrewrite_lib::arguments::Arguments;
 use tcrewrite_lib::mode::Mode;
 
 // A text, and the report on it in one mode, with its status.
@@ -72,7 +72,7 @@ const NO_COMPLAINT: Counts = (200, 200, 0);
 #[test]
 fn ends_with_the_status_of_the_report(rt: HostRuntime) {
     for row in &ROWS {
-        let request = Request::Report(row.mode);
+        let request = Arguments::Report(row.mode);
         assert!(rt;
             serves(
                 rt.alloc(),
@@ -92,7 +92,7 @@ fn ends_with_the_status_of_the_report(rt: HostRuntime) {
 #[test]
 fn ends_with_3_where_a_stream_failed(rt: HostRuntime) {
     for row in &ROWS {
-        let request = Request::Report(row.mode);
+        let request = Arguments::Report(row.mode);
         assert!(rt;
             serves(
                 rt.alloc(),
@@ -121,25 +121,25 @@ fn ends_with_3_where_a_stream_failed(rt: HostRuntime) {
     }
 }
 
-const TC: Request = Request::Report(Mode::Tc);
+const TC: Arguments = Arguments::Report(Mode::Tc);
 
 const MEMORY: (&str, &str) = ("refused OutOfMemory\n", "");
 
 const USAGE: (&str, &str) = ("", "usage: tcrewrite [tc|action]\n");
 
 // Requests over the stored message, the status, and what is written to both outputs.
-static ENDS: [(Request, Counts, u8, (&str, &str)); 11] = [
+static ENDS: [(Arguments, Counts, u8, (&str, &str)); 11] = [
     (TC, ALL, 0, (REPORT_ON_LIMIT, "")),
     (TC, (3, 200, 200), 3, ("", "read failed\n")),
     (TC, NO_WRITE, 3, ("", "write failed\n")),
     // nothing is read where there is no report
-    (Request::NoMemory, ALL, 1, MEMORY),
-    (Request::NoMemory, NO_READ, 1, MEMORY),
-    (Request::NoMemory, (0, 0, 200), 3, ("", "write failed\n")),
-    (Request::Usage, ALL, 2, USAGE),
-    (Request::Usage, (0, 0, 200), 2, USAGE),
+    (Arguments::NoMemory, ALL, 1, MEMORY),
+    (Arguments::NoMemory, NO_READ, 1, MEMORY),
+    (Arguments::NoMemory, (0, 0, 200), 3, ("", "write failed\n")),
+    (Arguments::Usage, ALL, 2, USAGE),
+    (Arguments::Usage, (0, 0, 200), 2, USAGE),
     // the status is the same where nothing can be said on the error output
-    (Request::Usage, NO_COMPLAINT, 2, ("", "")),
+    (Arguments::Usage, NO_COMPLAINT, 2, ("", "")),
     (TC, NO_COMPLAINT, 0, (REPORT_ON_LIMIT, "")),
     (TC, (0, 200, 0), 3, ("", "")),
 ];

@@ -2,7 +2,7 @@
 
 use std::alloc::Global;
 use std::io::{Error, ErrorKind, Read, Result, Write};
-use tcrewrite_lib::arguments::Request;
+use tcrewrite_lib::arguments::Arguments;
 use tcrewrite_lib::mode::Mode;
 use tcrewrite_lib::program::serve;
 use tcrewrite_lib::run::{RunError, run};
@@ -185,7 +185,7 @@ fn tries_again(rt: HostRuntime) {
 /// the outputs.
 pub(crate) fn serves(
     alloc: Global,
-    request: Request,
+    request: Arguments,
     text: &str,
     counts: (usize, usize, usize),
     status: u8,

@@ -6,7 +6,7 @@ use std::process::Abort;
 use std::test::Fail;
 use tcrewrite_lib::mode::Mode;
 use tcrewrite_lib::run::run;
-use tests_messages::{Input, all_around, cut_and_changed, made};
+use tests_data::{Input, all_around, cut_and_changed, made};
 
 // What is wrong with a report, if anything is.
 type Complaint = Option<&'static str>;

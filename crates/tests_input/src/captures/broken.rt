@@ -4,7 +4,7 @@ use crate::captures::reading::{End, end_of, fault_of, holds, is_fault};
 use std::alloc::{AllocError, Global};
 use std::test::Fail;
 use tc_capture::CaptureError;
-use tests_captures::{Format, beginning, put_packet};
+use tests_data::{Format, beginning, put_packet};
 
 // True if reading a file fails with `Short`: it needs more bytes.
 fn is_short(file: &[u8], needed: usize) -> bool {

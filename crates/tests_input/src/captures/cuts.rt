@@ -4,7 +4,7 @@ use crate::captures::reading::{End, end_of, holds, is_held, messages_of, packet_
 use std::alloc::{AllocError, Global};
 use std::test::Fail;
 use tc_capture::CaptureError;
-use tests_captures::{FORMATS, Format, beginning, file_of, messages, put_packet};
+use tests_data::{FORMATS, Format, beginning, file_of, messages, put_packet};
 
 // True if the packets of a file, as far as it has them, hold the messages.
 fn begins(file: &[u8], messages: &[Vec<u8>]) -> bool {

@@ -88,7 +88,7 @@ pub(crate) fn packet_of<'a>(file: &'a [u8], number: usize) -> Option<Found<'a>> 
     read_to(file, number).1
 }
 
-/// The messages of the packet of a number; none where there is no such packet.
+/// The messages of the packet with this number; empty if there is no such packet.
 pub(crate) fn messages_of<'a>(file: &'a [u8], number: usize) -> &'a [u8] {
     match packet_of(file, number) {
         Some(packet) => packet.messages,

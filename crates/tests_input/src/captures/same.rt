@@ -4,7 +4,7 @@ use crate::captures::reading::{end_of, is_held, is_timed, messages_of};
 use std::alloc::{AllocError, Global};
 use std::test::Fail;
 use tc_capture::Messages;
-use tests_captures::{FORMATS, MICROSECONDS, SECONDS, file_of, messages};
+use tests_data::{FORMATS, MICROSECONDS, SECONDS, file_of, messages};
 
 // True if the packet of a number is whole, has the one time, and holds a message.
 fn is_packet(file: &[u8], number: usize, message: &[u8]) -> bool {

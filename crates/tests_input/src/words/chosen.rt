@@ -1,8 +1,8 @@
 //! Messages that Linux sent and `tc` wrote, chosen by what is in them.
 
 use std::alloc::Global;
-use tc_capture::{Holds, Time};
-use tc_chosen::{Chosen, Message, Types};
+use tc_capture::{MessageType, Time};
+use tc_select::{Filter, Message, Types};
 
 // A filter of u32 of the chain 0, with an action.
 static U32: &str =
@@ -57,10 +57,10 @@ fn digits_of(sent: Sent) -> &'static str {
     }
 }
 
-fn form_of(sent: Sent) -> Holds {
+fn form_of(sent: Sent) -> MessageType {
     match sent {
-        Sent::Action => Holds::Action,
-        _ => Holds::Tc,
+        Sent::Action => MessageType::Action,
+        _ => MessageType::Tc,
     }
 }
 
@@ -76,12 +76,12 @@ const LATER: Time = Time {
 };
 
 // What chooses, a message, its type, and whether it is taken.
-type Row = (Chosen<'static>, Sent, Option<u16>, bool);
+type Row = (Filter<'static>, Sent, Option<u16>, bool);
 
 fn is_taken(alloc: Global, row: &Row) -> Option<bool> {
     let (chosen, sent, rtm, _) = row;
     match hex::decode(alloc, digits_of(*sent)) {
-        Ok(payload) => Some(chosen.takes(&Message {
+        Ok(payload) => Some(chosen.matches(&Message {
             time: Some(AT),
             rtm: *rtm,
             holds: form_of(*sent),
@@ -105,16 +105,16 @@ fn count_of(alloc: Global, rows: &[Row]) -> usize {
 
 #[rattlefmt::skip]
 static KINDS: [Row; 10] = [
-    (Chosen { kinds: &["mirred"], ..Chosen::ALL }, Sent::U32, Some(44), true),
-    (Chosen { kinds: &["mirred"], ..Chosen::ALL }, Sent::Flower, Some(44), true),
-    (Chosen { kinds: &["mirred"], ..Chosen::ALL }, Sent::Action, Some(48), true),
-    (Chosen { kinds: &["mirred"], ..Chosen::ALL }, Sent::Chain, Some(100), false),
-    (Chosen { kinds: &["mirred"], ..Chosen::ALL }, Sent::Qdisc, Some(36), false),
-    (Chosen { kinds: &["bfifo", "flower"], ..Chosen::ALL }, Sent::Flower, Some(44), true),
-    (Chosen { kinds: &["bfifo", "flower"], ..Chosen::ALL }, Sent::Chain, Some(100), true),
-    (Chosen { kinds: &["bfifo", "flower"], ..Chosen::ALL }, Sent::Qdisc, Some(36), true),
-    (Chosen { kinds: &["bfifo", "flower"], ..Chosen::ALL }, Sent::U32, Some(44), false),
-    (Chosen { kinds: &["bfifo", "flower"], ..Chosen::ALL }, Sent::Cut, Some(44), false),
+    (Filter { kinds: &["mirred"], ..Filter::ALL }, Sent::U32, Some(44), true),
+    (Filter { kinds: &["mirred"], ..Filter::ALL }, Sent::Flower, Some(44), true),
+    (Filter { kinds: &["mirred"], ..Filter::ALL }, Sent::Action, Some(48), true),
+    (Filter { kinds: &["mirred"], ..Filter::ALL }, Sent::Chain, Some(100), false),
+    (Filter { kinds: &["mirred"], ..Filter::ALL }, Sent::Qdisc, Some(36), false),
+    (Filter { kinds: &["bfifo", "flower"], ..Filter::ALL }, Sent::Flower, Some(44), true),
+    (Filter { kinds: &["bfifo", "flower"], ..Filter::ALL }, Sent::Chain, Some(100), true),
+    (Filter { kinds: &["bfifo", "flower"], ..Filter::ALL }, Sent::Qdisc, Some(36), true),
+    (Filter { kinds: &["bfifo", "flower"], ..Filter::ALL }, Sent::U32, Some(44), false),
+    (Filter { kinds: &["bfifo", "flower"], ..Filter::ALL }, Sent::Cut, Some(44), false),
 ];
 
 #[test]
@@ -125,19 +125,19 @@ fn kinds(rt: HostRuntime) {
 
 #[rattlefmt::skip]
 static PLACES: [Row; 13] = [
-    (Chosen { handles: &[0x8008_d000], ..Chosen::ALL }, Sent::Flower, Some(44), false),
-    (Chosen { handles: &[0x8008_d000], ..Chosen::ALL }, Sent::Action, Some(48), false),
-    (Chosen { handles: &[2, 0x80d0_0800], ..Chosen::ALL }, Sent::U32, Some(44), true),
-    (Chosen { parents: &[0xffff_fff2], ..Chosen::ALL }, Sent::Flower, Some(44), true),
-    (Chosen { parents: &[0xffff_fff2], priorities: &[49152], ..Chosen::ALL }, Sent::Flower, Some(44), true),
-    (Chosen { parents: &[0xffff_fff2], priorities: &[49152], ..Chosen::ALL }, Sent::Flower, None, true),
-    (Chosen { parents: &[0xffff_fff2], priorities: &[49152], ..Chosen::ALL }, Sent::Flower, Some(36), false),
-    (Chosen { parents: &[0xffff_fff2], priorities: &[49152], interfaces: &[3], ..Chosen::ALL }, Sent::Flower, Some(44), true),
-    (Chosen { parents: &[0xffff_fff2], priorities: &[49152], interfaces: &[4], ..Chosen::ALL }, Sent::Flower, Some(44), false),
-    (Chosen { chains: &[7], ..Chosen::ALL }, Sent::Chain, Some(100), true),
-    (Chosen { chains: &[7], ..Chosen::ALL }, Sent::Flower, Some(44), false),
-    (Chosen { chains: &[0], ..Chosen::ALL }, Sent::Flower, Some(44), true),
-    (Chosen { chains: &[0], ..Chosen::ALL }, Sent::Qdisc, Some(36), false),
+    (Filter { handles: &[0x8008_d000], ..Filter::ALL }, Sent::Flower, Some(44), false),
+    (Filter { handles: &[0x8008_d000], ..Filter::ALL }, Sent::Action, Some(48), false),
+    (Filter { handles: &[2, 0x80d0_0800], ..Filter::ALL }, Sent::U32, Some(44), true),
+    (Filter { parents: &[0xffff_fff2], ..Filter::ALL }, Sent::Flower, Some(44), true),
+    (Filter { parents: &[0xffff_fff2], priorities: &[49152], ..Filter::ALL }, Sent::Flower, Some(44), true),
+    (Filter { parents: &[0xffff_fff2], priorities: &[49152], ..Filter::ALL }, Sent::Flower, None, true),
+    (Filter { parents: &[0xffff_fff2], priorities: &[49152], ..Filter::ALL }, Sent::Flower, Some(36), false),
+    (Filter { parents: &[0xffff_fff2], priorities: &[49152], interfaces: &[3], ..Filter::ALL }, Sent::Flower, Some(44), true),
+    (Filter { parents: &[0xffff_fff2], priorities: &[49152], interfaces: &[4], ..Filter::ALL }, Sent::Flower, Some(44), false),
+    (Filter { chains: &[7], ..Filter::ALL }, Sent::Chain, Some(100), true),
+    (Filter { chains: &[7], ..Filter::ALL }, Sent::Flower, Some(44), false),
+    (Filter { chains: &[0], ..Filter::ALL }, Sent::Flower, Some(44), true),
+    (Filter { chains: &[0], ..Filter::ALL }, Sent::Qdisc, Some(36), false),
 ];
 
 #[test]
@@ -148,12 +148,12 @@ fn places(rt: HostRuntime) {
 
 #[rattlefmt::skip]
 static TYPES_AND_TIMES: [Row; 6] = [
-    (Chosen { types: &[Types { first: 36, last: 38 }, Types { first: 44, last: 44 }], ..Chosen::ALL }, Sent::Flower, Some(44), true),
-    (Chosen { types: &[Types { first: 36, last: 38 }, Types { first: 44, last: 44 }], ..Chosen::ALL }, Sent::Qdisc, Some(37), true),
-    (Chosen { types: &[Types { first: 36, last: 38 }, Types { first: 44, last: 44 }], ..Chosen::ALL }, Sent::Flower, Some(45), false),
-    (Chosen { types: &[Types { first: 36, last: 38 }, Types { first: 44, last: 44 }], ..Chosen::ALL }, Sent::Flower, None, false),
-    (Chosen { since: Some(AT), until: Some(AT), ..Chosen::ALL }, Sent::Flower, None, true),
-    (Chosen { since: Some(LATER), until: Some(AT), ..Chosen::ALL }, Sent::Flower, None, false),
+    (Filter { types: &[Types { first: 36, last: 38 }, Types { first: 44, last: 44 }], ..Filter::ALL }, Sent::Flower, Some(44), true),
+    (Filter { types: &[Types { first: 36, last: 38 }, Types { first: 44, last: 44 }], ..Filter::ALL }, Sent::Qdisc, Some(37), true),
+    (Filter { types: &[Types { first: 36, last: 38 }, Types { first: 44, last: 44 }], ..Filter::ALL }, Sent::Flower, Some(45), false),
+    (Filter { types: &[Types { first: 36, last: 38 }, Types { first: 44, last: 44 }], ..Filter::ALL }, Sent::Flower, None, false),
+    (Filter { since: Some(AT), until: Some(AT), ..Filter::ALL }, Sent::Flower, None, true),
+    (Filter { since: Some(LATER), until: Some(AT), ..Filter::ALL }, Sent::Flower, None, false),
 ];
 
 #[test]
@@ -164,9 +164,9 @@ fn types_and_times(rt: HostRuntime) {
 
 #[test]
 fn verdicts(rt: HostRuntime) {
-    let mut chosen = Chosen::ALL;
-    assert!(rt; chosen.takes_verdict(false));
+    let mut chosen = Filter::ALL;
+    assert!(rt; chosen.matches_verdict(false));
     chosen.refused = true;
-    assert!(rt; !chosen.takes_verdict(false));
-    assert!(rt; chosen.takes_verdict(true));
+    assert!(rt; !chosen.matches_verdict(false));
+    assert!(rt; chosen.matches_verdict(true));
 }

@@ -1,10 +1,8 @@
 //! Hex as it is pasted: the same netlink message as xxd, tcpdump 4.99 and tshark 4.0 print it, and plain.
 
 use std::alloc::Global;
-use tc_words::{dump_line, push_hex};
-
-const PLAIN: &str = "380000002400050681f12469000000000000000004000000\
-0000ffffffffffff000000000a000100626669666f00000008000200b80b0000";
+use tc_select::{dump_line, push_hex};
+use tests_data::dumps::{PLAIN, TCPDUMP, TCPDUMP_TEXT, TSHARK, XXD, XXD_SINGLE};
 
 // Its bytes.
 #[rattlefmt::skip]
@@ -14,37 +12,6 @@ static BYTES: [u8; 56] = [
     0x00, 0x00, 0x00, 0x00, 0x0a, 0x00, 0x01, 0x00, 0x62, 0x66, 0x69, 0x66, 0x6f, 0x00, 0x00, 0x00,
     0x08, 0x00, 0x02, 0x00, 0xb8, 0x0b, 0x00, 0x00,
 ];
-
-// xxd
-const XXD: &str = "00000000: 3800 0000 2400 0506 81f1 2469 0000 0000  8...$.....$i....
-00000010: 0000 0000 0400 0000 0000 ffff ffff ffff  ................
-00000020: 0000 0000 0a00 0100 6266 6966 6f00 0000  ........bfifo...
-00000030: 0800 0200 b80b 0000                      ........";
-
-// xxd -g1 -u
-const XXD_SINGLE: &str =
-    "00000000: 38 00 00 00 24 00 05 06 81 F1 24 69 00 00 00 00  8...$.....$i....
-00000010: 00 00 00 00 04 00 00 00 00 00 FF FF FF FF FF FF  ................
-00000020: 00 00 00 00 0A 00 01 00 62 66 69 66 6F 00 00 00  ........bfifo...
-00000030: 08 00 02 00 B8 0B 00 00                          ........";
-
-// tcpdump -x
-const TCPDUMP: &str = "\t0x0000:  3800 0000 2400 0506 81f1 2469 0000 0000
-\t0x0010:  0000 0000 0400 0000 0000 ffff ffff ffff
-\t0x0020:  0000 0000 0a00 0100 6266 6966 6f00 0000
-\t0x0030:  0800 0200 b80b 0000";
-
-// tcpdump -X
-const TCPDUMP_TEXT: &str = "\t0x0000:  3800 0000 2400 0506 81f1 2469 0000 0000  8...$.....$i....
-\t0x0010:  0000 0000 0400 0000 0000 ffff ffff ffff  ................
-\t0x0020:  0000 0000 0a00 0100 6266 6966 6f00 0000  ........bfifo...
-\t0x0030:  0800 0200 b80b 0000                      ........";
-
-// tshark -x, with a carriage return as in a text of Windows
-const TSHARK: &str = "0000  38 00 00 00 24 00 05 06 81 f1 24 69 00 00 00 00   8...$.....$i....\r
-0010  00 00 00 00 04 00 00 00 00 00 ff ff ff ff ff ff   ................\r
-0020  00 00 00 00 0a 00 01 00 62 66 69 66 6f 00 00 00   ........bfifo...\r
-0030  08 00 02 00 b8 0b 00 00                           ........\r";
 
 // Appends the bytes of a line of a dump; false where it isn't one, at their offset.
 fn push_line(bytes: &mut Vec<u8>, line: &str) -> bool {

@@ -1,6 +1,6 @@
 //! Handles, as `tc` writes and reads them.
 
-use tc_words::handle_of_word;
+use tc_select::parse_handle;
 
 static HANDLES: [(&str, u32); 12] = [
     ("1:10", 0x0001_0010),
@@ -20,7 +20,7 @@ static HANDLES: [(&str, u32); 12] = [
 #[test]
 fn handles(rt: HostRuntime) {
     for (word, handle) in &HANDLES {
-        assert!(rt; handle_of_word(word) == Some(*handle), "{word}");
+        assert!(rt; parse_handle(word) == Some(*handle), "{word}");
     }
 }
 
@@ -40,6 +40,6 @@ static NO_HANDLES: [&str; 10] = [
 #[test]
 fn no_handles(rt: HostRuntime) {
     for word in &NO_HANDLES {
-        assert!(rt; handle_of_word(word).is_none(), "{word}");
+        assert!(rt; parse_handle(word).is_none(), "{word}");
     }
 }

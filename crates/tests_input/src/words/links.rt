@@ -1,6 +1,6 @@
 //! Names of interfaces.
 
-use tc_words::{link_of_line, link_of_message};
+use tc_select::{link_of_line, link_of_message};
 
 // A line, and the number and the name in it.
 fn is_link(line: &str, index: u32, name: &str) -> bool {

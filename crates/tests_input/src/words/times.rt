@@ -1,6 +1,6 @@
 //! Times, as Python's `datetime` writes them.
 
-use tc_words::time_of_word;
+use tc_select::parse_time;
 
 static DATES: [(&str, u64); 24] = [
     ("1970-01-01T00:00:00Z", 0),
@@ -40,7 +40,7 @@ static TIMES: [(&str, u64, u32); 5] = [
 
 // True if this is the time of a text.
 fn is_time(text: &str, seconds: u64, nanoseconds: u32) -> bool {
-    match time_of_word(text) {
+    match parse_time(text) {
         Some(time) => time.seconds == seconds && time.nanoseconds == nanoseconds,
         None => false,
     }
@@ -92,6 +92,6 @@ static NO_TIMES: [&str; 26] = [
 #[test]
 fn no_times(rt: HostRuntime) {
     for text in &NO_TIMES {
-        assert!(rt; time_of_word(text).is_none(), "{text}");
+        assert!(rt; parse_time(text).is_none(), "{text}");
     }
 }

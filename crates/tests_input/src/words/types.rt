@@ -1,11 +1,11 @@
 //! Message types.
 
 use tc_capture::rtm_of;
-use tc_words::types_of_word;
+use tc_select::parse_types;
 
 // True if a word stands for these types.
 fn is_types(word: &str, first: u16, last: u16) -> bool {
-    match types_of_word(word) {
+    match parse_types(word) {
         Some(types) => types.first == first && types.last == last,
         None => false,
     }
@@ -45,6 +45,6 @@ fn words(rt: HostRuntime) {
         assert!(rt; is_types(word, *first, *last), "{word}");
     }
     for word in &NO_TYPES {
-        assert!(rt; types_of_word(word).is_none(), "{word}");
+        assert!(rt; parse_types(word).is_none(), "{word}");
     }
 }

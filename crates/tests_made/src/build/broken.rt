@@ -1,13 +1,13 @@
 //! The JSON of messages, broken in one place at a time: the error names the place.
 
+use forms_json::{Form, MakeError};
+use forms_kinds::{ACTION_MESSAGE, TC_MESSAGE, TcTables};
+use forms_text::{StrictError, made_strictly, shown_json};
 use serde_json::{Map, Value};
 use std::alloc::{AllocError, Global};
 use std::process::Abort;
 use std::test::Fail;
-use tc_forms::{Form, MakeError};
-use tc_forms_strict::{StrictError, made_strictly, shown_json};
-use tc_kinds::{ACTION_MESSAGE, TC_MESSAGE, TcTables};
-use tests_messages::{self as messages, Expected, Input, Row, captured, made};
+use tests_data::{self as messages, Expected, Input, Row, captured, made};
 
 // What is wrong with a value, or with a member of an object.
 #[derive(Clone, Copy)]

@@ -1,11 +1,11 @@
 //! JSON that isn't what is shown of the bytes that it stands for: the error names the first place, what was found and what is shown there.
 
+use forms_json::Form;
+use forms_kinds::{ACTION_MESSAGE, TC_MESSAGE, TcTables};
+use forms_text::{StrictError, made_strictly};
 use serde_json::Value;
 use std::alloc::{AllocError, Global};
 use std::test::Fail;
-use tc_forms::Form;
-use tc_forms_strict::{StrictError, made_strictly};
-use tc_kinds::{ACTION_MESSAGE, TC_MESSAGE, TcTables};
 
 // Attributes of a traffic control message, and the error of the message.
 #[rattlefmt::skip]

@@ -1,12 +1,12 @@
 //! Messages made by hand, captured and large ones, with what the codec is known to find of them.
 
 use crate::make::runs::{bare, is_line, made};
+use forms_json::Shown;
+use forms_kinds::{ACTION_MESSAGE, TC_MESSAGE, TcTables};
 use std::alloc::{AllocError, Global};
 use std::test::Fail;
-use tc_forms::Shown;
-use tc_kinds::{ACTION_MESSAGE, TC_MESSAGE, TcTables};
 use tcmake_lib::arguments::Making;
-use tests_messages::{self as messages, Expected, Form, Input, Row, captured, large_messages};
+use tests_data::{self as messages, Expected, Form, Input, Row, captured, large_messages};
 
 // The JSON of a message.
 fn json_of(alloc: Global, input: &Input) -> Result<String, serde_json::Error> {

@@ -1,11 +1,11 @@
 //! Runs in memory.
 
+use forms_kinds::{ACTION_MESSAGE, TC_MESSAGE, TcTables};
 use std::alloc::Global;
-use tc_kinds::{ACTION_MESSAGE, TC_MESSAGE, TcTables};
 use tcmake_lib::arguments::{Making, Request};
 use tcmake_lib::message::Forms;
 use tcmake_lib::program::serve;
-use tcmake_lines::Form;
+use tcmake_lines::OutputFormat;
 
 /// The forms of both messages.
 pub(crate) const FORMS: Forms<TcTables> = Forms {
@@ -16,25 +16,25 @@ pub(crate) const FORMS: Forms<TcTables> = Forms {
 
 /// What is asked for without arguments.
 pub(crate) const HEX: Request = Request {
-    form: Form::Hex,
+    form: OutputFormat::Hex,
     making: Making::Checked,
     in_order: false,
     index: None,
     verbose: false,
 };
 
-/// A capture in place of lines of hex.
+/// A capture instead of lines of hex.
 pub(crate) const PCAP: Request = Request {
-    form: Form::Capture,
+    form: OutputFormat::Capture,
     making: Making::Checked,
     in_order: false,
     index: None,
     verbose: false,
 };
 
-/// Messages one after the other in place of lines of hex.
+/// Messages one after the other instead of lines of hex.
 pub(crate) const STREAM: Request = Request {
-    form: Form::Stream,
+    form: OutputFormat::Stream,
     making: Making::AsGiven,
     in_order: false,
     index: None,
@@ -44,7 +44,7 @@ pub(crate) const STREAM: Request = Request {
 /// Messages without a netlink header, made so.
 pub(crate) fn bare(making: Making) -> Request {
     Request {
-        form: Form::Bare,
+        form: OutputFormat::Bare,
         making,
         in_order: false,
         index: None,
@@ -93,7 +93,7 @@ pub(crate) fn makes(
         && run.errors.as_slice() == errors.as_bytes()
 }
 
-/// True if these bytes are a line of this text behind this start.
+/// True if these bytes are a line of this text after this start.
 pub(crate) fn is_line(bytes: &[u8], start: &str, text: &str) -> bool {
     match bytes.strip_prefix(start.as_bytes()) {
         Some(rest) => rest.strip_suffix(b"\n") == Some(text.as_bytes()),

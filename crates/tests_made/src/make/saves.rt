@@ -5,7 +5,7 @@ use std::alloc::Global;
 use tcmake_lib::arguments::{Making, Request, arguments_of};
 use tcmake_lib::order::Asked;
 use tcmake_lib::program::serve_asked;
-use tcmake_lines::Form;
+use tcmake_lines::OutputFormat;
 
 // The first line of a save of the interface wan.
 #[rattlefmt::skip]
@@ -46,6 +46,17 @@ const OTHERS: &str = r#"{"type":"RTM_GETACTION","flags":0,"seq":29,"message":{"h
 {"type":"RTM_NEWTFILTER","flags":0,"seq":40,"message":{"header":{"family":"Unspec","index":2,"handle":":1","parent":"ffff:fff2","info":22610688},"attributes":[{"Kind":"matchall"},{"Chain":0},{"Options":[{"MatchAll":{"Action":[{"tab":1,"attributes":[{"Kind":"mirred"},{"Stats":[{"Basic":{"bytes":0,"packets":0}}]},{"Options":[{"Mirror":{"Parms":{"generic":{"index":7,"capab":0,"action":"Pipe","refcnt":2,"bindcnt":2},"eaction":"EgressMirror","ifindex":4}}},{"Mirror":{"Tm":{"install":29,"lastuse":29,"expires":0,"firstuse":0}}}],"word":2}]}]}}]}]}}
 "#;
 
+// The first is as it was saved, and a filter of another interface has it alone.
+#[rattlefmt::skip]
+const ANOTHERS: &str = r#"{"type":"RTM_GETACTION","flags":0,"seq":29,"message":{"header":{"family":"Unspec"},"attributes":[{"Actions":[{"tab":1,"attributes":[{"Kind":"mirred"},{"Stats":[{"Basic":{"bytes":0,"packets":0}}]},{"Options":[{"Mirror":{"Parms":{"generic":{"index":7,"capab":0,"action":"Pipe","refcnt":1,"bindcnt":1},"eaction":"EgressMirror","ifindex":3}}}],"word":2}]}]}]}}
+"#;
+
+// It is another one, which a filter of this interface, of basic, has alone.
+#[rattlefmt::skip]
+const OF_BASIC: &str = r#"{"type":"RTM_GETACTION","flags":0,"seq":29,"message":{"header":{"family":"Unspec"},"attributes":[{"Actions":[{"tab":1,"attributes":[{"Kind":"mirred"},{"Stats":[{"Basic":{"bytes":0,"packets":0}}]},{"Options":[{"Mirror":{"Parms":{"generic":{"index":7,"capab":0,"action":"Pipe","refcnt":1,"bindcnt":1},"eaction":"EgressMirror","ifindex":4}}}],"word":2}]}]}]}}
+{"type":"RTM_NEWTFILTER","flags":0,"seq":40,"message":{"header":{"family":"Unspec","index":2,"handle":":1","parent":"1:","info":65544},"attributes":[{"Kind":"basic"},{"Options":[{"Basic":{"Action":[{"tab":1,"attributes":[{"Kind":"mirred"},{"Stats":[{"Basic":{"bytes":0,"packets":0}}]},{"Options":[{"Mirror":{"Parms":{"generic":{"index":7,"capab":0,"action":"Pipe","refcnt":1,"bindcnt":1},"eaction":"EgressMirror","ifindex":4}}}],"word":2}]}]}}]}]}}
+"#;
+
 // The requests, without netlink headers.
 const QDISC_REQUESTS: &str = "\
 000000000200000000000100ffffffff020000000d00010066715f636f64656c000000000c0002000800020000280000
@@ -70,7 +81,7 @@ const MAKES: &str = "4c000000300005061d00000000000000";
 const CHANGES: &str = "4c000000300005051d00000000000000";
 
 const BARE: Request = Request {
-    form: Form::Bare,
+    form: OutputFormat::Bare,
     making: Making::Restored,
     in_order: false,
     index: None,
@@ -78,7 +89,7 @@ const BARE: Request = Request {
 };
 
 const HEX: Request = Request {
-    form: Form::Hex,
+    form: OutputFormat::Hex,
     making: Making::Restored,
     in_order: false,
     index: None,
@@ -251,6 +262,31 @@ fn actions_that_are_there(rt: HostRuntime) {
             ""
         )
     );
+    assert!(rt;
+        makes(
+            alloc,
+            &HEX,
+            &now(ANOTHERS, false),
+            &[ACTIONS],
+            0,
+            &[MAKES, ALONE_REQUEST],
+            there
+        )
+    );
+    assert!(rt;
+        makes(
+            alloc,
+            &HEX,
+            &now(OF_BASIC, false),
+            &[ACTIONS],
+            0,
+            &[CHANGES, SHARED_REQUEST, MAKES, ALONE_REQUEST],
+            ""
+        )
+    );
+    let unlisted =
+        "tcmake: line 1: the action mirred 7 is there and differs, and no line has it by itself\n";
+    assert!(rt; makes(alloc, &HEX, &now(OWN, false), &[FILTERS], 1, &[], unlisted));
     let held = "tcmake: line 1: the action mirred 7 is there and differs, and others hold it\n";
     assert!(rt; makes(alloc, &HEX, &now(OTHERS, false), &[ACTIONS], 1, &[], held));
     assert!(rt;
@@ -267,6 +303,17 @@ fn actions_that_are_there(rt: HostRuntime) {
     let broken = "tcmake: --now, line 1: not JSON at byte 1\n";
     assert!(rt; makes(alloc, &BARE, &now("?\n", false), &[QDISCS], 1, &[], broken));
 }
+
+// A filter of basic with an extended match: packets that came by ids.
+#[rattlefmt::skip]
+const MATCHED: &str = r#"{"type":"RTM_NEWTFILTER","flags":0,"seq":1,"message":{"header":{"family":"Unspec","index":2,"handle":":1","parent":"1:","info":65544},"attributes":[{"Kind":"basic"},{"Options":[{"Basic":{"Ematches":[{"Hdr":{"nmatches":1,"progid":0}},{"List":[{"tab":1,"attributes":{"Meta":{"flags":0,"attributes":[{"Hdr":{"left":{"kind":4101,"shift":0,"op":"Eq"},"right":{"kind":4096,"shift":0,"op":"Eq"}}},{"Rvalue":"03000000"}]}}}]}]}}]}]}}
+"#;
+
+// Its request for the interfaces 12 and 13.
+const MATCHED_REQUEST: &str = "\
+000000000c0000000100000000000100080001000a000100626173696300000034000200300002000800010001000000\
+240002002000010000000400000000000c0001000510000000100000080003000d000000
+";
 
 // The qdiscs and the actions for the interfaces 12 and 13.
 const NAMED_REQUESTS: &str = "\
@@ -288,6 +335,17 @@ fn interfaces_by_name(rt: HostRuntime) {
             &lines,
             0,
             &[NAMED_REQUESTS],
+            ""
+        )
+    );
+    assert!(rt;
+        makes(
+            alloc,
+            &BARE,
+            &named(&[(12, "wan"), (13, "ids")]),
+            &[HEAD, MATCHED, "{\"end\":1}\n"],
+            0,
+            &[MATCHED_REQUEST],
             ""
         )
     );

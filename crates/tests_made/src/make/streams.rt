@@ -2,73 +2,10 @@
 
 use crate::make::runs::{FORMS, HEX, Outcome, PCAP, made};
 use std::alloc::Global;
-use std::io::{BufReader, Error, ErrorKind, Read, Result, Write};
+use std::io::{BufReader, ErrorKind, Result};
 use tcmake_lib::arguments::Request;
 use tcmake_lib::program::serve;
-
-// Gives or takes a few bytes a call, for so many calls, each of them after so many interruptions; then it fails.
-#[derive(Drop)]
-struct Slow<T> {
-    inner: T,
-    left: usize,
-    calls: usize,
-    interruptions: usize,
-    fault: ErrorKind,
-}
-
-impl<T> Slow<T> {
-    fn turn(&mut self) -> Result<()> {
-        if self.left > 0 {
-            self.left -= 1;
-            return Err(Error::from(ErrorKind::Interrupted));
-        }
-        if self.calls == 0 {
-            return Err(Error::from(self.fault));
-        }
-        self.calls -= 1;
-        self.left = self.interruptions;
-        Ok(())
-    }
-}
-
-impl<T: Read> Read for Slow<T> {
-    fn read(&mut self, buf: &mut [u8]) -> Result<usize> {
-        self.turn()?;
-        let most = buf.len().min(7);
-        self.inner.read(&mut buf[..most])
-    }
-}
-
-impl<T: Write> Write for Slow<T> {
-    fn write(&mut self, buf: &[u8]) -> Result<usize> {
-        self.turn()?;
-        let most = buf.len().min(31);
-        self.inner.write(&buf[..most])
-    }
-
-    fn flush(&mut self) -> Result<()> {
-        Ok(())
-    }
-}
-
-// How many calls of a stream succeed, how often each is interrupted before it does, and how the stream then fails.
-type Stream = (usize, usize, ErrorKind);
-
-// Calls that time out after so many, each of them interrupted so often.
-fn calls(count: usize, interruptions: usize) -> Stream {
-    (count, interruptions, ErrorKind::TimedOut)
-}
-
-fn slowly<T>(inner: T, stream: Stream) -> Slow<T> {
-    let (calls, interruptions, fault) = stream;
-    Slow {
-        inner,
-        left: interruptions,
-        calls,
-        interruptions,
-        fault,
-    }
-}
+use tests_data::streams::{Stream, calls, slowly};
 
 static LINES: &str =
     r#"{"packet":1,"type":"RTM_NEWQDISC","seq":5,"message":{"header":{"family":"Unspec","index":2,"handle":"1:","parent":"root","info":0},"attributes":[{"Kind":"fq_codel"}]}}

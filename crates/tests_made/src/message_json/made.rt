@@ -1,9 +1,9 @@
 //! Canonical messages, and the bytes that JSON stands for.
 
+use forms_text::read_json;
 use serde_json::Value;
 use std::alloc::{AllocError, Global};
 use std::test::Fail;
-use tc_forms_text::read_json;
 use tc_message_json::{NoMessage, make, make_as_given};
 use tc_wire::{TcActionMessage, TcMessage};
 

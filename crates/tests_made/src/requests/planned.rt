@@ -86,6 +86,11 @@ const LINKED: &[(Dump, &str)] = &[
         Dump::Filter,
         "00000000030000000018900000000100080002c00800010075333200",
     ),
+    // 801::800 of 1:1, another parent of the qdisc, which links to 9:
+    (
+        Dump::Filter,
+        "00000000030000000008108001000100080002c008000100753332000c0002000800030000009000",
+    ),
     // 800::800, whose table isn't there
     (
         Dump::Filter,
@@ -281,7 +286,7 @@ static ORDERS: [(&[(Dump, &str)], &[usize], &[usize]); 6] = [
     // circles are left
     (CIRCLE, &[1], &[2, 0, 3]),
     // keys behind their own tables and those that they link to, and behind no others
-    (LINKED, &[0, 3, 4, 5, 1, 2], &[]),
+    (LINKED, &[0, 4, 5, 6, 1, 2, 3], &[]),
 ];
 
 #[test]

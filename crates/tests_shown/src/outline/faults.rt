@@ -4,7 +4,7 @@ use std::alloc::Global;
 use std::test::Fail;
 use tc_outline::{What, locate};
 use tc_wire::{DecodeError, RewriteError, rewrite_action, rewrite_tc};
-use tests_messages::{Form, Input, Row, all_around, captured, cut_and_changed, made};
+use tests_data::{Form, Input, Row, all_around, captured, cut_and_changed, made};
 
 // Why a message can't be read, if it can't: rewriting begins by parsing, and is proved to fail with the same fault.
 fn refused(alloc: Global, input: &Input) -> Option<DecodeError> {

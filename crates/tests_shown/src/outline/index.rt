@@ -53,7 +53,7 @@ static MIRRED_NODES: [Expected; 5] = [
     (32, 28, 0x0002, Table::Mirror, 3),
 ];
 
-/// A filter `flower` with two actions whose kinds stand behind their options, `tunnel_key` and the unknown `gact`; a
+/// A filter `flower` with two actions whose kinds come after their options, `tunnel_key` and the unknown `gact`; a
 /// label stack entry of MPLS, and an empty option of type 98; then statistics.
 static FLOWER: [u8; 180] = [
     0, 0, 0, 0, 9, 0, 0, 0, 1, 0, 2, 0, 3, 0, 4, 0, 5, 6, 7, 8, 11, 0, 1, 0, 102, 108, 111, 119,

@@ -10,11 +10,11 @@ const HTB: &str =
 // Empty options of a kind without a table.
 const OTHER: &str = "0000000000000000000000000000000000000000090001006e6f6e650000000004000200";
 
-// An action `gact` with two options, and an action `mirred` whose kind stands behind its options.
+// An action `gact` with two options, and an action `mirred` whose kind comes after its options.
 const ACTIONS: &str =
     "00000000380001001c0001000900010067616374000000000c00028004000200040003001800020008000280040001000b0001006d69727265640000";
 
-// What a message speaks of, the message, where the header of an attribute begins, and its path.
+// The object that a message describes, the message, where the header of an attribute begins, and its path.
 static PATHS: [(What, &str, usize, &str); 10] = [
     (What::Qdisc, HTB, 20, "/attributes/0/Kind"),
     (What::Qdisc, HTB, 28, "/attributes/1/Options"),

@@ -5,7 +5,7 @@ use std::str;
 use tc_columns::{KindColumns, Root};
 use tc_outline::{Fault, Layout, Page, What, locate, outline};
 
-// What a message speaks of, its bytes in hex, and its last line.
+// The object that a message describes, its bytes in hex, and its last line.
 static REFUSED: [(What, &str, &str); 18] = [
     // no whole header
     (

@@ -17,7 +17,7 @@ fn columns_of(root: Root) -> KindColumns<'static> {
     }
 }
 
-// What a message is shown as.
+// The expected outline.
 #[derive(Clone, Copy)]
 enum Want<'a> {
     Text(&'a str),

@@ -1,8 +1,8 @@
 //! Answers of the kernel to requests.
 
 use crate::show::runs::{Written, all_in, chosen_in, counted_in, gives_of_hex};
-use tc_chosen::Chosen;
-use tcshow_lib::asked::Form;
+use tc_select::Filter;
+use tcshow_lib::options::OutputFormat;
 
 // pcap, a packet for each: EINVAL of a request, with a text and a place, from the port 77, of packet type 7; the same, capped; an
 // acknowledgement; EEXIST of a request for links; NLMSG_DONE; an error 777 of a request that is cut; an acknowledgement with a warning.
@@ -70,19 +70,28 @@ static JSON: &str =
 "#;
 
 // Refused messages of a kind and an interface.
-static REFUSED_FLOWER: Chosen<'static> = Chosen {
+static REFUSED_FLOWER: Filter<'static> = Filter {
     kinds: &["flower"],
     interfaces: &[3],
     refused: true,
-    ..Chosen::ALL
+    ..Filter::ALL
 };
 
 #[test]
 fn answers(rt: HostRuntime) {
-    let asked = counted_in(Form::Lines);
-    assert!(rt; gives_of_hex(rt.alloc(), &asked, ANSWERS, 0, Written::Is(&[LINES]), ""));
-    let asked = all_in(Form::Json);
-    assert!(rt; gives_of_hex(rt.alloc(), &asked, ANSWERS, 0, Written::Is(&[JSON]), ""));
-    let asked = chosen_in(Form::OneLine, REFUSED_FLOWER);
-    assert!(rt; gives_of_hex(rt.alloc(), &asked, ANSWERS, 0, Written::Is(&[ONE_LINE]), ""));
+    let options = counted_in(OutputFormat::Lines);
+    assert!(rt; gives_of_hex(rt.alloc(), &options, ANSWERS, 0, Written::Is(&[LINES]), ""));
+    let options = all_in(OutputFormat::Json);
+    assert!(rt; gives_of_hex(rt.alloc(), &options, ANSWERS, 0, Written::Is(&[JSON]), ""));
+    let options = chosen_in(OutputFormat::OneLine, REFUSED_FLOWER);
+    assert!(rt;
+        gives_of_hex(
+            rt.alloc(),
+            &options,
+            ANSWERS,
+            0,
+            Written::Is(&[ONE_LINE]),
+            ""
+        )
+    );
 }

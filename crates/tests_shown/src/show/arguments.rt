@@ -1,18 +1,18 @@
 //! The arguments.
 
 use std::alloc::Global;
-use tc_capture::Holds;
-use tcshow_lib::arguments::{Colours, Request, Task, request_of};
-use tcshow_lib::asked::Form;
+use tc_capture::MessageType;
+use tcshow_lib::arguments::{Arguments, Colours, Task, arguments_of};
+use tcshow_lib::options::OutputFormat;
 
-// What a request has.
+// A part of the arguments.
 #[derive(Clone, Copy)]
 enum Part {
     Task(Task<'static>),
-    Form(Form),
+    Format(OutputFormat),
     File(&'static str),
     Names(&'static str),
-    WithoutHeader(Holds),
+    WithoutHeader(MessageType),
     Kinds(&'static [&'static str]),
     Types(&'static [&'static str]),
     Interfaces(&'static [&'static str]),
@@ -26,52 +26,52 @@ enum Part {
     Summary,
     Paddings,
     Colours(Colours),
-    // What stands without words.
+    // The defaults.
     Defaults,
 }
 
-fn has(request: &Request<'_>, part: Part) -> bool {
+fn has(arguments: &Arguments<'_>, part: Part) -> bool {
     match part {
-        Part::Task(task) => request.task == task,
-        Part::Form(form) => request.form == form,
-        Part::File(file) => request.file == Some(file),
-        Part::Names(file) => request.names == Some(file),
-        Part::WithoutHeader(holds) => request.without_header == Some(holds),
-        Part::Kinds(words) => request.kinds.as_slice() == words,
-        Part::Types(words) => request.types.as_slice() == words,
-        Part::Interfaces(words) => request.interfaces.as_slice() == words,
-        Part::Handles(words) => request.handles.as_slice() == words,
-        Part::Parents(words) => request.parents.as_slice() == words,
-        Part::Chains(numbers) => request.chains.as_slice() == numbers,
-        Part::Priorities(numbers) => request.priorities.as_slice() == numbers,
-        Part::Since(word) => request.since == Some(word),
-        Part::Until(word) => request.until == Some(word),
-        Part::Refused => request.refused,
-        Part::Summary => request.has_summary,
-        Part::Paddings => request.all,
-        Part::Colours(colours) => request.colours == colours,
-        Part::Defaults => is_default(request) && chooses_all(request),
+        Part::Task(task) => arguments.task == task,
+        Part::Format(form) => arguments.format == form,
+        Part::File(file) => arguments.file == Some(file),
+        Part::Names(file) => arguments.names == Some(file),
+        Part::WithoutHeader(holds) => arguments.without_header == Some(holds),
+        Part::Kinds(words) => arguments.kinds.as_slice() == words,
+        Part::Types(words) => arguments.types.as_slice() == words,
+        Part::Interfaces(words) => arguments.interfaces.as_slice() == words,
+        Part::Handles(words) => arguments.handles.as_slice() == words,
+        Part::Parents(words) => arguments.parents.as_slice() == words,
+        Part::Chains(numbers) => arguments.chains.as_slice() == numbers,
+        Part::Priorities(numbers) => arguments.priorities.as_slice() == numbers,
+        Part::Since(word) => arguments.since == Some(word),
+        Part::Until(word) => arguments.until == Some(word),
+        Part::Refused => arguments.refused,
+        Part::Summary => arguments.has_summary,
+        Part::Paddings => arguments.all,
+        Part::Colours(colours) => arguments.colours == colours,
+        Part::Defaults => is_default(arguments) && chooses_all(arguments),
     }
 }
 
-fn is_default(request: &Request<'_>) -> bool {
-    request.form == Form::Lines
-        && request.file.is_none()
-        && request.names.is_none()
-        && request.without_header.is_none()
-        && !request.all
-        && !request.has_summary
-        && request.colours == Colours::Auto
-        && request.task == Task::Show
+fn is_default(arguments: &Arguments<'_>) -> bool {
+    arguments.format == OutputFormat::Lines
+        && arguments.file.is_none()
+        && arguments.names.is_none()
+        && arguments.without_header.is_none()
+        && !arguments.all
+        && !arguments.has_summary
+        && arguments.colours == Colours::Auto
+        && arguments.task == Task::Show
 }
 
-fn chooses_all(request: &Request<'_>) -> bool {
-    request.kinds.is_empty()
-        && request.types.is_empty()
-        && request.interfaces.is_empty()
-        && request.since.is_none()
-        && request.until.is_none()
-        && !request.refused
+fn chooses_all(arguments: &Arguments<'_>) -> bool {
+    arguments.kinds.is_empty()
+        && arguments.types.is_empty()
+        && arguments.interfaces.is_empty()
+        && arguments.since.is_none()
+        && arguments.until.is_none()
+        && !arguments.refused
 }
 
 // Words, and what they say.
@@ -82,7 +82,7 @@ static WORDS: [(&[&str], &[Part]); 13] = [
             "tcshow", "-r", "a", "--json", "--names", "b", "--kind", "u32",
         ],
         &[
-            Part::Form(Form::Json),
+            Part::Format(OutputFormat::Json),
             Part::File("a"),
             Part::Names("b"),
             Part::Kinds(&["u32"]),
@@ -100,15 +100,15 @@ static WORDS: [(&[&str], &[Part]); 13] = [
             "tc",
         ],
         &[
-            Part::Form(Form::OneLine),
+            Part::Format(OutputFormat::OneLine),
             Part::Types(&["RTM_NEWQDISC"]),
             Part::Interfaces(&["7"]),
-            Part::WithoutHeader(Holds::Tc),
+            Part::WithoutHeader(MessageType::Tc),
         ],
     ),
     (
         &["tcshow", "--no-header", "action", "--summary"],
-        &[Part::WithoutHeader(Holds::Action), Part::Summary],
+        &[Part::WithoutHeader(MessageType::Action), Part::Summary],
     ),
     (
         &["tcshow", "a", "--refused", "--since", "1", "--until", "2"],
@@ -152,9 +152,9 @@ static WORDS: [(&[&str], &[Part]); 13] = [
     ),
 ];
 
-fn has_all(request: &Request<'_>, parts: &[Part]) -> bool {
+fn has_all(arguments: &Arguments<'_>, parts: &[Part]) -> bool {
     for part in parts {
-        if !has(request, *part) {
+        if !has(arguments, *part) {
             return false;
         }
     }
@@ -163,8 +163,8 @@ fn has_all(request: &Request<'_>, parts: &[Part]) -> bool {
 
 // True if words are taken, and say this.
 fn say(alloc: Global, words: &[&str], parts: &[Part]) -> bool {
-    match request_of(alloc, words) {
-        Ok(request) => has_all(&request, parts),
+    match arguments_of(alloc, words) {
+        Ok(arguments) => has_all(&arguments, parts),
         Err(_) => false,
     }
 }
@@ -190,7 +190,7 @@ static OTHERS: [(&[&str], i32); 9] = [
 ];
 
 fn status_of(alloc: Global, words: &[&str]) -> i32 {
-    match request_of(alloc, words) {
+    match arguments_of(alloc, words) {
         Ok(_) => 9,
         Err(error) => error.exit_code(),
     }

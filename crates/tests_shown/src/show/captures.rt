@@ -1,10 +1,10 @@
-//! Captures made by hand, of bytes that the formats' specifications give, and what is shown of them.
+//! Captures made by hand according to the formats' specifications, and their output.
 
 use crate::show::runs::{Written, all_in, counted_in, gives_of_hex};
 use std::alloc::Global;
-use tcshow_lib::asked::Form;
+use tcshow_lib::options::OutputFormat;
 
-// pcap: a packet with a message and 128 zeros behind it.
+// pcap: a packet with a message and 128 zeros after it.
 static ZEROS: &str =
     "d4c3b2a102000400000000000000000000001000fd00000000f1536540e20100d0000000d000000000040338000000000000\
      00000000000040000000240000060500000000000000000000000200000000000100ffffffff000000000d00010066715f63\
@@ -157,14 +157,14 @@ static UNTIMED: &str =
 
 // True if these texts are written of a capture, and the run ends with this status.
 fn is_shown(alloc: Global, capture: &str, status: u8, texts: &[&str]) -> bool {
-    let asked = all_in(Form::OneLine);
-    gives_of_hex(alloc, &asked, capture, status, Written::Is(texts), "")
+    let options = all_in(OutputFormat::OneLine);
+    gives_of_hex(alloc, &options, capture, status, Written::Is(texts), "")
 }
 
 // True if nothing is written of a capture, and this is the complaint.
 fn is_refused(alloc: Global, capture: &str, complaint: &str) -> bool {
-    let asked = all_in(Form::OneLine);
-    gives_of_hex(alloc, &asked, capture, 2, Written::Is(&[]), complaint)
+    let options = all_in(OutputFormat::OneLine);
+    gives_of_hex(alloc, &options, capture, 2, Written::Is(&[]), complaint)
 }
 
 #[test]
@@ -251,8 +251,8 @@ static BLOCK_COUNTS: &str = "
 
 // True if what is written of a capture, and counted, ends with this.
 fn ends_with(alloc: Global, capture: &str, counts: &str) -> bool {
-    let asked = counted_in(Form::Lines);
-    gives_of_hex(alloc, &asked, capture, 0, Written::Ends(counts), "")
+    let options = counted_in(OutputFormat::Lines);
+    gives_of_hex(alloc, &options, capture, 0, Written::Ends(counts), "")
 }
 
 #[test]

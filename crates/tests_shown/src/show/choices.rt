@@ -1,12 +1,12 @@
-//! Messages that are chosen.
+//! Filters of messages.
 
 use crate::show::runs::{Written, all_in, gives, is_written};
 use std::alloc::Global;
-use tcshow_lib::arguments::{Request, request_of};
-use tcshow_lib::asked::{Asked, Form};
-use tcshow_lib::choice::{Choice, NoChoice};
+use tcshow_lib::arguments::{Arguments, arguments_of};
+use tcshow_lib::filter::{FilterError, FilterValues};
 use tcshow_lib::kinds::explain;
 use tcshow_lib::names::names_in;
+use tcshow_lib::options::{OutputFormat, options_of};
 
 // What Linux answered tc, a message a line: a qdisc of bfifo, handle 1:; a filter of u32 with an action of mirred, handle 80d::800, parent
 // 1:, chain 0, priority 14, index 7; one of flower with such an action, handle 0x1, priority 49152, chain 0, index 3; such an action alone; a
@@ -37,19 +37,19 @@ static CAPTURE: &str =
     "d4c3b2a102000400000000000000000000001000fd00000000f1536540e2010050000000500000000004033800000000000000000000000040000000\
 240000060500000000000000000000000200000000000100ffffffff000000000d00010066715f636f64656c000000000c0002000800020000280000";
 
-// True if a run by a request over an input, where interfaces have these names, ends with this status and writes this.
+// True if a run with these arguments and names of interfaces ends with this status and writes this.
 fn gives_by(
     alloc: Global,
-    request: &Request<'_>,
+    arguments: &Arguments<'_>,
     names: &[(u32, &str)],
     input: &[u8],
     status: u8,
     written: Written<'_>,
 ) -> bool {
-    match Choice::of_request(alloc, request, names) {
-        Ok(choice) => {
-            let asked = Asked::of_request(request, choice.chosen(), names);
-            gives(alloc, &asked, input, status, written, "")
+    match FilterValues::of_arguments(alloc, arguments, names) {
+        Ok(values) => {
+            let options = options_of(arguments, values.filter(), names);
+            gives(alloc, &options, input, status, written, "")
         }
         Err(_) => false,
     }
@@ -57,10 +57,17 @@ fn gives_by(
 
 // True if so many lines of JSON are shown by these words.
 fn counts(alloc: Global, words: &[&str], input: &[u8], count: usize, status: u8) -> bool {
-    match request_of(alloc, words) {
-        Ok(mut request) => {
-            request.form = Form::Json;
-            gives_by(alloc, &request, &[], input, status, Written::Counts(count))
+    match arguments_of(alloc, words) {
+        Ok(mut arguments) => {
+            arguments.format = OutputFormat::Json;
+            gives_by(
+                alloc,
+                &arguments,
+                &[],
+                input,
+                status,
+                Written::Counts(count),
+            )
         }
         Err(_) => false,
     }
@@ -186,16 +193,16 @@ static UNKNOWN: [(&str, &str, &str); 9] = [
 ];
 
 // True if a complaint has this part.
-fn has_part(alloc: Global, complaint: NoChoice<'_>, part: &str) -> bool {
+fn has_part(alloc: Global, complaint: FilterError<'_>, part: &str) -> bool {
     match complaint.text(alloc) {
         Ok(text) => text.contains(part),
         Err(_) => false,
     }
 }
 
-// True if there is no choice by a request, and the complaint has this part.
-fn is_no_choice(alloc: Global, request: &Request<'_>, part: &str) -> bool {
-    match Choice::of_request(alloc, request, &[(7, "eth7")]) {
+// True if the values of the filter are refused, and the complaint has this part.
+fn is_refused_filter(alloc: Global, arguments: &Arguments<'_>, part: &str) -> bool {
+    match FilterValues::of_arguments(alloc, arguments, &[(7, "eth7")]) {
         Err(complaint) => has_part(alloc, complaint, part),
         Ok(_) => false,
     }
@@ -203,8 +210,8 @@ fn is_no_choice(alloc: Global, request: &Request<'_>, part: &str) -> bool {
 
 // True if the complaint about an option has this part.
 fn complains<'a>(alloc: Global, option: &'a str, word: &'a str, part: &str) -> bool {
-    match request_of(alloc, &["tcshow", option, word]) {
-        Ok(request) => is_no_choice(alloc, &request, part),
+    match arguments_of(alloc, &["tcshow", option, word]) {
+        Ok(arguments) => is_refused_filter(alloc, &arguments, part),
         Err(_) => false,
     }
 }
@@ -284,10 +291,10 @@ static BARE_FILTER_LINE: &str =
 
 // True if a run by these words, where interfaces have these names, writes this and nothing else.
 fn writes(alloc: Global, words: &[&str], names: &[(u32, &str)], input: &str, want: &str) -> bool {
-    match request_of(alloc, words) {
-        Ok(request) => gives_by(
+    match arguments_of(alloc, words) {
+        Ok(arguments) => gives_by(
             alloc,
-            &request,
+            &arguments,
             names,
             input.as_bytes(),
             0,
@@ -371,9 +378,9 @@ static LINK: &str =
 
 #[test]
 fn links_name(rt: HostRuntime) {
-    let asked = all_in(Form::OneLine);
+    let options = all_in(OutputFormat::OneLine);
     let part = Written::Has("index 2 (eth9) handle 1: parent root");
-    assert!(rt; gives(rt.alloc(), &asked, LINK.as_bytes(), 0, part, ""));
+    assert!(rt; gives(rt.alloc(), &options, LINK.as_bytes(), 0, part, ""));
 }
 
 // Kinds, and what is written in words about them: lines, and the kernel's names in them, of bits too, and of a number below zero, as

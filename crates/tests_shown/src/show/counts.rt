@@ -2,8 +2,8 @@
 
 use crate::show::runs::{Written, chosen_in, gives};
 use std::alloc::{AllocError, Global};
-use tc_chosen::{Chosen, Types};
-use tcshow_lib::asked::{Asked, Form};
+use tc_select::{Filter, Types};
+use tcshow_lib::options::{Options, OutputFormat};
 
 // Parts of a pcapng, and how often they are in it: a section with interfaces of the link types 253 and 1; then packets, with a qdisc;
 // with one that is refused; with an answer of the kernel; with a qdisc that isn't chosen; with another netlink message; of another
@@ -61,15 +61,15 @@ fn put_all(alloc: Global, all: &mut Vec<u8>) -> bool {
 }
 
 // All qdiscs that are made, and counts.
-fn asked_in(form: Form) -> Asked<'static> {
-    let mut chosen = Chosen::ALL;
+fn options_in(form: OutputFormat) -> Options<'static> {
+    let mut chosen = Filter::ALL;
     chosen.types = &[Types {
         first: 36,
         last: 36,
     }];
-    let mut asked = chosen_in(form, chosen);
-    asked.has_summary = true;
-    asked
+    let mut options = chosen_in(form, chosen);
+    options.has_summary = true;
+    options
 }
 
 static LINES: &str = "
@@ -95,13 +95,13 @@ static JSON: &str = r#"
 "#;
 
 // True if the capture in this form ends with these counts, and something in it is refused.
-fn ends_with(alloc: Global, form: Form, counts: &str) -> bool {
+fn ends_with(alloc: Global, form: OutputFormat, counts: &str) -> bool {
     let mut all = Vec::new(alloc);
-    put_all(alloc, &mut all) && gives(alloc, &asked_in(form), &all, 1, Written::Ends(counts), "")
+    put_all(alloc, &mut all) && gives(alloc, &options_in(form), &all, 1, Written::Ends(counts), "")
 }
 
 #[test]
 fn counts(rt: HostRuntime) {
-    assert!(rt; ends_with(rt.alloc(), Form::Lines, LINES));
-    assert!(rt; ends_with(rt.alloc(), Form::Json, JSON));
+    assert!(rt; ends_with(rt.alloc(), OutputFormat::Lines, LINES));
+    assert!(rt; ends_with(rt.alloc(), OutputFormat::Json, JSON));
 }

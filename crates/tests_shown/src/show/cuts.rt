@@ -3,19 +3,19 @@
 use crate::show::runs::{FORMS, all_in, file_of_first, is_clean, is_front, shown};
 use std::alloc::Global;
 use std::test::Fail;
-use tcshow_lib::asked::Form;
-use tests_captures::{FORMATS, Format};
+use tcshow_lib::options::OutputFormat;
+use tests_data::{FORMATS, Format};
 
 // What a run says of a place where a capture is cut, up to the numbers.
-fn note_of(form: Form) -> &'static [u8] {
+fn note_of(form: OutputFormat) -> &'static [u8] {
     match form {
-        Form::Lines | Form::OneLine => b"cut: ",
-        Form::Json => b"{\"note\":\"cut: ",
+        OutputFormat::Lines | OutputFormat::OneLine => b"cut: ",
+        OutputFormat::Json => b"{\"note\":\"cut: ",
     }
 }
 
 // True of an answer to messages, and at most a note on a cut after it.
-fn is_answer_and_cut(form: Form, written: &[u8], answer: &[u8]) -> bool {
+fn is_answer_and_cut(form: OutputFormat, written: &[u8], answer: &[u8]) -> bool {
     match written.split_at_checked(answer.len()) {
         Some((front, rest)) => front == answer
             && (rest.is_empty() || is_front(note_of(form), rest)),
@@ -24,14 +24,20 @@ fn is_answer_and_cut(form: Form, written: &[u8], answer: &[u8]) -> bool {
 }
 
 // True if of the front of a file an answer is shown, and a note where it is cut.
-fn is_answered(alloc: Global, form: Form, front: &[u8], answer: &[u8]) -> bool {
+fn is_answered(alloc: Global, form: OutputFormat, front: &[u8], answer: &[u8]) -> bool {
     let run = shown(alloc, &all_in(form), front);
     let is_cut = run.written.len() > answer.len();
     is_answer_and_cut(form, &run.written, answer) && run.status == u8::from(is_cut)
 }
 
 // True if wherever a file is cut the answer to its first message is shown, if that is whole, and a note.
-fn are_answered(alloc: Global, form: Form, file: &[u8], first: usize, answer: &[u8]) -> bool {
+fn are_answered(
+    alloc: Global,
+    form: OutputFormat,
+    file: &[u8],
+    first: usize,
+    answer: &[u8],
+) -> bool {
     for end in (4..file.len()).step_by(11) {
         let (front, _) = file.split_at(end);
         let answer: &[u8] = if end < first { &[] } else { answer };
@@ -43,14 +49,19 @@ fn are_answered(alloc: Global, form: Form, file: &[u8], first: usize, answer: &[
 }
 
 // The same, where so many bytes are those of the first message.
-fn is_cut_anywhere(alloc: Global, form: Form, file: &[u8], first: usize) -> bool {
+fn is_cut_anywhere(alloc: Global, form: OutputFormat, file: &[u8], first: usize) -> bool {
     let (front, _) = file.split_at(first.min(file.len()));
     let answer = shown(alloc, &all_in(form), front).written;
     !answer.is_empty() && are_answered(alloc, form, file, first, &answer)
 }
 
 // The same of a file of two messages in a format.
-fn is_format_cut(alloc: Global, form: Form, format: Format, is_big: bool) -> Result<bool, Fail> {
+fn is_format_cut(
+    alloc: Global,
+    form: OutputFormat,
+    format: Format,
+    is_big: bool,
+) -> Result<bool, Fail> {
     let first = file_of_first(alloc, 1, format, is_big)?.len();
     let file = file_of_first(alloc, 2, format, is_big)?;
     Ok(is_cut_anywhere(alloc, form, &file, first))
@@ -76,7 +87,7 @@ fn change(file: &mut [u8], at: usize, mask: u8) {
 }
 
 // Whether a run over a file with a changed byte ends with one of the statuses of such, and writes no control bytes.
-fn ends(alloc: Global, form: Form, file: &mut [u8], at: usize, mask: u8) -> bool {
+fn ends(alloc: Global, form: OutputFormat, file: &mut [u8], at: usize, mask: u8) -> bool {
     change(file, at, mask);
     let run = shown(alloc, &all_in(form), file);
     change(file, at, mask);
@@ -86,7 +97,9 @@ fn ends(alloc: Global, form: Form, file: &mut [u8], at: usize, mask: u8) -> bool
 // The same of each fifth byte.
 fn each_ends(alloc: Global, file: &mut [u8]) -> bool {
     for at in (0..file.len()).step_by(5) {
-        if !ends(alloc, Form::Lines, file, at, 0x1a) || !ends(alloc, Form::Json, file, at, 0x80) {
+        if !ends(alloc, OutputFormat::Lines, file, at, 0x1a)
+            || !ends(alloc, OutputFormat::Json, file, at, 0x80)
+        {
             return false;
         }
     }

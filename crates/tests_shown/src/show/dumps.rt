@@ -2,41 +2,8 @@
 
 use crate::show::runs::{Written, all_in, gives, writes};
 use std::alloc::{AllocError, Global};
-use tcshow_lib::asked::Form;
-
-const PLAIN: &str = "380000002400050681f12469000000000000000004000000\
-0000ffffffffffff000000000a000100626669666f00000008000200b80b0000";
-
-// xxd
-const XXD: &str = "00000000: 3800 0000 2400 0506 81f1 2469 0000 0000  8...$.....$i....
-00000010: 0000 0000 0400 0000 0000 ffff ffff ffff  ................
-00000020: 0000 0000 0a00 0100 6266 6966 6f00 0000  ........bfifo...
-00000030: 0800 0200 b80b 0000                      ........";
-
-// xxd -g1 -u
-const XXD_SINGLE: &str =
-    "00000000: 38 00 00 00 24 00 05 06 81 F1 24 69 00 00 00 00  8...$.....$i....
-00000010: 00 00 00 00 04 00 00 00 00 00 FF FF FF FF FF FF  ................
-00000020: 00 00 00 00 0A 00 01 00 62 66 69 66 6F 00 00 00  ........bfifo...
-00000030: 08 00 02 00 B8 0B 00 00                          ........";
-
-// tcpdump -x
-const TCPDUMP: &str = "\t0x0000:  3800 0000 2400 0506 81f1 2469 0000 0000
-\t0x0010:  0000 0000 0400 0000 0000 ffff ffff ffff
-\t0x0020:  0000 0000 0a00 0100 6266 6966 6f00 0000
-\t0x0030:  0800 0200 b80b 0000";
-
-// tcpdump -X
-const TCPDUMP_TEXT: &str = "\t0x0000:  3800 0000 2400 0506 81f1 2469 0000 0000  8...$.....$i....
-\t0x0010:  0000 0000 0400 0000 0000 ffff ffff ffff  ................
-\t0x0020:  0000 0000 0a00 0100 6266 6966 6f00 0000  ........bfifo...
-\t0x0030:  0800 0200 b80b 0000                      ........";
-
-// tshark -x, with a carriage return as in a text of Windows
-const TSHARK: &str = "0000  38 00 00 00 24 00 05 06 81 f1 24 69 00 00 00 00   8...$.....$i....\r
-0010  00 00 00 00 04 00 00 00 00 00 ff ff ff ff ff ff   ................\r
-0020  00 00 00 00 0a 00 01 00 62 66 69 66 6f 00 00 00   ........bfifo...\r
-0030  08 00 02 00 b8 0b 00 00                           ........\r";
+use tcshow_lib::options::OutputFormat;
+use tests_data::dumps::{PLAIN, TCPDUMP, TCPDUMP_TEXT, TSHARK, XXD, XXD_SINGLE};
 
 // The same with the cooked header of nlmon: tcpdump -xx, tshark -x, and plain.
 const TCPDUMP_FRAME: &str = "\t0x0000:  0004 0338 0000 0000 0000 0000 0000 0000
@@ -60,7 +27,7 @@ const PASTED: &str = "0x38 0x00 0x00 0x00 2400:0506 81f12469 00000000 # a bfifo
 # on one line: 38:00:00:00:24:00:05:06:81:F1:24:69
 38:00:00:00:24:00:05:06:81:F1:24:69:00:00:00:00:00:00:00:00:04:00:00:00:00:00:ff:ff:ff:ff:ff:ff:00:00:00:00:0a:00:01:00:62:66:69:66:6f:00:00:00:08:00:02:00:b8:0b:00:00";
 
-// What is shown of the message.
+// The outline of the message.
 static ONE: &str =
     r#"{"type":"RTM_NEWQDISC","flags":1541,"seq":1764028801,"fits":true,"settled":true,"canonical":true,"message":{"header":{"family":"Unspec","index":4,"handle":"ffff:","parent":"root","info":0},"attributes":[{"Kind":"bfifo"},{"Options":{"limit":3000}}]}}
 "#;
@@ -74,13 +41,13 @@ fn put_all(all: &mut String, texts: &[&str]) -> Result<(), AllocError> {
     Ok(())
 }
 
-// True if this is shown of texts, each behind the one before.
+// True if this is the output for texts, each after the one before.
 fn are_shown(alloc: Global, texts: &[&str], status: u8, written: Written<'_>) -> bool {
     let mut all = String::new(alloc);
     put_all(&mut all, texts).is_ok()
         && gives(
             alloc,
-            &all_in(Form::Json),
+            &all_in(OutputFormat::Json),
             all.as_bytes(),
             status,
             written,
@@ -125,5 +92,5 @@ static GAP_SHOWN: &str =
 
 #[test]
 fn gaps(rt: HostRuntime) {
-    assert!(rt; writes(rt.alloc(), &all_in(Form::Json), GAP, 1, GAP_SHOWN));
+    assert!(rt; writes(rt.alloc(), &all_in(OutputFormat::Json), GAP, 1, GAP_SHOWN));
 }

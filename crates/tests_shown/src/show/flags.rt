@@ -1,7 +1,7 @@
 //! The flags of netlink headers in words.
 
 use crate::show::runs::{all_in, writes};
-use tcshow_lib::asked::Form;
+use tcshow_lib::options::OutputFormat;
 
 // In hex, netlink headers of `linux/netlink.h` with empty messages: RTM_NEWQDISC with all flags but NLM_F_REPLACE and of the sequence number 1,
 // of the port 258; RTM_GETTFILTER of a dump; RTM_DELQDISC of flags 0x8125; RTM_DELACTION with the flags of a flush.
@@ -20,5 +20,13 @@ RTM_DELACTION request root seq 4
 
 #[test]
 fn flags_in_words(rt: HostRuntime) {
-    assert!(rt; writes(rt.alloc(), &all_in(Form::OneLine), HEADERS, 1, LINES));
+    assert!(rt;
+        writes(
+            rt.alloc(),
+            &all_in(OutputFormat::OneLine),
+            HEADERS,
+            1,
+            LINES
+        )
+    );
 }

@@ -4,8 +4,8 @@ use crate::show::runs::{FORMS, all_in, file_of_first, lines_of, shown};
 use std::alloc::{AllocError, Global};
 use std::str;
 use std::test::Fail;
-use tcshow_lib::asked::Form;
-use tests_captures::{FORMATS, Format, messages};
+use tcshow_lib::options::OutputFormat;
+use tests_data::{FORMATS, Format, messages};
 
 // True if a line is the one that is wanted, but for the number of its packet.
 fn is_same(line: &str, want: &str) -> bool {
@@ -40,7 +40,7 @@ fn are_same(text: &str, want: &str, has_times: bool) -> bool {
 }
 
 // True if this is shown of an input, but for the numbers of packets, and the times where it has none.
-fn is_shown(alloc: Global, form: Form, input: &[u8], has_times: bool, want: &[u8]) -> bool {
+fn is_shown(alloc: Global, form: OutputFormat, input: &[u8], has_times: bool, want: &[u8]) -> bool {
     let run = shown(alloc, &all_in(form), input);
     let text = str::from_utf8(&run.written).unwrap_or("");
     let want = str::from_utf8(want).unwrap_or("");
@@ -50,7 +50,7 @@ fn is_shown(alloc: Global, form: Form, input: &[u8], has_times: bool, want: &[u8
 // The same of all messages in a format.
 fn is_format_shown(
     alloc: Global,
-    form: Form,
+    form: OutputFormat,
     format: (Format, bool),
     want: &[u8],
 ) -> Result<bool, Fail> {
@@ -58,14 +58,14 @@ fn is_format_shown(
     Ok(is_shown(alloc, form, &file, true, want))
 }
 
-// What is shown of a stream of all messages.
-fn of_stream(alloc: Global, form: Form) -> Result<Vec<u8>, Fail> {
+// The output for a stream of all messages.
+fn of_stream(alloc: Global, form: OutputFormat) -> Result<Vec<u8>, Fail> {
     let stream = file_of_first(alloc, 20, Format::Stream, false)?;
     Ok(shown(alloc, &all_in(form), &stream).written)
 }
 
 // True if the same is shown of all formats, in so many lines at least.
-fn are_formats_shown(alloc: Global, form: Form) -> Result<bool, Fail> {
+fn are_formats_shown(alloc: Global, form: OutputFormat) -> Result<bool, Fail> {
     let want = of_stream(alloc, form)?;
     for format in FORMATS {
         if !is_format_shown(alloc, form, format, &want)? {
@@ -73,7 +73,7 @@ fn are_formats_shown(alloc: Global, form: Form) -> Result<bool, Fail> {
         }
     }
     let lines = lines_of(&want);
-    Ok(lines == 20 || form == Form::Lines && 20 < lines)
+    Ok(lines == 20 || form == OutputFormat::Lines && 20 < lines)
 }
 
 #[test]
@@ -115,8 +115,8 @@ fn hex_of_all(alloc: Global) -> Result<Vec<u8>, Fail> {
 
 #[test]
 fn hex_is_shown_the_same(rt: HostRuntime) -> Result<(), Fail> {
-    let want = of_stream(rt.alloc(), Form::Json)?;
+    let want = of_stream(rt.alloc(), OutputFormat::Json)?;
     let text = hex_of_all(rt.alloc())?;
-    assert!(rt; is_shown(rt.alloc(), Form::Json, &text, false, &want));
+    assert!(rt; is_shown(rt.alloc(), OutputFormat::Json, &text, false, &want));
     Ok(())
 }

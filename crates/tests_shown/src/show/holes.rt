@@ -3,9 +3,9 @@
 use crate::show::runs::{Written, all_in, alone_in, gives};
 use std::alloc::{AllocError, Global};
 use std::test::Fail;
-use tc_capture::Holds;
-use tcshow_lib::asked::Form;
-use tests_captures::{Format, beginning, put_packet};
+use tc_capture::MessageType;
+use tcshow_lib::options::OutputFormat;
+use tests_data::{Format, beginning, put_packet};
 
 // The first 20 bytes of an RTM_NEWQDISC of 56 bytes.
 #[rattlefmt::skip]
@@ -44,7 +44,7 @@ static SNAPPED: [&str; 5] = [
 fn a_snapped_packet_is_cut(rt: HostRuntime) -> Result<(), Fail> {
     let file = snapped(rt.alloc())?;
     let lines = Written::BeginsWithLines(&SNAPPED);
-    assert!(rt; gives(rt.alloc(), &all_in(Form::Json), &file, 1, lines, ""));
+    assert!(rt; gives(rt.alloc(), &all_in(OutputFormat::Json), &file, 1, lines, ""));
     Ok(())
 }
 
@@ -63,7 +63,16 @@ static STREAM_LINES: [&str; 2] = ["skipped: 1048592 bytes at 0", "RTM_NEWQDISC "
 fn long_messages_are_skipped(rt: HostRuntime) -> Result<(), Fail> {
     let stream = long_stream(rt.alloc())?;
     let lines = Written::BeginsWithLines(&STREAM_LINES);
-    assert!(rt; gives(rt.alloc(), &all_in(Form::OneLine), &stream, 0, lines, ""));
+    assert!(rt;
+        gives(
+            rt.alloc(),
+            &all_in(OutputFormat::OneLine),
+            &stream,
+            0,
+            lines,
+            ""
+        )
+    );
     Ok(())
 }
 
@@ -88,10 +97,10 @@ static TEXT_LINES: [&str; 5] = [
 #[test]
 fn long_lines_are_skipped(rt: HostRuntime) -> Result<(), Fail> {
     let text = long_text(rt.alloc())?;
-    let asked = alone_in(Form::OneLine, Holds::Action);
+    let options = alone_in(OutputFormat::OneLine, MessageType::Action);
     let lines = Written::BeginsWithLines(&TEXT_LINES);
-    assert!(rt; gives(rt.alloc(), &asked, &text, 1, lines, ""));
+    assert!(rt; gives(rt.alloc(), &options, &text, 1, lines, ""));
     let end = Written::Ends("\naction\nbroken: no hex at 3300036\n");
-    assert!(rt; gives(rt.alloc(), &asked, &text, 1, end, ""));
+    assert!(rt; gives(rt.alloc(), &options, &text, 1, end, ""));
     Ok(())
 }

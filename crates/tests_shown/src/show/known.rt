@@ -1,9 +1,9 @@
-//! Known messages and what is shown of them.
+//! Known messages and their output.
 
 use crate::show::runs::{Written, all_in, chosen_in, counted_in, gives, writes};
-use tc_chosen::{Chosen, Types};
 use tc_outline::Interfaces;
-use tcshow_lib::asked::Form;
+use tc_select::{Filter, Types};
+use tcshow_lib::options::OutputFormat;
 
 // In hex: a qdisc of fq_codel with a limit of 10240 packets; the same with a limit of three bytes; NLMSG_DONE; a list of actions with an
 // index of 5.
@@ -54,44 +54,44 @@ const JSON: &str =
 {"type":"RTM_NEWQDISC","flags":1536,"seq":5,"refused":"WrongLength","expected":4,"got":3,"offset":44,"path":"/attributes/1/Options/0/FqCodel/Limit","message":{"header":{"family":"Unspec","index":2,"handle":"1:","parent":"root","info":0},"attributes":[{"Kind":"fq_codel"},{"Options":[{"FqCodel":{"Limit":{"raw":"002800"}}}]}]}}
 "#;
 
-// What is chosen, and what is written of it in which form, with the status.
-static CHOICES: [(Chosen<'static>, Form, &str, u8); 4] = [
+// A filter, the format, the output and the status.
+static CHOICES: [(Filter<'static>, OutputFormat, &str, u8); 4] = [
     (
-        Chosen {
+        Filter {
             kinds: &["mirred"],
-            ..Chosen::ALL
+            ..Filter::ALL
         },
-        Form::OneLine,
+        OutputFormat::OneLine,
         ONE_LINE,
         0,
     ),
     (
-        Chosen {
+        Filter {
             types: &[Types {
                 first: 48,
                 last: 48,
             }],
-            ..Chosen::ALL
+            ..Filter::ALL
         },
-        Form::OneLine,
+        OutputFormat::OneLine,
         ONE_LINE,
         0,
     ),
     (
-        Chosen {
+        Filter {
             interfaces: &[2],
-            ..Chosen::ALL
+            ..Filter::ALL
         },
-        Form::Json,
+        OutputFormat::Json,
         JSON,
         1,
     ),
     (
-        Chosen {
+        Filter {
             interfaces: &[3],
-            ..Chosen::ALL
+            ..Filter::ALL
         },
-        Form::Json,
+        OutputFormat::Json,
         "",
         0,
     ),
@@ -99,33 +99,33 @@ static CHOICES: [(Chosen<'static>, Form, &str, u8); 4] = [
 
 #[test]
 fn known_messages(rt: HostRuntime) {
-    let mut asked = counted_in(Form::Lines);
-    asked.names = Interfaces {
+    let mut options = counted_in(OutputFormat::Lines);
+    options.names = Interfaces {
         names: &[(2, "eth0")],
     };
-    assert!(rt; writes(rt.alloc(), &asked, TEXT, 1, LINES));
+    assert!(rt; writes(rt.alloc(), &options, TEXT, 1, LINES));
     for (chosen, form, written, status) in &CHOICES {
-        let asked = chosen_in(*form, *chosen);
+        let options = chosen_in(*form, *chosen);
         assert!(rt;
-            writes(rt.alloc(), &asked, TEXT, *status, written),
+            writes(rt.alloc(), &options, TEXT, *status, written),
             "{written}"
         );
     }
 }
 
-// What is neither a capture nor hex, and hex without a message.
+// Inputs that are neither a capture nor hex, and hex without a message.
 static NO_CAPTURES: [&[u8]; 4] = [b"", b"\x7fELF", b"\x01\x02", b"text"];
 
 static NO_MESSAGES: [&str; 3] = ["#", "\n\n\n\n\n", "# text"];
 
 #[test]
 fn no_capture(rt: HostRuntime) {
-    let asked = all_in(Form::Lines);
+    let options = all_in(OutputFormat::Lines);
     for input in &NO_CAPTURES {
         assert!(rt;
             gives(
                 rt.alloc(),
-                &asked,
+                &options,
                 input,
                 2,
                 Written::Is(&[]),
@@ -134,6 +134,6 @@ fn no_capture(rt: HostRuntime) {
         );
     }
     for input in &NO_MESSAGES {
-        assert!(rt; writes(rt.alloc(), &asked, input, 0, ""));
+        assert!(rt; writes(rt.alloc(), &options, input, 0, ""));
     }
 }

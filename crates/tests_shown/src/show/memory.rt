@@ -4,15 +4,22 @@ use crate::show::runs::{FORMS, Outcome, counted_in, file_of_first, is_front, sho
 use failing_alloc::Failing;
 use std::alloc::Global;
 use std::test::Fail;
-use tcshow_lib::asked::Asked;
+use tcshow_lib::options::Options;
 use tcshow_lib::program::serve;
-use tests_captures::Format;
+use tests_data::Format;
 
 // The status of a run over a file where the request for memory of this number is refused, what it wrote, and whether one was refused.
-fn run_at(alloc: Global, at: u64, asked: &Asked<'_>, mut file: &[u8]) -> (Outcome, bool) {
+fn run_at(alloc: Global, at: u64, options: &Options<'_>, mut file: &[u8]) -> (Outcome, bool) {
     let failing = Failing::new(alloc, at);
     let (mut written, mut errors) = (Vec::new(alloc), Vec::new(alloc));
-    let status = serve(&failing, alloc, asked, &mut file, &mut written, &mut errors);
+    let status = serve(
+        &failing,
+        alloc,
+        options,
+        &mut file,
+        &mut written,
+        &mut errors,
+    );
     let outcome = Outcome {
         status,
         written,
@@ -33,10 +40,10 @@ fn is_right(run: &Outcome, has_refused: bool, whole: &[u8]) -> bool {
 }
 
 // How many requests are refused before none is; none where a run isn't right.
-fn refusals_of(alloc: Global, asked: &Asked<'_>, file: &[u8]) -> Option<u64> {
-    let whole = shown(alloc, asked, file);
+fn refusals_of(alloc: Global, options: &Options<'_>, file: &[u8]) -> Option<u64> {
+    let whole = shown(alloc, options, file);
     for at in 1..10_000u64 {
-        let (run, has_refused) = run_at(alloc, at, asked, file);
+        let (run, has_refused) = run_at(alloc, at, options, file);
         if !is_right(&run, has_refused, &whole.written) {
             return None;
         }

@@ -4,17 +4,17 @@ use crate::show::runs::{FORMS, all_in, alone_in, is_clean, shown};
 use rand_core::Rng;
 use rand_pcg::Pcg32;
 use std::alloc::{AllocError, Global};
-use tc_capture::Holds;
-use tcshow_lib::asked::{Asked, Form};
-use tests_captures::{Format, beginning};
+use tc_capture::MessageType;
+use tcshow_lib::options::{Options, OutputFormat};
+use tests_data::{Format, beginning};
 
 // Whether a run ends with this status at most, and writes no control bytes.
-fn ends(alloc: Global, asked: &Asked<'_>, input: &[u8], most: u8) -> bool {
-    let run = shown(alloc, asked, input);
-    run.status <= most && is_clean(asked.form, &run.written)
+fn ends(alloc: Global, options: &Options<'_>, input: &[u8], most: u8) -> bool {
+    let run = shown(alloc, options, input);
+    run.status <= most && is_clean(options.format, &run.written)
 }
 
-// The beginning of a file with bytes behind it.
+// The beginning of a file, and bytes after it.
 fn behind(
     alloc: Global,
     format: Format,
@@ -27,7 +27,13 @@ fn behind(
 }
 
 // Whether a run over a capture with bytes in it ends.
-fn is_capture(alloc: Global, form: Form, format: Format, is_big: bool, bytes: &[u8]) -> bool {
+fn is_capture(
+    alloc: Global,
+    form: OutputFormat,
+    format: Format,
+    is_big: bool,
+    bytes: &[u8],
+) -> bool {
     match behind(alloc, format, is_big, bytes) {
         Ok(file) => ends(alloc, &all_in(form), &file, 1),
         Err(_) => false,
@@ -35,13 +41,13 @@ fn is_capture(alloc: Global, form: Form, format: Format, is_big: bool, bytes: &[
 }
 
 // Whether runs over a line of hex end: with the header of a netlink message, and without.
-fn is_line(alloc: Global, form: Form, line: &[u8]) -> bool {
+fn is_line(alloc: Global, form: OutputFormat, line: &[u8]) -> bool {
     ends(alloc, &all_in(form), line, 1)
-        && ends(alloc, &alone_in(form, Holds::Tc), line, 1)
-        && ends(alloc, &alone_in(form, Holds::Action), line, 1)
+        && ends(alloc, &alone_in(form, MessageType::Tc), line, 1)
+        && ends(alloc, &alone_in(form, MessageType::Action), line, 1)
 }
 
-fn is_hex(alloc: Global, form: Form, bytes: &[u8]) -> bool {
+fn is_hex(alloc: Global, form: OutputFormat, bytes: &[u8]) -> bool {
     match hex::encode(alloc, bytes) {
         Ok(line) => is_line(alloc, form, line.as_bytes()),
         Err(_) => false,

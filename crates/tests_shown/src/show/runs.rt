@@ -3,48 +3,52 @@
 use std::alloc::Global;
 use std::str;
 use std::test::Fail;
-use tc_capture::Holds;
-use tc_chosen::Chosen;
+use tc_capture::MessageType;
 use tc_outline::Interfaces;
-use tcshow_lib::asked::{Asked, Form};
+use tc_select::Filter;
+use tcshow_lib::options::{Options, OutputFormat};
 use tcshow_lib::program::serve;
-use tests_captures::{Format, file_of, messages};
+use tests_data::{Format, file_of, messages};
 
-/// The forms that messages are shown in.
-pub(crate) static FORMS: [Form; 3] = [Form::Lines, Form::OneLine, Form::Json];
+/// The output formats.
+pub(crate) static FORMS: [OutputFormat; 3] = [
+    OutputFormat::Lines,
+    OutputFormat::OneLine,
+    OutputFormat::Json,
+];
 
-/// What a run does that shows the messages that are chosen.
-pub(crate) fn chosen_in<'a>(form: Form, chosen: Chosen<'a>) -> Asked<'a> {
-    Asked {
-        form,
+/// Options that print the messages of a filter.
+pub(crate) fn chosen_in<'a>(form: OutputFormat, chosen: Filter<'a>) -> Options<'a> {
+    Options {
+        format: form,
         all: false,
         without_header: None,
-        chosen,
+        filter: chosen,
         names: Interfaces { names: &[] },
         has_summary: false,
     }
 }
 
-/// What a run does that shows all messages.
-pub(crate) fn all_in(form: Form) -> Asked<'static> {
-    chosen_in(form, Chosen::ALL)
+/// Options that print all messages.
+pub(crate) fn all_in(form: OutputFormat) -> Options<'static> {
+    chosen_in(form, Filter::ALL)
 }
 
-/// The same, and counts them at the end.
-pub(crate) fn counted_in(form: Form) -> Asked<'static> {
-    let mut asked = all_in(form);
-    asked.has_summary = true;
-    asked
+/// Options that print all messages and a summary.
+pub(crate) fn counted_in(form: OutputFormat) -> Options<'static> {
+    let mut options = all_in(form);
+    options.has_summary = true;
+    options
 }
 
-/// What a run does that shows all messages, where each line of hex is a message without a netlink header.
-pub(crate) fn alone_in(form: Form, holds: Holds) -> Asked<'static> {
-    let mut asked = all_in(form);
-    asked.without_header = Some(holds);
-    asked
+/// Options that print all messages, of lines of hex without a netlink header.
+pub(crate) fn alone_in(form: OutputFormat, holds: MessageType) -> Options<'static> {
+    let mut options = all_in(form);
+    options.without_header = Some(holds);
+    options
 }
 
-/// What a run wrote, and its status.
+/// The output of a run, and its status.
 #[derive(Drop)]
 pub(crate) struct Outcome {
     pub(crate) status: u8,
@@ -53,9 +57,16 @@ pub(crate) struct Outcome {
 }
 
 /// A run over an input.
-pub(crate) fn shown(alloc: Global, asked: &Asked<'_>, input: &[u8]) -> Outcome {
+pub(crate) fn shown(alloc: Global, options: &Options<'_>, input: &[u8]) -> Outcome {
     let (mut reader, mut written, mut errors) = (input, Vec::new(alloc), Vec::new(alloc));
-    let status = serve(alloc, alloc, asked, &mut reader, &mut written, &mut errors);
+    let status = serve(
+        alloc,
+        alloc,
+        options,
+        &mut reader,
+        &mut written,
+        &mut errors,
+    );
     Outcome {
         status,
         written,
@@ -63,14 +74,14 @@ pub(crate) fn shown(alloc: Global, asked: &Asked<'_>, input: &[u8]) -> Outcome {
     }
 }
 
-/// What is written.
+/// Expected output.
 #[derive(Clone, Copy)]
 pub(crate) enum Written<'a> {
     /// These texts, one after the other.
     Is(&'a [&'a str]),
     /// This at the front.
     Begins(&'a str),
-    /// Lines with these fronts, and maybe others behind them.
+    /// Lines with these fronts, and perhaps others after them.
     BeginsWithLines(&'a [&'a str]),
     /// This at the end.
     Ends(&'a str),
@@ -131,44 +142,44 @@ pub(crate) fn is_written(written: &[u8], want: Written<'_>) -> bool {
 /// True if a run over an input ends with this status, and writes and complains this.
 pub(crate) fn gives(
     alloc: Global,
-    asked: &Asked<'_>,
+    options: &Options<'_>,
     input: &[u8],
     status: u8,
     written: Written<'_>,
     complaint: &str,
 ) -> bool {
-    let run = shown(alloc, asked, input);
+    let run = shown(alloc, options, input);
     run.status == status
         && is_written(&run.written, written)
         && run.errors.as_slice() == complaint.as_bytes()
 }
 
-/// The same of an input in hex.
+/// True if a run over an input in hex ends with this status, and writes and complains this.
 pub(crate) fn gives_of_hex(
     alloc: Global,
-    asked: &Asked<'_>,
+    options: &Options<'_>,
     digits: &str,
     status: u8,
     written: Written<'_>,
     complaint: &str,
 ) -> bool {
     match hex::decode(alloc, digits) {
-        Ok(input) => gives(alloc, asked, &input, status, written, complaint),
+        Ok(input) => gives(alloc, options, &input, status, written, complaint),
         Err(_) => false,
     }
 }
 
-/// The same of texts, without a complaint.
+/// True if a run ends with this status, and writes this text, without a complaint.
 pub(crate) fn writes(
     alloc: Global,
-    asked: &Asked<'_>,
+    options: &Options<'_>,
     input: &str,
     status: u8,
     written: &str,
 ) -> bool {
     gives(
         alloc,
-        asked,
+        options,
         input.as_bytes(),
         status,
         Written::Is(&[written]),
@@ -188,7 +199,7 @@ pub(crate) fn file_of_first(
     Ok(file_of(alloc, format, is_big, &all)?)
 }
 
-/// True of the front of some bytes.
+/// True if the bytes begin with this front.
 pub(crate) fn is_front(front: &[u8], bytes: &[u8]) -> bool {
     match bytes.get(..front.len()) {
         Some(begin) => begin == front,
@@ -201,10 +212,10 @@ fn is_printable(byte: u8) -> bool {
     0x20 <= byte && byte < 0x7f || byte == b'\n'
 }
 
-/// True of an output with no control bytes; JSON has none either, but text that isn't ASCII.
-pub(crate) fn is_clean(form: Form, written: &[u8]) -> bool {
+/// True if an output has no control bytes; JSON has none either, but text that isn't ASCII.
+pub(crate) fn is_clean(form: OutputFormat, written: &[u8]) -> bool {
     for byte in written {
-        if !is_printable(*byte) && (form != Form::Json || *byte < 0x80) {
+        if !is_printable(*byte) && (form != OutputFormat::Json || *byte < 0x80) {
             return false;
         }
     }

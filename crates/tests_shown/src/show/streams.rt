@@ -2,83 +2,20 @@
 
 use crate::show::runs::{Outcome, all_in, file_of_first, is_front, shown};
 use std::alloc::Global;
-use std::io::{Error, ErrorKind, Read, Result, Write};
+use std::io::ErrorKind;
 use std::test::Fail;
-use tcshow_lib::asked::Form;
+use tcshow_lib::options::OutputFormat;
 use tcshow_lib::program::serve;
-use tests_captures::Format;
-
-// Gives or takes a few bytes a call, for so many calls, each of them after so many interruptions; then it fails.
-#[derive(Drop)]
-struct Slow<T> {
-    inner: T,
-    left: usize,
-    calls: usize,
-    interruptions: usize,
-    fault: ErrorKind,
-}
-
-impl<T> Slow<T> {
-    fn turn(&mut self) -> Result<()> {
-        if self.left > 0 {
-            self.left -= 1;
-            return Err(Error::from(ErrorKind::Interrupted));
-        }
-        if self.calls == 0 {
-            return Err(Error::from(self.fault));
-        }
-        self.calls -= 1;
-        self.left = self.interruptions;
-        Ok(())
-    }
-}
-
-impl<T: Read> Read for Slow<T> {
-    fn read(&mut self, buf: &mut [u8]) -> Result<usize> {
-        self.turn()?;
-        let most = buf.len().min(7);
-        self.inner.read(&mut buf[..most])
-    }
-}
-
-impl<T: Write> Write for Slow<T> {
-    fn write(&mut self, buf: &[u8]) -> Result<usize> {
-        self.turn()?;
-        let most = buf.len().min(31);
-        self.inner.write(&buf[..most])
-    }
-
-    fn flush(&mut self) -> Result<()> {
-        Ok(())
-    }
-}
-
-// How many calls of a stream succeed, how often each is interrupted before it does, and how the stream then fails.
-type Stream = (usize, usize, ErrorKind);
-
-// Calls that time out after so many, each of them interrupted so often.
-fn calls(count: usize, interruptions: usize) -> Stream {
-    (count, interruptions, ErrorKind::TimedOut)
-}
-
-fn slowly<T>(inner: T, stream: Stream) -> Slow<T> {
-    let (calls, interruptions, fault) = stream;
-    Slow {
-        inner,
-        left: interruptions,
-        calls,
-        interruptions,
-        fault,
-    }
-}
+use tests_data::Format;
+use tests_data::streams::{Stream, calls, slowly};
 
 // A run over streams of so many calls.
 fn run(alloc: Global, file: &[u8], reader: Stream, writer: Stream) -> Outcome {
     let mut from = slowly(file, reader);
     let mut to = slowly(Vec::new(alloc), writer);
     let mut errors = Vec::new(alloc);
-    let asked = all_in(Form::OneLine);
-    let status = serve(alloc, alloc, &asked, &mut from, &mut to, &mut errors);
+    let options = all_in(OutputFormat::OneLine);
+    let status = serve(alloc, alloc, &options, &mut from, &mut to, &mut errors);
     Outcome {
         status,
         written: to.inner,
@@ -86,7 +23,7 @@ fn run(alloc: Global, file: &[u8], reader: Stream, writer: Stream) -> Outcome {
     }
 }
 
-// A file, and what is written of it.
+// A file, and the output for it.
 #[derive(Drop)]
 struct Answered {
     file: Vec<u8>,
@@ -120,7 +57,7 @@ fn reads_of(whole: &Answered) -> usize {
 // A stream of two messages.
 fn stored(alloc: Global) -> std::result::Result<Answered, Fail> {
     let file = file_of_first(alloc, 2, Format::Stream, false)?;
-    let written = shown(alloc, &all_in(Form::OneLine), &file).written;
+    let written = shown(alloc, &all_in(OutputFormat::OneLine), &file).written;
     Ok(Answered { file, written })
 }
 

@@ -9,7 +9,7 @@ const TC_H_ROOT: u32 = 0xffff_ffff;
 /// `TC_H_CLSACT`, which is `TC_H_INGRESS` too.
 const TC_H_CLSACT: u32 = 0xffff_fff1;
 
-/// Deletes the root qdisc of an interface, and its ingress or clsact, if there are any that the kernel doesn't make by itself.
+/// Deletes the root qdisc of an interface, and its ingress or clsact, if there are any that somebody made.
 pub fn clear<T: Transport>(kernel: &mut Kernel<T>, index: u32) -> Result<(), Fault> {
     let index = index as i32;
     let asked = Tcmsg { index, ..Tcmsg::default() };

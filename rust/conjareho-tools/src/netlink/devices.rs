@@ -1,4 +1,4 @@
-//! Interfaces: their names and what else tells them apart, as the kernel of this network namespace has them.
+//! Interfaces: their names and what else identifies them, as the kernel of this network namespace has them.
 
 use super::attributes::{Attributes, put, text};
 use super::fault::Fault;

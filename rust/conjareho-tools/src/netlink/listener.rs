@@ -11,7 +11,7 @@ use std::time::Duration;
 /// A notification.
 #[derive(Clone, PartialEq, Eq, Debug)]
 pub struct Notice {
-    /// The port id of who made the change; 0 for what the kernel did by itself.
+    /// The port id of who made the change; 0 for what the kernel does without a request.
     pub port: u32,
     /// The type of the message.
     pub kind: u16,
@@ -82,7 +82,7 @@ impl Changes {
     }
 }
 
-/// The most datagrams that the room of a socket (8 MiB, as the kernel counts it) can hold: each takes more than 512 bytes of it.
+/// The most datagrams that the buffer of a socket (8 MiB, as the kernel counts it) can hold: each takes more than 512 bytes of it.
 const MOST_WAITING: usize = 1 << 14;
 
 /// A socket that hears notifications, from when it is opened.

@@ -47,7 +47,7 @@ pub struct Header {
     pub flags: u16,
     /// `nlmsg_seq`.
     pub sequence: u32,
-    /// `nlmsg_pid`: in an answer the port id of whom it answers, in a notification of who made the change (0: the kernel by itself).
+    /// `nlmsg_pid`: in an answer the port id of whom it answers, in a notification of who made the change (0: the kernel).
     pub port: u32,
 }
 

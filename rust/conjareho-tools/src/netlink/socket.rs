@@ -4,7 +4,7 @@ use super::transport::Transport;
 use netlink_options::{NetlinkOption, turn_on};
 use netlink_sys::{SocketAddr, protocols::NETLINK_ROUTE};
 use nix::errno::Errno;
-use nix::libc::{MSG_PEEK, MSG_TRUNC};
+use nix::libc::{MSG_DONTWAIT, MSG_PEEK, MSG_TRUNC};
 use nix::poll::{PollFd, PollFlags, poll};
 use nix::sys::socket::{getsockopt, setsockopt, sockopt};
 use std::io;
@@ -13,9 +13,9 @@ use std::time::Duration;
 
 /// `RTNLGRP_TC`: what changes in qdiscs, classes, filters, chains and actions.
 pub const RTNLGRP_TC: u32 = 4;
-/// The room for datagrams that come and go, in bytes.
-const ROOM: usize = 4 << 20;
-/// What the kernel keeps of the room for what is sent.
+/// The size of the buffers for datagrams that are received and sent, in bytes.
+const BUFFER: usize = 4 << 20;
+/// What the kernel needs of the buffer for itself when a datagram is sent.
 const SEND_OVERHEAD: usize = 32;
 
 /// A socket of route netlink, connected to the kernel of its network namespace.
@@ -33,11 +33,11 @@ impl Socket {
         if_known(socket.set_cap_ack(true))?;
         let fd = socket.as_raw_fd();
         // With the rights for it as much as is wanted; else as much as the machine's limits allow.
-        if setsockopt(fd, sockopt::RcvBufForce, &ROOM).is_err() {
-            setsockopt(fd, sockopt::RcvBuf, &ROOM)?;
+        if setsockopt(fd, sockopt::RcvBufForce, &BUFFER).is_err() {
+            setsockopt(fd, sockopt::RcvBuf, &BUFFER)?;
         }
-        if setsockopt(fd, sockopt::SndBufForce, &ROOM).is_err() {
-            setsockopt(fd, sockopt::SndBuf, &ROOM)?;
+        if setsockopt(fd, sockopt::SndBufForce, &BUFFER).is_err() {
+            setsockopt(fd, sockopt::SndBuf, &BUFFER)?;
         }
         let port = socket.bind_auto()?.port_number();
         Ok(Socket { socket, port })
@@ -48,6 +48,18 @@ impl Socket {
         let mut socket = Socket::open()?;
         socket.socket.add_membership(RTNLGRP_TC)?;
         Ok(socket)
+    }
+
+    // The next datagram; `WouldBlock` if there is none.
+    fn receive_now(&mut self, into: &mut Vec<u8>) -> io::Result<u32> {
+        into.clear();
+        let (len, _) = self.socket.recv_from(&mut &mut [0u8; 0][..], MSG_DONTWAIT | MSG_PEEK | MSG_TRUNC)?;
+        into.reserve(len);
+        let (received, sender) = self.socket.recv_from(into, MSG_DONTWAIT | MSG_TRUNC)?;
+        if received != into.len() {
+            return Err(io::Error::new(io::ErrorKind::InvalidData, "a datagram was cut"));
+        }
+        Ok(sender.port_number())
     }
 
     fn is_ready(&self, wait: Option<Duration>) -> io::Result<bool> {
@@ -70,7 +82,7 @@ impl Transport for Socket {
     }
 
     fn most(&self) -> usize {
-        getsockopt(self.socket.as_raw_fd(), sockopt::SndBuf).map_or(0, |room: usize| room.saturating_sub(SEND_OVERHEAD))
+        getsockopt(self.socket.as_raw_fd(), sockopt::SndBuf).map_or(0, |size: usize| size.saturating_sub(SEND_OVERHEAD))
     }
 
     fn send(&mut self, datagram: &[u8]) -> io::Result<usize> {
@@ -78,16 +90,15 @@ impl Transport for Socket {
     }
 
     fn receive(&mut self, into: &mut Vec<u8>, wait: Option<Duration>) -> io::Result<u32> {
-        if !self.is_ready(wait)? {
-            return Err(io::ErrorKind::TimedOut.into());
+        loop {
+            // Most answers are there when a request returns, so it waits only if there is none.
+            match self.receive_now(into) {
+                Err(error) if error.kind() == io::ErrorKind::WouldBlock => {}
+                received => return received,
+            }
+            if wait == Some(Duration::ZERO) || !self.is_ready(wait)? {
+                return Err(io::ErrorKind::TimedOut.into());
+            }
         }
-        into.clear();
-        let (len, _) = self.socket.recv_from(&mut &mut [0u8; 0][..], MSG_PEEK | MSG_TRUNC)?;
-        into.reserve(len);
-        let (received, sender) = self.socket.recv_from(into, MSG_TRUNC)?;
-        if received != into.len() {
-            return Err(io::Error::new(io::ErrorKind::InvalidData, "a datagram was cut"));
-        }
-        Ok(sender.port_number())
     }
 }

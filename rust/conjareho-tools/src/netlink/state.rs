@@ -98,7 +98,7 @@ pub fn dump_of<T: Transport, L: Transport>(
     Err(Fault::Changing(MOST_TRIES))
 }
 
-// A dump that listens for changes meanwhile, so that many of them don't fill the listener's room.
+// A dump that listens for changes meanwhile, so that many of them don't fill the listener's buffer.
 struct Dumper<'a, T, L> {
     kernel: &'a mut Kernel<T>,
     listener: &'a mut Listener<L>,
@@ -188,16 +188,20 @@ impl<T: Transport, L: Transport> Dumper<'_, T, L> {
         Ok(classes)
     }
 
-    // The chains of a parent, then its filters. The kernel dumps a chain with its qdisc as the parent; it gets the parent that was asked for, so that
-    // the two sides of clsact stay apart.
+    // The chains of a parent, then its filters, which are all in a chain. The kernel dumps a chain with its qdisc as the parent; it gets the parent
+    // that was asked for, which differs for the two sides of clsact.
     fn below(&mut self, index: u32, parent: u32) -> Result<Vec<Vec<u8>>, Fault> {
         let mut below = Vec::new();
         if self.objects.chains {
             below = match self.dump_tc(RTM_GETCHAIN, index, parent) {
                 // Linux before 4.19 has none.
                 Err(Fault::Refused(refusal)) if refusal.is(Errno::EOPNOTSUPP) => Vec::new(),
+                Ok(chains) if chains.is_empty() => return Ok(chains),
                 chains => chains?,
             };
+            // After a chain that only actions hold (`goto chain`), the kernel dumps the last ones twice.
+            let mut seen = BTreeSet::new();
+            below.retain(|chain| seen.insert(chain.clone()));
             for chain in &mut below {
                 if tcmsg_of(chain).is_some_and(|tcmsg| tcmsg.index != MAGIC_BLOCK) {
                     chain[HEADER + 12..HEADER + 16].copy_from_slice(&parent.to_ne_bytes());

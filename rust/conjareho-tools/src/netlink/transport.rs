@@ -1,4 +1,4 @@
-//! The way to the kernel and back, so that a test can stand in for the kernel.
+//! The way to the kernel and back, which a test can replace.
 
 use std::io;
 use std::time::Duration;

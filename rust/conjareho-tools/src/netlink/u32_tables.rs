@@ -14,7 +14,7 @@ const TCA_CHAIN: u16 = 11;
 const TCA_U32_DIVISOR: u16 = 4;
 /// The root table of a priority, in a handle (`TC_U32_ROOT`).
 const TC_U32_ROOT: u32 = 0xfff0_0000;
-/// The least number that the kernel gives a root table.
+/// The least number of a root table that the kernel numbers.
 const LEAST_ROOT: u32 = 0x800;
 
 /// Where a priority of u32 filters is.
@@ -73,7 +73,7 @@ fn place_of(filter: &[u8]) -> Result<Option<Place>, Fault> {
     Ok(Some(Place { index: tcmsg.index, parent: tcmsg.parent, info: tcmsg.info, chain }))
 }
 
-// The number of a table that may be a root: of divisor 1, with a number that the kernel gives.
+// The number of a table that may be a root: of divisor 1, with a number that the kernel chooses.
 fn root_like(filter: &[u8]) -> Result<Option<u32>, Fault> {
     let Some(handle) = tcmsg_of(filter).map(|tcmsg| tcmsg.handle) else { return Ok(None) };
     let options = attribute(filter.get(HEADER + TCMSG..).unwrap_or(&[]), TCA_OPTIONS)?.unwrap_or(&[]);

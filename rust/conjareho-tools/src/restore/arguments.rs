@@ -15,14 +15,14 @@ const NOTES: &str = "All requests are made before the first is sent, and what th
 another program changes the interface, it stops and makes again what was there before. At the end it compares what there is with FILE.
 
 Exit status: 0 what is there is what FILE says; 1 nothing was sent; 2 wrong usage; 3 a socket or a file failed, nothing was sent;
-4 as 0, but for what can't be made (--partial); 5 it failed, and the state before is back; 6 it failed, and the state before isn't back";
+4 as 0, except for what can't be made (--partial); 5 it failed, and the state before is back; 6 it failed, and the state before isn't back";
 
 /// What the arguments say.
 #[derive(Debug)]
 pub(crate) struct Arguments {
     /// The file of the save; none for standard input.
     pub(crate) file: Option<PathBuf>,
-    /// The interface in place of the file's.
+    /// The interface instead of the file's.
     pub(crate) dev: Option<String>,
     /// The names of today by those of the file.
     pub(crate) map: BTreeMap<String, String>,

@@ -1,14 +1,14 @@
 //! What requests make, and where what two lists of requests make differs.
 //!
 //! Requests that `tc_requests` makes of dumps have neither statistics nor times. What is left to be passed over is what the kernel counts or
-//! gives in a field of a configuration, and what it shows otherwise from one dump to the next.
+//! chooses in a field of a configuration, and what it shows otherwise from one dump to the next.
 
 use super::messages::{actions_of, chain_of, kind_of, payload_of, type_of};
 use crate::netlink::message::{
     RTM_NEWACTION, RTM_NEWCHAIN, RTM_NEWQDISC, RTM_NEWTCLASS, RTM_NEWTFILTER, Tcmsg, tcmsg_of,
 };
-use crate::tc_forms::Shown;
-use crate::tc_kinds::{ACTION_MESSAGE, TC_MESSAGE, TcTables};
+use crate::forms_json::Shown;
+use crate::forms_kinds::{ACTION_MESSAGE, TC_MESSAGE, TcTables};
 use crate::tc_texts::handle_text;
 use ::serde_json::{Value, json};
 use std::borrow::Cow;
@@ -21,7 +21,7 @@ const INGRESS: u32 = 0xFFFF_0000;
 /// What an object is.
 #[derive(Clone, PartialEq, Eq, PartialOrd, Ord, Debug)]
 pub(crate) enum Key {
-    /// An action that stands by itself, by its kind and its index.
+    /// A standalone action, by its kind and its index.
     Action(String, u32),
     /// A qdisc, a class, a filter or a chain, by what its header has.
     Object { kind: u16, index: i32, parent: u32, chain: u32, info: u32, handle: u32 },
@@ -64,7 +64,7 @@ impl fmt::Display for Place {
 }
 
 impl Key {
-    /// True of an action, which belongs to no interface.
+    /// True for an action, which belongs to no interface.
     pub(crate) fn is_action(&self) -> bool {
         matches!(self, Key::Action(..))
     }
@@ -80,7 +80,7 @@ pub(crate) enum Held {
 }
 
 impl Held {
-    // The same, but for what isn't configuration.
+    // The same without what isn't configuration.
     fn normal(&self) -> Value {
         let request = match self {
             Held::Request(request) => request,
@@ -130,14 +130,14 @@ pub(crate) fn objects_of(requests: &[Vec<u8>]) -> Objects {
     objects
 }
 
-// Filters of basic and bpf are matched in the order in which they stand. The one block of ingress is dumped under the parent of who asked last.
+// Filters of basic, bpf and flow are matched in the order in which they were made. The one block of ingress is dumped under the parent of who asked last.
 fn put_object(request: &[u8], header: Tcmsg, is_ingress: bool, objects: &mut Objects) {
     let kind = type_of(request);
     let is_below = matches!(kind, RTM_NEWTFILTER | RTM_NEWCHAIN);
     let (index, chain, handle) = (header.index, chain_of(request), header.handle);
     let parent = if is_below && is_ingress && header.parent >> 16 == 0xFFFF { INGRESS } else { header.parent };
     let info = if is_below { header.info } else { 0 };
-    if kind == RTM_NEWTFILTER && matches!(kind_of(request), Some(b"basic" | b"bpf")) {
+    if kind == RTM_NEWTFILTER && matches!(kind_of(request), Some(b"basic" | b"bpf" | b"flow")) {
         let handles =
             objects.entry(Key::Order { index, parent, chain, info }).or_insert_with(|| Held::Handles(Vec::new()));
         if let Held::Handles(handles) = handles {
@@ -173,7 +173,7 @@ impl fmt::Display for Difference {
     }
 }
 
-/// The differences between what is wanted and what is there. What isn't wanted is none where `may_be` says so.
+/// The differences between what is wanted and what is there. What isn't wanted is no difference if `may_be` says so.
 pub(crate) fn differences(wanted: &Objects, found: &Objects, may_be: impl Fn(&Key, &Held) -> bool) -> Vec<Difference> {
     let mut all = Vec::new();
     for (key, held) in wanted {
@@ -192,7 +192,48 @@ pub(crate) fn differences(wanted: &Objects, found: &Objects, may_be: impl Fn(&Ke
     all
 }
 
-// Of handles those that are wanted: filters that were there before may stand between those of a save.
+/// The differences between what is wanted in blocks and what is there. There each action has its number, which counts if the wanted one has one: an
+/// action that filters share in a save may be there with one filter, and is shared again by what is sent.
+pub(crate) fn differences_in_blocks(wanted: &Objects, found: &Objects) -> Vec<Difference> {
+    let of_block = |held: &Held, wanted: &Value| {
+        let mut found = held.normal();
+        forget_numbers(wanted, &mut found);
+        found
+    };
+    let mut all = Vec::new();
+    for (key, held) in wanted {
+        let wanted = held.normal();
+        match found.get(key).map(|held| of_block(held, &wanted)) {
+            Some(found) => {
+                let first = first_difference(&wanted, &found, "");
+                all.extend(first.map(|(at, wanted, found)| Difference::Other { key: key.clone(), at, wanted, found }));
+            }
+            None => all.push(Difference::Missing(key.clone())),
+        }
+    }
+    all.extend(found.keys().filter(|key| !wanted.contains_key(key)).map(|key| Difference::Unwanted(key.clone())));
+    all
+}
+
+// Sets the number of an action to 0 where the wanted one has none.
+fn forget_numbers(wanted: &Value, found: &mut Value) {
+    match (wanted, found) {
+        (Value::Object(wanted), Value::Object(found)) => {
+            if wanted.contains_key("bindcnt") && wanted.get("index") == Some(&json!(0)) {
+                set(found.get_mut("index"));
+            }
+            for (name, value) in found {
+                forget_numbers(wanted.get(name).unwrap_or(&Value::Null), value);
+            }
+        }
+        (Value::Array(wanted), Value::Array(found)) => {
+            wanted.iter().zip(found).for_each(|(wanted, found)| forget_numbers(wanted, found));
+        }
+        _ => {}
+    }
+}
+
+// Of handles those that are wanted: filters that were there before may be between those of a save.
 fn among<'a>(found: &'a Held, wanted: &Held) -> Cow<'a, Held> {
     match (found, wanted) {
         (Held::Handles(found), Held::Handles(wanted)) => {
@@ -291,6 +332,18 @@ mod tests {
             json!([{"Basic": {"Classid": "1:1"}}])
         );
         assert_eq!(passed_over(json!([{"Pad": ""}, {"Chain": 3}])), json!([{"Chain": 3}]));
+    }
+
+    #[test]
+    fn a_number_counts_where_one_is_wanted() {
+        let actions = |left, right| json!([{"Parms": {"index": left, "bindcnt": 0, "refcnt": 0}}, {"index": right, "bindcnt": 0}]);
+        let seen = |wanted: Value, mut found: Value| {
+            forget_numbers(&wanted, &mut found);
+            wanted == found
+        };
+        assert!(seen(actions(0, 134), actions(7, 134)));
+        assert!(!seen(actions(0, 134), actions(7, 135)));
+        assert!(!seen(actions(7, 134), actions(0, 134)));
     }
 
     #[test]

@@ -3,6 +3,7 @@
 use ::serde_json::Value;
 use std::collections::BTreeMap;
 use std::fmt;
+use std::ops::Range;
 
 /// The version of saves that is read: `save` of the head.
 const VERSION: u64 = 1;
@@ -12,10 +13,17 @@ const VERSION: u64 = 1;
 pub(crate) struct Save {
     /// All of it.
     pub(crate) text: String,
-    /// Its lines with their numbers, counted from 1; without blank ones, the head and the end.
-    pub(crate) lines: Vec<(usize, String)>,
+    // Where its lines are; without blank ones, the head and the end.
+    lines: Vec<Range<usize>>,
     /// What its head says. Saves of older versions have none.
     pub(crate) head: Option<Head>,
+}
+
+impl Save {
+    /// The lines of its objects.
+    pub(crate) fn lines(&self) -> impl Iterator<Item = &str> {
+        self.lines.iter().map(|place| &self.text[place.clone()])
+    }
 }
 
 /// What the head of a save says.
@@ -55,7 +63,7 @@ pub(crate) enum FileError {
     /// It has a head and no end.
     NoEnd,
     /// Its end isn't its last line, by its number.
-    LineBehind(usize),
+    LineAfterEnd(usize),
     /// Its end is neither a number nor `true`.
     End,
     /// Its end has another number of lines than there are.
@@ -73,7 +81,7 @@ impl fmt::Display for FileError {
             FileError::Head(wanted) => write!(f, "line 1: the head lacks {wanted}"),
             FileError::SecondHead(number) => write!(f, "line {number}: a second head"),
             FileError::NoEnd => f.write_str("its end is missing: the save was cut"),
-            FileError::LineBehind(number) => write!(f, "line {number}: a line behind the end"),
+            FileError::LineAfterEnd(number) => write!(f, "line {number}: a line after the end"),
             FileError::End => f.write_str("its end is neither a number of lines nor true"),
             FileError::Count { said, found } => {
                 write!(
@@ -86,19 +94,24 @@ impl fmt::Display for FileError {
 }
 
 /// Reads a save. Its objects aren't looked at.
-pub(crate) fn read_save(bytes: &[u8]) -> Result<Save, FileError> {
-    let text = std::str::from_utf8(bytes).map_err(|_| FileError::NoText)?;
-    let mut lines: Vec<(usize, String)> = Vec::new();
-    let (mut head, mut end, mut is_first) = (None, None, true);
-    for (at, line) in text.lines().enumerate().filter(|(_, line)| !line.trim().is_empty()) {
+pub(crate) fn read_save(bytes: Vec<u8>) -> Result<Save, FileError> {
+    let text = String::from_utf8(bytes).map_err(|_| FileError::NoText)?;
+    let mut lines = Vec::new();
+    let (mut head, mut end, mut is_first, mut place) = (None, None, true, 0);
+    for (at, line) in text.split_inclusive('\n').enumerate() {
+        let begin = place;
+        place += line.len();
+        if line.trim().is_empty() {
+            continue;
+        }
         if end.is_some() {
-            return Err(FileError::LineBehind(at + 1));
+            return Err(FileError::LineAfterEnd(at + 1));
         }
         match mark_of(line) {
             Some(Mark::Head(value)) if is_first => head = Some(head_of(&value)?),
             Some(Mark::Head(_)) => return Err(FileError::SecondHead(at + 1)),
             Some(Mark::End(value)) => end = Some(value),
-            None => lines.push((at + 1, line.to_string())),
+            None => lines.push(begin..begin + line.trim_end().len()),
         }
         is_first = false;
     }
@@ -106,7 +119,7 @@ pub(crate) fn read_save(bytes: &[u8]) -> Result<Save, FileError> {
         return Err(FileError::Empty);
     }
     check_end(head.is_some(), end, lines.len())?;
-    Ok(Save { text: text.to_string(), lines, head })
+    Ok(Save { text, lines, head })
 }
 
 // A line that is no object.
@@ -181,16 +194,17 @@ mod tests {
     const HEAD: &str = r#"{"save":1,"devs":{"wan":{"index":2,"mac":"02:00:00:00:00:01","mtu":1500,"txqueuelen":1000,"queues":[4,4]}},"names":{"2":"wan","3":"ids"}}"#;
 
     fn error_of(text: &str) -> FileError {
-        read_save(text.as_bytes()).expect_err("refused")
+        read_save(text.as_bytes().to_vec()).expect_err("refused")
     }
 
     #[test]
     fn reads_a_head_and_counts_lines() {
-        let save = read_save(format!("{HEAD}\n{{\"a\":1}}\n\n{{\"b\":2}}\n{{\"end\":2}}\n").as_bytes()).expect("read");
+        let save =
+            read_save(format!("{HEAD}\n{{\"a\":1}}\n\n{{\"b\":2}}\r\n{{\"end\":2}}\n").into_bytes()).expect("read");
         let head = save.head.as_ref().expect("a head");
         assert_eq!(head.devs[0].queues, Some((4, 4)));
         assert_eq!(head.names[&3], "ids");
-        assert_eq!(save.lines, [(2, "{\"a\":1}".to_string()), (4, "{\"b\":2}".to_string())]);
+        assert_eq!(save.lines().collect::<Vec<_>>(), ["{\"a\":1}", "{\"b\":2}"]);
     }
 
     #[test]
@@ -200,17 +214,17 @@ mod tests {
         assert_eq!(error_of(HEAD), FileError::NoEnd);
         assert_eq!(error_of(&format!("{HEAD}\n{{\"a\":1}}\n")), FileError::NoEnd);
         assert_eq!(error_of(&format!("{HEAD}\n{{\"a\":1}}\n{{\"end\":2}}\n")), FileError::Count { said: 2, found: 1 });
-        assert_eq!(error_of(&format!("{HEAD}\n{{\"end\":0}}\n{{\"a\":1}}\n")), FileError::LineBehind(3));
+        assert_eq!(error_of(&format!("{HEAD}\n{{\"end\":0}}\n{{\"a\":1}}\n")), FileError::LineAfterEnd(3));
         assert_eq!(error_of(&format!("{HEAD}\n{HEAD}\n{{\"end\":0}}\n")), FileError::SecondHead(2));
         assert_eq!(error_of(&format!("{HEAD}\n{{\"end\":\"2\"}}\n")), FileError::End);
         assert_eq!(error_of("{\"save\":2}\n{\"end\":0}\n"), FileError::Version(2));
-        assert_eq!(read_save(b"\xff").expect_err("refused"), FileError::NoText);
+        assert_eq!(read_save(b"\xff".to_vec()).expect_err("refused"), FileError::NoText);
     }
 
     #[test]
     fn takes_an_edited_save_and_an_older_one() {
-        assert!(read_save(format!("{HEAD}\n{{\"a\":1}}\n{{\"end\":true}}\n").as_bytes()).is_ok());
-        assert!(read_save(format!("{HEAD}\n{{\"end\":0}}").as_bytes()).is_ok());
-        assert!(read_save(b"{\"a\":1}\n").expect("read").head.is_none());
+        assert!(read_save(format!("{HEAD}\n{{\"a\":1}}\n{{\"end\":true}}\n").into_bytes()).is_ok());
+        assert!(read_save(format!("{HEAD}\n{{\"end\":0}}").into_bytes()).is_ok());
+        assert!(read_save(b"{\"a\":1}\n".to_vec()).expect("read").head.is_none());
     }
 }

@@ -24,7 +24,7 @@ pub(crate) fn type_of(message: &[u8]) -> u16 {
     header_of(message).map_or(0, |header| header.kind)
 }
 
-/// True of the request of an action that is there, with other parameters.
+/// True for the request of an action that is there with other parameters.
 pub(crate) fn replaces(message: &[u8]) -> bool {
     header_of(message).is_some_and(|header| header.flags & NLM_F_REPLACE != 0)
 }
@@ -50,7 +50,7 @@ pub(crate) fn blocks_of(message: &[u8]) -> Vec<u32> {
     both.filter_map(|kind| number_of(tca(message, kind)?)).filter(|number| *number != 0).collect()
 }
 
-/// The actions of a request that stand by themselves.
+/// The standalone actions of a request.
 pub(crate) fn actions_of(message: &[u8]) -> Vec<Action> {
     let lists = TcActionMessage::parse(payload_of(message)).map_or_else(|_| Vec::new(), |read| read.attributes);
     let actions = lists.into_iter().filter_map(|it| match it {
@@ -65,7 +65,7 @@ pub(crate) fn actions_of(message: &[u8]) -> Vec<Action> {
         .collect()
 }
 
-/// An action that stands by itself.
+/// A standalone action.
 #[derive(Debug)]
 pub(crate) struct Action {
     pub(crate) kind: String,
@@ -74,7 +74,7 @@ pub(crate) struct Action {
 }
 
 impl Action {
-    /// The request that gives the action of this kind and index, which is there, these parameters.
+    /// The request that changes the parameters of the action of this kind and index to these.
     pub(crate) fn change(self) -> Vec<u8> {
         action_request(RTM_NEWACTION, NLM_F_ACK | NLM_F_CREATE | NLM_F_REPLACE, self.parts.attributes)
     }
@@ -115,14 +115,14 @@ fn number_of(value: &[u8]) -> Option<u32> {
     Some(u32::from_ne_bytes(value.try_into().ok()?))
 }
 
-/// The requests that delete what a request made. `told` is the kernel's notification of it, since it numbers some filters itself.
-pub(crate) fn deletions_of(made: &[u8], told: Option<&[u8]>) -> Vec<Vec<u8>> {
+/// The requests that delete what a request made. `notice` is the kernel's notification of it, which has the handles that the kernel chose.
+pub(crate) fn deletions_of(made: &[u8], notice: Option<&[u8]>) -> Vec<Vec<u8>> {
     let kind = type_of(made);
     if kind == RTM_NEWACTION {
         return actions_of(made).into_iter().rev().map(Action::deletion).collect();
     }
     let Some(header) = tcmsg_of(made) else { return Vec::new() };
-    let numbered = told.and_then(tcmsg_of).filter(|_| kind == RTM_NEWTFILTER);
+    let numbered = notice.and_then(tcmsg_of).filter(|_| kind == RTM_NEWTFILTER);
     let handle = numbered.map_or(header.handle, |numbered| numbered.handle);
     let mut body = body_of(Tcmsg { handle, ..header });
     let own = if kind == RTM_NEWCHAIN { &[TCA_CHAIN][..] } else { &[TCA_KIND, TCA_CHAIN] };

@@ -62,7 +62,7 @@ fn obey(arguments: &Arguments) -> Status {
                     .map(|(_, name)| *name)
             };
             let [dumps, watch] = listeners;
-            restore(arguments, &file, &mut World::new(kernel, dumps, watch, &signal), &mut said)
+            restore(arguments, file, &mut World::new(kernel, dumps, watch, &signal), &mut said)
         }
         Err(fault) => {
             said.push(fault);
@@ -104,7 +104,7 @@ fn read(arguments: &Arguments) -> io::Result<Vec<u8>> {
 /// Restores a save. What is to be said is added to `said`.
 fn restore<T: Transport, L: Transport>(
     arguments: &Arguments,
-    file: &[u8],
+    file: Vec<u8>,
     world: &mut World<'_, T, L>,
     said: &mut Vec<String>,
 ) -> Status {
@@ -150,7 +150,7 @@ fn carried_out<T: Transport, L: Transport>(
     let was_there = |key: &Key, held: &Held| prepared.before.get(key).is_some_and(|before| before.is_same(held));
     let may_be = |key: &Key, held: &Held| key.is_action() || !arguments.clear && was_there(key, held);
     let after = same(sending, &prepared.wanted, |_| true, may_be)?;
-    said.extend(hardware::lost(&prepared.save, &after));
+    said.extend(hardware::lost(prepared.in_hardware, hardware::count(after.lines())));
     Ok(())
 }
 

@@ -1,7 +1,9 @@
 //! Requests, in the order in which they are sent: those that `tcmake --request --stream` makes of the same lines.
 
-use crate::tc_kinds::{ACTION_MESSAGE, TC_MESSAGE, TcTables};
-use crate::tc_streams::Stop;
+use super::messages::type_of;
+use crate::netlink::message::{RTM_NEWACTION, RTM_NEWTFILTER};
+use crate::forms_kinds::{ACTION_MESSAGE, TC_MESSAGE, TcTables};
+use crate::program_io::Stop;
 use crate::tcmake_lib::lines::{RemarkKind, Source};
 use crate::tcmake_lib::message::Forms;
 use crate::tcmake_lib::order::{Asked, Restored, requests_of};
@@ -15,7 +17,7 @@ pub(crate) struct Wanted<'a> {
     pub(crate) now: Option<&'a str>,
     /// The interfaces of today by the names of the save's head.
     pub(crate) names: Option<&'a [(u32, &'a str)]>,
-    /// The interface of all lines in place of theirs.
+    /// The interface of all lines instead of theirs.
     pub(crate) index: Option<u32>,
     /// Actions that others hold too are changed.
     pub(crate) replaces_actions: bool,
@@ -46,6 +48,13 @@ pub(crate) fn requests(wanted: &Wanted<'_>) -> Plan {
         let complaints = vec!["out of memory".to_string()];
         Plan { complaints, is_void: true, ..Plan::default() }
     })
+}
+
+/// The requests beside what there is. `alone` are those of the same without it. If these have neither actions nor filters, which can hold some, and
+/// each line of now can be read, they are the same, and aren't made again.
+pub(crate) fn requests_beside(wanted: &Wanted<'_>, alone: &Plan, has_refused: bool) -> Plan {
+    let has_actions = alone.requests.iter().any(|it| matches!(type_of(it), RTM_NEWACTION | RTM_NEWTFILTER));
+    if has_actions || has_refused || alone.is_void { requests(wanted) } else { alone.clone() }
 }
 
 fn planned(restored: Restored) -> Result<Plan, Stop> {

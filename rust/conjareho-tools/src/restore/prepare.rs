@@ -1,18 +1,19 @@
 //! What is made and asked before the first request is sent.
 
 use super::arguments::Arguments;
-use super::compare::{Objects, differences, objects_of};
+use super::compare::{Objects, differences_in_blocks, objects_of};
 use super::file::{Save, read_save};
+use super::hardware;
 use super::messages::{blocks_of, type_of};
-use super::plan::{Plan, Wanted, requests};
+use super::plan::{Plan, Wanted, requests, requests_beside};
 use super::sending::{PATIENCE, PAUSE};
 use super::state;
 use super::status::Status;
-use super::staying::staying;
+use super::staying::{as_shared, staying, with_actions};
 use super::targets::{Targets, targets_of};
 use super::world::{Place, World, text_of};
 use crate::netlink::message::{MAGIC_BLOCK, RTM_NEWQDISC, tcmsg_of};
-use crate::netlink::{Devices, Dump, Fault, Transport};
+use crate::netlink::{Devices, Fault, Transport};
 use std::collections::BTreeMap;
 use std::thread::sleep;
 use std::time::Instant;
@@ -57,15 +58,15 @@ pub(crate) struct Prepared {
     pub(crate) before_all: Vec<Vec<u8>>,
     /// The file that has the save of what there is now.
     pub(crate) kept: String,
-    /// The lines of the file.
-    pub(crate) save: Save,
+    /// How many filters of the file were in hardware.
+    pub(crate) in_hardware: usize,
     pub(crate) is_partial: bool,
 }
 
 /// Makes everything that is needed, and asks whether it may be sent. Warnings are added to `said`.
 pub(crate) fn prepare<T: Transport, L: Transport>(
     arguments: &Arguments,
-    file: &[u8],
+    file: Vec<u8>,
     world: &mut World<'_, T, L>,
     said: &mut Vec<String>,
 ) -> Result<Prepared, Ended> {
@@ -78,14 +79,19 @@ pub(crate) fn prepare<T: Transport, L: Transport>(
     let others = blocks_of_others(world, &targets)?;
     let wanted = wanted_of(arguments, &save, &targets, &names);
     let alone = requests(&wanted);
-    let Planned { dump, now, stays, plan } = planned(arguments, &wanted, !alone.is_void, &targets, &others, world)?;
+    let Planned { blocks, now, beside, has_refused, plan } =
+        planned(arguments, &wanted, &alone, &targets, &others, world)?;
     let plan = checked(arguments, plan, said)?;
     let wanted = alone.requests;
     check_blocks(world, &others, &wanted)?;
     let is_own = |request: &Vec<u8>| !is_in_block(request, &others);
-    let blocks = wanted.iter().flat_map(|request| blocks_of(request)).chain(dump.blocks).collect();
+    let blocks = wanted.iter().flat_map(|request| blocks_of(request)).chain(blocks).collect();
     let before = requests(&of_now(&now, None));
-    let back = if arguments.clear { requests(&of_now(&now, Some(&stays))) } else { Plan::default() };
+    let back = if arguments.clear {
+        requests_beside(&of_now(&now, Some(&beside)), &before, has_refused)
+    } else {
+        Plan::default()
+    };
     check_back(arguments, &back)?;
     let kept = state::keep(&arguments.state, &targets.names(), &now).map_err(|error| {
         Ended::because(
@@ -101,16 +107,16 @@ pub(crate) fn prepare<T: Transport, L: Transport>(
         before: objects_of(&before.requests),
         before_all: before.requests,
         kept: kept.display().to_string(),
-        save,
+        in_hardware: hardware::count(save.lines()),
         is_partial: !plan.complaints.is_empty(),
     })
 }
 
-fn save_in(arguments: &Arguments, file: &[u8]) -> Result<Save, Ended> {
+fn save_in(arguments: &Arguments, file: Vec<u8>) -> Result<Save, Ended> {
     let refused = |why: String| Ended::because(Status::NothingSent, vec![format!("{}: {why}", arguments.file_name())]);
     let save = read_save(file).map_err(|error| refused(error.to_string()))?;
     if arguments.clear && save.head.is_none() {
-        return Err(refused("--clear wants a save with a head and an end".to_string()));
+        return Err(refused("--clear requires a save with a head and an end".to_string()));
     }
     Ok(save)
 }
@@ -131,16 +137,21 @@ fn wanted_of<'a>(arguments: &Arguments, save: &'a Save, targets: &Targets, names
     }
 }
 
-// What there is now, to be made by itself or beside what stays.
+// What there is now, to be made where nothing is or beside what stays.
 fn of_now<'a>(now: &'a str, stays: Option<&'a str>) -> Wanted<'a> {
     Wanted { text: now, now: stays, replaces_actions: true, ..Wanted::default() }
 }
 
-// What there is now, its save, the lines of it that stay when the interfaces are cleared, and the requests.
+// What there is now, and the requests.
 struct Planned {
-    dump: Dump,
+    // The shared blocks of the interfaces.
+    blocks: Vec<u32>,
+    // The save.
     now: String,
-    stays: String,
+    // The lines of it with the actions that are there when requests are sent, and with those that hold them.
+    beside: String,
+    // The codec refuses a message of it.
+    has_refused: bool,
     plan: Plan,
 }
 
@@ -148,7 +159,7 @@ struct Planned {
 fn planned<T: Transport, L: Transport>(
     arguments: &Arguments,
     wanted: &Wanted<'_>,
-    can_be_made: bool,
+    alone: &Plan,
     targets: &Targets,
     others: &BTreeMap<u32, u32>,
     world: &mut World<'_, T, L>,
@@ -156,11 +167,14 @@ fn planned<T: Transport, L: Transport>(
     let until = Instant::now() + PATIENCE;
     loop {
         let dump = world.first_dump(&targets.own())?;
-        let now = text_of(&dump, &targets.own())?;
-        let stays = staying(&now, |block| others.contains_key(&block));
-        let plan = requests(&Wanted { now: Some(if arguments.clear { &stays } else { &now }), ..*wanted });
-        if !(plan.is_void && can_be_made) || Instant::now() >= until {
-            return Ok(Planned { dump, now, stays, plan });
+        let (now, has_refused) = text_of(&dump, &targets.own())?;
+        let mut beside = with_actions(&now);
+        if arguments.clear {
+            beside = staying(&beside, |block| others.contains_key(&block));
+        }
+        let plan = requests_beside(&Wanted { now: Some(&beside), ..*wanted }, alone, has_refused);
+        if !plan.is_void || alone.is_void || Instant::now() >= until {
+            return Ok(Planned { blocks: dump.blocks, now, beside, has_refused, plan });
         }
         sleep(PAUSE);
     }
@@ -204,7 +218,7 @@ fn blocks_of_others<T: Transport, L: Transport>(
     Ok(others)
 }
 
-// True of what is in one of these blocks.
+// True for what is in one of these blocks.
 fn is_in_block(request: &[u8], blocks: &BTreeMap<u32, u32>) -> bool {
     tcmsg_of(request).is_some_and(|header| header.index == MAGIC_BLOCK && blocks.contains_key(&header.parent))
 }
@@ -226,10 +240,10 @@ fn check_blocks<T: Transport, L: Transport>(
     let mut holders: Vec<u32> = used.values().copied().collect();
     holders.sort_unstable();
     holders.dedup();
-    let theirs = requests(&Wanted { text: &world.lines(&holders)?, ..Wanted::default() }).requests;
+    let theirs = requests(&Wanted { text: &as_shared(&world.lines(&holders)?), ..Wanted::default() }).requests;
     let in_blocks =
         |all: &[Vec<u8>]| objects_of(&all.iter().filter(|it| is_in_block(it, &used)).cloned().collect::<Vec<_>>());
-    let found = differences(&in_blocks(wanted), &in_blocks(&theirs), |_, _| false);
+    let found = differences_in_blocks(&in_blocks(wanted), &in_blocks(&theirs));
     if found.is_empty() {
         return Ok(());
     }

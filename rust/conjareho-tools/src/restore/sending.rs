@@ -17,8 +17,8 @@ pub(crate) const PAUSE: Duration = Duration::from_millis(10);
 #[derive(Debug)]
 struct Made {
     request: Vec<u8>,
-    // What the kernel told of it.
-    told: Option<Vec<u8>>,
+    // The kernel's notification of it.
+    notice: Option<Vec<u8>>,
 }
 
 /// Requests that are sent, and what they made.
@@ -48,18 +48,17 @@ impl<'w, 's, T: Transport, L: Transport> Sending<'w, 's, T, L> {
         self.world.check_devices(self.place)
     }
 
-    /// Sends requests, and keeps what they made.
+    /// Sends requests, and keeps what they made. After each it looks for signals and for changes by others, as was done before the first.
     pub(crate) fn send_all(&mut self, requests: &[Vec<u8>]) -> Result<(), Stop> {
         for request in requests {
-            self.look(None)?;
             let answer = self.send(request);
             if !matches!(answer, Err(Stop::Refused { .. })) {
-                self.made.push(Made { request: request.clone(), told: None });
+                self.made.push(Made { request: request.clone(), notice: None });
             }
             answer?;
-            let told = self.look(Some(request))?;
+            let notice = self.look(Some(request))?;
             if let Some(made) = self.made.last_mut() {
-                made.told = told;
+                made.notice = notice;
             }
         }
         Ok(())
@@ -88,7 +87,7 @@ impl<'w, 's, T: Transport, L: Transport> Sending<'w, 's, T, L> {
 
     fn undo(&mut self, made: &Made, before: &[Vec<u8>]) -> Result<(), Stop> {
         if !replaces(&made.request) {
-            return deletions_of(&made.request, made.told.as_deref())
+            return deletions_of(&made.request, made.notice.as_deref())
                 .iter()
                 .try_for_each(|deletion| self.delete(deletion));
         }

@@ -1,41 +1,105 @@
 //! What is left when interfaces are cleared: the actions that not only their filters hold.
 
-use super::file::{Save, read_save};
 use crate::tc_texts::read_handle;
 use ::serde_json::Value;
-use std::collections::BTreeMap;
+use std::collections::{BTreeMap, BTreeSet};
+
+// A count of those who hold an action that isn't one filter's own.
+const SHARED: u32 = 2;
 
 // The kind and the index of an action.
 type Named = (String, u64);
 
-/// The lines of a save, without the actions that only filters of it hold: with these filters they go. The filters are there, since what else they
-/// hold is held by no others. `is_left` says of the number of a block whether other interfaces hold it, so that its filters stay.
-pub(crate) fn staying(save: &str, is_left: impl Fn(u32) -> bool) -> String {
-    let Ok(Save { lines, .. }) = read_save(save.as_bytes()) else { return String::new() };
-    let values: Vec<Value> = lines.iter().filter_map(|(_, line)| ::serde_json::from_str(line).ok()).collect();
-    let held = held_by(&values, is_left);
+/// The lines of a save that say which actions there are and who holds them, each where it is in the save: other lines are blank.
+pub(crate) fn with_actions(save: &str) -> String {
     let mut text = String::new();
-    for mut value in values {
-        let is_of_actions = value["type"] == "RTM_GETACTION" || value["type"] == "RTM_NEWACTION";
-        if !is_of_actions || keep_others(&mut value, &held) {
-            text.push_str(&format!("{value}\n"));
+    for line in save.lines() {
+        if !is_other(line) {
+            text.push_str(line);
         }
+        text.push('\n');
     }
     text
 }
 
+// True for the head, for the end, and for a qdisc, a class or a chain that the codec reads, as tcsave writes them.
+fn is_other(line: &str) -> bool {
+    let begins = |with: &&str| line.starts_with(with);
+    let is_object = ["RTM_NEWQDISC", "RTM_NEWTCLASS", "RTM_NEWCHAIN"]
+        .iter()
+        .any(|name| line.strip_prefix("{\"type\":\"").is_some_and(|rest| rest.starts_with(name)));
+    ["{\"save\":", "{\"end\":"].iter().any(begins) || is_object && line.contains("\"message\":")
+}
+
+/// The lines of `with_actions`, without the actions that only filters of them hold: with these filters they go. The filters are there, since what
+/// else they hold is held by no others. `is_left` says of the number of a block whether other interfaces hold it, so that its filters stay.
+pub(crate) fn staying(lines: &str, is_left: impl Fn(u32) -> bool) -> String {
+    let held = held_by(lines, is_left);
+    let mut text = String::new();
+    for line in lines.lines() {
+        match value_of(line, &["\"RTM_GETACTION\"", "\"RTM_NEWACTION\""]) {
+            Some(mut value) => {
+                if keep_others(&mut value, &held) {
+                    text.push_str(&value.to_string());
+                }
+            }
+            None => text.push_str(line),
+        }
+        text.push('\n');
+    }
+    text
+}
+
+// The value of a line whose type is one of these.
+fn value_of(line: &str, types: &[&str]) -> Option<Value> {
+    let value: Value = types.iter().any(|it| line.contains(it)).then(|| ::serde_json::from_str(line).ok()).flatten()?;
+    let is_one = types.iter().any(|it| value["type"].as_str() == Some(it.trim_matches('"')));
+    is_one.then_some(value)
+}
+
+/// Lines in which each action of a filter is one that others share, so that its request has its number.
+pub(crate) fn as_shared(lines: &str) -> String {
+    let mut text = String::new();
+    for line in lines.lines() {
+        match value_of(line, &["\"RTM_NEWTFILTER\""]) {
+            Some(mut value) => {
+                share(&mut value);
+                text.push_str(&value.to_string());
+            }
+            None => text.push_str(line),
+        }
+        text.push('\n');
+    }
+    text
+}
+
+fn share(value: &mut Value) {
+    match value {
+        Value::Array(items) => items.iter_mut().for_each(share),
+        Value::Object(members) => {
+            let has_counts = members.contains_key("bindcnt") && members.contains_key("refcnt");
+            for (name, value) in members {
+                match name.as_str() {
+                    "bindcnt" | "refcnt" if has_counts => *value = SHARED.into(),
+                    _ => share(value),
+                }
+            }
+        }
+        _ => {}
+    }
+}
+
 // How often filters hold each action. Those of a block are dumped for each of its interfaces, and count once.
-fn held_by(values: &[Value], is_left: impl Fn(u32) -> bool) -> BTreeMap<Named, u64> {
+fn held_by(lines: &str, is_left: impl Fn(u32) -> bool) -> BTreeMap<Named, u64> {
     let mut held = BTreeMap::new();
-    let mut seen: Vec<&Value> = Vec::new();
-    for value in values.iter().filter(|value| value["type"] == "RTM_NEWTFILTER") {
+    let mut seen = BTreeSet::new();
+    for value in lines.lines().filter_map(|line| value_of(line, &["\"RTM_NEWTFILTER\""])) {
         let message = &value["message"];
         if message["header"]["index"] == -1 {
             let block = message["header"]["parent"].as_str().and_then(read_handle);
-            if seen.contains(&message) || block.is_none_or(&is_left) {
+            if block.is_none_or(&is_left) || !seen.insert(message.to_string()) {
                 continue;
             }
-            seen.push(message);
         }
         count(&message["attributes"], &mut held);
     }
@@ -117,7 +181,7 @@ mod tests {
 
     #[test]
     fn what_only_filters_hold_goes_with_them() {
-        // alone; of one filter; of two; of two and by itself; of two and of another interface's
+        // alone; of one filter; of two; of two and standalone; of two and of another interface's
         let all = [action(1, 1, 0), action(2, 1, 1), action(3, 2, 2), action(4, 3, 2), action(5, 3, 3)];
         let both = [action(3, 2, 2), action(4, 3, 2), action(5, 3, 3)];
         let filters = [filter(7, "800::1", &[&both[..], &[action(2, 1, 1)]].concat()), filter(7, "800::2", &both)];
@@ -130,5 +194,15 @@ mod tests {
         let filters = [filter(-1, "800::1", &[action(2, 1, 1)]), filter(-1, "800::1", &[action(2, 1, 1)])];
         assert_eq!(left(&[action(2, 1, 1)], &filters, false), [0; 0]);
         assert_eq!(left(&[action(2, 1, 1)], &filters, true), [2]);
+    }
+
+    #[test]
+    fn lines_are_where_they_are_in_the_save() {
+        let class = r#"{"type":"RTM_NEWTCLASS","message":{"header":{}}}"#;
+        let refused = r#"{"type":"RTM_NEWTCLASS","refused":"a broken frame"}"#;
+        let filter = filter(7, "800::1", &[]);
+        let save = format!("{{\"save\":1}}\n{class}\n{refused}\n{class}\n{filter}\n{{\"end\":4}}\n");
+        assert_eq!(with_actions(&save), format!("\n\n{refused}\n\n{filter}\n\n"));
+        assert_eq!(staying(&with_actions(&save), |_| false), with_actions(&save));
     }
 }

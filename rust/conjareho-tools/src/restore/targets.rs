@@ -43,7 +43,7 @@ fn by_name(head: &Head, arguments: &Arguments, devices: &Devices) -> Result<Targ
     let mut map: BTreeMap<&str, &str> = arguments.map.iter().map(|(old, new)| (old.as_str(), new.as_str())).collect();
     match (&arguments.dev, head.devs.as_slice()) {
         (Some(dev), [one]) => drop(map.insert(&one.name, dev)),
-        (Some(_), all) => faults.push(format!("--dev wants a save of one interface, and it has {}", all.len())),
+        (Some(_), all) => faults.push(format!("--dev requires a save of one interface, and it has {}", all.len())),
         (None, _) => {}
     }
     let named: BTreeSet<&str> = head.names.values().map(String::as_str).collect();
@@ -141,7 +141,7 @@ fn listed(devices: &[Device]) -> String {
 
 // The interfaces of the lines.
 fn indices_of(save: &Save) -> BTreeSet<u32> {
-    let values = save.lines.iter().filter_map(|(_, line)| ::serde_json::from_str::<Value>(line).ok());
+    let values = save.lines().filter_map(|line| ::serde_json::from_str::<Value>(line).ok());
     let indices = values.filter_map(|value| {
         let message = value.get("message").unwrap_or(&value);
         message["header"]["index"].as_u64()

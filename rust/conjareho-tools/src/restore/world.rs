@@ -99,9 +99,7 @@ impl<'s, T: Transport, L: Transport> World<'s, T, L> {
 
     /// The lines of what interfaces have, without a head.
     pub(crate) fn lines(&mut self, interfaces: &[u32]) -> Result<String, Fault> {
-        let mut lines = lines_of(&self.dump(interfaces)?.messages)?.lines;
-        lines.push(String::new());
-        Ok(lines.join("\n"))
+        Ok(lines_of(&self.dump(interfaces)?.messages)?.text)
     }
 
     /// The qdiscs of all interfaces.
@@ -123,7 +121,7 @@ impl<'s, T: Transport, L: Transport> World<'s, T, L> {
         }
     }
 
-    /// What the kernel told of a request of ours since the last look. The error is that another program changed something.
+    /// The notification of a request of ours since the last look. The error is that another program changed something.
     pub(crate) fn look(&mut self, place: &Place, request: Option<&[u8]>) -> Result<Option<Vec<u8>>, Stop> {
         let heard = self.watch.heard()?;
         if heard.lost {
@@ -137,8 +135,8 @@ impl<'s, T: Transport, L: Transport> World<'s, T, L> {
             return Err(Stop::Other { port: notice.port, what: what_of(&notice.message) });
         }
         let wanted = request.map(type_of);
-        let told = heard.notices.into_iter().find(|notice| notice.port == ours && Some(notice.kind) == wanted);
-        Ok(told.map(|notice| notice.message))
+        let notice = heard.notices.into_iter().find(|notice| notice.port == ours && Some(notice.kind) == wanted);
+        Ok(notice.map(|notice| notice.message))
     }
 
     /// An error if an interface has another name, index or address than it had.
@@ -164,11 +162,12 @@ impl<'s, T: Transport, L: Transport> World<'s, T, L> {
     }
 }
 
-/// The save of a dump of these interfaces.
-pub(crate) fn text_of(dump: &Dump, interfaces: &[u32]) -> Result<String, Fault> {
+/// The save of a dump of these interfaces, and whether the codec refuses a message of it.
+pub(crate) fn text_of(dump: &Dump, interfaces: &[u32]) -> Result<(String, bool), Fault> {
     let devices: Vec<&Device> = interfaces.iter().filter_map(|index| dump.devices.at(*index)).collect();
     let shown = lines_of(&dump.messages)?;
-    save_of(&devices, &dump.devices, &shown.lines).map_err(|_| Fault::Broken("a message that isn't shown as JSON"))
+    let text = save_of(&devices, &dump.devices, &shown.text);
+    Ok((text.map_err(|_| Fault::Broken("a message that isn't shown as JSON"))?, shown.has_refused))
 }
 
 /// What a request or a notification is about.

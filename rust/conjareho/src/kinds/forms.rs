@@ -153,7 +153,7 @@ leaf! { Ipv4Addr, Ipv4Addr, Some(4), bytes => <[u8; 4]>::try_from(bytes).ok()?.i
 leaf! { Ipv6Addr, Ipv6Addr, Some(16), bytes => <[u8; 16]>::try_from(bytes).ok()?.into(), (out, it) => out.put(&it.octets()), Ipv6Addr::UNSPECIFIED }
 
 fn utf8(bytes: &[u8]) -> Option<String> {
-    str::from_utf8(bytes).ok().map(String::from)
+    core::str::from_utf8(bytes).ok().map(String::from)
 }
 
 /// The text of a kind: UTF-8 and a NUL, which may be missing where it is read.

@@ -2,7 +2,7 @@
 //!
 //! [`Message`] and [`ActionMessage`] are whole messages. Each file of the tables has a module, such as [`qdiscs::htb`], with a struct
 //! for each record, an enum for each list of attributes, each named number and each choice, and a set of flags for each flag word.
-//! [`Options`], [`ActionOptions`] and [`Statistics`] are enums by kind. Names are the kernel's in Rust's case, and the search finds
+//! [`Options`], [`ActionOptions`] and [`Statistics`] are enums by kind, and [`table`] lists all kinds with their types. Names are the kernel's in Rust's case, and the search finds
 //! the kernel's own, such as `TCA_HTB_RATE64`.
 //!
 //! A generator (`rust/kinds`) writes this module from the tables in `kinds/`. It is tested, and not proved: `rust/check` compares
@@ -17,11 +17,12 @@ mod json;
 mod no_json;
 #[macro_use]
 mod macros;
+mod builders;
 mod forms;
 mod list;
-mod rates;
 #[cfg(feature = "serde")]
 mod serde;
+mod units;
 mod values;
 mod whole;
 mod wire;
@@ -29,15 +30,19 @@ mod wire;
 use crate::bitflags::{Flag, Flags};
 use alloc::string::String;
 use alloc::vec::Vec;
+pub use builders::{HtbClass, PoliceAction, Sizes, Tbf, police};
 use core::net::{Ipv4Addr, Ipv6Addr};
 use forms::{Array, Bare, Be, Code, Coded, Each, Empty, Fixed, Kind, List, Pad, Text, Times, Truth};
 pub use list::{Attrs, Indexed};
-pub use rates::{HtbClass, NotARate, Rate, police};
+pub use units::{NotAProb, NotARate, NotATime, Rate};
 use values::show_flags;
-pub use values::{Bytes, Handle, Mac, Nla, NotAHandle, Prob, Ticks};
+pub use values::{Bytes, Handle, Mac, Nla, NotAHandle, NotAMac, NotHex, Prob, Ticks};
 use wire::{Attr, Form, Found, Kinds, NLA_TYPE_MASK, Out, Place, chosen, field, total, within};
 
 #[cfg(kinds_json)]
 use json::{Json, JsonAttr, JsonCode, Seen, hex, object, of_kind, raw, with_rest};
+
+#[doc = include_str!(concat!(env!("OUT_DIR"), "/kinds.md"))]
+pub mod table {}
 
 include!(concat!(env!("OUT_DIR"), "/kinds.rs"));

@@ -1,5 +1,6 @@
 //! Types of single values.
 
+use super::units::not_a;
 use super::wire::Out;
 use crate::tc::TcHandle;
 use alloc::vec::Vec;
@@ -67,17 +68,9 @@ impl fmt::Debug for Handle {
     }
 }
 
-/// The error of a text that isn't a handle.
-#[derive(Clone, Copy, PartialEq, Eq, Debug)]
-pub struct NotAHandle;
-
-impl fmt::Display for NotAHandle {
-    fn fmt(&self, f: &mut fmt::Formatter<'_>) -> fmt::Result {
-        f.write_str("not a handle, such as 1:10 or root")
-    }
-}
-
-impl core::error::Error for NotAHandle {}
+not_a! { NotAHandle, "a handle, such as 1:10 or root" }
+not_a! { NotAMac, "a MAC address, such as 02:00:00:00:00:01" }
+not_a! { NotHex, "bytes in hex" }
 
 impl FromStr for Handle {
     type Err = NotAHandle;
@@ -129,6 +122,24 @@ impl fmt::Debug for Mac {
     }
 }
 
+impl FromStr for Mac {
+    type Err = NotAMac;
+
+    /// Reads six bytes in hex with colons between them.
+    fn from_str(text: &str) -> Result<Self, NotAMac> {
+        let octet = |text: &str| octet_of(text.as_bytes()).ok_or(NotAMac);
+        let octets = text.split(':').map(octet).collect::<Result<Vec<u8>, NotAMac>>()?;
+        octets.try_into().map(Mac).map_err(|_| NotAMac)
+    }
+}
+
+/// The byte of two hex digits.
+fn octet_of(digits: &[u8]) -> Option<u8> {
+    let [high, low] = digits else { return None };
+    let digit = |digit: u8| char::from(digit).to_digit(16).map(|digit| digit as u8);
+    Some(digit(*high)? << 4 | digit(*low)?)
+}
+
 /// Bytes without a table. `{:?}` prints them as hex.
 #[derive(Clone, PartialEq, Eq, Hash, PartialOrd, Ord, Default)]
 pub struct Bytes(pub Vec<u8>);
@@ -153,9 +164,25 @@ impl From<&[u8]> for Bytes {
     }
 }
 
-impl fmt::Debug for Bytes {
+impl fmt::Display for Bytes {
     fn fmt(&self, f: &mut fmt::Formatter<'_>) -> fmt::Result {
         self.iter().try_for_each(|byte| write!(f, "{byte:02x}"))
+    }
+}
+
+impl fmt::Debug for Bytes {
+    fn fmt(&self, f: &mut fmt::Formatter<'_>) -> fmt::Result {
+        fmt::Display::fmt(self, f)
+    }
+}
+
+impl FromStr for Bytes {
+    type Err = NotHex;
+
+    /// Reads two hex digits a byte.
+    fn from_str(text: &str) -> Result<Self, NotHex> {
+        let octets = text.as_bytes().chunks(2).map(octet_of);
+        octets.collect::<Option<_>>().map(Bytes).ok_or(NotHex)
     }
 }
 

@@ -5,6 +5,8 @@ use super::message::TcAttr;
 use super::statistics::StatsAttr;
 use super::wire::{DEEPEST, Form, Out, Place, within};
 use super::{ActionMessage, ActionOptions, Attrs, Handle, Indexed, Message, Options, Statistics};
+use crate::capture::NLMSG_HEADER_LEN;
+use crate::requests::{Object, Verb};
 use crate::tc::{TcActionMessage, TcMessage};
 use crate::{DecodeError, ParseableBytes, RewriteError};
 use alloc::vec::Vec;
@@ -64,6 +66,13 @@ impl Message {
         self
     }
 
+    /// Appends an attribute, such as `TcAttr::Chain(7)`.
+    #[must_use]
+    pub fn with(mut self, attribute: TcAttr) -> Self {
+        self.attributes.push(attribute);
+        self
+    }
+
     /// Appends a kind.
     #[must_use]
     pub fn with_kind(mut self, kind: &str) -> Self {
@@ -84,6 +93,23 @@ impl Message {
         let options = options.into();
         self.with_kind(options.kind().unwrap_or("")).with_options(options)
     }
+
+    /// The bytes of a request for an object, netlink header first, with the type and the flags that iproute2 sends.
+    ///
+    /// # Errors
+    ///
+    /// Those of [`to_bytes`](Self::to_bytes), and `DoesNotFit` if there are 4 GiB or more.
+    pub fn request(&self, object: Object, verb: Verb, sequence: u32) -> Result<Vec<u8>, RewriteError> {
+        request_of(verb.message_type(object), verb.flags(object), sequence, self.to_bytes()?)
+    }
+}
+
+/// A netlink header and a payload.
+fn request_of(kind: u16, flags: u16, sequence: u32, payload: Vec<u8>) -> Result<Vec<u8>, RewriteError> {
+    let len = u32::try_from(payload.len() + NLMSG_HEADER_LEN).map_err(|_| RewriteError::DoesNotFit)?;
+    let words = [u32::from(kind) | u32::from(flags) << 16, sequence, 0];
+    let header = [len].into_iter().chain(words).flat_map(u32::to_le_bytes);
+    Ok(header.chain(payload).collect())
 }
 
 impl<const N: usize> From<[ActionOptions; N]> for Indexed<Attrs<ActionAttr>> {
@@ -98,6 +124,23 @@ impl ActionMessage {
     /// The actions: the last `TCA_ACT_TAB`.
     pub fn actions(&self) -> Option<&Indexed<Attrs<ActionAttr>>> {
         self.attributes.actions()
+    }
+
+    /// A message with these actions.
+    #[must_use]
+    pub fn of(actions: impl Into<Indexed<Attrs<ActionAttr>>>) -> Self {
+        let mut message = ActionMessage::default();
+        message.attributes = message.attributes.with_actions(actions);
+        message
+    }
+
+    /// The bytes of a request, netlink header first, with the type and the flags that iproute2 sends.
+    ///
+    /// # Errors
+    ///
+    /// Those of [`to_bytes`](Self::to_bytes), and `DoesNotFit` if there are 4 GiB or more.
+    pub fn request(&self, verb: Verb, sequence: u32) -> Result<Vec<u8>, RewriteError> {
+        request_of(verb.action_type(), verb.action_flags(), sequence, self.to_bytes()?)
     }
 }
 

@@ -3,7 +3,7 @@
 use alloc::boxed::Box;
 use alloc::vec::Vec;
 
-/// The levels of forms that are read. Deeper attributes are kept as bytes, as `tc_forms` does.
+/// The levels of forms that are read. Deeper attributes are kept as bytes, as `forms_json` does.
 pub const DEEPEST: u8 = 16;
 /// The part of `nla_type` that is the type, without flags.
 pub const NLA_TYPE_MASK: u16 = crate::NLA_TYPE_MASK;
@@ -186,7 +186,7 @@ pub fn chosen<'b>(bytes: &'b [u8], start: &[u8], len: Option<usize>) -> Option<&
 
 /// The text of a kind, without the NUL at its end.
 pub fn kind_text(payload: &[u8]) -> Option<&str> {
-    str::from_utf8(payload.strip_suffix(&[0]).unwrap_or(payload)).ok()
+    core::str::from_utf8(payload.strip_suffix(&[0]).unwrap_or(payload)).ok()
 }
 
 /// The first kind of a list.

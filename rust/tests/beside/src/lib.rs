@@ -1,9 +1,9 @@
 //! The calls of the proved library, and the same of the erased codec, by one name each.
 
 use conjareho::tc::{
-    RewriteError, TcActionMessage, TcMessage, is_canonical_action, is_canonical_tc, settle_action, settle_tc,
+    TcActionMessage, TcMessage, is_canonical_action, is_canonical_tc, settle_action, settle_tc,
 };
-use conjareho::{DecodeError, Emitable, ParseableBytes};
+use conjareho::{DecodeError, Emitable, ParseableBytes, RewriteError};
 use std::hint::black_box;
 
 /// `struct vtc_verdict`.

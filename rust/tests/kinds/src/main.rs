@@ -8,7 +8,7 @@
 mod changes;
 
 use changes::{Numbers, changed};
-use conjareho::capture::{Capture, Contents, Holds, Messages, rtm_of};
+use conjareho::capture::{Capture, Contents, MessageType, Messages, rtm_of};
 use conjareho::kinds;
 use std::process::ExitCode;
 
@@ -23,7 +23,7 @@ fn bytes_of(hex: &str) -> Option<Vec<u8>> {
 /// The messages of traffic control in a stream.
 fn in_stream(stream: &[u8]) -> Vec<Message> {
     let found = Messages::new(stream).map_while(Result::ok);
-    found.filter_map(|it| Some((matches!(rtm_of(it.kind)?.holds, Holds::Action), it.payload.to_vec()))).collect()
+    found.filter_map(|it| Some((matches!(rtm_of(it.kind)?.holds, MessageType::Action), it.payload.to_vec()))).collect()
 }
 
 fn in_capture(mut capture: Capture, bytes: &[u8]) -> Vec<Message> {

@@ -2,8 +2,8 @@
 //! first allocation, then the second, until none is left to refuse. Each time the call has to return `OutOfMemory`, and all
 //! memory has to be free again.
 
-use conjareho::tc::{self, RewriteError, TcActionMessage, TcMessage};
-use conjareho::{DecodeError, Netlink, NetlinkError, ParseableBytes, requests};
+use conjareho::tc::{self, TcActionMessage, TcMessage};
+use conjareho::{DecodeError, Netlink, NetlinkError, ParseableBytes, RewriteError, requests};
 use std::alloc::{GlobalAlloc, Layout, System};
 use std::cell::Cell;
 

@@ -1,7 +1,7 @@
 use Rattle.std.proofs.Common.{◌≤◌, length, arith, subst}
 use Rattle.std.proofs.lemmas.List.{take_all}
 use Rattle.nla_frames.specs.Place.{kinds_set}
-use Rattle.nla_frames.specs.OnlyKind.{Tells}
+use Rattle.nla_frames.specs.OnlyKind.{Summarizes}
 use Rattle.nla_frames.proofs.ListWriting.{IsAt}
 use Rattle.nla_frames.proofs.OwnKinds.{tells_next}
 use Rattle.nla_frames.proofs.only_kind.only_kind_set.Goals as goal
@@ -15,4 +15,4 @@ loop-item-preserved g c =
 pub returns : goal.returns
 returns g c =
     let past : length c.args.items.now ≤ c.loop-item.item-index = omega arith in
-    subst (λ items. Tells c.loop-item.only (kinds_set g.T.SetsKind.sets items)) (take_all c.loop-item.item-index c.args.items.now past) c.loop-item.invariant
+    subst (λ items. Summarizes c.loop-item.only (kinds_set g.T.SetsKind.sets items)) (take_all c.loop-item.item-index c.args.items.now past) c.loop-item.invariant

@@ -1,4 +1,4 @@
-//! Reading one block.
+//! Reading a block.
 
 ghost use Rattle.std.specs.Prelude.{◌≡◌, ◌+◌, ◌-◌, ◌≤◌, length, IfOk};
 ghost use Rattle.tc_capture.specs.Outcome.{seen};
@@ -15,7 +15,7 @@ pub(crate) const SECTION: u32 = 0x0a0d_0d0a;
 // The byte order magic of a section.
 const ORDER_MAGIC: u32 = 0x1a2b_3c4d;
 
-// How long a block without a body is, in bytes.
+// The length of a block without a body in bytes.
 const EMPTY_BLOCK_LEN: usize = 12;
 
 // The block at the front, in a section of this order.

@@ -3,4 +3,4 @@ use Rattle.tc_meaning.proofs.Fields.{length-fields_bytes}
 use Rattle.tc_fields.proofs.record.record_len.Goals as goal
 
 pub returns : goal.returns
-returns g c = ap Some (sym (length-fields_bytes _ _ c.held.ensures.typed ∙ g.met.R.FixedRecord.whole))
+returns g c = ap Some (sym (length-fields_bytes _ _ c.ref_in_range.ensures.typed ∙ g.met.R.FixedRecord.whole))

@@ -1,14 +1,14 @@
-//! The options of flower: which packets the filter matches, and the actions on them.
+//! The options of flower: matches on packets, and actions.
 
 ghost use Rattle.tc_canon.specs.Tables.Flower.{flower_options};
 ghost use Rattle.tc_values.specs.AttributeWords.{on, table, Attribute, table_codec, table_short, same_attribute, attribute_equiv, attribute_per};
 ghost use Rattle.tc_flower.specs.Flower.{flower_option};
 
+use crate::filters::flower::mpls::TcFilterFlowerMplsOption;
 use nla_frames::{DefaultNla, FrameMeaning, Nla, Settle};
 use std::alloc::{Allocator, Global};
 use std::net::{Ipv4Addr, Ipv6Addr};
 use tc_actions::TcAction;
-use tc_mpls::TcFilterFlowerMplsOption;
 use tc_values::same_row;
 
 mod copy;
@@ -22,7 +22,7 @@ mod row;
 pub struct TcFilterFlower {}
 
 impl TcFilterFlower {
-    /// Its name in a `Kind`.
+    /// The name in `TCA_KIND`.
     pub const KIND: &'static str = "flower";
 }
 

@@ -1,5 +1,5 @@
 use Rattle.std.proofs.Common.{length, ◌-◌}
-use Rattle.tc_index.specs.Seen.{left_in}
+use Rattle.tc_index.specs.Views.{left_in}
 use Rattle.tc_index.proofs.Putting.{Putting}
 use Rattle.tc_index.proofs.index.+put_list.Given as goal
 

@@ -1,11 +1,11 @@
 use Rattle.std.proofs.Common.{List, length, ap, sym, arith}
 use Rattle.tc_index.specs.Tables.{table_of}
 use Rattle.tc_index.specs.Attributes.{Item}
-use Rattle.tc_index.specs.Seen.{left_in, sets_if}
+use Rattle.tc_index.specs.Views.{left_in, sets_if}
 use Rattle.tc_index.specs.Nodes.{nodes_of}
 use Rattle.tc_index.proofs.Counting.{message-count, nodes-to_fault, no-items}
 use Rattle.tc_index.proofs.Filling.{fills-none}
-use Rattle.tc_index.proofs.Putting.{put-count, put-slots, put-behind}
+use Rattle.tc_index.proofs.Putting.{put-count, put-slots, put-after}
 use Rattle.tc_index.proofs.index.fill.Goals as goal
 
 pub put_list-requires : goal.put_list-requires
@@ -25,8 +25,8 @@ returns-then-header-bytes-clause-count g c = put-count g.S.Slot.seen _ _ _ _ _ _
 pub returns-then-header-bytes-clause-slots : goal.returns-then-header-bytes-clause-slots
 returns-then-header-bytes-clause-slots g c = put-slots g.S.Slot.seen _ _ _ _ _ _ c.put_list.ensures (ap nodes_of c.of_message-level.ensures)
 
-pub returns-then-header-bytes-clause-behind : goal.returns-then-header-bytes-clause-behind
-returns-then-header-bytes-clause-behind g c = put-behind g.S.Slot.seen _ _ _ _ _ _ c.put_list.ensures (ap nodes_of c.of_message-level.ensures)
+pub returns-then-header-bytes-clause-after : goal.returns-then-header-bytes-clause-after
+returns-then-header-bytes-clause-after g c = put-after g.S.Slot.seen _ _ _ _ _ _ c.put_list.ensures (ap nodes_of c.of_message-level.ensures)
 
 pub returns-else-header-bytes-clause-count : goal.returns-else-header-bytes-clause-count
 returns-else-header-bytes-clause-count g c =

@@ -2,7 +2,7 @@ use Rattle.std.proofs.Common.{◌≡◌, length}
 use Rattle.tc_lines.specs.Columns.{columns_view, find}
 use Rattle.tc_lines.proofs.walk.find.Given as goal
 
--- what is found in what is left is found in all
+-- the column found in the rest is the column found in all
 
 abbrev pub invariant-fours : goal.invariant-fours
 invariant-fours l = find (columns_view l.columns) l.key ≡ find (columns_view l.left) l.key

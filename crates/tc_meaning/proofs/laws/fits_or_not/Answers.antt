@@ -1,10 +1,10 @@
 use Rattle.tc_canon.specs.Layouts.{tc_header, action_message_header}
 use Rattle.tc_canon.specs.Tables.Messages.{attributes, action_message_attributes}
-use Rattle.tc_meaning.proofs.FitTests.{told_fits}
+use Rattle.tc_meaning.proofs.FitTests.{decidable_fits}
 use Rattle.tc_meaning.proofs.laws.fits_or_not.Goals as goal
 
 pub returns-clause-tc : goal.returns-clause-tc
-returns-clause-tc c = told_fits tc_header attributes
+returns-clause-tc c = decidable_fits tc_header attributes
 
 pub returns-clause-action : goal.returns-clause-action
-returns-clause-action c = told_fits action_message_header action_message_attributes
+returns-clause-action c = decidable_fits action_message_header action_message_attributes

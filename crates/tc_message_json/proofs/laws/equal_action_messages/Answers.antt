@@ -1,4 +1,4 @@
-use Rattle.tc_kinds.specs.Table.{tc_tables, action_message}
+use Rattle.forms_kinds.specs.Table.{tc_tables, action_message}
 use Rattle.tc_meaning.specs.Whole.{act_bytes}
 use Rattle.tc_meaning.proofs.MessageTheorems.{act_laws}
 use Rattle.tc_action_messages.specs.ActionMessage.{action_message as seen}

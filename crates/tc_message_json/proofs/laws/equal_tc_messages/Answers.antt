@@ -1,4 +1,4 @@
-use Rattle.tc_kinds.specs.Table.{tc_tables, tc_message}
+use Rattle.forms_kinds.specs.Table.{tc_tables, tc_message}
 use Rattle.tc_meaning.specs.Whole.{tc_bytes}
 use Rattle.tc_meaning.proofs.MessageTheorems.{tc_laws}
 use Rattle.tc_messages.specs.Message.{tc_message as seen}

@@ -1,4 +1,4 @@
-use Rattle.tc_meaning.specs.Equal.{message_tells}
+use Rattle.tc_meaning.specs.Equal.{message_decides}
 use Rattle.tc_messages.specs.Message.{tc_message}
 use Rattle.tc_messages.proofs.laws.equal_bytes.Goals as goal
 
@@ -8,6 +8,6 @@ returns g c fits settled fits' settled' =
     let other = c.args.other.now in
     let typed = c.is_settled.ensures.typed (c.is_settled.ensures.settled.1 settled) in
     let typed' = c.is_settled-2.ensures.typed (c.is_settled-2.ensures.settled.1 settled') in
-    let seen = message_tells (tc_message one) (tc_message other) in
+    let seen = message_decides (tc_message one) (tc_message other) in
     let bytes = c.same_bytes.ensures.tc (tc_message one) (tc_message other) typed fits settled typed' fits' settled' in
     (λ e. bytes.0 (seen.0 e), λ e. seen.1 (bytes.1 e))

@@ -5,7 +5,7 @@ use Rattle.tc_canon.specs.Tables.Messages.{attributes}
 use Rattle.tc_meaning.specs.Message.{kind_of_frame}
 use Rattle.tc_meaning.proofs.MessageReading.{message_read, message_refused}
 use Rattle.tc_records.specs.Header.{header_scalars}
-use Rattle.tc_attributes.specs.Attribute.{tc_attribute}
+use Rattle.tc_messages.specs.Attribute.{tc_attribute}
 use Rattle.tc_messages.proofs.message.read.Goals as goal
 
 pub returns-in_err-attributes : goal.returns-in_err-attributes

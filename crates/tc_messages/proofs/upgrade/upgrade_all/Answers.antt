@@ -1,5 +1,5 @@
 use Rattle.std.proofs.Common.{map, arith}
-use Rattle.tc_attributes.specs.Attribute.{tc_attribute}
+use Rattle.tc_messages.specs.Attribute.{tc_attribute}
 use Rattle.tc_messages.proofs.Upgrades.{goes_on}
 use Rattle.tc_messages.proofs.upgrade.upgrade_all.Goals as goal
 

@@ -1,5 +1,5 @@
 use Rattle.std.proofs.Common.{map}
-use Rattle.tc_attributes.specs.Attribute.{tc_attribute}
+use Rattle.tc_messages.specs.Attribute.{tc_attribute}
 use Rattle.tc_messages.proofs.Upgrades.{UpgradedSoFar}
 use Rattle.tc_messages.proofs.upgrade.upgrade_all.Given as goal
 

@@ -1,6 +1,6 @@
 use Rattle.std.proofs.Common.{map, sym, subst, Bool}
 use Rattle.tc_options.specs.Options.{tc_option}
-use Rattle.tc_attributes.specs.Attribute.{tc_attribute}
+use Rattle.tc_messages.specs.Attribute.{tc_attribute}
 use Rattle.tc_messages.specs.Upgrade.{UpgradesAs, options_of}
 use Rattle.tc_messages.proofs.Upgrades.{stays_if_known}
 use Rattle.tc_messages.proofs.upgrade.upgraded.Goals as goal

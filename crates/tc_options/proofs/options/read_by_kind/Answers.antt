@@ -39,8 +39,8 @@ returns-then-eq-6 g c =
 
 pub returns : goal.returns
 returns g c =
-    let told =
+    let unknown =
     not_known c.args.kind.now (sym c.eq.ensures ∙ c.if-eq.false) (sym c.eq-2.ensures ∙ c.if-eq-2.false) (sym c.eq-3.ensures ∙ c.if-eq-3.false)
     (sym c.eq-4.ensures ∙ c.if-eq-4.false) (sym c.eq-5.ensures ∙ c.if-eq-5.false) (sym c.eq-6.ensures ∙ c.if-eq-6.false)
     in
-    rw (c.in_ok-push.ensures.items, c.new-options.ensures.items) (by_frame c.args.kind.now (frame_of c.args.buf.now) _ told c.in_ok-parse.ensures)
+    rw (c.in_ok-push.ensures.items, c.new-options.ensures.items) (by_frame c.args.kind.now (frame_of c.args.buf.now) _ unknown c.in_ok-parse.ensures)

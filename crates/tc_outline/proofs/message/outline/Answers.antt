@@ -1,5 +1,5 @@
 use Rattle.std.proofs.Common.{◌∙◌, ◌++◌, [], ap, refl, sym, append-nil}
-use Rattle.tc_outline.specs.Outline.{given_by, shown_lines}
+use Rattle.tc_outline.specs.Outline.{options_of, shown_lines}
 use Rattle.tc_outline.specs.Page.{shown}
 use Rattle.tc_outline.specs.Text.{has_lines, text_on}
 use Rattle.tc_outline.proofs.message.outline.Goals as goal
@@ -10,7 +10,7 @@ returns-clause-text g c on_lines =
     let before = text_on c.args.page.now in
     let still = c.lines.ensures.form on_lines in
     let lines = c.in_ok-lines-in-Ok.ensures.text on_lines ∙ ap (λ t. before ++ shown t) (c.deref.ensures.value ∙ c.in-Ok.ensures)
-    ∙ ap (λ form. before ++ shown_lines (given_by c.args.columns) form c.args.bytes.now) c.form_of.ensures in
+    ∙ ap (λ form. before ++ shown_lines (options_of c.args.columns) form c.args.bytes.now) c.form_of.ensures in
     elim c.match-fault.branch [
       | in-Some+in_ok-line_of+in_ok-lines w ↦ (
         shown w.bytes.result.now,

@@ -1,5 +1,5 @@
 use Rattle.std.proofs.Common.{◌≡◌}
-use Rattle.tc_index.specs.Seen.{items_left}
+use Rattle.tc_index.specs.Views.{items_left}
 use Rattle.tc_outline.specs.Located.{first_fault}
 use Rattle.tc_outline.proofs.reader.first_fault.Given as goal
 

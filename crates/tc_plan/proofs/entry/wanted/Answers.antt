@@ -12,7 +12,7 @@ use Rattle.tc_plan.proofs.entry.wanted.Goals as goal
 -- what a filter wants, by its parents
 wanted_by : {A : Type 0} (ingress : List ℤ) (m : TcMessage A) (object : Object) (keys : List Key) → object ≡ Filter
     → keys ≡ parents m.header.index (handle_number m.header.parent)
-    → ((keys ++ Actions ∷ chain_of ingress m ∷ []) ++ in_table ingress m) ++ flat_map (links_in ingress m.header) m.attributes.items
+    → ((keys ++ Actions ∷ chain_of ingress m ∷ []) ++ in_table m) ++ flat_map (links_in m.header) m.attributes.items
     ≡ wants ingress object m
 wanted_by ingress m object keys filter given = rw (filter, given) refl
 

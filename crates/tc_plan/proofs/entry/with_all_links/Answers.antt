@@ -13,5 +13,5 @@ loop-attribute-preserved g c =
     let more : take (i + 1) xs ≡ take i xs ++ x ∷ [] =
     subst (λ y. take (i + 1) xs ≡ take i xs ++ y ∷ []) (sym c.attribute-item.is) (take_more xs i x c.loop-attribute-test.true) in
     let old = c.loop-attribute.made.items in
-    given_more (links_in c.args.ingress.now c.args.header.now) c.args.keys.items old c.in_ok-made.made.items xs i x more
-    (c.in_ok-made.ensures ∙ ap (λ l. old ++ flat_map (link_of c.args.ingress.now c.args.header.now) l) c.options_of.ensures) c.loop-attribute.invariant
+    given_more (links_in c.args.header.now) c.args.keys.items old c.in_ok-made.made.items xs i x more
+    (c.in_ok-made.ensures ∙ ap (λ l. old ++ flat_map (link_of c.args.header.now) l) c.options_of.ensures) c.loop-attribute.invariant

@@ -1,5 +1,5 @@
 use Rattle.std.proofs.Common.{rules, ◌≡◌, map, subst}
-use Rattle.tc_action_options.specs.ActionOption.{action_option}
+use Rattle.tc_actions.specs.ActionOption.{action_option}
 use Rattle.tc_requests.specs.Restoring.{Gives, seen, each, behind}
 use Rattle.tc_requests.specs.RestoredActions.{rate_tables, dumped_types, option_restored}
 use Rattle.tc_requests.proofs.restore_actions.restored_options.Goals as goal

@@ -1,6 +1,6 @@
 use Rattle.std.proofs.Common.{map, length, refl, ap, arith}
 use Rattle.std.proofs.lemmas.Grind.{common_steps}
-use Rattle.tc_attributes.specs.Attribute.{tc_attribute}
+use Rattle.tc_messages.specs.Attribute.{tc_attribute}
 use Rattle.tc_requests.proofs.Steps.{some_is}
 use Rattle.tc_requests.proofs.restore_messages.restored_message.Goals as goal
 

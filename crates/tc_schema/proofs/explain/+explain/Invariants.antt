@@ -1,5 +1,5 @@
 use Rattle.std.proofs.Common.{length, ◌*◌, ◌+◌, ◌++◌, ◌-◌, ◌≡◌}
-use Rattle.tc_form_values.specs.Tables.{part_view}
+use Rattle.forms_values.specs.Tables.{part_view}
 use Rattle.tc_schema.specs.Explained.{explained, members_text}
 use Rattle.tc_schema.specs.Texts.{deepest, members_of}
 use Rattle.tc_schema.proofs.explain.+explain.Given as goal
@@ -13,7 +13,7 @@ decreases-explain_members g l = 2 * l.at.now.depth + 1
 abbrev pub decreases-explain_members-loop-member : goal.decreases-explain_members-loop-member
 decreases-explain_members-loop-member g l = length (members_of (part_view l.left))
 
--- what is to be appended from here is what was to be appended from the start
+-- the text so far and the text of the remaining members are the whole text
 abbrev pub invariant-explain_members-loop-member : goal.invariant-explain_members-loop-member
 invariant-explain_members-loop-member g l =
     let Inner = explained (g.T.Tables.parts_of l.at.table) l.at.notes.now l.at.depth in

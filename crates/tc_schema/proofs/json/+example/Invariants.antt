@@ -1,12 +1,12 @@
 use Rattle.std.proofs.Common.{length, ◌*◌, ◌+◌, ◌++◌, ◌≡◌, ℕ}
-use Rattle.tc_form_values.specs.Tables.{part_view}
+use Rattle.forms_values.specs.Tables.{part_view}
 use Rattle.tc_schema.specs.Json.{each_text, is_left_out, member_text}
 use Rattle.tc_schema.specs.Texts.{members_of}
 use Rattle.tc_schema.specs.declared.json.Each.{Each}
 use Rattle.tc_schema.specs.declared.json.Each.TheVariants as each
 use Rattle.tc_schema.proofs.json.+example.Given as goal
 
--- how deep an example of a member goes
+-- the depth limit of a member's example
 abbrev pub depth_of : Each → ℕ
 depth_of (each.Example n) = n
 depth_of how = 0
@@ -32,7 +32,7 @@ decreases-put_member g l = 5 * depth_of l.each + 1
 abbrev pub decreases-put_each-loop-member : goal.decreases-put_each-loop-member
 decreases-put_each-loop-member g l = length (members_of (part_view l.left))
 
--- what is to be appended from here is what was to be appended from the start
+-- the text so far and the text of the remaining members are the whole text
 abbrev pub invariant-put_each-loop-member : goal.invariant-put_each-loop-member
 invariant-put_each-loop-member g l =
     let text = each_text (is_left_out l.each) (member_text (g.T.Tables.parts_of l.table) l.each) in

@@ -8,9 +8,9 @@ returns-in_ok-text-in-Ok g c = inl (record {
   settled = c.is_settled-settled.result;
   canonical = c.is_canonical-canonical.result;
   reads = c.in-Ok.ensures.found;
-  tells_fits = c.is_writable-fits.ensures;
-  tells_settled = c.is_settled-settled.ensures.settled;
-  tells_canonical = c.is_canonical-canonical.ensures;
+  fits_iff = c.is_writable-fits.ensures;
+  settled_iff = c.is_settled-settled.ensures.settled;
+  canonical_iff = c.is_canonical-canonical.ensures;
   is = rw c.in_ok-text-in-Ok.ensures refl;
 })
 

@@ -1,5 +1,6 @@
 use Rattle.std.proofs.Common.{◌+◌, ◌-◌, ◌≤◌, length}
 use Rattle.std.specs.Io.KnownBytes.{Consumes}
+use Rattle.program_io.specs.Retries.{retries_left}
 use Rattle.tcrewrite_lib.proofs.text.read_text.Given as goal
 
 -- what was read so far is the text, which isn't over the limit by more than one byte
@@ -11,4 +12,4 @@ invariant-parts g l = record {
 
 -- room for text, and retries
 abbrev pub decreases-parts : goal.decreases-parts
-decreases-parts g l = 1048577 + l.patience.left - length l.text.items
+decreases-parts g l = 1048577 + retries_left l.retries - length l.text.items

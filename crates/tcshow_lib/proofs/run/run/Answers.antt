@@ -1,11 +1,11 @@
 use Rattle.std.proofs.lemmas.Result.{on_ok_weaker}
-use Rattle.tcshow_lib.specs.State.{state_of}
-use Rattle.tcshow_lib.proofs.Progress.{ran}
+use Rattle.tcshow_input.specs.State.{state_of}
+use Rattle.tcshow_input.proofs.Progress.{ran}
 use Rattle.tcshow_lib.proofs.run.run.Goals as goal
 
 pub returns-clause-ran : goal.returns-clause-ran
 returns-clause-ran g c =
     on_ok_weaker c.show_and_write-outcome.result
-    (ran c.args.asked.now _ _ _ (state_of c.new-shower.result) (state_of c.show_and_write-outcome.new.shower) c.has_refused.result c.new-shower.ensures
+    (ran c.args.options.now _ _ _ (state_of c.new-printer.result) (state_of c.show_and_write-outcome.new.printer) c.has_refused.result c.new-printer.ensures
     c.has_refused.ensures)
     c.show_and_write-outcome.ensures.ran

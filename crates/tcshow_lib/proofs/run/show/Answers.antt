@@ -1,7 +1,7 @@
 use Rattle.std.proofs.lemmas.Result.{on_ok_weaker}
 use Rattle.tc_input.specs.Left.{left_of, rest_of}
-use Rattle.tcshow_lib.specs.State.{state_of}
-use Rattle.tcshow_lib.proofs.InOrder.{begun_are}
+use Rattle.tcshow_input.specs.State.{state_of}
+use Rattle.tcshow_input.proofs.InOrder.{begun_are}
 use Rattle.tcshow_lib.proofs.run.show.Goals as goal
 
 pub returns-clause-ran : goal.returns-clause-ran
@@ -11,7 +11,7 @@ returns-clause-ran g c =
     on_ok_weaker c.show_all.result
     (λ x. (
       x.0,
-      begun_are (state_of c.args.shower.now).header (rest_of input) (g.R.Read.remaining c.args.reader.now) left x.0 c.in_ok-input.ensures.kept
+      begun_are (state_of c.args.printer.now).header (rest_of input) (g.R.Read.remaining c.args.reader.now) left x.0 c.in_ok-input.ensures.kept
           c.in_ok-input.ensures.first x.1,
       x.2,
     ))

@@ -1,6 +1,6 @@
 use Rattle.std.proofs.lemmas.Result.{on_ok_weaker}
-use Rattle.tcshow_lib.proofs.Clean.{clean_step}
-use Rattle.tcshow_lib.proofs.Progress.{completes}
+use Rattle.tcshow_input.proofs.Clean.{clean_step}
+use Rattle.tcshow_input.proofs.Progress.{completes}
 use Rattle.tcshow_lib.proofs.run.show_and_write.Goals as goal
 
 pub returns-in-Ok-clause-clean : goal.returns-in-Ok-clause-clean

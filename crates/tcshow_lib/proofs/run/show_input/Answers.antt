@@ -2,14 +2,14 @@ use Rattle.std.proofs.Common.{◌∙◌, sym, ap, option_map}
 use Rattle.std.proofs.lemmas.Result.{on_ok_weaker}
 use Rattle.tc_capture.specs.Capture.{state_of as place_of, capture_at}
 use Rattle.tc_input.specs.Left.{left_of, rest_of}
-use Rattle.tcshow_lib.specs.Reading.{is_hex_text}
-use Rattle.tcshow_lib.specs.State.{state_of}
-use Rattle.tcshow_lib.proofs.InOrder.{capture_begins, text_begins}
+use Rattle.tcshow_input.specs.Reading.{is_hex_text}
+use Rattle.tcshow_input.specs.State.{state_of}
+use Rattle.tcshow_input.proofs.InOrder.{capture_begins, text_begins}
 use Rattle.tcshow_lib.proofs.run.show_input.Goals as goal
 
 pub returns-in-Some-clause-ran : goal.returns-in-Some-clause-ran
 returns-in-Some-clause-ran g c =
-    let header = (state_of c.args.shower.now).header in
+    let header = (state_of c.args.printer.now).header in
     let file = left_of c.args.input.now (g.R.Read.remaining c.args.reader.now) in
     let place = place_of c.in-Some.capture in
     let found = ap capture_at (sym c.first.ensures) ∙ sym c.of_first.ensures ∙ ap (option_map place_of) c.in-Some.is in
@@ -19,7 +19,7 @@ returns-in-Some-clause-ran g c =
 
 pub returns-else-not-is_hex_text-clause-ran : goal.returns-else-not-is_hex_text-clause-ran
 returns-else-not-is_hex_text-clause-ran g c =
-    let header = (state_of c.args.shower.now).header in
+    let header = (state_of c.args.printer.now).header in
     let file = left_of c.args.input.now (g.R.Read.remaining c.args.reader.now) in
     let found = ap capture_at (sym c.first.ensures) ∙ sym c.of_first.ensures ∙ ap (option_map place_of) c.in-None.is in
     let hex = ap is_hex_text (sym c.first-in-None.ensures) ∙ sym c.is_hex_text.ensures ∙ c.if-not-is_hex_text.false in

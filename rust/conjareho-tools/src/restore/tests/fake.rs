@@ -1,5 +1,6 @@
-//! A kernel for tests: it keeps what requests make as they make it, dumps it, and tells listeners of it.
+//! A kernel for tests: it keeps what requests make as they make it, dumps it, and notifies listeners of it.
 
+use super::super::messages::type_of;
 use crate::netlink::attributes::put;
 use crate::netlink::message::*;
 use crate::netlink::{Kernel, Listener, Transport};
@@ -21,7 +22,7 @@ const NLM_F_EXCL: u16 = 0x200;
 const TC_H_ROOT: u32 = 0xFFFF_FFFF;
 
 /// What a test does before the kernel answers a request that changes something: the number of the request, from 1, and the request. The
-/// kernel answers with an error in place of it, if there is one; 0 keeps silent.
+/// kernel answers with an error instead, if there is one; 0 keeps silent.
 pub(super) type Hook = Box<dyn FnMut(&mut State, usize, &[u8]) -> Option<i32>>;
 
 pub(super) type LinksHook = Box<dyn FnMut(&mut State, usize)>;
@@ -124,11 +125,11 @@ impl Fake {
 }
 
 impl State {
-    /// Tells listeners of a change by this port.
+    /// Notifies listeners of a change by this port.
     pub(super) fn tell(&mut self, message: &[u8], port: u32) {
-        let mut told = message.to_vec();
-        told[12..16].copy_from_slice(&port.to_ne_bytes());
-        self.heard.iter_mut().for_each(|heard| heard.push_back(told.clone()));
+        let mut notice = message.to_vec();
+        notice[12..16].copy_from_slice(&port.to_ne_bytes());
+        self.heard.iter_mut().for_each(|heard| heard.push_back(notice.clone()));
     }
 
     fn answer_all(&mut self, header: Header, messages: Vec<Vec<u8>>) {
@@ -152,7 +153,20 @@ impl State {
                     _ => found.index == asked.index && found.parent == asked.parent,
                 }
         };
-        let found = self.objects.iter().filter(is_asked).cloned().collect();
+        let mut found: Vec<Vec<u8>> = self.objects.iter().filter(is_asked).cloned().collect();
+        let has_filter = |it: &Vec<u8>| {
+            let own = tcmsg_of(it).unwrap_or_default();
+            type_of(it) == RTM_NEWTFILTER && (own.index, own.parent) == (asked.index, asked.parent)
+        };
+        // The chain that a filter makes.
+        if header.kind == RTM_GETCHAIN && found.is_empty() && self.objects.iter().any(has_filter) {
+            let place = Tcmsg { index: asked.index, parent: asked.parent & 0xffff_0000, ..Tcmsg::default() };
+            let mut body = tc_request(0, 0, place)[HEADER..].to_vec();
+            put(&mut body, 11, &[0; 4]);
+            let mut chain = request(RTM_NEWCHAIN, 0, &body);
+            chain[6..8].copy_from_slice(&2u16.to_ne_bytes());
+            found.push(chain);
+        }
         self.answer_all(header, found);
     }
 
@@ -182,7 +196,7 @@ impl State {
     }
 }
 
-// True of what goes with the root qdisc, or else with clsact.
+// True for what goes with the root qdisc, or else with clsact.
 fn is_below(header: Tcmsg, is_root: bool) -> bool {
     let is_clsact = header.handle == 0xFFFF_0000 || header.parent >> 16 == 0xFFFF && header.parent != TC_H_ROOT;
     is_clsact != is_root

@@ -1,4 +1,4 @@
-//! Runs over a kernel that refuses, tells of others, and is sent signals in the middle.
+//! Runs over a kernel that refuses and that notifies of changes by others, and with signals in the middle.
 
 mod fake;
 
@@ -48,7 +48,7 @@ fn saved(objects: Vec<Vec<u8>>) -> String {
     let fake = Fake::new(taking());
     fake.state.borrow_mut().objects = objects;
     let dump = state_of(&mut fake.kernel(), &mut fake.listener(1), &[7]).expect("dumped");
-    text_of(&dump, &[7]).expect("saved")
+    text_of(&dump, &[7]).expect("saved").0
 }
 
 fn arguments(words: &[&str]) -> Arguments {
@@ -77,7 +77,7 @@ fn run(words: &[&str], file: &str, objects: Vec<Vec<u8>>, fake: &Fake) -> Ran {
     let mut world = World::new(fake.kernel(), fake.listener(1), fake.listener(2), &signal);
     let arguments = arguments(words);
     let mut said = Vec::new();
-    let status = restore(&arguments, file.as_bytes(), &mut world, &mut said);
+    let status = restore(&arguments, file.as_bytes().to_vec(), &mut world, &mut said);
     let _ = std::fs::remove_dir_all(&arguments.state);
     let state = fake.state.borrow();
     Ran { status, said: said.join("\n"), objects: state.objects.clone(), sent: state.sent.clone() }
@@ -185,7 +185,7 @@ fn what_others_make_is_left() {
     assert!(plain(&ran.objects).contains(&plain(&[theirs()])[0]));
 }
 
-// What the kernel does by itself has port 0; another interface may change.
+// What the kernel does without a request has port 0; another interface may change.
 #[test]
 fn what_the_kernel_does_by_itself_is_no_reason_to_stop() {
     let telling: Hook = Box::new(|state, _, _| {

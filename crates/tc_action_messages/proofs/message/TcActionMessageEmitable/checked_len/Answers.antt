@@ -8,4 +8,4 @@ pub returns-in-Some : goal.returns-in-Some
 returns-in-Some g c =
     let list = rw c.deref.ensures.value at c.in-Some.ensures in
     message_measured action_message_header action_message_attributes
-    (action_message c.args.self.now) c.action_message_header_in_hand.ensures c.in-Some.len _ list c.checked_add.ensures
+    (action_message c.args.self.now) c.action_message_header_in_range.ensures c.in-Some.len _ list c.checked_add.ensures

@@ -8,13 +8,13 @@ use Rattle.tc_action_messages.proofs.message.TcActionMessageEmitable.emit.Goals 
 pub slice_bounds-put_list-count : goal.slice_bounds-put_list-count
 slice_bounds-put_list-count g c =
     room_for_header action_message_header action_message_attributes
-    (action_message c.args.self.now) c.action_message_header_in_hand.ensures c.args.buffer.now c.requires.room
+    (action_message c.args.self.now) c.action_message_header_in_range.ensures c.args.buffer.now c.requires.room
 
 pub slice_bounds-put_list-start : goal.slice_bounds-put_list-start
 slice_bounds-put_list-start g c =
     let room : 4 ≤ length c.args.buffer.now =
     room_for_header action_message_header action_message_attributes
-    (action_message c.args.self.now) c.action_message_header_in_hand.ensures c.args.buffer.now c.requires.room in
+    (action_message c.args.self.now) c.action_message_header_in_range.ensures c.args.buffer.now c.requires.room in
     search rules
 
 pub put_list-requires-clause-fits : goal.put_list-requires-clause-fits
@@ -23,11 +23,11 @@ put_list-requires-clause-fits g c = rw c.deref.ensures.value c.requires.fits.bod
 pub put_list-requires-clause-room : goal.put_list-requires-clause-room
 put_list-requires-clause-room g c =
     rw c.deref.ensures.value (room_for_body action_message_header action_message_attributes
-    (action_message c.args.self.now) c.action_message_header_in_hand.ensures c.args.buffer.now c.requires.room)
+    (action_message c.args.self.now) c.action_message_header_in_range.ensures c.args.buffer.now c.requires.room)
 
 pub emit-requires-clause-room : goal.emit-requires-clause-room
 emit-requires-clause-room g c =
-    let typed = c.action_message_header_in_hand.ensures in
+    let typed = c.action_message_header_in_range.ensures in
     let room = room_for_header action_message_header action_message_attributes (action_message c.args.self.now) typed c.args.buffer.now c.requires.room in
     header_before_part action_message_header action_message_attributes
     (action_message c.args.self.now) typed c.args.buffer.now c.put_list.new.buffer room c.put_list.auto.buffer
@@ -36,7 +36,7 @@ pub returns-clause-written : goal.returns-clause-written
 returns-clause-written g c =
     let written = rw c.deref.ensures.value at c.put_list.ensures.written in
     message_written action_message_header action_message_attributes
-    (action_message c.args.self.now) c.action_message_header_in_hand.ensures c.args.buffer.now _ _ c.requires.room written c.emit.ensures.written
+    (action_message c.args.self.now) c.action_message_header_in_range.ensures c.args.buffer.now _ _ c.requires.room written c.emit.ensures.written
 
 pub returns-clause-typed : goal.returns-clause-typed
 returns-clause-typed g c = record { header = c.emit.ensures.typed; body = rw c.deref.ensures.value at c.put_list.ensures.typed }

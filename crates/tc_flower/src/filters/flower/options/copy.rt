@@ -1,12 +1,12 @@
-//! Copies of options.
+//! `Clone` of options.
 
 ghost use Rattle.tc_flower.specs.Flower.{IsCopy};
 
+use crate::filters::flower::mpls::TcFilterFlowerMplsOption;
 use crate::filters::flower::options::TcFilterFlowerOption;
 use crate::filters::flower::options::held::Held;
 use std::alloc::{AllocError, Allocator};
 use tc_actions::TcAction;
-use tc_mpls::TcFilterFlowerMplsOption;
 
 impl<A: Allocator + Clone> Clone for TcFilterFlowerOption<A> {
     ghost is_clone = { IsCopy ⟦<TcAction<A> as Clone>⟧.is_clone

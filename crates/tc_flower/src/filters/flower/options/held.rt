@@ -1,4 +1,4 @@
-//! Takes an option apart into its type and the value that it holds, and makes it of both.
+//! Splits an option into type and value, and builds it from both.
 
 ghost use Rattle.std.specs.Prelude.{◌≡◌, ◌&&◌, not, IsTrue};
 ghost use Rattle.std.specs.Net.Addr.{ipv4_octets, ipv6_octets};
@@ -9,19 +9,19 @@ ghost use Rattle.tc_flower.specs.Flower.{flower_option};
 ghost use Rattle.tc_flower.specs.Held.{held_at, is_held_at, are_labels, IsListHeld};
 ghost use Rattle.tc_flower.specs.Spans.{holds};
 
+use crate::filters::flower::mpls::TcFilterFlowerMplsOption;
 use crate::filters::flower::options::*;
 use nla_frames::{DefaultNla, NLA_TYPE_MASK, Nla};
 use std::alloc::Allocator;
 use std::net::{Ipv4Addr, Ipv6Addr};
 use tc_actions::TcAction;
-use tc_mpls::TcFilterFlowerMplsOption;
 
-// The value that an option holds.
+// The value of an option.
 #[derive(Drop)]
 pub(crate) enum Held<'a, A: Allocator> {
-    // The handle of a class.
+    // Handle of a class.
     ClassId(u32),
-    // The name of a device.
+    // Name of an interface.
     Name(&'a String<A>),
     Actions(&'a Vec<TcAction<A>, A>),
     // A MAC address.
@@ -53,13 +53,23 @@ pub(crate) enum Held<'a, A: Allocator> {
     Other(&'a DefaultNla<A>),
 }
 
-// Any of these options, and what it holds.
+// Any of these options, and its value.
 macro_rules! any_of {
     ($held:ident in $($option:ident),*) => { $(Self::$option($held))|* };
 }
 
+// The type of an option, by its variant. The type of `Other` is in its attribute.
+macro_rules! type_of {
+    ($option:expr; $($variant:ident = $kind:ident),*) => {
+        match $option {
+            $(Self::$variant(_) => $kind,)*
+            Self::Other(nla) => nla.kind() & NLA_TYPE_MASK,
+        }
+    };
+}
+
 impl<A: Allocator> TcFilterFlowerOption<A> {
-    // The type, and the value that the option holds.
+    // Type and value of the option.
     #[inline(always)]
     pub(crate) fn parts(&self) -> (u16, Held<'_, A>)
         ensures seen { flower_option self.now ≡ held_at result.0 result.1 }
@@ -73,108 +83,67 @@ impl<A: Allocator> TcFilterFlowerOption<A> {
     fn number(&self) -> u16
         ensures { result ≡ number_of (flower_option self.now) }
     {
-        match self {
-            Self::ClassId(_) => TCA_FLOWER_CLASSID,
-            Self::InDev(_) => TCA_FLOWER_INDEV,
-            Self::Actions(_) => TCA_FLOWER_ACT,
-            Self::EthDst(_) => TCA_FLOWER_KEY_ETH_DST,
-            Self::EthDstMask(_) => TCA_FLOWER_KEY_ETH_DST_MASK,
-            Self::EthSrc(_) => TCA_FLOWER_KEY_ETH_SRC,
-            Self::EthSrcMask(_) => TCA_FLOWER_KEY_ETH_SRC_MASK,
-            Self::EthType(_) => TCA_FLOWER_KEY_ETH_TYPE,
-            Self::IpProto(_) => TCA_FLOWER_KEY_IP_PROTO,
-            Self::Ipv4Src(_) => TCA_FLOWER_KEY_IPV4_SRC,
-            Self::Ipv4SrcMask(_) => TCA_FLOWER_KEY_IPV4_SRC_MASK,
-            Self::Ipv4Dst(_) => TCA_FLOWER_KEY_IPV4_DST,
-            Self::Ipv4DstMask(_) => TCA_FLOWER_KEY_IPV4_DST_MASK,
-            Self::Ipv6Src(_) => TCA_FLOWER_KEY_IPV6_SRC,
-            Self::Ipv6SrcMask(_) => TCA_FLOWER_KEY_IPV6_SRC_MASK,
-            Self::Ipv6Dst(_) => TCA_FLOWER_KEY_IPV6_DST,
-            Self::Ipv6DstMask(_) => TCA_FLOWER_KEY_IPV6_DST_MASK,
-            Self::TcpSrc(_) => TCA_FLOWER_KEY_TCP_SRC,
-            Self::TcpDst(_) => TCA_FLOWER_KEY_TCP_DST,
-            Self::UdpSrc(_) => TCA_FLOWER_KEY_UDP_SRC,
-            Self::UdpDst(_) => TCA_FLOWER_KEY_UDP_DST,
-            Self::Flags(_) => TCA_FLOWER_FLAGS,
-            Self::VlanId(_) => TCA_FLOWER_KEY_VLAN_ID,
-            Self::VlanPrio(_) => TCA_FLOWER_KEY_VLAN_PRIO,
-            Self::VlanEthType(_) => TCA_FLOWER_KEY_VLAN_ETH_TYPE,
-            Self::EncKeyId(_) => TCA_FLOWER_KEY_ENC_KEY_ID,
-            Self::EncKeyIpv4Src(_) => TCA_FLOWER_KEY_ENC_IPV4_SRC,
-            Self::EncKeyIpv4SrcMask(_) => TCA_FLOWER_KEY_ENC_IPV4_SRC_MASK,
-            Self::EncKeyIpv4Dst(_) => TCA_FLOWER_KEY_ENC_IPV4_DST,
-            Self::EncKeyIpv4DstMask(_) => TCA_FLOWER_KEY_ENC_IPV4_DST_MASK,
-            Self::EncKeyIpv6Src(_) => TCA_FLOWER_KEY_ENC_IPV6_SRC,
-            Self::EncKeyIpv6SrcMask(_) => TCA_FLOWER_KEY_ENC_IPV6_SRC_MASK,
-            Self::EncKeyIpv6Dst(_) => TCA_FLOWER_KEY_ENC_IPV6_DST,
-            Self::EncKeyIpv6DstMask(_) => TCA_FLOWER_KEY_ENC_IPV6_DST_MASK,
-            Self::TcpSrcMask(_) => TCA_FLOWER_KEY_TCP_SRC_MASK,
-            Self::TcpDstMask(_) => TCA_FLOWER_KEY_TCP_DST_MASK,
-            Self::UdpSrcMask(_) => TCA_FLOWER_KEY_UDP_SRC_MASK,
-            Self::UdpDstMask(_) => TCA_FLOWER_KEY_UDP_DST_MASK,
-            Self::SctpSrcMask(_) => TCA_FLOWER_KEY_SCTP_SRC_MASK,
-            Self::SctpDstMask(_) => TCA_FLOWER_KEY_SCTP_DST_MASK,
-            Self::SctpSrc(_) => TCA_FLOWER_KEY_SCTP_SRC,
-            Self::SctpDst(_) => TCA_FLOWER_KEY_SCTP_DST,
-            Self::EncKeyUdpSrcPort(_) => TCA_FLOWER_KEY_ENC_UDP_SRC_PORT,
-            Self::EncKeyUdpSrcPortMask(_) => TCA_FLOWER_KEY_ENC_UDP_SRC_PORT_MASK,
-            Self::EncKeyUdpDstPort(_) => TCA_FLOWER_KEY_ENC_UDP_DST_PORT,
-            Self::EncKeyUdpDstPortMask(_) => TCA_FLOWER_KEY_ENC_UDP_DST_PORT_MASK,
-            Self::KeyFlags(_) => TCA_FLOWER_KEY_FLAGS,
-            Self::KeyFlagsMask(_) => TCA_FLOWER_KEY_FLAGS_MASK,
-            Self::Icmpv4Code(_) => TCA_FLOWER_KEY_ICMPV4_CODE,
-            Self::Icmpv4CodeMask(_) => TCA_FLOWER_KEY_ICMPV4_CODE_MASK,
-            Self::Icmpv4Type(_) => TCA_FLOWER_KEY_ICMPV4_TYPE,
-            Self::Icmpv4TypeMask(_) => TCA_FLOWER_KEY_ICMPV4_TYPE_MASK,
-            Self::Icmpv6Code(_) => TCA_FLOWER_KEY_ICMPV6_CODE,
-            Self::Icmpv6CodeMask(_) => TCA_FLOWER_KEY_ICMPV6_CODE_MASK,
-            Self::Icmpv6Type(_) => TCA_FLOWER_KEY_ICMPV6_TYPE,
-            Self::Icmpv6TypeMask(_) => TCA_FLOWER_KEY_ICMPV6_TYPE_MASK,
-            Self::ArpSip(_) => TCA_FLOWER_KEY_ARP_SIP,
-            Self::ArpSipMask(_) => TCA_FLOWER_KEY_ARP_SIP_MASK,
-            Self::ArpTip(_) => TCA_FLOWER_KEY_ARP_TIP,
-            Self::ArpTipMask(_) => TCA_FLOWER_KEY_ARP_TIP_MASK,
-            Self::ArpOp(_) => TCA_FLOWER_KEY_ARP_OP,
-            Self::ArpOpMask(_) => TCA_FLOWER_KEY_ARP_OP_MASK,
-            Self::ArpSha(_) => TCA_FLOWER_KEY_ARP_SHA,
-            Self::ArpShaMask(_) => TCA_FLOWER_KEY_ARP_SHA_MASK,
-            Self::ArpTha(_) => TCA_FLOWER_KEY_ARP_THA,
-            Self::ArpThaMask(_) => TCA_FLOWER_KEY_ARP_THA_MASK,
-            Self::MplsTtl(_) => TCA_FLOWER_KEY_MPLS_TTL,
-            Self::MplsBos(_) => TCA_FLOWER_KEY_MPLS_BOS,
-            Self::MplsTc(_) => TCA_FLOWER_KEY_MPLS_TC,
-            Self::MplsLabel(_) => TCA_FLOWER_KEY_MPLS_LABEL,
-            Self::TcpFlags(_) => TCA_FLOWER_KEY_TCP_FLAGS,
-            Self::TcpFlagsMask(_) => TCA_FLOWER_KEY_TCP_FLAGS_MASK,
-            Self::IpTos(_) => TCA_FLOWER_KEY_IP_TOS,
-            Self::IpTosMask(_) => TCA_FLOWER_KEY_IP_TOS_MASK,
-            Self::IpTtl(_) => TCA_FLOWER_KEY_IP_TTL,
-            Self::IpTtlMask(_) => TCA_FLOWER_KEY_IP_TTL_MASK,
-            Self::CvlanId(_) => TCA_FLOWER_KEY_CVLAN_ID,
-            Self::CvlanPrio(_) => TCA_FLOWER_KEY_CVLAN_PRIO,
-            Self::CvlanEthType(_) => TCA_FLOWER_KEY_CVLAN_ETH_TYPE,
-            Self::EncKeyIpTos(_) => TCA_FLOWER_KEY_ENC_IP_TOS,
-            Self::EncKeyIpTosMask(_) => TCA_FLOWER_KEY_ENC_IP_TOS_MASK,
-            Self::EncKeyIpTtl(_) => TCA_FLOWER_KEY_ENC_IP_TTL,
-            Self::EncKeyIpTtlMask(_) => TCA_FLOWER_KEY_ENC_IP_TTL_MASK,
-            Self::InHwCount(_) => TCA_FLOWER_IN_HW_COUNT,
-            Self::PortSrcMin(_) => TCA_FLOWER_KEY_PORT_SRC_MIN,
-            Self::PortSrcMax(_) => TCA_FLOWER_KEY_PORT_SRC_MAX,
-            Self::PortDstMin(_) => TCA_FLOWER_KEY_PORT_DST_MIN,
-            Self::PortDstMax(_) => TCA_FLOWER_KEY_PORT_DST_MAX,
-            Self::CtState(_) => TCA_FLOWER_KEY_CT_STATE,
-            Self::CtStateMask(_) => TCA_FLOWER_KEY_CT_STATE_MASK,
-            Self::CtZone(_) => TCA_FLOWER_KEY_CT_ZONE,
-            Self::CtZoneMask(_) => TCA_FLOWER_KEY_CT_ZONE_MASK,
-            Self::CtMark(_) => TCA_FLOWER_KEY_CT_MARK,
-            Self::CtMarkMask(_) => TCA_FLOWER_KEY_CT_MARK_MASK,
-            Self::CtLabels(_) => TCA_FLOWER_KEY_CT_LABELS,
-            Self::CtLabelsMask(_) => TCA_FLOWER_KEY_CT_LABELS_MASK,
-            Self::MplsOpts(_) => TCA_FLOWER_KEY_MPLS_OPTS,
-            Self::KeyHash(_) => TCA_FLOWER_KEY_HASH,
-            Self::KeyHashMask(_) => TCA_FLOWER_KEY_HASH_MASK,
-            Self::Other(nla) => nla.kind() & NLA_TYPE_MASK,
-        }
+        type_of!(self;
+            ClassId = TCA_FLOWER_CLASSID, InDev = TCA_FLOWER_INDEV, Actions = TCA_FLOWER_ACT,
+            EthDst = TCA_FLOWER_KEY_ETH_DST, EthDstMask = TCA_FLOWER_KEY_ETH_DST_MASK,
+            EthSrc = TCA_FLOWER_KEY_ETH_SRC, EthSrcMask = TCA_FLOWER_KEY_ETH_SRC_MASK,
+            EthType = TCA_FLOWER_KEY_ETH_TYPE, IpProto = TCA_FLOWER_KEY_IP_PROTO,
+            Ipv4Src = TCA_FLOWER_KEY_IPV4_SRC, Ipv4SrcMask = TCA_FLOWER_KEY_IPV4_SRC_MASK,
+            Ipv4Dst = TCA_FLOWER_KEY_IPV4_DST, Ipv4DstMask = TCA_FLOWER_KEY_IPV4_DST_MASK,
+            Ipv6Src = TCA_FLOWER_KEY_IPV6_SRC, Ipv6SrcMask = TCA_FLOWER_KEY_IPV6_SRC_MASK,
+            Ipv6Dst = TCA_FLOWER_KEY_IPV6_DST, Ipv6DstMask = TCA_FLOWER_KEY_IPV6_DST_MASK,
+            TcpSrc = TCA_FLOWER_KEY_TCP_SRC, TcpDst = TCA_FLOWER_KEY_TCP_DST,
+            UdpSrc = TCA_FLOWER_KEY_UDP_SRC, UdpDst = TCA_FLOWER_KEY_UDP_DST,
+            Flags = TCA_FLOWER_FLAGS, VlanId = TCA_FLOWER_KEY_VLAN_ID,
+            VlanPrio = TCA_FLOWER_KEY_VLAN_PRIO, VlanEthType = TCA_FLOWER_KEY_VLAN_ETH_TYPE,
+            EncKeyId = TCA_FLOWER_KEY_ENC_KEY_ID, EncKeyIpv4Src = TCA_FLOWER_KEY_ENC_IPV4_SRC,
+            EncKeyIpv4SrcMask = TCA_FLOWER_KEY_ENC_IPV4_SRC_MASK,
+            EncKeyIpv4Dst = TCA_FLOWER_KEY_ENC_IPV4_DST,
+            EncKeyIpv4DstMask = TCA_FLOWER_KEY_ENC_IPV4_DST_MASK,
+            EncKeyIpv6Src = TCA_FLOWER_KEY_ENC_IPV6_SRC,
+            EncKeyIpv6SrcMask = TCA_FLOWER_KEY_ENC_IPV6_SRC_MASK,
+            EncKeyIpv6Dst = TCA_FLOWER_KEY_ENC_IPV6_DST,
+            EncKeyIpv6DstMask = TCA_FLOWER_KEY_ENC_IPV6_DST_MASK,
+            TcpSrcMask = TCA_FLOWER_KEY_TCP_SRC_MASK, TcpDstMask = TCA_FLOWER_KEY_TCP_DST_MASK,
+            UdpSrcMask = TCA_FLOWER_KEY_UDP_SRC_MASK, UdpDstMask = TCA_FLOWER_KEY_UDP_DST_MASK,
+            SctpSrcMask = TCA_FLOWER_KEY_SCTP_SRC_MASK, SctpDstMask = TCA_FLOWER_KEY_SCTP_DST_MASK,
+            SctpSrc = TCA_FLOWER_KEY_SCTP_SRC, SctpDst = TCA_FLOWER_KEY_SCTP_DST,
+            EncKeyUdpSrcPort = TCA_FLOWER_KEY_ENC_UDP_SRC_PORT,
+            EncKeyUdpSrcPortMask = TCA_FLOWER_KEY_ENC_UDP_SRC_PORT_MASK,
+            EncKeyUdpDstPort = TCA_FLOWER_KEY_ENC_UDP_DST_PORT,
+            EncKeyUdpDstPortMask = TCA_FLOWER_KEY_ENC_UDP_DST_PORT_MASK,
+            KeyFlags = TCA_FLOWER_KEY_FLAGS, KeyFlagsMask = TCA_FLOWER_KEY_FLAGS_MASK,
+            Icmpv4Code = TCA_FLOWER_KEY_ICMPV4_CODE,
+            Icmpv4CodeMask = TCA_FLOWER_KEY_ICMPV4_CODE_MASK,
+            Icmpv4Type = TCA_FLOWER_KEY_ICMPV4_TYPE,
+            Icmpv4TypeMask = TCA_FLOWER_KEY_ICMPV4_TYPE_MASK,
+            Icmpv6Code = TCA_FLOWER_KEY_ICMPV6_CODE,
+            Icmpv6CodeMask = TCA_FLOWER_KEY_ICMPV6_CODE_MASK,
+            Icmpv6Type = TCA_FLOWER_KEY_ICMPV6_TYPE,
+            Icmpv6TypeMask = TCA_FLOWER_KEY_ICMPV6_TYPE_MASK, ArpSip = TCA_FLOWER_KEY_ARP_SIP,
+            ArpSipMask = TCA_FLOWER_KEY_ARP_SIP_MASK, ArpTip = TCA_FLOWER_KEY_ARP_TIP,
+            ArpTipMask = TCA_FLOWER_KEY_ARP_TIP_MASK, ArpOp = TCA_FLOWER_KEY_ARP_OP,
+            ArpOpMask = TCA_FLOWER_KEY_ARP_OP_MASK, ArpSha = TCA_FLOWER_KEY_ARP_SHA,
+            ArpShaMask = TCA_FLOWER_KEY_ARP_SHA_MASK, ArpTha = TCA_FLOWER_KEY_ARP_THA,
+            ArpThaMask = TCA_FLOWER_KEY_ARP_THA_MASK, MplsTtl = TCA_FLOWER_KEY_MPLS_TTL,
+            MplsBos = TCA_FLOWER_KEY_MPLS_BOS, MplsTc = TCA_FLOWER_KEY_MPLS_TC,
+            MplsLabel = TCA_FLOWER_KEY_MPLS_LABEL, TcpFlags = TCA_FLOWER_KEY_TCP_FLAGS,
+            TcpFlagsMask = TCA_FLOWER_KEY_TCP_FLAGS_MASK, IpTos = TCA_FLOWER_KEY_IP_TOS,
+            IpTosMask = TCA_FLOWER_KEY_IP_TOS_MASK, IpTtl = TCA_FLOWER_KEY_IP_TTL,
+            IpTtlMask = TCA_FLOWER_KEY_IP_TTL_MASK, CvlanId = TCA_FLOWER_KEY_CVLAN_ID,
+            CvlanPrio = TCA_FLOWER_KEY_CVLAN_PRIO, CvlanEthType = TCA_FLOWER_KEY_CVLAN_ETH_TYPE,
+            EncKeyIpTos = TCA_FLOWER_KEY_ENC_IP_TOS,
+            EncKeyIpTosMask = TCA_FLOWER_KEY_ENC_IP_TOS_MASK,
+            EncKeyIpTtl = TCA_FLOWER_KEY_ENC_IP_TTL,
+            EncKeyIpTtlMask = TCA_FLOWER_KEY_ENC_IP_TTL_MASK, InHwCount = TCA_FLOWER_IN_HW_COUNT,
+            PortSrcMin = TCA_FLOWER_KEY_PORT_SRC_MIN, PortSrcMax = TCA_FLOWER_KEY_PORT_SRC_MAX,
+            PortDstMin = TCA_FLOWER_KEY_PORT_DST_MIN, PortDstMax = TCA_FLOWER_KEY_PORT_DST_MAX,
+            CtState = TCA_FLOWER_KEY_CT_STATE, CtStateMask = TCA_FLOWER_KEY_CT_STATE_MASK,
+            CtZone = TCA_FLOWER_KEY_CT_ZONE, CtZoneMask = TCA_FLOWER_KEY_CT_ZONE_MASK,
+            CtMark = TCA_FLOWER_KEY_CT_MARK, CtMarkMask = TCA_FLOWER_KEY_CT_MARK_MASK,
+            CtLabels = TCA_FLOWER_KEY_CT_LABELS, CtLabelsMask = TCA_FLOWER_KEY_CT_LABELS_MASK,
+            MplsOpts = TCA_FLOWER_KEY_MPLS_OPTS, KeyHash = TCA_FLOWER_KEY_HASH,
+            KeyHashMask = TCA_FLOWER_KEY_HASH_MASK)
     }
 
     #[inline(always)]
@@ -219,7 +188,7 @@ impl<A: Allocator> TcFilterFlowerOption<A> {
     }
 }
 
-// Options of a type and the value that they hold.
+// Options from type and value.
 impl<A: Allocator> TcFilterFlowerOption<A> {
     // The option of a type that holds a MAC address.
     #[inline(always)]

@@ -2,7 +2,7 @@
 
 ghost use Rattle.std.specs.Prelude.{◌≡◌, ◌&&◌, not, false, List, IsTrue};
 ghost use Rattle.nla_frames.specs.Buffer.{frame_of};
-ghost use Rattle.nla_frames.specs.Fault.{Gives, seen};
+ghost use Rattle.nla_frames.specs.Fault.{Returns, seen};
 ghost use Rattle.nla_frames.specs.Frame.{type_of};
 ghost use Rattle.nla_frames.specs.Value.{exactly};
 ghost use Rattle.tc_canon.specs.Descriptor.{le, be, array};
@@ -29,11 +29,11 @@ impl<A: Allocator + Copy> Parseable<A> for TcFilterFlowerOption<A> {
 }
 
 impl<A: Allocator + Copy> TcFilterFlowerOption<A> {
-    // By its type: alone, or with the other types that hold the same.
+    // One arm for the types that have the same value.
     #[tactic(auto, using(crate::proofs::FlowerReads::in_dev_read, crate::proofs::FlowerReads::bos_read, crate::proofs::FlowerReads::tc_read, crate::proofs::FlowerReads::label_read))]
     #[inline(always)]
     fn read(alloc: A, buf: &NlaBuffer<'_>) -> Res<Self>
-        ensures { Gives (seen flower_option result) (flower_read (frame_of buf.now)) }
+        ensures { Returns (seen flower_option result) (flower_read (frame_of buf.now)) }
     {
         match buf.kind() {
             TCA_FLOWER_INDEV => Ok(Self::InDev(parse_string(alloc, buf.value())?)),
@@ -85,7 +85,7 @@ impl<A: Allocator + Copy> TcFilterFlowerOption<A> {
     #[inline(always)]
     fn read_other(alloc: A, buf: &NlaBuffer<'_>) -> Res<Self>
         requires { is_in (spans flower_options) (type_of (frame_of buf.now).word) ≡ false }
-        ensures { Gives (seen flower_option result) (flower_read (frame_of buf.now)) }
+        ensures { Returns (seen flower_option result) (flower_read (frame_of buf.now)) }
     {
         Ok(Self::Other(DefaultNla::parse(alloc, buf)?))
     }
@@ -104,14 +104,14 @@ fn is_in_spans(word: u16) -> bool
     matches!(word & NLA_TYPE_MASK, TCA_FLOWER_INDEV..=TCA_FLOWER_KEY_ENC_IP_TTL_MASK | TCA_FLOWER_IN_HW_COUNT..=TCA_FLOWER_KEY_HASH_MASK)
 }
 
-// Reading by what the option holds.
+// Reading by the type of the value.
 impl<A: Allocator> TcFilterFlowerOption<A> {
     // An option that holds a MAC address.
     #[tactic(auto, using(crate::proofs::FlowerReads::mac_read))]
     #[inline(always)]
     fn read_mac(buf: &NlaBuffer<'_>) -> Res<Self>
         requires { IsTrue (holds (array 6) flower_options (type_of (frame_of buf.now).word)) }
-        ensures { Gives (seen flower_option result) (flower_read (frame_of buf.now)) }
+        ensures { Returns (seen flower_option result) (flower_read (frame_of buf.now)) }
     {
         Ok(Self::of_mac(buf.kind(), parse_mac(buf.value())?))
     }
@@ -121,7 +121,7 @@ impl<A: Allocator> TcFilterFlowerOption<A> {
     #[inline(always)]
     fn read_ipv4(buf: &NlaBuffer<'_>) -> Res<Self>
         requires { IsTrue (holds (array 4) flower_options (type_of (frame_of buf.now).word)) }
-        ensures { Gives (seen flower_option result) (flower_read (frame_of buf.now)) }
+        ensures { Returns (seen flower_option result) (flower_read (frame_of buf.now)) }
     {
         Ok(Self::of_ipv4(buf.kind(), parse_ipv4_addr(buf.value())?))
     }
@@ -132,7 +132,7 @@ impl<A: Allocator> TcFilterFlowerOption<A> {
     fn read_ipv6(buf: &NlaBuffer<'_>) -> Res<Self>
         requires { IsTrue (holds (array 16) flower_options (type_of (frame_of buf.now).word)
             && not (are_labels (type_of (frame_of buf.now).word))) }
-        ensures { Gives (seen flower_option result) (flower_read (frame_of buf.now)) }
+        ensures { Returns (seen flower_option result) (flower_read (frame_of buf.now)) }
     {
         Ok(Self::of_ipv6(buf.kind(), parse_ipv6_addr(buf.value())?))
     }
@@ -142,7 +142,7 @@ impl<A: Allocator> TcFilterFlowerOption<A> {
     #[inline(always)]
     fn read_labels(buf: &NlaBuffer<'_>) -> Res<Self>
         requires { IsTrue (are_labels (type_of (frame_of buf.now).word)) }
-        ensures { Gives (seen flower_option result) (flower_read (frame_of buf.now)) }
+        ensures { Returns (seen flower_option result) (flower_read (frame_of buf.now)) }
     {
         Ok(Self::of_labels(buf.kind(), parse_labels(buf.value())?))
     }
@@ -152,7 +152,7 @@ impl<A: Allocator> TcFilterFlowerOption<A> {
     #[inline(always)]
     fn read_u8(buf: &NlaBuffer<'_>) -> Res<Self>
         requires { IsTrue (holds (le 1) flower_options (type_of (frame_of buf.now).word)) }
-        ensures { Gives (seen flower_option result) (flower_read (frame_of buf.now)) }
+        ensures { Returns (seen flower_option result) (flower_read (frame_of buf.now)) }
     {
         Ok(Self::of_u8(buf.kind(), parse_u8(buf.value())?))
     }
@@ -162,7 +162,7 @@ impl<A: Allocator> TcFilterFlowerOption<A> {
     #[inline(always)]
     fn read_u16(buf: &NlaBuffer<'_>) -> Res<Self>
         requires { IsTrue (holds (le 2) flower_options (type_of (frame_of buf.now).word)) }
-        ensures { Gives (seen flower_option result) (flower_read (frame_of buf.now)) }
+        ensures { Returns (seen flower_option result) (flower_read (frame_of buf.now)) }
     {
         Ok(Self::of_u16(buf.kind(), parse_u16(buf.value())?))
     }
@@ -172,7 +172,7 @@ impl<A: Allocator> TcFilterFlowerOption<A> {
     #[inline(always)]
     fn read_u16_be(buf: &NlaBuffer<'_>) -> Res<Self>
         requires { IsTrue (holds (be 2) flower_options (type_of (frame_of buf.now).word)) }
-        ensures { Gives (seen flower_option result) (flower_read (frame_of buf.now)) }
+        ensures { Returns (seen flower_option result) (flower_read (frame_of buf.now)) }
     {
         Ok(Self::of_u16_be(buf.kind(), parse_u16_be(buf.value())?))
     }
@@ -182,7 +182,7 @@ impl<A: Allocator> TcFilterFlowerOption<A> {
     #[inline(always)]
     fn read_u32(buf: &NlaBuffer<'_>) -> Res<Self>
         requires { IsTrue (holds (le 4) flower_options (type_of (frame_of buf.now).word)) }
-        ensures { Gives (seen flower_option result) (flower_read (frame_of buf.now)) }
+        ensures { Returns (seen flower_option result) (flower_read (frame_of buf.now)) }
     {
         Ok(Self::of_u32(buf.kind(), parse_u32(buf.value())?))
     }
@@ -192,7 +192,7 @@ impl<A: Allocator> TcFilterFlowerOption<A> {
     #[inline(always)]
     fn read_u32_be(buf: &NlaBuffer<'_>) -> Res<Self>
         requires { IsTrue (holds (be 4) flower_options (type_of (frame_of buf.now).word)) }
-        ensures { Gives (seen flower_option result) (flower_read (frame_of buf.now)) }
+        ensures { Returns (seen flower_option result) (flower_read (frame_of buf.now)) }
     {
         Ok(Self::of_u32_be(buf.kind(), parse_u32_be(buf.value())?))
     }

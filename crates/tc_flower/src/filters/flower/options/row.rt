@@ -1,23 +1,23 @@
-//! Options as rows of flower's table: an `nla_type` and a value.
+//! Options as rows of flower's table: `nla_type` and value.
 
 ghost use Rattle.std.specs.Prelude.{◌≡◌};
 ghost use Rattle.tc_canon.specs.Tables.Flower.{flower_options};
 ghost use Rattle.tc_values.specs.Row.{attribute_of, IsRow, ShownAs};
 ghost use Rattle.tc_flower.specs.Flower.{flower_option, flower_lists};
 
+use crate::filters::flower::mpls::TcFilterFlowerMplsOption;
 use crate::filters::flower::options::held::Held;
 use crate::filters::flower::options::*;
 use nla_frames::{NLA_F_NESTED, Nla};
 use std::alloc::Allocator;
 use tc_actions::TcAction;
-use tc_mpls::TcFilterFlowerMplsOption;
 use tc_values::{Either, Items, Value};
 
-// The lists in the options: actions, or options of MPLS.
+// Nested lists: actions, or options of MPLS.
 type FlowerLists<'a, A> = Either<Items<'a, TcAction<A>>, Items<'a, TcFilterFlowerMplsOption<A>>>;
 
 impl<A: Allocator> TcFilterFlowerOption<A> {
-    // The `nla_type` and the value, by the table.
+    // The row; its contract says how the option is written, when it fits and when it is settled.
     #[inline(always)]
     pub(crate) fn view(&self) -> (u16, Value<'_, FlowerLists<'_, A>>)
         ensures { ShownAs flower_lists flower_options (flower_option self.now) result.0 result.1 }
@@ -25,8 +25,7 @@ impl<A: Allocator> TcFilterFlowerOption<A> {
         self.row()
     }
 
-    /// The option's `nla_type` (type and flags) and its value, in the form that the row of its type in the table says; of
-    /// `Other` the word and the payload that it keeps.
+    /// The `nla_type` (type and flags) and the value in the format of the type's row; both of `Other` are as read.
     #[inline(always)]
     pub fn row(&self) -> (u16, Value<'_, FlowerLists<'_, A>>)
         ensures seen { flower_option self.now ≡ attribute_of flower_lists result.0 result.1 }

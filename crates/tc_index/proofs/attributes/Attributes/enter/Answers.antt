@@ -1,6 +1,6 @@
 use Rattle.std.proofs.Common.{List, ◌++◌, ap, sym, refl}
 use Rattle.tc_index.specs.Attributes.{Item}
-use Rattle.tc_index.specs.Seen.{outer_of, lists_left}
+use Rattle.tc_index.specs.Views.{outer_of, lists_left}
 use Rattle.tc_index.proofs.Walks.{enters, too-deep}
 use Rattle.tc_index.proofs.attributes.Attributes.enter.Goals as goal
 

@@ -2,7 +2,7 @@ use Rattle.std.proofs.Common.{arith, ap, length, sym, ◌∙◌}
 use Rattle.std.proofs.lemmas.Bool.{eqb-true}
 use Rattle.std.proofs.lemmas.List.{nil_from_length}
 use Rattle.nla_frames.proofs.Items.{some_bytes}
-use Rattle.tc_index.specs.Seen.{outer_of}
+use Rattle.tc_index.specs.Views.{outer_of}
 use Rattle.tc_index.proofs.Walks.{leaves}
 use Rattle.tc_index.proofs.attributes.Attributes.leave.Goals as goal
 

@@ -1,5 +1,5 @@
 use Rattle.std.proofs.Common.{◌≡◌}
-use Rattle.tc_index.specs.Seen.{lists_left}
+use Rattle.tc_index.specs.Views.{lists_left}
 use Rattle.tc_index.proofs.attributes.Attributes.leave.Given as goal
 
 abbrev pub invariant-loop-self : goal.invariant-loop-self

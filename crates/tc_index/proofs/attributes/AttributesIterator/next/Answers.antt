@@ -2,7 +2,7 @@ use Rattle.std.proofs.Common.{◌≡◌, [], ap, sym, ◌∙◌}
 use Rattle.std.proofs.lemmas.Bool.{eqb-true}
 use Rattle.std.proofs.lemmas.List.{nil_from_length}
 use Rattle.tc_index.specs.Attributes.{to_fault}
-use Rattle.tc_index.specs.Seen.{items_left}
+use Rattle.tc_index.specs.Views.{items_left}
 use Rattle.tc_index.proofs.Walks.{nothing-left}
 use Rattle.tc_index.proofs.attributes.AttributesIterator.next.Goals as goal
 

@@ -4,5 +4,5 @@ use Rattle.tc_lines.proofs.lines.Lines.into_text.Goals as goal
 
 pub returns : goal.returns
 returns g c d e =
-    lines_written (g.C.Columns.says (g.C.Columns.given c.args.self.columns)) (g.C.Columns.given c.args.self.columns).root d
+    lines_written (g.C.Columns.table (g.C.Columns.options c.args.self.columns)) (g.C.Columns.options c.args.self.columns).root d
     c.args.self.log.events (state_of c.args.self.walk) e c.args.self.follows

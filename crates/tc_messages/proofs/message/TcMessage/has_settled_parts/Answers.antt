@@ -4,7 +4,7 @@ use Rattle.tc_canon.specs.Descriptor.{table}
 use Rattle.tc_meaning.specs.Meaning.{table_codec}
 use Rattle.tc_meaning.specs.Message.{kind_of_attribute}
 use Rattle.tc_canon.specs.Tables.Messages.{attributes}
-use Rattle.tc_attributes.specs.Attribute.{tc_attribute}
+use Rattle.tc_messages.specs.Attribute.{tc_attribute}
 use Rattle.tc_messages.proofs.message.TcMessage.has_settled_parts.Goals as goal
 
 pub returns-then-is_settled-clause-settled : goal.returns-then-is_settled-clause-settled
@@ -17,4 +17,4 @@ returns-then-is_settled-clause-settled g c =
 
 pub returns-then-is_settled-clause-typed : goal.returns-then-is_settled-clause-typed
 returns-then-is_settled-clause-typed g c =
-    λ yes. record { header = c.header_in_hand.ensures; body = rw c.deref.ensures.value at (c.list_settled_carrying.ensures.typed yes) }
+    λ yes. record { header = c.header_in_range.ensures; body = rw c.deref.ensures.value at (c.list_settled_carrying.ensures.typed yes) }

@@ -7,4 +7,4 @@ use Rattle.tc_messages.proofs.message.TcMessageEmitable.checked_len.Goals as goa
 pub returns-in-Some : goal.returns-in-Some
 returns-in-Some g c =
     let list = rw c.deref.ensures.value at c.in-Some.ensures in
-    message_measured tc_header attributes (tc_message c.args.self.now) c.header_in_hand.ensures c.in-Some.len _ list c.checked_add.ensures
+    message_measured tc_header attributes (tc_message c.args.self.now) c.header_in_range.ensures c.in-Some.len _ list c.checked_add.ensures

@@ -3,7 +3,7 @@ use Rattle.std.specs.Cmp.Derive.Mapped.{pointwise-map}
 use Rattle.std.specs.Cmp.Lexicographic.{pointwise}
 use Rattle.tc_meaning.specs.Equal.{same_attribute}
 use Rattle.tc_messages.specs.Message.{tc_message}
-use Rattle.tc_attributes.specs.Attribute.{tc_attribute}
+use Rattle.tc_messages.specs.Attribute.{tc_attribute}
 use Rattle.tc_messages.proofs.message.TcMessagePartialEq.eq.Goals as goal
 
 pub returns-then-eq : goal.returns-then-eq

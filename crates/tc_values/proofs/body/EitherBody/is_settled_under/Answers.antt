@@ -1,4 +1,4 @@
--- Without this the proof is found too; with it a wrong body of the function is refused by one search.
+-- The proof is found without this too; with it, the prover rejects a wrong body after one search.
 use Rattle.std.proofs.Common.{rules}
 use Rattle.tc_values.proofs.body.EitherBody.is_settled_under.Goals as goal
 

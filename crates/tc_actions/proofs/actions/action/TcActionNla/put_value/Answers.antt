@@ -14,4 +14,4 @@ pub returns-clause-length : goal.returns-clause-length
 returns-clause-length g c = rw (action_value c.args.self.now.tab _) (rw c.deref.ensures.value at c.put_list.ensures.length)
 
 pub returns-clause-typed : goal.returns-clause-typed
-returns-clause-typed g c = action_typed c.args.self.now.tab _ c.u16_in_hand.ensures (rw c.deref.ensures.value at c.put_list.ensures.typed)
+returns-clause-typed g c = action_typed c.args.self.now.tab _ c.u16_is_in_range.ensures (rw c.deref.ensures.value at c.put_list.ensures.typed)

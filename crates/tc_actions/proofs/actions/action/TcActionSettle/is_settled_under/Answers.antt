@@ -8,4 +8,4 @@ returns-then-self-le-NLA_TYPE_MASK-clause-settled g c =
 
 pub returns-then-self-le-NLA_TYPE_MASK-clause-typed : goal.returns-then-self-le-NLA_TYPE_MASK-clause-typed
 returns-then-self-le-NLA_TYPE_MASK-clause-typed g c =
-    λ yes. action_typed c.args.self.now.tab _ c.u16_in_hand.ensures (rw c.deref.ensures.value at (c.list_settled_own.ensures.typed yes))
+    λ yes. action_typed c.args.self.now.tab _ c.u16_is_in_range.ensures (rw c.deref.ensures.value at (c.list_settled_own.ensures.typed yes))

@@ -20,4 +20,4 @@ returns-clause-written g c =
     back_and_front head (keys c.args.self.now.keys.items) old after new 16 refl (omega (arith, c.requires.room)) behind before
 
 pub returns-clause-typed : goal.returns-clause-typed
-returns-clause-typed g c = (c.selector_head_in_hand.ensures, rw c.deref.ensures.value at c.put_keys.ensures.typed)
+returns-clause-typed g c = (c.selector_head_in_range.ensures, rw c.deref.ensures.value at c.put_keys.ensures.typed)

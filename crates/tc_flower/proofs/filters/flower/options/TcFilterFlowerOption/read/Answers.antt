@@ -4,7 +4,7 @@ use Rattle.tc_canon.specs.Descriptor.{table}
 use Rattle.tc_canon.specs.Tables.Flower.{flower_options, mpls_options}
 use Rattle.tc_actions.specs.Action.{an_action}
 use Rattle.tc_flower.specs.Reading.{flower_read}
-use Rattle.tc_mpls.proofs.Lists.{reads_items, refuses_items}
+use Rattle.tc_flower.proofs.MplsLists.{reads_items, refuses_items}
 use Rattle.tc_flower.proofs.filters.flower.options.TcFilterFlowerOption.read.Goals as goal
 
 pub returns-in_ok-parse_list-in-3 : goal.returns-in_ok-parse_list-in-3

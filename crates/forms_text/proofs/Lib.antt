@@ -1,0 +1,11 @@
+mod Readable
+mod Written
+mod WrittenJson
+mod ReadJson
+mod ReadableValues
+mod ShownReadable
+mod Texts
+mod Unread
+mod Floats
+mod Alike
+mod MadeAgain

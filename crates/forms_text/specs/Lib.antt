@@ -1,0 +1,4 @@
+pub mod Make
+pub mod Read
+pub mod Text
+pub mod Strict

@@ -1,5 +1,0 @@
-use Rattle.nla_frames.proofs.Texts.{IsText-slice}
-use Rattle.nla_frames.proofs.laws.in_hand.text_in_hand.Goals as goal
-
-pub returns : goal.returns
-returns c = IsText-slice c.args.text.now c.type_inv.text c.utf8.text

@@ -1,0 +1,10 @@
+use Rattle.std.proofs.Common.{length}
+use Rattle.program_io.specs.Written.{GrowsByFront}
+use Rattle.program_io.proofs.write.write_all.Given as goal
+
+-- what is written is the front, and what is left the rest
+abbrev pub invariant-parts : goal.invariant-parts
+invariant-parts g l = GrowsByFront (g.W.Write.contents l.fn.writer) (g.W.Write.contents l.writer) l.bytes l.rest
+
+abbrev pub decreases-parts : goal.decreases-parts
+decreases-parts g l = length l.rest

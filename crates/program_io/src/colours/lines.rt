@@ -1,0 +1,177 @@
+//! Lines in colors.
+
+ghost use Rattle.std.specs.Prelude.{◌≤◌, ◌<◌, OnOk, [], length};
+ghost use Rattle.program_io.specs.Colours.{Adds, IsColour};
+
+use std::alloc::{AllocError, Allocator};
+
+// A color of a terminal; `Plain` ends it.
+#[derive(Clone, Copy)]
+enum Colour {
+    Bold,
+    Red,
+    Green,
+    Cyan,
+    Plain,
+}
+
+fn code_of(colour: Colour) -> &'static [u8]
+    ensures { IsColour result.now }
+{
+    match colour {
+        Colour::Bold => b"\x1b[1m",
+        Colour::Red => b"\x1b[31m",
+        Colour::Green => b"\x1b[32m",
+        Colour::Cyan => b"\x1b[36m",
+        Colour::Plain => b"\x1b[0m",
+    }
+}
+
+/// Appends lines in colors; `is_first` says whether they begin a paragraph. Returns whether the text after them begins
+/// one. Without the colors, the appended text is the lines.
+pub fn paint<A: Allocator>(
+    out: &mut Vec<u8, A>,
+    is_first: bool,
+    lines: &[u8],
+) -> Result<bool, AllocError>
+    ensures { OnOk result (Adds out.old.items out.new.items lines.now) }
+{
+    let mut is_first = is_first;
+    let mut rest = lines;
+    'lines: while !rest.is_empty() {
+        let (line, others) = rest.split_at(line_of(rest));
+        put_line(out, is_first, line)?;
+        is_first = line.len() < 2;
+        rest = others;
+    }
+    Ok(is_first)
+}
+
+// The length of the first line, with its line feed.
+fn line_of(lines: &[u8]) -> usize
+    requires { 0 < length lines.now }
+    ensures some { 0 < result }
+    ensures within { result ≤ length lines.now }
+{
+    match lines.iter().position(|byte| *byte == b'\n') {
+        Some(at) => at + 1,
+        None => lines.len(),
+    }
+}
+
+// Appends a line; `is_first` says whether it is the first of its paragraph.
+#[tactic(auto, using(crate::proofs::Adding::adds_parts))]
+fn put_line<A: Allocator>(
+    out: &mut Vec<u8, A>,
+    is_first: bool,
+    line: &[u8],
+) -> Result<(), AllocError>
+    ensures { OnOk result (Adds out.old.items out.new.items line.now) }
+{
+    let (text, feed) = line.split_at(end_of(line));
+    put_words(out, is_first, text)?;
+    put_text(out, feed)?;
+    Ok(())
+}
+
+// Appends the words of a line after its margin.
+#[tactic(auto, using(crate::proofs::Adding::adds_parts))]
+fn put_words<A: Allocator>(
+    out: &mut Vec<u8, A>,
+    is_first: bool,
+    text: &[u8],
+) -> Result<(), AllocError>
+    ensures { OnOk result (Adds out.old.items out.new.items text.now) }
+{
+    let (margin, words) = text.split_at(margin_of(text));
+    put_text(out, margin)?;
+    if is_refused(words) {
+        put(out, Colour::Red, words)?;
+        Ok(())
+    } else if is_first {
+        put(out, Colour::Bold, words)?;
+        Ok(())
+    } else {
+        put_pair(out, words)?;
+        Ok(())
+    }
+}
+
+// Appends a name and its value.
+#[tactic(auto, using(crate::proofs::Adding::adds_parts))]
+fn put_pair<A: Allocator>(out: &mut Vec<u8, A>, words: &[u8]) -> Result<(), AllocError>
+    ensures { OnOk result (Adds out.old.items out.new.items words.now) }
+{
+    let (name, value) = words.split_at(word_of(words));
+    put(out, Colour::Cyan, name)?;
+    put(out, Colour::Green, value)?;
+    Ok(())
+}
+
+// The length of a line without its line feed.
+fn end_of(line: &[u8]) -> usize
+    ensures { result ≤ length line.now }
+{
+    match line.iter().position(|byte| *byte == b'\n') {
+        Some(at) => at,
+        None => line.len(),
+    }
+}
+
+// The number of blanks at the front of a line.
+fn margin_of(line: &[u8]) -> usize
+    ensures { result ≤ length line.now }
+{
+    match line.iter().position(|byte| *byte != b' ') {
+        Some(at) => at,
+        None => line.len(),
+    }
+}
+
+// The length of the first word.
+fn word_of(line: &[u8]) -> usize
+    ensures { result ≤ length line.now }
+{
+    match line.iter().position(|byte| *byte == b' ') {
+        Some(at) => at,
+        None => line.len(),
+    }
+}
+
+// True for a line about refused, broken, cut or skipped input.
+fn is_refused(line: &[u8]) -> bool {
+    line.starts_with(b"refused ")
+        || line.starts_with(b"broken: ")
+        || line.starts_with(b"cut: ")
+        || line.starts_with(b"skipped: ")
+}
+
+// Appends a text in a color.
+#[tactic(auto, using(crate::proofs::Adding::adds_between))]
+fn put<A: Allocator>(out: &mut Vec<u8, A>, colour: Colour, text: &[u8]) -> Result<(), AllocError>
+    ensures { OnOk result (Adds out.old.items out.new.items text.now) }
+{
+    if text.is_empty() {
+        return put_text(out, text);
+    }
+    put_colour(out, colour)?;
+    put_text(out, text)?;
+    put_colour(out, Colour::Plain)?;
+    Ok(())
+}
+
+#[tactic(auto, using(crate::proofs::Adding::adds_colour))]
+fn put_colour<A: Allocator>(out: &mut Vec<u8, A>, colour: Colour) -> Result<(), AllocError>
+    ensures { OnOk result (Adds out.old.items out.new.items []) }
+{
+    out.extend_from_slice(code_of(colour))?;
+    Ok(())
+}
+
+#[tactic(auto, using(crate::proofs::Adding::adds_text))]
+fn put_text<A: Allocator>(out: &mut Vec<u8, A>, text: &[u8]) -> Result<(), AllocError>
+    ensures { OnOk result (Adds out.old.items out.new.items text.now) }
+{
+    out.extend_from_slice(text)?;
+    Ok(())
+}

@@ -1,0 +1,61 @@
+//! Writing bytes.
+
+ghost use Rattle.std.specs.Prelude.{◌≡◌, ◌≤◌, [], length, take, IfOk, OnOk, OnErr, List, ℕ};
+ghost use Rattle.std.specs.Io.KnownBytes.{Appends, Keeps};
+ghost use Rattle.program_io.specs.Written.{GrowsByFront};
+
+use crate::retries::MOST_RETRIES;
+use crate::stop::Stop;
+use std::io::{Error, ErrorKind, Write};
+
+/// Writes all bytes. If it fails, some of them may have been written. A write that is interrupted is tried again.
+pub fn write_all<W: Write>(writer: &mut W, bytes: &[u8]) -> Result<(), Stop>
+    ensures front { (rest : List ℕ) × GrowsByFront (W.contents writer.old) (W.contents writer.new) bytes.now rest
+        × OnOk result (rest ≡ []) }
+{
+    let mut rest = bytes;
+    'parts: while !rest.is_empty() {
+        let count = write_some(writer, rest)?;
+        if count == 0 {
+            return Err(Stop::Write);
+        }
+        let (_, after) = rest.split_at(count);
+        rest = after;
+    }
+    Ok(())
+}
+
+// Writes some of the bytes once, and returns their number.
+fn write_some<W: Write>(writer: &mut W, bytes: &[u8]) -> Result<usize, Stop>
+    ensures inside { IfOk result (λ count. count ≤ length bytes.now) }
+    ensures front { IfOk result (λ count. Appends (W.contents writer.old) (W.contents writer.new) (take count bytes.now)) }
+    ensures none { OnErr result (Keeps (W.contents writer.old) (W.contents writer.new)) }
+{
+    for _ in 0..MOST_RETRIES {
+        match writer.write(bytes) {
+            Ok(count) => return Ok(count),
+            Err(fault) => {
+                if fault.kind() != ErrorKind::Interrupted {
+                    return Err(stop_of(&fault));
+                }
+            }
+        }
+    }
+    Err(Stop::Write)
+}
+
+fn stop_of(fault: &Error) -> Stop {
+    if fault.kind() == ErrorKind::BrokenPipe {
+        Stop::Closed
+    } else {
+        Stop::Write
+    }
+}
+
+/// Writes an error message, if that is possible, and returns the exit status.
+pub fn fail_with<W: Write>(errors: &mut W, text: &str, status: u8) -> u8
+    ensures { result ≡ status }
+{
+    let _ = write_all(errors, text.as_bytes());
+    status
+}

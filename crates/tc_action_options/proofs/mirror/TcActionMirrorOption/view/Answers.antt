@@ -1,8 +1,0 @@
-use Rattle.tc_canon.specs.Tables.Actions.{mirror_options}
-use Rattle.tc_values.proofs.Rows.{shown_as}
-use Rattle.tc_action_options.specs.Mirror.{mirror_body}
-use Rattle.tc_action_options.proofs.Bodies.{is_mirror_body}
-use Rattle.tc_action_options.proofs.mirror.TcActionMirrorOption.view.Goals as goal
-
-pub returns : goal.returns
-returns g c = shown_as mirror_body is_mirror_body mirror_options _ _ _ c.row.ensures.seen c.row.ensures.row

@@ -1,9 +1,0 @@
-use Rattle.tc_canon.specs.Tables.Actions.{tunnel_key_options}
-use Rattle.tc_values.proofs.SameRows.{same_shown}
-use Rattle.tc_action_options.proofs.Bodies.{same_tunnel_key_body}
-use Rattle.tc_action_options.proofs.tunnel_key.TcActionTunnelKeyOptionPartialEq.eq.Goals as goal
-
-pub returns : goal.returns
-returns g c =
-    same_shown same_tunnel_key_body tunnel_key_options _ _ _ _
-    c.row.ensures.seen c.row.ensures.row c.row-2.ensures.seen c.row-2.ensures.row c.same_row.ensures

@@ -1,4 +1,0 @@
-pub mod Mirror
-pub mod Nat
-pub mod TunnelKey
-pub mod ActionOption

@@ -1,3 +1,0 @@
-mod Kept
-mod KindTexts
-mod Written

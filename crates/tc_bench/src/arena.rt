@@ -1,0 +1,6 @@
+//! Operations in an arena.
+
+mod calls;
+mod in_arena;
+mod mode;
+mod timed;

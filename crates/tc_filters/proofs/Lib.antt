@@ -1,3 +1,0 @@
-pub mod ActionLists
-pub mod Bodies
-pub mod Values

@@ -1,8 +1,0 @@
-use Rattle.tc_canon.specs.Tables.Options.{matchall_options}
-use Rattle.tc_values.proofs.Rows.{shown_as}
-use Rattle.tc_filters.specs.MatchAll.{action_list}
-use Rattle.tc_filters.proofs.Bodies.{is_action_list}
-use Rattle.tc_filters.proofs.filters.matchall.TcFilterMatchAllOption.view.Goals as goal
-
-pub returns : goal.returns
-returns g c = shown_as action_list is_action_list matchall_options _ _ _ c.row.ensures.seen c.row.ensures.row

@@ -1,3 +1,0 @@
-pub mod Bpf
-pub mod MatchAll
-pub mod U32

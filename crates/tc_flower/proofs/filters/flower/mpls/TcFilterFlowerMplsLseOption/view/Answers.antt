@@ -1,0 +1,8 @@
+use Rattle.tc_canon.specs.Tables.Flower.{lse_options}
+use Rattle.tc_values.specs.Bodies.{nothing}
+use Rattle.tc_values.proofs.Bodies.{is_nothing}
+use Rattle.tc_values.proofs.Rows.{shown_as}
+use Rattle.tc_flower.proofs.filters.flower.mpls.TcFilterFlowerMplsLseOption.view.Goals as goal
+
+pub returns : goal.returns
+returns g c = shown_as nothing is_nothing lse_options _ _ _ c.row.ensures.seen c.row.ensures.row

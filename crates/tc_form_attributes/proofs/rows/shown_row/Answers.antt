@@ -1,8 +1,0 @@
-use Rattle.tc_form_values.specs.Tables.{row_view, rows_view}
-use Rattle.tc_form_attributes.proofs.FirstRows.{shown_at}
-use Rattle.tc_form_attributes.proofs.rows.shown_row.Goals as goal
-
-pub returns-in-Some : goal.returns-in-Some
-returns-in-Some c =
-    shown_at (rows_view c.args.rows.now.own.now) (rows_view c.args.rows.now.common.now) c.args.word (row_view c.in-Some.row)
-    c.in-Some.ensures.of_type c.in-Some.ensures.of_name

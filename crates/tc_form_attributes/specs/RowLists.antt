@@ -1,7 +1,0 @@
--- The rows that code has in hand for a list: two slices, one after the other.
-use Rattle.std.specs.Prelude.{List, ◌++◌}
-use Rattle.tc_form_attributes.specs.declared.rows.RowList.{RowList}
-use Rattle.tc_form_values.specs.Tables.{Row, rows_view}
-
-abbrev pub rows_in : RowList → List Row
-rows_in r = rows_view r.own.now ++ rows_view r.common.now

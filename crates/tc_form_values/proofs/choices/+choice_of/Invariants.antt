@@ -1,5 +1,0 @@
-use Rattle.std.proofs.Common.{length}
-use Rattle.tc_form_values.proofs.choices.+choice_of.Given as goal
-
-abbrev pub decreases-choice_of : goal.decreases-choice_of
-decreases-choice_of l = length l.choices.now

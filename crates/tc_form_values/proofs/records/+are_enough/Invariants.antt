@@ -1,5 +1,0 @@
-use Rattle.std.proofs.Common.{length}
-use Rattle.tc_form_values.proofs.records.+are_enough.Given as goal
-
-abbrev pub decreases-are_enough : goal.decreases-are_enough
-decreases-are_enough g l = length l.fields.now

@@ -1,3 +1,0 @@
-mod Floats
-mod Alike
-mod MadeAgain

@@ -1,3 +1,0 @@
-pub mod Make
-pub mod Read
-pub mod Text

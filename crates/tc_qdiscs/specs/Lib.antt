@@ -1,2 +1,0 @@
-pub mod FqCodel
-pub mod Ingress

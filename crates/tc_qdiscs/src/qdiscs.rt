@@ -1,5 +1,0 @@
-//! Queueing disciplines.
-
-pub mod fq_codel;
-pub mod ingress;
-mod types;

@@ -1,0 +1,13 @@
+use Rattle.std.proofs.Common.{◌≡◌}
+use Rattle.nla_frames.specs.Iterator.{items_left}
+use Rattle.tc_select.proofs.Frames.{frames_of}
+use Rattle.std.specs.Prelude.{[]}
+use Rattle.std.specs.List.{list_any}
+use Rattle.tc_select.specs.Filter.{is_kind}
+use Rattle.tc_select.specs.Kinds.{frames_in, kinds_from}
+use Rattle.tc_select.proofs.kinds.in_message.Given as goal
+
+abbrev pub invariant-loop-frame : goal.invariant-loop-frame
+invariant-loop-frame l =
+    list_any (is_kind l.values) (kinds_from l.kind (frames_of (items_left l.frame-iterator)))
+    ≡ list_any (is_kind l.values) (kinds_from [] (frames_in l.bytes))

@@ -1,0 +1,13 @@
+pub mod Kinds
+pub mod Header
+pub mod Filter
+pub mod Digits
+pub mod Calendar
+pub mod Times
+pub mod Handles
+pub mod Types
+pub mod Dump
+pub mod DumpView
+pub mod Pasted
+pub mod Links
+pub mod LinkView

@@ -1,3 +1,0 @@
-pub mod FqCodel
-pub mod Xstats
-pub mod Stats2

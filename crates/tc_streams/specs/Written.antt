@@ -1,7 +1,0 @@
--- What is written.
-use Rattle.std.specs.Prelude.{◌≡◌, ℕ, List, ◌++◌, Option}
-use Rattle.std.specs.Io.KnownBytes.{Appends}
-
--- known bytes grow by the front of some bytes, of which the rest is left
-abbrev pub GrowsByFront : Option (List ℕ) → Option (List ℕ) → List ℕ → List ℕ → Type 0
-GrowsByFront old new bytes rest = (front : List ℕ) × (bytes ≡ front ++ rest) × Appends old new front

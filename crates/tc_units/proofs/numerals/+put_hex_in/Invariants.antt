@@ -1,4 +1,0 @@
-use Rattle.tc_units.proofs.numerals.+put_hex_in.Given as goal
-
-abbrev pub decreases-put_hex_in : goal.decreases-put_hex_in
-decreases-put_hex_in g l = l.n

@@ -1,0 +1,56 @@
+use Rattle.std.proofs.Common.{◌∙◌, ◌++◌, [], Some, true, false, refl, sym}
+use Rattle.tc_input.specs.Left.{left_of}
+use Rattle.tcshow_input.specs.Reading.{text_left}
+use Rattle.tcshow_input.specs.State.{state_of}
+use Rattle.tcshow_input.proofs.Clean.{clean_none, clean_step}
+use Rattle.tcshow_input.proofs.InOrder.{gives_none, gives_then, on_is, same_header}
+use Rattle.tcshow_input.proofs.Progress.{progress_none, progress_then}
+use Rattle.tcshow_input.proofs.lines.show_lines_after.Goals as goal
+
+pub returns-in_err-goes_on-clause-clean : goal.returns-in_err-goes_on-clause-clean
+returns-in_err-goes_on-clause-clean g c = clean_step _ _ _ _ _ c.loop.invariant.clean c.loop.invariant.form c.show_line.ensures.clean
+
+pub loop-preserved : goal.loop-preserved
+loop-preserved g c =
+    let before = c.loop.invariant.ran in
+    let next = c.in_ok-goes_on.ensures.ran in
+    let header = (state_of c.args.printer.now).header in
+    let left = left_of c.loop.input (g.R.Read.remaining c.loop.reader) in
+    let after = left_of c.show_line.new.input (g.R.Read.remaining c.show_line.new.reader) in
+    let a = text_left header c.loop.dump.items left in
+    let b = text_left header c.show_line.new.dump.items after in
+    let given =
+    same_header (state_of c.loop.printer).header header c.loop.dump.items c.show_line.new.dump.items c.in_ok-goes_on.goes_on next.0 left after
+    before.1.header next.2 in
+    record {
+      form = c.show_line.ensures.form ∙ c.loop.invariant.form;
+      clean = clean_step _ _ _ _ _ c.loop.invariant.clean c.loop.invariant.form c.show_line.ensures.clean;
+      ran = (
+        before.0 ++ next.0,
+        progress_then before.0 next.0 _ _ _ _ _ _ before.1 next.1,
+        gives_then before.0 next.0 _ a b before.2 (on_is true c.in_ok-goes_on.goes_on a next.0 b (sym c.if-not-goes_on.false) given),
+      );
+    }
+
+pub loop-init : goal.loop-init
+loop-init g c = record { form = refl; clean = λ _. clean_none _; ran = ([], progress_none _ _, gives_none _) }
+
+pub returns-then-not-goes_on-clause-ran : goal.returns-then-not-goes_on-clause-ran
+returns-then-not-goes_on-clause-ran g c =
+    let before = c.loop.invariant.ran in
+    let next = c.in_ok-goes_on.ensures.ran in
+    let header = (state_of c.args.printer.now).header in
+    let left = left_of c.loop.input (g.R.Read.remaining c.loop.reader) in
+    let after = left_of c.show_line.new.input (g.R.Read.remaining c.show_line.new.reader) in
+    let a = text_left header c.loop.dump.items left in
+    let b = text_left header c.show_line.new.dump.items after in
+    let given =
+    same_header (state_of c.loop.printer).header header c.loop.dump.items c.show_line.new.dump.items c.in_ok-goes_on.goes_on next.0 left after
+    before.1.header next.2 in (
+      before.0 ++ next.0,
+      progress_then before.0 next.0 _ _ _ _ _ _ before.1 next.1,
+      gives_then before.0 next.0 _ a (Some []) before.2 (on_is false c.in_ok-goes_on.goes_on a next.0 b (sym c.if-not-goes_on.true) given),
+    )
+
+pub returns-then-not-goes_on-clause-clean : goal.returns-then-not-goes_on-clause-clean
+returns-then-not-goes_on-clause-clean g c = clean_step _ _ _ _ _ c.loop.invariant.clean c.loop.invariant.form c.show_line.ensures.clean

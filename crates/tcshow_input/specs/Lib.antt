@@ -1,0 +1,6 @@
+pub mod Writing
+pub mod Things
+pub mod Reading
+pub mod Selection
+pub mod Shown
+pub mod State

@@ -1,0 +1,102 @@
+-- The state of a run, and the steps between states.
+use Rattle.std.specs.Prelude.{◌≡◌, ℕ, Bool, true, false, not, [], ◌||◌, ◌==◌, List, ◌++◌, Option}
+use Rattle.std.specs.Io.KnownBytes.{Appends}
+use Rattle.tc_capture.specs.declared.kind.MessageType.{MessageType}
+use Rattle.tc_select.specs.declared.filter.Filter.{Filter}
+use Rattle.tcshow_input.specs.declared.options.Options.{Options}
+use Rattle.tcshow_input.specs.declared.options.OutputFormat.{OutputFormat}
+use Rattle.tcshow_input.specs.declared.options.OutputFormat.TheVariants.{Lines, OneLine, Json}
+use Rattle.tcshow_input.specs.declared.counts.Counts.{Counts}
+use Rattle.tcshow_input.specs.declared.printer.Printer.{Printer}
+use Rattle.tcshow_json.specs.Messages.{Thing}
+use Rattle.tcshow_input.specs.Reading.{AreIn}
+use Rattle.tcshow_input.specs.Shown.{ShowsEach, ShowsSummary}
+
+pub record State : Type 0 where
+  -- the output is JSON
+  pub json : Bool
+  -- the message type of lines of hex without a netlink header
+  pub header : Option MessageType
+  -- which messages are printed
+  pub filter : Filter
+  -- a summary is asked for
+  pub summary : Bool
+  -- the text that isn't written yet
+  pub text : List ℕ
+  -- something was refused, broken or cut
+  pub bad : Bool
+
+abbrev pub is_json : OutputFormat → Bool
+is_json Lines = false
+is_json OneLine = false
+is_json Json = true
+
+abbrev pub is_bad : Counts → Bool
+is_bad c = not (c.refused == 0) || not (c.broken == 0) || not (c.cut == 0)
+
+abbrev pub state_of : {A : Type 0} → Printer A → State
+state_of s = record {
+  json = s.output.is_json;
+  header = s.options.now.without_header;
+  filter = s.options.now.filter;
+  summary = s.options.now.has_summary;
+  text = s.output.bytes.items;
+  bad = is_bad s.counts;
+}
+
+-- more text, and perhaps a fault
+pub record Grows (more : List ℕ) (fault : Bool) (old new : State) : Type 0 where
+  pub json : new.json ≡ old.json
+  pub header : new.header ≡ old.header
+  pub filter : new.filter ≡ old.filter
+  pub summary : new.summary ≡ old.summary
+  pub text : new.text ≡ old.text ++ more
+  pub bad : new.bad ≡ (old.bad || fault)
+
+-- the text of these things is appended to the output
+abbrev pub Puts : List Thing → State → State → Type 0
+Puts things old new = (text : List ℕ) × (bad : Bool) × ShowsEach old.json old.filter things text bad × Grows text bad old new
+
+-- a run between two states: the text of these things is appended to the output, of which a part is written
+pub record Progress (things : List Thing) (old new : Option (List ℕ)) (first last : State) : Type 0 where
+  pub text : List ℕ
+  pub fault : Bool
+  pub out : List ℕ
+  pub shown : ShowsEach first.json first.filter things text fault
+  pub written : Appends old new out
+  pub kept : out ++ last.text ≡ first.text ++ text
+  pub json : last.json ≡ first.json
+  pub header : last.header ≡ first.header
+  pub filter : last.filter ≡ first.filter
+  pub summary : last.summary ≡ first.summary
+  pub bad : last.bad ≡ (first.bad || fault)
+
+-- then a summary, if the options ask for it
+abbrev pub Ends : List Thing → Option (List ℕ) → Option (List ℕ) → State → State → Type 0
+Ends things old new first last =
+    (before : State) × (text : List ℕ) × Progress things old new first before × ShowsSummary before.json before.summary text × Grows text false before last
+
+-- and all of it is written
+abbrev pub Completes : List Thing → Option (List ℕ) → Option (List ℕ) → State → State → Type 0
+Completes things old new first last =
+    (text : List ℕ) × (fault : Bool) × (summary : List ℕ) × ShowsEach first.json first.filter things text fault
+    × ShowsSummary first.json first.summary summary × Appends old new (first.text ++ (text ++ summary)) × (last.bad ≡ (first.bad || fault))
+
+-- the first state of a run
+abbrev pub start : Options → State
+start options = record {
+  json = is_json options.format;
+  header = options.without_header;
+  filter = options.filter;
+  summary = options.has_summary;
+  text = [];
+  bad = false;
+}
+
+-- a run that reaches the end of its input: the text of the things in it is written, then the summary if the options ask for it, and the fault
+-- says whether one of the things is refused or broken
+abbrev pub Ran : Options → Bool → Option (List ℕ) → Option (List ℕ) → Option (List ℕ) → Type 0
+Ran options fault file old new =
+    (things : List Thing) × (text : List ℕ) × (summary : List ℕ) × AreIn file options.without_header things
+    × ShowsEach (is_json options.format) options.filter things text fault
+    × ShowsSummary (is_json options.format) options.has_summary summary × Appends old new (text ++ summary)

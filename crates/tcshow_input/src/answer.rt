@@ -1,0 +1,62 @@
+//! Messages, printed.
+
+use crate::attributes::show_attributes;
+use crate::printer::Printer;
+use std::alloc::{AllocError, Allocator};
+use tcshow_json::{Message, begin_message, line_of};
+
+impl<'a, A: Allocator + Copy> Printer<'a, A> {
+    ghost use Rattle.std.specs.Prelude.{◌≡◌, ◌∷◌, [], List, ℕ, Bool, true, false, OnOk};
+    ghost use Rattle.tcshow_json.specs.Messages.{message_view, message};
+    ghost use Rattle.tcshow_input.specs.Shown.{ShowsMessage};
+    ghost use Rattle.tcshow_input.specs.State.{state_of, Grows, Puts};
+
+    /// Prints a message if the filter matches it.
+    pub(crate) fn put_message(&mut self, found: &Message<'_>) -> Result<(), AllocError>
+        ensures form { self.new.output.is_json ≡ self.old.output.is_json }
+        ensures put { OnOk result (Puts (message (message_view found.now) ∷ []) (state_of self.old) (state_of self.new)) }
+    {
+        let taken = self.takes(found)?;
+        if !taken {
+            self.counts.left_out = self.counts.left_out.saturating_add(1);
+            return Ok(());
+        }
+        self.counts.shown = self.counts.shown.saturating_add(1);
+        self.show_message(found)
+    }
+
+    fn show_message(&mut self, found: &Message<'_>) -> Result<(), AllocError>
+        ensures form { self.new.output.is_json ≡ self.old.output.is_json }
+        ensures put { OnOk result ((text : List ℕ) × (bad : Bool) × ShowsMessage self.old.output.is_json (message_view found.now) text bad
+            × Grows text bad (state_of self.old) (state_of self.new)) }
+    {
+        self.count_message(found)?;
+        if self.output.is_json() {
+            self.put_line(found)
+        } else {
+            self.put_outline(found)
+        }
+    }
+
+    fn put_outline(&mut self, found: &Message<'_>) -> Result<(), AllocError>
+        ensures form { self.new.output.is_json ≡ self.old.output.is_json }
+        ensures put { OnOk result ((text : List ℕ) × (bad : Bool) × ShowsMessage false (message_view found.now) text bad
+            × Grows text bad (state_of self.old) (state_of self.new)) }
+    {
+        begin_message(&mut self.page, found)?;
+        let name = show_attributes(self.json, self.options, &self.links, &mut self.page, found)?;
+        self.put_page()?;
+        self.count_fault(name)
+    }
+
+    fn put_line(&mut self, found: &Message<'_>) -> Result<(), AllocError>
+        requires { self.old.output.is_json ≡ true }
+        ensures form { self.new.output.is_json ≡ self.old.output.is_json }
+        ensures put { OnOk result ((text : List ℕ) × (bad : Bool) × ShowsMessage true (message_view found.now) text bad
+            × Grows text bad (state_of self.old) (state_of self.new)) }
+    {
+        let line = line_of(self.alloc, self.json, found)?;
+        self.put_json(line.json)?;
+        self.count_fault(line.fault)
+    }
+}

@@ -1,0 +1,28 @@
+//! Reads a capture, or lines of hex, and prints each message as an outline or as a line of JSON.
+//!
+//! The input is read a piece at a time, so a run takes memory for the longest message, not for the whole input. Calls that take an allocator fail
+//! with [`Stop::NoMemory`] or `AllocError` if it fails.
+#![tactic(auto)]
+
+mod answer;
+mod attributes;
+mod capture;
+mod counts;
+mod lines;
+mod links;
+mod options;
+mod output;
+mod packets;
+mod printer;
+mod replies;
+mod selection;
+mod stop;
+mod summary;
+
+pub use capture::show_capture;
+pub use counts::Counts;
+pub use lines::{is_hex_text, show_lines};
+pub use options::{Options, OutputFormat};
+pub use packets::Packets;
+pub use printer::Printer;
+pub use stop::Stop;

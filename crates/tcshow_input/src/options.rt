@@ -1,0 +1,32 @@
+//! Options of a run.
+
+use tc_capture::MessageType;
+use tc_outline::Interfaces;
+use tc_select::Filter;
+
+/// How messages are printed.
+#[derive(Clone, Copy, PartialEq, Eq)]
+pub enum OutputFormat {
+    /// An outline: a line for the header, a line for each attribute, and an empty line.
+    Lines,
+    /// An outline on one line.
+    OneLine,
+    /// A line of JSON.
+    Json,
+}
+
+/// Options of a run.
+#[derive(Clone, Copy)]
+pub struct Options<'a> {
+    pub format: OutputFormat,
+    /// The message type of lines of hex that have no netlink header; `None` if they have one.
+    pub without_header: Option<MessageType>,
+    /// Which messages are printed.
+    pub filter: Filter<'a>,
+    /// True if outlines have padding attributes too.
+    pub all: bool,
+    /// Names of interfaces, beside those in the capture.
+    pub names: Interfaces<'a>,
+    /// True if a summary is printed at the end.
+    pub has_summary: bool,
+}

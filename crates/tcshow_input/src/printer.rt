@@ -1,0 +1,242 @@
+//! Prints messages, notices and the summary.
+
+ghost use Rattle.std.specs.Prelude.{◌≡◌};
+ghost use Rattle.tcshow_input.specs.State.{is_json};
+
+use crate::counts::Counts;
+use crate::links::Links;
+use crate::options::{Options, OutputFormat};
+use crate::output::Output;
+use crate::stop::Stop;
+use crate::summary::{Summary, SummaryLine};
+use std::alloc::{AllocError, Allocator, Global};
+use std::io::Write;
+use tc_outline::{Layout, Page};
+use tcshow_json::{Message, Notice, NoticeLine, json_of, text_of};
+
+// The output is written once it holds this many bytes.
+const MOST_KEPT: usize = 65_536;
+
+/// Prints messages, and counts them.
+#[derive(Drop)]
+pub struct Printer<'a, A: Allocator> {
+    pub alloc: A,
+    /// Allocator of JSON.
+    pub(crate) json: Global,
+    pub(crate) options: &'a Options<'a>,
+    /// The outline of one message.
+    pub(crate) page: Page<A>,
+    /// Text that isn't written yet.
+    pub(crate) output: Output<A>,
+    pub counts: Counts,
+    /// Names of interfaces in the capture.
+    pub(crate) links: Links,
+    /// Offset in the input of the current dump, in bytes.
+    pub(crate) dump_at: u64,
+    summary: Summary,
+}
+
+pub(crate) fn layout_of(form: OutputFormat) -> Layout {
+    match form {
+        OutputFormat::Lines => Layout::Lines,
+        OutputFormat::OneLine | OutputFormat::Json => Layout::OneLine,
+    }
+}
+
+impl<'a, A: Allocator + Copy> Printer<'a, A> {
+    ghost use Rattle.std.specs.Prelude.{◌≡◌, true, false, List, ℕ, [], OnOk, is_some};
+    ghost use Rattle.tcshow_input.specs.Shown.{ended, IsPage, ShowsNotice, ShowsSummary};
+    ghost use Rattle.tcshow_input.specs.State.{start, state_of, Grows, Progress};
+    ghost use Rattle.tcshow_input.specs.Writing.{GrowsClean};
+    ghost use Rattle.program_io.specs.Written.{GrowsByFront};
+
+    pub fn new(alloc: A, json: Global, options: &'a Options<'a>) -> Printer<'a, A>
+        ensures { state_of result ≡ start options.entry.now }
+    {
+        Printer {
+            alloc,
+            json,
+            options,
+            page: Page::new(alloc, layout_of(options.format)),
+            output: Output::new(alloc, is_json(options.format)),
+            counts: Counts::default(),
+            links: Links::new(json),
+            dump_at: 0,
+            summary: Summary::new(json),
+        }
+    }
+
+    /// Moves the page to the output, as a paragraph or a line.
+    pub(crate) fn put_page(&mut self) -> Result<(), AllocError>
+        ensures form { self.new.output.is_json ≡ self.old.output.is_json }
+        ensures put { OnOk result ((text : List ℕ) × IsPage text × Grows text false (state_of self.old) (state_of self.new)) }
+    {
+        self.put_page_line()?;
+        if self.options.format != OutputFormat::Lines {
+            return Ok(());
+        }
+        self.output.line_feed()
+    }
+
+    // Moves the page to the output, with one line feed.
+    fn put_page_line(&mut self) -> Result<(), AllocError>
+        ensures form { self.new.output.is_json ≡ self.old.output.is_json }
+        ensures put { OnOk result ((text : List ℕ) × IsPage text × Grows text false (state_of self.old) (state_of self.new)) }
+    {
+        self.output.page(&self.page)?;
+        self.page.clear();
+        self.output.line_feed()
+    }
+
+    /// Appends a line of JSON to the output.
+    pub(crate) fn put_json(&mut self, json: Vec<u8>) -> Result<(), AllocError>
+        requires { self.old.output.is_json ≡ true }
+        ensures form { self.new.output.is_json ≡ self.old.output.is_json }
+        ensures put { OnOk result (Grows (ended json.items) false (state_of self.old) (state_of self.new)) }
+    {
+        self.output.json(&json)?;
+        self.output.line_feed()
+    }
+
+    /// Prints a notice about an offset of the input.
+    pub(crate) fn put_notice(&mut self, notice: Notice, at: u64) -> Result<(), AllocError>
+        ensures form { self.new.output.is_json ≡ self.old.output.is_json }
+        ensures put { OnOk result ((text : List ℕ) × ShowsNotice self.old.output.is_json text × Grows text false (state_of self.old) (state_of self.new)) }
+    {
+        let words = notice.text(self.json)?;
+        self.put_notice_text(words.as_str(), at)
+    }
+
+    fn put_notice_text(&mut self, words: &str, at: u64) -> Result<(), AllocError>
+        ensures form { self.new.output.is_json ≡ self.old.output.is_json }
+        ensures put { OnOk result ((text : List ℕ) × ShowsNotice self.old.output.is_json text × Grows text false (state_of self.old) (state_of self.new)) }
+    {
+        if self.output.is_json() {
+            let line = json_of(self.json, &NoticeLine { note: words, at })?;
+            return self.put_json(line);
+        }
+        show_notice(&mut self.page, words, at)?;
+        self.put_page()
+    }
+
+    /// Counts a message in the summary's row with this type and text, if there is a summary.
+    pub(crate) fn count_row(&mut self, name: &'static str, text: &str) -> Result<(), AllocError>
+        ensures same { state_of self.new ≡ state_of self.old }
+    {
+        if !self.options.has_summary {
+            return Ok(());
+        }
+        self.summary.count_message(self.json, name, text)
+    }
+
+    /// Counts a message in the summary, if there is one.
+    pub(crate) fn count_message(&mut self, found: &Message<'_>) -> Result<(), AllocError>
+        ensures same { state_of self.new ≡ state_of self.old }
+    {
+        if !self.options.has_summary {
+            return Ok(());
+        }
+        let page = kind_page(self.alloc, found)?;
+        self.summary
+            .count_message(self.json, found.name(), text_of(&page))
+    }
+
+    /// Counts a refused message, if this is the name of a fault.
+    pub(crate) fn count_fault(&mut self, name: Option<&'static str>) -> Result<(), AllocError>
+        ensures form { self.new.output.is_json ≡ self.old.output.is_json }
+        ensures counted { OnOk result (Grows [] (is_some name.entry) (state_of self.old) (state_of self.new)) }
+    {
+        let name = match name {
+            Some(name) => name,
+            None => return Ok(()),
+        };
+        self.counts.count_refused();
+        if self.options.has_summary {
+            self.summary.count_fault(name)?;
+        }
+        Ok(())
+    }
+
+    /// Prints the summary, if the options ask for it.
+    pub fn put_summary(&mut self) -> Result<(), AllocError>
+        ensures form { self.new.output.is_json ≡ self.old.output.is_json }
+        ensures put { OnOk result ((text : List ℕ) × ShowsSummary self.old.output.is_json self.old.options.now.has_summary text ×
+            Grows text false (state_of self.old) (state_of self.new)) }
+    {
+        if !self.options.has_summary {
+            return Ok(());
+        }
+        let all = self.counts;
+        if self.output.is_json() {
+            let line = summary_json(self.json, &self.summary, &all)?;
+            return self.put_json(line);
+        }
+        let page = summary_page(self.alloc, &self.summary, &all)?;
+        self.output.page(&page)?;
+        self.output.line_feed()
+    }
+
+    /// Writes the output if it holds at least 64 KiB.
+    pub(crate) fn write_much<W: Write>(&mut self, writer: &mut W) -> Result<(), Stop>
+        ensures form { self.new.output.is_json ≡ self.old.output.is_json }
+        ensures clean { self.old.output.is_json ≡ false → GrowsClean (W.contents writer.old) (W.contents writer.new) }
+        ensures ran { OnOk result (Progress [] (W.contents writer.old) (W.contents writer.new) (state_of self.old) (state_of self.new)) }
+    {
+        if self.output.len() < MOST_KEPT {
+            return Ok(());
+        }
+        self.write(writer)
+    }
+
+    /// Writes the output.
+    pub fn write<W: Write>(&mut self, writer: &mut W) -> Result<(), Stop>
+        ensures form { self.new.output.is_json ≡ self.old.output.is_json }
+        ensures front { (rest : List ℕ) × GrowsByFront (W.contents writer.old) (W.contents writer.new) self.old.output.bytes.items rest
+            × OnOk result (rest ≡ []) }
+        ensures empty { state_of self.new ≡ record (state_of self.old) { text = [] } }
+        ensures clean { self.old.output.is_json ≡ false → GrowsClean (W.contents writer.old) (W.contents writer.new) }
+        ensures ran { OnOk result (Progress [] (W.contents writer.old) (W.contents writer.new) (state_of self.old) (state_of self.new)) }
+    {
+        self.output.write(writer)
+    }
+}
+
+fn is_json(form: OutputFormat) -> bool
+    ensures { result ≡ is_json form }
+{
+    match form {
+        OutputFormat::Lines | OutputFormat::OneLine => false,
+        OutputFormat::Json => true,
+    }
+}
+
+// Writes a notice on a page, with its offset.
+fn show_notice<A: Allocator>(page: &mut Page<A>, words: &str, at: u64) -> Result<(), AllocError> {
+    page.text(words)?;
+    page.text(" at ")?;
+    page.number(at)
+}
+
+// A page with the kind of a message; empty if it has none.
+fn kind_page<A: Allocator>(alloc: A, found: &Message<'_>) -> Result<Page<A>, AllocError> {
+    let mut page = Page::new(alloc, Layout::OneLine);
+    let kind = found.kind();
+    if !kind.is_empty() {
+        page.quoted(kind)?;
+    }
+    Ok(page)
+}
+
+fn summary_page<A: Allocator>(
+    alloc: A,
+    summary: &Summary,
+    all: &Counts,
+) -> Result<Page<A>, AllocError> {
+    let mut page = Page::new(alloc, Layout::Lines);
+    summary.show(all, &mut page)?;
+    Ok(page)
+}
+
+fn summary_json(alloc: Global, summary: &Summary, all: &Counts) -> Result<Vec<u8>, AllocError> {
+    json_of(alloc, &SummaryLine { summary, all })
+}

@@ -1,0 +1,87 @@
+//! Answers of the kernel, printed.
+
+use crate::attributes::show_attributes;
+use crate::printer::{Printer, layout_of};
+use std::alloc::{AllocError, Allocator};
+use tc_outline::Page;
+use tcshow_json::{Reply, errno_page, put_request, reply_line, show_netlink, show_reason, text_of};
+
+impl<'a, A: Allocator + Copy> Printer<'a, A> {
+    ghost use Rattle.std.specs.Prelude.{◌≡◌, ◌∷◌, [], List, ℕ, true, false, OnOk};
+    ghost use Rattle.tcshow_json.specs.Messages.{header_view, message_view};
+    ghost use Rattle.tcshow_json.specs.Replies.{thing_view};
+    ghost use Rattle.tcshow_input.specs.Shown.{ShowsAnswer};
+    ghost use Rattle.tcshow_input.specs.State.{state_of, Grows, Puts};
+
+    /// Prints an answer if the filter matches its request.
+    pub(crate) fn put_reply(&mut self, reply: &Reply<'_>) -> Result<(), AllocError>
+        ensures form { self.new.output.is_json ≡ self.old.output.is_json }
+        ensures put { OnOk result (Puts (thing_view reply.now ∷ []) (state_of self.old) (state_of self.new)) }
+    {
+        if !self.matches_request(&reply.request) {
+            self.counts.left_out = self.counts.left_out.saturating_add(1);
+            return Ok(());
+        }
+        self.counts.answers = self.counts.answers.saturating_add(1);
+        self.show_reply(reply)
+    }
+
+    fn show_reply(&mut self, reply: &Reply<'_>) -> Result<(), AllocError>
+        ensures form { self.new.output.is_json ≡ self.old.output.is_json }
+        ensures put { OnOk result ((text : List ℕ) × ShowsAnswer self.old.output.is_json (header_view reply.now.header) reply.now.answer.is_capped
+            (message_view reply.now.request) text × Grows text false (state_of self.old) (state_of self.new)) }
+    {
+        let errno = errno_page(self.alloc, reply)?;
+        self.show_reply_of(text_of(&errno), reply)
+    }
+
+    // Prints an answer with this name of the error.
+    fn show_reply_of(&mut self, errno: &str, reply: &Reply<'_>) -> Result<(), AllocError>
+        ensures form { self.new.output.is_json ≡ self.old.output.is_json }
+        ensures put { OnOk result ((text : List ℕ) × ShowsAnswer self.old.output.is_json (header_view reply.now.header) reply.now.answer.is_capped
+            (message_view reply.now.request) text × Grows text false (state_of self.old) (state_of self.new)) }
+    {
+        self.count_row("NLMSG_ERROR", errno)?;
+        if self.output.is_json() {
+            self.put_reply_line(errno, reply)
+        } else {
+            self.put_reply_outline(errno, reply)
+        }
+    }
+
+    fn put_reply_line(&mut self, errno: &str, reply: &Reply<'_>) -> Result<(), AllocError>
+        requires { self.old.output.is_json ≡ true }
+        ensures form { self.new.output.is_json ≡ self.old.output.is_json }
+        ensures put { OnOk result ((text : List ℕ) × ShowsAnswer true (header_view reply.now.header) reply.now.answer.is_capped
+            (message_view reply.now.request) text × Grows text false (state_of self.old) (state_of self.new)) }
+    {
+        let line = reply_line(self.alloc, self.json, errno, reply)?;
+        self.put_json(line)
+    }
+
+    // Prints the line of the answer, and the request's outline, indented.
+    fn put_reply_outline(&mut self, errno: &str, reply: &Reply<'_>) -> Result<(), AllocError>
+        ensures form { self.new.output.is_json ≡ self.old.output.is_json }
+        ensures put { OnOk result ((text : List ℕ) × ShowsAnswer false (header_view reply.now.header) reply.now.answer.is_capped
+            (message_view reply.now.request) text × Grows text false (state_of self.old) (state_of self.new)) }
+    {
+        show_reason(self.alloc, &mut self.page, errno, reply)?;
+        let request = self.request_page(reply)?;
+        put_request(&mut self.page, request)?;
+        self.put_page()
+    }
+
+    fn request_page(&self, reply: &Reply<'_>) -> Result<Page<A>, AllocError> {
+        let mut page = Page::new(self.alloc, layout_of(self.options.format));
+        self.show_request(reply, &mut page)?;
+        Ok(page)
+    }
+
+    fn show_request(&self, reply: &Reply<'_>, page: &mut Page<A>) -> Result<(), AllocError> {
+        show_netlink(page, &reply.request)?;
+        if !reply.answer.is_capped {
+            show_attributes(self.json, self.options, &self.links, page, &reply.request)?;
+        }
+        Ok(())
+    }
+}

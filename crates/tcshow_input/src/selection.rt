@@ -1,0 +1,60 @@
+//! Which messages are printed.
+
+ghost use Rattle.std.specs.Prelude.{◌≡◌, option_map};
+ghost use Rattle.tc_select.specs.Filter.{message_view as properties_view};
+ghost use Rattle.tcshow_json.specs.Messages.{header_view, message_view};
+ghost use Rattle.tcshow_input.specs.Selection.{type_in, properties_of};
+
+use crate::printer::Printer;
+use std::alloc::{AllocError, Allocator};
+use tc_select::Message as Properties;
+use tcshow_json::{Message, NetlinkHeader, is_refused};
+
+// The properties of a message that filters look at.
+fn properties_of<'a>(found: &Message<'a>) -> Properties<'a>
+    ensures { properties_view result ≡ properties_of (message_view found.now) }
+{
+    Properties {
+        time: found.origin.time,
+        rtm: type_in(&found.header),
+        holds: found.holds,
+        payload: found.payload,
+    }
+}
+
+fn type_in(header: &Option<NetlinkHeader>) -> Option<u16>
+    ensures { result ≡ type_in (option_map header_view header.now) }
+{
+    match header {
+        Some(header) => Some(header.kind),
+        None => None,
+    }
+}
+
+impl<'a, A: Allocator + Copy> Printer<'a, A> {
+    ghost use Rattle.std.specs.Prelude.{◌≡◌, IfOk};
+    ghost use Rattle.tcshow_input.specs.Selection.{is_included, is_matched};
+    ghost use Rattle.tcshow_json.specs.Messages.{message_view};
+    ghost use Rattle.tcshow_input.specs.State.{state_of};
+
+    /// True if the filter matches the message.
+    pub(crate) fn takes(&self, found: &Message<'_>) -> Result<bool, AllocError>
+        ensures { IfOk result (λ taken. taken ≡ is_included (state_of self.now).filter (message_view found.now)) }
+    {
+        if !self.matches_request(found) {
+            return Ok(false);
+        }
+        if !self.options.filter.refused {
+            return Ok(true);
+        }
+        let refused = is_refused(self.alloc, found)?;
+        Ok(self.options.filter.matches_verdict(refused))
+    }
+
+    /// True if the filter matches the message, whether or not the codec refuses it. It decides about answers to the message.
+    pub(crate) fn matches_request(&self, found: &Message<'_>) -> bool
+        ensures { result ≡ is_matched (state_of self.now).filter (message_view found.now) }
+    {
+        self.options.filter.matches(&properties_of(found))
+    }
+}

@@ -1,0 +1,4 @@
+pub mod Messages
+pub mod Line
+pub mod Grammars
+pub mod Replies

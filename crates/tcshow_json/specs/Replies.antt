@@ -1,0 +1,12 @@
+-- Answers of the kernel as things found in an input.
+use Rattle.std.specs.Prelude.{Option, Some, None}
+use Rattle.tcshow_json.specs.declared.reply.Reply.{Reply}
+use Rattle.tcshow_json.specs.Messages.{Thing, answer, other, header_view, message_view}
+
+abbrev pub thing_view : Reply → Thing
+thing_view r = answer (header_view r.header) r.answer.is_capped (message_view r.request)
+
+-- a netlink message without an answer that is shown is another message
+abbrev pub reply_thing : Option Reply → Thing
+reply_thing (Some r) = thing_view r
+reply_thing None = other

@@ -1,0 +1,20 @@
+//! Lines of JSON for traffic control messages and for the kernel's answers to them, and the parts of an outline that aren't attributes: time,
+//! netlink header, error.
+//!
+//! Calls that take an allocator fail with `AllocError` if it fails.
+#![tactic(auto)]
+
+mod json;
+mod line;
+mod message;
+mod notice;
+mod pages;
+mod reply;
+mod verdict;
+
+pub use line::{Line, json_of, line_of};
+pub use message::{Message, NO_ORIGIN, NetlinkHeader, Origin};
+pub use notice::{Notice, NoticeLine};
+pub use pages::{begin_message, show_netlink, show_word, text_of};
+pub use reply::{Reply, errno_page, put_request, reply_line, show_reason};
+pub use verdict::is_refused;

@@ -1,0 +1,181 @@
+//! The parts of an outline that aren't attributes: time, netlink header, path of a fault.
+
+use crate::message::{Message, NetlinkHeader, Origin};
+use std::alloc::{AllocError, Allocator};
+use std::str;
+use tc_capture::{MessageType, Time};
+use tc_outline::{Layout, Page, locate};
+
+/// The text on a page.
+pub fn text_of<A: Allocator>(page: &Page<A>) -> &str {
+    str::from_utf8(page.bytes()).unwrap_or("")
+}
+
+// Writes a time: seconds, a point and nine digits.
+fn show_time<A: Allocator>(page: &mut Page<A>, time: &Time) -> Result<(), AllocError> {
+    page.number(time.seconds)?;
+    page.text(".")?;
+    let mut place = 100_000_000u32;
+    for _ in 0..9u8 {
+        page.number(u64::from(time.nanoseconds / place.max(1) % 10))?;
+        place /= 10;
+    }
+    Ok(())
+}
+
+/// Writes a blank and the word, unless it is empty.
+pub fn show_word<A: Allocator>(page: &mut Page<A>, word: &str) -> Result<(), AllocError> {
+    if word.is_empty() {
+        return Ok(());
+    }
+    page.blank()?;
+    page.text(word)
+}
+
+/// Writes the time and the netlink header that the line of a message begins with.
+pub fn begin_message<A: Allocator>(
+    page: &mut Page<A>,
+    found: &Message<'_>,
+) -> Result<(), AllocError> {
+    show_time_of(page, &found.origin)?;
+    show_netlink(page, found)
+}
+
+/// Writes the netlink header of a message: type, flags in words, sequence number, and the port unless it is 0. For a message
+/// without a netlink header, `tc` or `action`.
+pub fn show_netlink<A: Allocator>(
+    page: &mut Page<A>,
+    found: &Message<'_>,
+) -> Result<(), AllocError> {
+    match &found.header {
+        Some(header) => {
+            page.text(header.name)?;
+            show_numbers(page, header)
+        }
+        None => page.text(match found.holds {
+            MessageType::Tc => "tc",
+            MessageType::Action => "action",
+        }),
+    }
+}
+
+/// Writes the flags, the sequence number and the port of a netlink header.
+pub fn show_numbers<A: Allocator>(
+    page: &mut Page<A>,
+    header: &NetlinkHeader,
+) -> Result<(), AllocError> {
+    show_flags(page, header)?;
+    page.text(" seq ")?;
+    page.number(u64::from(header.sequence))?;
+    if header.port == 0 {
+        return Ok(());
+    }
+    page.text(" port ")?;
+    page.number(u64::from(header.port))
+}
+
+// Writes flags in words, and the bits that have no word in hex.
+fn show_flags<A: Allocator>(page: &mut Page<A>, header: &NetlinkHeader) -> Result<(), AllocError> {
+    let mut rest = header.flags;
+    for words in [FLAGS.as_slice(), flags_of(header.name)] {
+        for (bit, word) in words {
+            if header.flags & bit != 0 {
+                page.blank()?;
+                page.text(word)?;
+                rest &= !bit;
+            }
+        }
+    }
+    if rest == 0 {
+        return Ok(());
+    }
+    page.text(" 0x")?;
+    for shift in [12u16, 8, 4, 0] {
+        page.hex_digit(rest >> shift)?;
+    }
+    Ok(())
+}
+
+// Flags of every netlink message (`NLM_F_REQUEST` to `NLM_F_DUMP_FILTERED`, `linux/netlink.h`).
+const FLAGS: [(u16, &str); 6] = [
+    (0x01, "request"),
+    (0x02, "multi"),
+    (0x04, "ack"),
+    (0x08, "echo"),
+    (0x10, "dump_intr"),
+    (0x20, "dump_filtered"),
+];
+
+// Flags of `RTM_NEW*`, `RTM_GET*` and `RTM_DEL*` messages, of `RTM_DELACTION` (`NLM_F_ROOT` flushes) and of `NLMSG_ERROR`.
+const MAKING: [(u16, &str); 4] = [
+    (0x400, "create"),
+    (0x200, "excl"),
+    (0x100, "replace"),
+    (0x800, "append"),
+];
+
+const ASKING: [(u16, &str); 3] = [(0x100, "root"), (0x200, "match"), (0x400, "atomic")];
+
+const DELETING: [(u16, &str); 2] = [(0x100, "nonrec"), (0x200, "bulk")];
+
+const FLUSHING: [(u16, &str); 1] = [(0x100, "root")];
+
+const ANSWERING: [(u16, &str); 2] = [(0x100, "capped"), (0x200, "ack_tlvs")];
+
+fn flags_of(name: &str) -> &'static [(u16, &'static str)] {
+    if name == "NLMSG_ERROR" {
+        &ANSWERING
+    } else if name == "RTM_DELACTION" {
+        &FLUSHING
+    } else if name.starts_with("RTM_NEW") {
+        &MAKING
+    } else if name.starts_with("RTM_GET") {
+        &ASKING
+    } else {
+        &DELETING
+    }
+}
+
+/// Writes the time of a packet and a blank, if the time is known.
+pub fn show_time_of<A: Allocator>(page: &mut Page<A>, origin: &Origin) -> Result<(), AllocError> {
+    if let Some(time) = &origin.time {
+        show_time(page, time)?;
+        page.blank()?;
+    }
+    Ok(())
+}
+
+/// Writes the time of a packet, if it is known.
+pub fn show_some_time<A: Allocator>(page: &mut Page<A>, origin: &Origin) -> Result<(), AllocError> {
+    match &origin.time {
+        Some(time) => show_time(page, time),
+        None => Ok(()),
+    }
+}
+
+/// A page with the time of a packet; empty if it isn't known.
+pub fn time_page<A: Allocator>(alloc: A, origin: &Origin) -> Result<Page<A>, AllocError> {
+    let mut page = Page::new(alloc, Layout::OneLine);
+    show_some_time(&mut page, origin)?;
+    Ok(page)
+}
+
+/// The text on a page; `None` if it is empty.
+pub fn some_text<A: Allocator>(page: &Page<A>) -> Option<&str> {
+    let text = text_of(page);
+    if text.is_empty() { None } else { Some(text) }
+}
+
+/// Writes the path of a message's first fault, and returns its offset in bytes.
+pub fn show_place<A: Allocator>(
+    path: &mut Page<A>,
+    found: &Message<'_>,
+) -> Result<usize, AllocError> {
+    match locate(found.payload, found.what) {
+        Some(fault) => {
+            fault.path.show(path)?;
+            Ok(fault.offset)
+        }
+        None => Ok(0),
+    }
+}

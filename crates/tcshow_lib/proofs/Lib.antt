@@ -1,6 +1,0 @@
-mod Clean
-mod Puts
-mod Progress
-mod ByWords
-mod InOrder
-mod Dumps

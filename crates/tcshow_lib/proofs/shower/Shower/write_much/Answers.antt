@@ -1,6 +1,0 @@
-use Rattle.tcshow_lib.specs.State.{state_of}
-use Rattle.tcshow_lib.proofs.Progress.{progress_none}
-use Rattle.tcshow_lib.proofs.shower.Shower.write_much.Goals as goal
-
-pub returns-then-len-lt-MOST_KEPT-clause-ran : goal.returns-then-len-lt-MOST_KEPT-clause-ran
-returns-then-len-lt-MOST_KEPT-clause-ran g c = progress_none (g.W.Write.contents c.args.writer.now) (state_of c.args.self.now)

@@ -1,0 +1,201 @@
+//! Values of the options that filter messages.
+
+use crate::arguments::Arguments;
+use crate::kinds::{is_known, write_all_kinds};
+use crate::names::interface_of;
+use std::alloc::{AllocError, Global};
+use std::fmt;
+use tc_capture::Time;
+use tc_select::{
+    Filter, HANDLE_FORMS, TIME_FORMS, TYPE_FORMS, Types, parse_handle, parse_time, parse_types,
+};
+
+/// Parsed values of the options that filter messages.
+#[derive(Drop)]
+pub struct FilterValues<'r, 'a> {
+    arguments: &'r Arguments<'a>,
+    types: Vec<Types>,
+    interfaces: Vec<u32>,
+    handles: Vec<u32>,
+    parents: Vec<u32>,
+    since: Option<Time>,
+    until: Option<Time>,
+}
+
+/// Why the values of a filter are refused.
+#[derive(Clone, Copy)]
+pub enum FilterError<'a> {
+    /// An unknown kind.
+    Kind(&'a str),
+    /// Another word that can't be parsed: what is expected, the word, and the forms it can have.
+    Word(&'static str, &'a str, &'static str),
+    /// Memory ran out.
+    NoMemory,
+}
+
+impl<'a> From<AllocError> for FilterError<'a> {
+    fn from(_e: AllocError) -> FilterError<'a> {
+        FilterError::NoMemory
+    }
+}
+
+impl<'a> FilterError<'a> {
+    /// The complaint: the word, and the words or forms that are known.
+    pub fn text(&self, alloc: Global) -> Result<String, fmt::Error> {
+        let mut text = String::new(alloc);
+        self.write(&mut text)?;
+        Ok(text)
+    }
+
+    fn write<W: fmt::Write>(&self, out: &mut W) -> fmt::Result {
+        match *self {
+            FilterError::Kind(kind) => {
+                write!(out, "tcshow: unknown kind '{kind}'; the kinds are:\n")?;
+                write_all_kinds(out)
+            }
+            FilterError::Word(what, word, forms) => {
+                write!(out, "tcshow: unknown {what} '{word}': {forms}\n")
+            }
+            FilterError::NoMemory => Err(fmt::Error),
+        }
+    }
+}
+
+impl<'r, 'a> FilterValues<'r, 'a> {
+    /// Parses the values in arguments. Interfaces have these names.
+    pub fn of_arguments(
+        alloc: Global,
+        arguments: &'r Arguments<'a>,
+        names: &[(u32, &str)],
+    ) -> Result<FilterValues<'r, 'a>, FilterError<'a>> {
+        check_kinds(arguments.kinds.as_slice())?;
+        let mut values = FilterValues {
+            arguments,
+            types: Vec::new(alloc),
+            interfaces: Vec::new(alloc),
+            handles: Vec::new(alloc),
+            parents: Vec::new(alloc),
+            since: None,
+            until: None,
+        };
+        values.put_words(names)?;
+        Ok(values)
+    }
+
+    fn put_words(&mut self, names: &[(u32, &str)]) -> Result<(), FilterError<'a>> {
+        let arguments = self.arguments;
+        put_types(arguments.types.as_slice(), &mut self.types)?;
+        put_interfaces(names, arguments.interfaces.as_slice(), &mut self.interfaces)?;
+        put_handles(arguments.handles.as_slice(), &mut self.handles)?;
+        put_u32_handles(arguments.handles.as_slice(), &mut self.handles)?;
+        put_handles(arguments.parents.as_slice(), &mut self.parents)?;
+        self.put_times()
+    }
+
+    fn put_times(&mut self) -> Result<(), FilterError<'a>> {
+        self.since = time_in(self.arguments.since)?;
+        self.until = time_in(self.arguments.until)?;
+        Ok(())
+    }
+
+    /// The filter with these values.
+    pub fn filter(&self) -> Filter<'_> {
+        Filter {
+            kinds: self.arguments.kinds.as_slice(),
+            types: self.types.as_slice(),
+            interfaces: self.interfaces.as_slice(),
+            handles: self.handles.as_slice(),
+            parents: self.parents.as_slice(),
+            chains: self.arguments.chains.as_slice(),
+            priorities: self.arguments.priorities.as_slice(),
+            since: self.since,
+            until: self.until,
+            refused: self.arguments.refused,
+        }
+    }
+}
+
+fn check_kinds<'a>(words: &[&'a str]) -> Result<(), FilterError<'a>> {
+    for word in words {
+        if !is_known(*word) {
+            return Err(FilterError::Kind(*word));
+        }
+    }
+    Ok(())
+}
+
+fn put<T: Drop>(value: T, all: &mut Vec<T>) -> Result<(), AllocError> {
+    all.push(value)?;
+    Ok(())
+}
+
+fn put_types<'a>(words: &[&'a str], all: &mut Vec<Types>) -> Result<(), FilterError<'a>> {
+    for word in words {
+        match parse_types(*word) {
+            Some(types) => put(types, all)?,
+            None => return Err(FilterError::Word("type", *word, TYPE_FORMS)),
+        }
+    }
+    Ok(())
+}
+
+fn put_handles<'a>(words: &[&'a str], all: &mut Vec<u32>) -> Result<(), FilterError<'a>> {
+    for word in words {
+        match parse_handle(*word) {
+            Some(handle) => put(handle, all)?,
+            None => return Err(FilterError::Word("handle", *word, HANDLE_FORMS)),
+        }
+    }
+    Ok(())
+}
+
+// Adds the u32 handle that a word names too: outlines write a table as `800:`, and a bucket as `800:1`.
+fn put_u32_handles<'a>(words: &[&'a str], all: &mut Vec<u32>) -> Result<(), AllocError> {
+    for word in words {
+        if let Some(handle) = u32_handle_of(*word) {
+            put(handle, all)?;
+        }
+    }
+    Ok(())
+}
+
+// The handle of a u32 table, or of a bucket in it.
+fn u32_handle_of(word: &str) -> Option<u32> {
+    let (table, bucket) = word.split_once(':')?;
+    if table.is_empty() || bucket.contains(':') {
+        return None;
+    }
+    let handle = parse_handle(word)?;
+    let (table, bucket) = (handle / 0x10000, handle % 0x10000);
+    if table > 0xFFF || bucket > 0xFF {
+        return None;
+    }
+    Some(table * 0x10_0000 + bucket * 0x1000)
+}
+
+// The forms of an interface.
+const INTERFACE_FORMS: &str = "an interface is a number, or a name in the file of --names";
+
+fn put_interfaces<'a>(
+    names: &[(u32, &str)],
+    words: &[&'a str],
+    all: &mut Vec<u32>,
+) -> Result<(), FilterError<'a>> {
+    for word in words {
+        match interface_of(names, *word) {
+            Some(number) => put(number, all)?,
+            None => return Err(FilterError::Word("interface", *word, INTERFACE_FORMS)),
+        }
+    }
+    Ok(())
+}
+
+fn time_in(word: Option<&str>) -> Result<Option<Time>, FilterError<'_>> {
+    let Some(word) = word else {
+        return Ok(None);
+    };
+    match parse_time(word) {
+        Some(time) => Ok(Some(time)),
+        None => Err(FilterError::Word("time", word, TIME_FORMS)),
+    }
+}

@@ -1,0 +1,71 @@
+//! What one expects of a crate beside what the sources have: `Hash` where there is `Eq`, `Clone` of errors, `#[must_use]`, and
+//! `# Errors` in the documentation.
+
+use crate::Fault;
+use crate::items::{Function, functions};
+use crate::token::{Token, after_group, text_of, tokens};
+
+pub(crate) fn add(all: &mut Vec<Token>) -> Result<(), Fault> {
+    add_derives(all)?;
+    for function in functions(all)?.iter().rev() {
+        if function.at > 0 && all[function.at - 1].is("pub") {
+            add_to(all, function)?;
+        }
+    }
+    Ok(())
+}
+
+/// Derives `Hash` for types with `Eq`, derived or written, and `Clone` for errors.
+fn add_derives(all: &mut Vec<Token>) -> Result<(), Fault> {
+    let after = |trait_: &str, at: usize, all: &[Token]| all[at].is(trait_) && all[at + 1].is("for");
+    let named = |trait_: &str, all: &[Token]| -> Vec<&str> {
+        let places = (0..all.len().saturating_sub(2)).filter(|at| after(trait_, *at, all));
+        places.map(|at| all[at + 2].text).collect()
+    };
+    let (equals, errors, mut done) = (named("Eq", all), named("Error", all), Vec::new());
+    for at in (0..all.len().saturating_sub(1)).rev().filter(|at| all[*at].is("derive")).collect::<Vec<_>>() {
+        let end = after_group(all, at + 1)? - 1;
+        let Some(name) = all[end..].iter().position(|token| token.is("enum") || token.is("struct")).map(|len| all[end + len + 1].text) else { continue };
+        let has = |word: &str| all[at..end].iter().any(|token| token.is(word));
+        let new = [("Hash", has("Eq") || equals.contains(&name)), ("Clone", errors.contains(&name))];
+        // An item may have several derives.
+        let is_new = |word: &str| !has(word) && !done.contains(&(name, word.to_string()));
+        let words: Vec<&str> = new.into_iter().filter(|(word, is_due)| *is_due && is_new(word)).map(|(word, _)| word).collect();
+        done.extend(words.iter().map(|word| (name, word.to_string())));
+        let text: String = words.iter().map(|word| format!(", {word}")).collect();
+        all.splice(end..end, tokens(text.leak(), all[at].file, all[at].line)?);
+    }
+    Ok(())
+}
+
+/// The last type of `Result < .. , E >`; the codec's error of `Res`.
+fn error_of(returned: &[Token]) -> Option<String> {
+    match returned.first()?.text {
+        "Res" => Some("DecodeError".to_string()),
+        "Result" => returned.iter().rposition(|token| token.is(",")).map(|at| text_of(&returned[at + 1..returned.len() - 1]).trim().to_string()),
+        _ => None,
+    }
+}
+
+/// `#[must_use]` if the function has no effect but its value, or `# Errors` if it can fail.
+fn add_to(all: &mut Vec<Token>, function: &Function) -> Result<(), Fault> {
+    let (start, returned) = (function.start, &all[function.close..function.body]);
+    if !returned.first().is_some_and(|token| token.is("-")) {
+        return Ok(());
+    }
+    let comment = all[start].before;
+    match error_of(returned.get(2..).unwrap_or(&[])) {
+        Some(error) if comment.contains("///") && !comment.contains("# Errors") => {
+            let indent = comment.rsplit('\n').next().unwrap_or("");
+            all[start].before = format!("{comment}///\n{indent}/// # Errors\n{indent}///\n{indent}/// A [`{error}`].\n{indent}").leak();
+        }
+        None if !function.writes && !all[start..function.at].iter().any(|token| token.is("must_use")) => {
+            let mut new = tokens("#[must_use]", all[start].file, all[start].line)?;
+            new[0].before = comment;
+            all[start].before = "\n";
+            all.splice(start..start, new);
+        }
+        _ => {}
+    }
+    Ok(())
+}
