@@ -26,10 +26,19 @@ extern "C" {
 #endif
 
 /* The version of this header. */
-#define VTC_VERSION UINT32_C(0x000200) /* 0.2.0 */
+#define VTC_VERSION UINT32_C(0x000300) /* 0.3.0 */
 
-/* The version of the library: major * 65536 + minor * 256 + patch. */
+/* In the version of a library that was built from plain Rust, made of the proved sources. */
+#define VTC_PLAIN_RUST UINT32_C(0x80000000)
+
+/* The version of the library: major * 65536 + minor * 256 + patch, and VTC_PLAIN_RUST where that is so. */
 uint32_t vtc_version(void);
+
+/* 1 if the library that runs is one for this header, 0 if not: of the same major version, and not older. */
+static inline int vtc_matches(void) {
+    uint32_t library = vtc_version() & ~VTC_PLAIN_RUST;
+    return library >> 16 == VTC_VERSION >> 16 && library >= VTC_VERSION;
+}
 
 /* How a call ended. 1 to 10 are the first fault of the bytes, in the order of reading. */
 enum vtc_status {
@@ -49,7 +58,7 @@ enum vtc_status {
     VTC_NO_ROOM = 13,           /* the buffer is too small; it is unchanged, and *length is how many bytes are needed */
     VTC_END = 14,               /* no attribute is left */
     VTC_NOT_JSON = 15,          /* a text isn't JSON */
-    VTC_NO_MESSAGE = 16         /* no bytes are made of the JSON */
+    VTC_NO_MESSAGE = 16         /* no bytes are made of the JSON, or an object of it has a name twice */
 };
 
 /* ---- Calls that take no memory. A program that uses no others needs no allocator. */

@@ -82,11 +82,13 @@ class Trial:
 class Interfaces:
     """Random interfaces in as many guests as it takes."""
 
-    def __init__(self, programs, seed, count):
+    def __init__(self, programs, seed, count, numbers=()):
         self.seed, self.guests, self.trials = seed, [], []
         names = Names(f"{HERE}/names.txt")
         for number, commands in enumerate(interfaces(seed, count)):
-            if number % OF_A_GUEST == 0:
+            if numbers and number not in numbers:
+                continue
+            if len(self.trials) % OF_A_GUEST == 0:
                 self.guests.append(self.guest(number))
             self.trials.append((Trial(number, commands, self.guests[-1], programs, names), self.guests[-1]))
 

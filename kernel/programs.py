@@ -9,7 +9,6 @@ import time
 
 from guests import OUT, TOP, lacks
 
-TARGET = "x86_64-unknown-linux-gnu"
 PROVED, SOCKETS = ("tcshow", "tcmake"), ("tcnl", "tcsave", "tcrestore")
 
 
@@ -43,12 +42,10 @@ def linked(names, folder):
         return own
     if not shutil.which("cargo"):
         lacks("There is no cargo, which builds the programs of rust/conjareho-tools.")
-    out = f"{TOP}/rust/out/static"
-    env = {**os.environ, "RUSTFLAGS": "-C target-feature=+crt-static", "CARGO_TARGET_DIR": out}
-    words = ["cargo", "build", "--release", "--target", TARGET]
-    if subprocess.run(words, cwd=f"{TOP}/rust/conjareho-tools", env=env).returncode:
+    done = subprocess.run([f"{TOP}/rust/conjareho-tools/static"], stdout=subprocess.PIPE, text=True)
+    if done.returncode:
         lacks("rust/conjareho-tools was not built; its README.md says what it needs.")
-    return {name: f"{out}/{TARGET}/release/{name}" for name in names}
+    return {name: f"{done.stdout.strip()}/{name}" for name in names}
 
 
 class Programs:

@@ -153,6 +153,16 @@ def renumbered(objects):
     return objects
 
 
+# TCA_FLOWER_FLAGS, TCA_U32_FLAGS, TCA_MATCHALL_FLAGS and TCA_BPF_FLAGS_GEN.
+FLAGS = {"flower": 22, "u32": 11, "matchall": 3, "bpf": 9}
+
+
+def has_offload_flag(filter):
+    """True for a filter with skip_hw (1) or skip_sw (2)."""
+    word = dict(filter.options).get(FLAGS.get(filter.kind), b"")
+    return bool(int.from_bytes(word[:4], "little") & 3)
+
+
 class State:
     """What dumps show: objects by their places, in the order in which that counts; and actions that more than one filter
     holds, or none."""
@@ -221,6 +231,8 @@ class State:
                 out.add("eBPF program by its number")
             if it.type == FILTER and it.kind == "u32" and 6 in dict(it.options):
                 out.add("police of a filter, without its rate table")
+            if it.type == FILTER and has_offload_flag(it) and any(action.held == action.bound >= 2 for action in it.actions):
+                out.add("shared by filters of which one has an offload flag")
         for it in self.all_actions():
             if it.has_estimator:
                 out.add("estimator, of which only statistics are dumped")

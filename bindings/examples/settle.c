@@ -16,6 +16,10 @@ static const char *yes_or_no(uint8_t verdict) { return verdict ? "yes" : "no"; }
 int main(int count, char **words) {
     static uint8_t bytes[ROOM];
     size_t len = 0;
+    if (!vtc_matches()) {
+        fprintf(stderr, "%s: vtc.h is %06x, but libvtc is %06x\n", words[0], VTC_VERSION, vtc_version());
+        return 2;
+    }
     if (count < 2 || !read_hex(words[1], bytes, sizeof bytes, &len)) {
         fprintf(stderr, "usage: settle HEX [action]\n");
         return 2;

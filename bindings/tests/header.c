@@ -36,4 +36,4 @@ const writer writers[] = {vtc_rewrite, vtc_action_rewrite, vtc_json, vtc_action_
 const settler settlers[] = {vtc_settle, vtc_action_settle};
 const maker makers[] = {vtc_make, vtc_action_make, vtc_make_as_given, vtc_action_make_as_given};
 
-int main(void) { return vtc_version() == VTC_VERSION ? 0 : 1; }
+int main(void) { return (vtc_version() & ~VTC_PLAIN_RUST) == VTC_VERSION && vtc_matches() ? 0 : 1; }

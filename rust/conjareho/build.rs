@@ -4,8 +4,9 @@ include!("crates.rs");
 
 /// Modules that the codec doesn't use, but forms do.
 const OMITTED: &[&str] = &["tc_texts::address", "tc_texts::hex_text"];
-/// The lines of outlines.
-const OMITTED_OF_FORMS: &[&str] = &["tc_outline::message", "tc_lines", "tc_columns"];
+/// The lines of outlines, and what has to do with them.
+const OMITTED_OF_FORMS: &[&str] =
+    &["tc_outline::message", "tc_lines", "tc_columns", "tc_outline::what::of_root", "tc_outline::what::tc_columns"];
 
 fn main() {
     let here = std::env::var_os("CARGO_MANIFEST_DIR").expect("cargo names the folder of the package");

@@ -2,7 +2,7 @@ use std::fs;
 use std::path::Path;
 
 /// The crates that the codec, its requests, index and captures are made of, with those below them.
-const CODEC: &[&str] = &["tc_wire", "tc_index", "tc_requests", "tc_capture"];
+const CODEC: &[&str] = &["tc_wire", "tc_index", "tc_requests", "tc_restore", "tc_capture"];
 
 /// The crates of forms, and the places of faults.
 #[allow(dead_code)] // programs have more

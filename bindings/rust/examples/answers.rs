@@ -20,6 +20,7 @@ fn status_of(error: Error) -> u32 {
         Error::OutOfMemory => 11,
         Error::DoesNotFit => 12,
         Error::NoRoom { .. } => 13,
+        error => panic!("{error}"),
     }
 }
 
@@ -30,6 +31,7 @@ fn said(made: Result<&[u8], MakeError<'_>>) -> String {
         Err(MakeError::NoMessage(why)) => format!("16 {}", hex(why.as_bytes())),
         Err(MakeError::OutOfMemory) => "11 ".to_string(),
         Err(MakeError::NoRoom { .. }) => "13 ".to_string(),
+        Err(error) => panic!("{error}"),
     }
 }
 

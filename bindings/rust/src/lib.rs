@@ -101,6 +101,7 @@ pub enum Fault {
 
 /// Why a call has no result.
 #[derive(Clone, Copy, Debug, PartialEq, Eq, Hash)]
+#[non_exhaustive]
 pub enum Error {
     /// The bytes can't be read.
     Refused {
@@ -118,10 +119,18 @@ pub enum Error {
         /// How many bytes are needed.
         needed: usize,
     },
+    /// The library isn't one for this crate.
+    Mismatch(Mismatch),
+    /// The call ended with a status that this crate doesn't know.
+    UnknownStatus {
+        /// The status.
+        status: u32,
+    },
 }
 
 /// Why no message is made. The texts say where and why, cut where the buffer that was given for them is too small.
 #[derive(Clone, Copy, Debug, PartialEq, Eq, Hash)]
+#[non_exhaustive]
 pub enum MakeError<'w> {
     /// The text isn't JSON.
     NotJson(&'w str),
@@ -134,6 +143,33 @@ pub enum MakeError<'w> {
         /// How many bytes are needed.
         needed: usize,
     },
+    /// The library isn't one for this crate.
+    Mismatch(Mismatch),
+    /// The call ended with a status that this crate doesn't know.
+    UnknownStatus {
+        /// The status.
+        status: u32,
+    },
+}
+
+/// A version of the library or of this crate.
+#[derive(Clone, Copy, Debug, PartialEq, Eq, PartialOrd, Ord, Hash)]
+pub struct Version {
+    /// The major version.
+    pub major: u8,
+    /// The minor version.
+    pub minor: u8,
+    /// The patch.
+    pub patch: u8,
+}
+
+/// The library isn't one for this crate: of another major version, or older.
+#[derive(Clone, Copy, Debug, PartialEq, Eq, Hash)]
+pub struct Mismatch {
+    /// The library's version.
+    pub library: Version,
+    /// This crate's version.
+    pub wanted: Version,
 }
 
 /// Why a list of attributes ends early.
@@ -162,6 +198,18 @@ impl fmt::Display for Fault {
     }
 }
 
+impl fmt::Display for Version {
+    fn fmt(&self, f: &mut fmt::Formatter<'_>) -> fmt::Result {
+        write!(f, "{}.{}.{}", self.major, self.minor, self.patch)
+    }
+}
+
+impl fmt::Display for Mismatch {
+    fn fmt(&self, f: &mut fmt::Formatter<'_>) -> fmt::Result {
+        write!(f, "the crate vtc is {}, but libvtc is {}", self.wanted, self.library)
+    }
+}
+
 impl fmt::Display for Error {
     fn fmt(&self, f: &mut fmt::Formatter<'_>) -> fmt::Result {
         match self {
@@ -169,6 +217,8 @@ impl fmt::Display for Error {
             Error::OutOfMemory => f.write_str("out of memory"),
             Error::DoesNotFit => f.write_str("value does not fit"),
             Error::NoRoom { needed } => write!(f, "{needed} bytes needed"),
+            Error::Mismatch(mismatch) => write!(f, "{mismatch}"),
+            Error::UnknownStatus { status } => write!(f, "status {status}"),
         }
     }
 }
@@ -179,19 +229,60 @@ impl fmt::Display for MakeError<'_> {
             MakeError::NotJson(why) | MakeError::NoMessage(why) => f.write_str(why),
             MakeError::OutOfMemory => f.write_str("out of memory"),
             MakeError::NoRoom { needed } => write!(f, "{needed} bytes needed"),
+            MakeError::Mismatch(mismatch) => write!(f, "{mismatch}"),
+            MakeError::UnknownStatus { status } => write!(f, "status {status}"),
         }
     }
 }
 
-/// The version of the library: the major number times 65536, the minor one times 256, and the patch.
-pub fn version() -> u32 {
+/// This crate's version.
+const WANTED: Version = Version {
+    major: number(env!("CARGO_PKG_VERSION_MAJOR")),
+    minor: number(env!("CARGO_PKG_VERSION_MINOR")),
+    patch: number(env!("CARGO_PKG_VERSION_PATCH")),
+};
+
+const fn number(text: &str) -> u8 {
+    let (digits, mut at, mut number) = (text.as_bytes(), 0, 0);
+    while at < digits.len() {
+        number = 10 * number + (digits[at] - b'0');
+        at += 1;
+    }
+    number
+}
+
+// `VTC_PLAIN_RUST`.
+const PLAIN_RUST: u32 = 0x8000_0000;
+
+/// The version of the library.
+pub fn version() -> Version {
     // SAFETY: it takes nothing.
-    unsafe { sys::vtc_version() }
+    let [patch, minor, major, _] = unsafe { sys::vtc_version() }.to_le_bytes();
+    Version { major, minor, patch }
+}
+
+/// True if the library was built by the proofs' toolchain, false if it was built from plain Rust.
+pub fn is_proved() -> bool {
+    // SAFETY: it takes nothing.
+    unsafe { sys::vtc_version() & PLAIN_RUST == 0 }
+}
+
+/// An error if the library isn't one for this crate. Each call that can fail returns it too.
+pub fn matches() -> Result<(), Mismatch> {
+    let library = version();
+    if library.major == WANTED.major && library >= WANTED {
+        return Ok(());
+    }
+    Err(Mismatch {
+        library,
+        wanted: WANTED,
+    })
 }
 
 type Maker = unsafe extern "C" fn(*const u8, usize, *mut u8, usize, *mut usize, *mut u8, usize, *mut usize) -> u32;
 
 fn made<'b, 'w>(call: Maker, json: &str, buffer: &'b mut [u8], why: &'w mut [u8]) -> Result<&'b [u8], MakeError<'w>> {
+    matches().map_err(MakeError::Mismatch)?;
     let (mut length, mut why_length) = (0, 0);
     // SAFETY: the text and the two buffers are three slices, and the two numbers are this function's own.
     let status = unsafe {
@@ -213,7 +304,8 @@ fn made<'b, 'w>(call: Maker, json: &str, buffer: &'b mut [u8], why: &'w mut [u8]
         13 => Err(MakeError::NoRoom { needed: length }),
         15 => Err(MakeError::NotJson(why)),
         16 => Err(MakeError::NoMessage(why)),
-        _ => Err(MakeError::OutOfMemory),
+        11 => Err(MakeError::OutOfMemory),
+        status => Err(MakeError::UnknownStatus { status }),
     }
 }
 
@@ -224,6 +316,7 @@ impl Form {
             Form::Tc => sys::vtc_check,
             Form::Action => sys::vtc_action_check,
         };
+        matches().map_err(Error::Mismatch)?;
         let (mut verdict, mut fault) = (sys::Verdict::default(), sys::Fault::default());
         // SAFETY: the bytes are a slice, and the two structs are this function's own.
         match unsafe { call(bytes.as_ptr(), bytes.len(), &mut verdict, &mut fault) } {
@@ -282,6 +375,7 @@ impl Form {
             Form::Tc => sys::vtc_settle,
             Form::Action => sys::vtc_action_settle,
         };
+        matches().map_err(Error::Mismatch)?;
         let (mut length, mut rewrites) = (0, 0);
         // SAFETY: the bytes and the buffer are two slices, and the two numbers are this function's own.
         let status = unsafe {
@@ -352,6 +446,7 @@ impl Form {
         bytes: &[u8],
         buffer: &'b mut [u8],
     ) -> Result<&'b [u8], Error> {
+        matches().map_err(Error::Mismatch)?;
         let mut length = 0;
         // SAFETY: the bytes and the buffer are two slices, and the number is this function's own.
         let status = unsafe {
@@ -373,10 +468,11 @@ impl Form {
             13 => Err(Error::NoRoom { needed: length }),
             11 => Err(Error::OutOfMemory),
             // A fault of the bytes, whose numbers and place the check gives.
-            _ => match self.check(bytes) {
+            1..=10 => match self.check(bytes) {
                 Err(error) => Err(error),
-                Ok(_) => Err(Error::OutOfMemory),
+                Ok(_) => Err(Error::UnknownStatus { status }),
             },
+            _ => Err(Error::UnknownStatus { status }),
         }
     }
 }
@@ -406,7 +502,8 @@ fn refused(status: u32, fault: sys::Fault) -> Error {
         8 => Fault::XstatsShort { len: first },
         9 => Fault::MissingKind,
         10 => Fault::DuplicateKind,
-        _ => return Error::OutOfMemory,
+        11 => return Error::OutOfMemory,
+        _ => return Error::UnknownStatus { status },
     };
     Error::Refused { fault, offset }
 }

@@ -6,14 +6,19 @@
 #![tactic(auto)]
 
 mod colours;
+mod copied;
 mod read;
 mod retries;
 mod stop;
+mod streams;
+mod text;
 mod write;
 
 pub use colours::lines::paint;
 pub use colours::writer::Coloured;
 pub use read::read_some;
 pub use retries::Retries;
-pub use stop::{Stop, status_of};
+pub use stop::{Ended, Stop, status_of};
+pub use streams::{Reader, Writer, shown_reason};
+pub use text::{cause_of, put_text, write_text};
 pub use write::{fail_with, write_all};

@@ -1,11 +1,13 @@
 //! Writing bytes.
 
 ghost use Rattle.std.specs.Prelude.{◌≡◌, ◌≤◌, [], length, take, IfOk, OnOk, OnErr, List, ℕ};
-ghost use Rattle.std.specs.Io.KnownBytes.{Appends, Keeps};
+ghost use Rattle.std.specs.Io.{WritesAtMost};
+ghost use Rattle.std.specs.Io.KnownBytes.{Appends, Keeps, WriteAppends};
 ghost use Rattle.program_io.specs.Written.{GrowsByFront};
 
 use crate::retries::MOST_RETRIES;
 use crate::stop::Stop;
+use crate::streams::write_reason;
 use std::io::{Error, ErrorKind, Write};
 
 /// Writes all bytes. If it fails, some of them may have been written. A write that is interrupted is tried again.
@@ -31,25 +33,34 @@ fn write_some<W: Write>(writer: &mut W, bytes: &[u8]) -> Result<usize, Stop>
     ensures front { IfOk result (λ count. Appends (W.contents writer.old) (W.contents writer.new) (take count bytes.now)) }
     ensures none { OnErr result (Keeps (W.contents writer.old) (W.contents writer.new)) }
 {
-    for _ in 0..MOST_RETRIES {
+    match write_retrying(writer, bytes) {
+        Ok(count) => Ok(count),
+        Err(error) => Err(write_reason(error.kind())),
+    }
+}
+
+/// Writes some of the bytes once, and returns their number. A write that is interrupted is tried again, up to 1,024 times;
+/// one that writes nothing fails with `WriteZero`.
+pub(crate) fn write_retrying<W: Write>(writer: &mut W, bytes: &[u8]) -> Result<usize, Error>
+    ensures bound { WritesAtMost result bytes.now }
+    ensures bytes { WriteAppends (W.contents writer.old) (W.contents writer.new) result bytes.now }
+{
+    'tries: for _ in 0..MOST_RETRIES {
         match writer.write(bytes) {
-            Ok(count) => return Ok(count),
-            Err(fault) => {
-                if fault.kind() != ErrorKind::Interrupted {
-                    return Err(stop_of(&fault));
+            Ok(count) => {
+                if count == 0 && !bytes.is_empty() {
+                    return Err(Error::from(ErrorKind::WriteZero));
+                }
+                return Ok(count);
+            }
+            Err(error) => {
+                if error.kind() != ErrorKind::Interrupted {
+                    return Err(error);
                 }
             }
         }
     }
-    Err(Stop::Write)
-}
-
-fn stop_of(fault: &Error) -> Stop {
-    if fault.kind() == ErrorKind::BrokenPipe {
-        Stop::Closed
-    } else {
-        Stop::Write
-    }
+    Err(Error::from(ErrorKind::TimedOut))
 }
 
 /// Writes an error message, if that is possible, and returns the exit status.

@@ -4,6 +4,7 @@ pub mod Message
 pub mod Messages
 pub mod Kind
 pub mod Answer
+pub mod Errno
 pub mod Time
 pub mod Packet
 pub mod Front

@@ -1,3 +1,4 @@
+pub mod Names
 pub mod Arrays
 pub mod Kinds
 pub mod Tables

@@ -2,7 +2,9 @@
 //! kind. They are generated from the files below `kinds/`, as the tables of `forms_kinds` are.
 #![tactic(auto)]
 
+mod names;
 mod root;
 mod tables;
 
+pub use names::LinkNames;
 pub use root::{KindColumns, Root, kernel_name};

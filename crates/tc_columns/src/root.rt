@@ -1,12 +1,13 @@
 //! The object types of messages, and the columns of each.
 
-ghost use Rattle.std.specs.Prelude.{map, option_map, ◌≡◌};
+ghost use Rattle.std.specs.Prelude.{◌≡◌};
 ghost use Rattle.tc_columns.specs.Kinds.{kind_table, none_there, root_place};
 ghost use Rattle.forms_values.specs.Places.{kind_place};
 ghost use Rattle.forms_values.specs.Numbers.{number_of};
 ghost use Rattle.forms_values.specs.Tables.{kinds_view, names_view};
-ghost use Rattle.tc_lines.specs.Columns.{interface_in};
+ghost use Rattle.tc_columns.specs.Names.{names_of};
 
+use crate::names::{LinkNames, given_name, link_name};
 use crate::tables;
 use forms_kinds::{ACTION_MESSAGE, TC_MESSAGE, TcTables};
 use forms_values::{Form, KindRows, Part, Tables};
@@ -77,8 +78,10 @@ impl Root {
 pub struct KindColumns<'a> {
     /// The object type.
     pub root: Root,
-    /// The caller's names of interfaces, by index.
+    /// The caller's names of interfaces, by index; the first of an index counts.
     pub interfaces: &'a [(u32, &'a str)],
+    /// Names of other interfaces, such as those in a capture.
+    pub links: Option<&'a LinkNames>,
     /// True if padding is displayed.
     pub all: bool,
 }
@@ -115,19 +118,8 @@ fn number_of(names: &[forms_values::Name<'_>], name: &str) -> Option<u64>
     }
 }
 
-// The first name of an interface index.
-fn interface_in<'a>(interfaces: &[(u32, &'a str)], number: u64) -> Option<&'a str>
-    ensures { option_map (λ t. t.now) result ≡ interface_in (map (λ x. (x.0, x.1.now)) interfaces.now) number }
-{
-    match interfaces.split_first() {
-        Some((interface, _)) if interface.0 as u64 == number => Some(interface.1),
-        Some((_, others)) => interface_in(others, number),
-        None => None,
-    }
-}
-
 impl<'a> Columns for KindColumns<'a> {
-    ghost options = { λ c. record { root = root_place c.root; all = c.all; interfaces = map (λ x. (x.0, x.1.now)) c.interfaces.now } };
+    ghost options = { λ c. record { root = root_place c.root; all = c.all; interfaces = names_of c.interfaces c.links } };
 
     ghost table = { kind_table };
 
@@ -159,8 +151,12 @@ impl<'a> Columns for KindColumns<'a> {
         }
     }
 
+    #[tactic(auto, using(crate::proofs::Named::named_first, crate::proofs::Named::named_later))]
     fn interface(&self, number: u64) -> Option<&str> {
-        interface_in(self.interfaces, number)
+        match given_name(self.interfaces, number) {
+            Some(name) => Some(name),
+            None => link_name(self.links, number),
+        }
     }
 
     fn all(self) -> bool {

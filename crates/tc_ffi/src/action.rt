@@ -1,12 +1,13 @@
 //! Calls on action messages.
 
+ghost use Rattle.nla_frames.specs.Value.{IsBytes};
 ghost use Rattle.tc_wire.specs.Facade.{action_words};
 ghost use Rattle.tc_wire.specs.Rewriting.{SettlesAct};
 ghost use Rattle.forms_kinds.specs.Table.{action_message};
 ghost use Rattle.tc_message_json.specs.Made.{IsGiven, IsMadeOf};
 ghost use Rattle.tc_ffi.specs.Calls.{IsRewritten, IsSettled, IsShown};
 ghost use Rattle.tc_ffi.specs.Checks.{IsChecked};
-ghost use Rattle.tc_ffi.specs.Makes.{IsMade};
+ghost use Rattle.tc_ffi.specs.Makes.{IsCanonical, IsMade};
 
 use crate::verdict::{VtcFault, VtcVerdict};
 use crate::{calls, make};
@@ -78,7 +79,7 @@ pub extern "C" fn vtc_action_make(
     why: &mut [u8],
     why_length: &mut usize,
 ) -> u32
-    ensures { IsMade (IsMadeOf action_words action_message) json.now buffer.old buffer.new length.new why.old why.new why_length.new result }
+    ensures { IsMade action_message (IsCanonical action_words) (IsMadeOf action_words action_message) json.now buffer.old buffer.new length.new why.old why.new why_length.new result }
 {
     make::make::<TcActionMessage>(alloc, json, buffer, length, why, why_length)
 }
@@ -93,7 +94,7 @@ pub extern "C" fn vtc_action_make_as_given(
     why: &mut [u8],
     why_length: &mut usize,
 ) -> u32
-    ensures { IsMade (IsGiven action_message) json.now buffer.old buffer.new length.new why.old why.new why_length.new result }
+    ensures { IsMade action_message IsBytes (IsGiven action_message) json.now buffer.old buffer.new length.new why.old why.new why_length.new result }
 {
     make::make_as_given::<TcActionMessage>(alloc, json, buffer, length, why, why_length)
 }

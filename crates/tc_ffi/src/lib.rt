@@ -3,9 +3,11 @@
 //! `bindings/vtc.h` declares them.
 #![tactic(auto)]
 
-mod action;
+pub mod action;
 mod calls;
 mod make;
 mod place;
-mod tc;
-mod verdict;
+pub mod tc;
+#[cfg(test)]
+mod tests;
+pub mod verdict;

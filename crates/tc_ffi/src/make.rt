@@ -1,11 +1,12 @@
 //! Messages from JSON.
 
 ghost use Rattle.std.specs.Prelude.{◌≡◌, ◌≢◌, ◌⊎◌, IfErr, IfOk, IsUtf8, None, OnOk};
+ghost use Rattle.nla_frames.specs.Value.{IsBytes};
 ghost use Rattle.serde_json.specs.Read.{read};
 ghost use Rattle.serde_json.specs.View.{view};
-ghost use Rattle.tc_message_json.specs.Made.{IsGiven, IsMadeOf};
+ghost use Rattle.tc_message_json.specs.Made.{IsGiven, IsMadeOf, IsMemory};
 ghost use Rattle.tc_ffi.specs.Calls.{Keeps};
-ghost use Rattle.tc_ffi.specs.Makes.{IsReadAs, IsText, Makes};
+ghost use Rattle.tc_ffi.specs.Makes.{HasNameTwice, IsCanonical, IsReadAs, IsText, Makes, MakesAgain};
 
 use crate::place::place;
 use forms_text::{ReadError, read_json};
@@ -26,7 +27,8 @@ pub fn make<M: WholeMessage<Global> + HasForm + Drop>(
     why: &mut [u8],
     why_length: &mut usize,
 ) -> u32
-    ensures makes { Makes (IsMadeOf M.words M.form) text.now buffer.old buffer.new length.new result }
+    ensures makes { Makes M.form (IsCanonical M.words) (IsMadeOf M.words M.form) text.now buffer.old buffer.new length.new result }
+    ensures again { MakesAgain M.form (IsCanonical M.words) text.now buffer.old buffer.new length.new result }
     ensures kept { Keeps buffer.old buffer.new result }
     ensures explains { IsText why.old why.new why_length.new }
     ensures quiet { result ≢ 15 → result ≢ 16 → why_length.new ≡ 0 }
@@ -49,7 +51,8 @@ pub fn make_as_given<M: HasForm>(
     why: &mut [u8],
     why_length: &mut usize,
 ) -> u32
-    ensures makes { Makes (IsGiven M.form) text.now buffer.old buffer.new length.new result }
+    ensures makes { Makes M.form IsBytes (IsGiven M.form) text.now buffer.old buffer.new length.new result }
+    ensures again { MakesAgain M.form IsBytes text.now buffer.old buffer.new length.new result }
     ensures kept { Keeps buffer.old buffer.new result }
     ensures explains { IsText why.old why.new why_length.new }
     ensures quiet { result ≢ 15 → result ≢ 16 → why_length.new ≡ 0 }
@@ -67,7 +70,7 @@ pub fn make_as_given<M: HasForm>(
 fn json_of(alloc: Global, text: &[u8], why: &mut [u8], why_length: &mut usize) -> Result<Value, u32>
     ensures read { IfOk result (λ json. IsReadAs text.now (view json)) }
     ensures refused { IfErr result (λ status. ((status ≡ 15) × (IsUtf8 text.now → read text.now ≡ None))
-        ⊎ ((status ≡ 16) ⊎ (status ≡ 11))) }
+        ⊎ (((status ≡ 16) × HasNameTwice text.now) ⊎ (status ≡ 11))) }
     ensures explains { IsText why.old why.new why_length.new }
     ensures quiet { OnOk result (why_length.new ≡ 0) }
     ensures quiet_memory { IfErr result (λ status. status ≢ 15 → status ≢ 16 → why_length.new ≡ 0) }
@@ -87,7 +90,7 @@ fn json_of(alloc: Global, text: &[u8], why: &mut [u8], why_length: &mut usize) -
 // Writes the reason why no message was built, and its length in bytes.
 fn explain_none(alloc: Global, error: &NoMessage, why: &mut [u8], why_length: &mut usize) -> u32
     requires { why_length.old ≡ 0 }
-    ensures status { (result ≡ 16) ⊎ ((result ≡ 11) × (why_length.new ≡ 0)) }
+    ensures status { ((result ≡ 16) × ¬ IsMemory error.now) ⊎ ((result ≡ 11) × (why_length.new ≡ 0)) }
     ensures explains { IsText why.old why.new why_length.new }
 {
     match error {

@@ -2,10 +2,10 @@
 //! message, the next attribute of a list.
 #![tactic(auto)]
 
-mod index;
-mod next;
-mod node;
+pub mod index;
+pub mod next;
+pub mod node;
 #[cfg(test)]
 mod tests;
-mod verdicts;
-mod version;
+pub mod verdicts;
+pub mod version;

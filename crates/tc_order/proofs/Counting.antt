@@ -8,7 +8,7 @@ use Rattle.tc_order.specs.Counts.{Counts, count}
 use Rattle.std.specs.List.{list_any, flat_map}
 use Rattle.std.proofs.lemmas.List.Sums.{sum_by-append, sum_by-cons}
 use Rattle.std.proofs.lemmas.Grind.{common_steps, flat_map-append}
-use Rattle.tc_order.specs.Order.{given, waits}
+use Rattle.tc_order.specs.Order.{provided, waits}
 use Rattle.tc_order.specs.declared.order.Step.{Step}
 
 module _ {K : Type 0} (test : K → Bool) where
@@ -33,17 +33,17 @@ same_any p q same [] = refl
 same_any p q same (x ∷ xs) = rw (same x, same_any p q same xs) refl
 
 module _ {T K A : Type 0} where
-  pub given-append : (xs ys : List (Step T K A)) → given (xs ++ ys) ≡ given xs ++ given ys
-  given-append xs ys = flat_map-append _ xs ys
+  pub provided-append : (xs ys : List (Step T K A)) → provided (xs ++ ys) ≡ provided xs ++ provided ys
+  provided-append xs ys = flat_map-append _ xs ys
 
   -- a step taken out of the middle
   pub count_less : (test : K → Bool) (stay : List (Step T K A)) (x : Step T K A) (rest : List (Step T K A))
-      → count_by test (given (stay ++ x ∷ rest)) - count_by test x.gives.items ≡ count_by test (given (stay ++ rest))
+      → count_by test (provided (stay ++ x ∷ rest)) - count_by test x.provides.items ≡ count_by test (provided (stay ++ rest))
   count_less test stay x rest =
-      let all : count_by test (given (stay ++ x ∷ rest)) ≡ count_by test (given stay) + (count_by test x.gives.items + count_by test (given rest)) =
-      ap (count_by test) (given-append stay (x ∷ rest)) ∙ count-append test (given stay) (given (x ∷ rest)) ∙ ap (λ n. count_by test (given stay) + n) (count-append test x.gives.items (given rest)) in
-      let less : count_by test (given (stay ++ rest)) ≡ count_by test (given stay) + count_by test (given rest) =
-      ap (count_by test) (given-append stay rest) ∙ count-append test (given stay) (given rest) in
+      let all : count_by test (provided (stay ++ x ∷ rest)) ≡ count_by test (provided stay) + (count_by test x.provides.items + count_by test (provided rest)) =
+      ap (count_by test) (provided-append stay (x ∷ rest)) ∙ count-append test (provided stay) (provided (x ∷ rest)) ∙ ap (λ n. count_by test (provided stay) + n) (count-append test x.provides.items (provided rest)) in
+      let less : count_by test (provided (stay ++ rest)) ≡ count_by test (provided stay) + count_by test (provided rest) =
+      ap (count_by test) (provided-append stay rest) ∙ count-append test (provided stay) (provided rest) in
       omega (arith, all, less)
 
 module _ {K S : Type 0} (eq : K → K → Bool) (laws : IsEquivalence eq) (m n : HashMap K ℕ S) (k : K) (w : ℕ) (put : hash.Updates eq m n k (Some w)) where
@@ -72,7 +72,7 @@ module _ {K S : Type 0} (eq : K → K → Bool) (laws : IsEquivalence eq) (m n :
   pub counts_more : (xs : List K) → w ≡ count eq m k + 1 → Counts eq m xs → Counts eq n (xs ++ k ∷ [])
   counts_more xs is counts = λ q. count_put q ∙ put_more q (eq k q) xs refl is counts ∙ sym (one_more q xs)
 
-  -- how often keys are left of all, when some were taken
+  -- the counts of all keys, less those that were taken
   abbrev Left : HashMap K ℕ S → List K → List K → Type 0
   Left left all taken = (q : K) → count eq left q ≡ count_by (eq q) all - count_by (eq q) taken
 
@@ -84,8 +84,8 @@ module _ {K S : Type 0} (eq : K → K → Bool) (laws : IsEquivalence eq) (m n :
   pub counts_less : (all xs : List K) → w ≡ count eq m k - 1 → Left m all xs → Left n all (xs ++ k ∷ [])
   counts_less all xs is left = λ q. count_put q ∙ put_less q (eq k q) all xs refl is left ∙ ap (λ j. count_by (eq q) all - j) (sym (one_more q xs))
 
--- a step waits for what is still to be given
-pub waits_by_counts : {T K A S : Type 0} (eq : K → K → Bool) (counts : HashMap K ℕ S) (left : List (Step T K A)) (x : Step T K A) → Counts eq counts (given left)
-    → (x.is_barred || list_any (λ key. nat_lt 0 (count eq counts key)) x.wants.items) ≡ waits eq left x
+-- a step waits for the keys that are still to be provided
+pub waits_by_counts : {T K A S : Type 0} (eq : K → K → Bool) (counts : HashMap K ℕ S) (left : List (Step T K A)) (x : Step T K A) → Counts eq counts (provided left)
+    → (x.cannot_run || list_any (λ key. nat_lt 0 (count eq counts key)) x.needs.items) ≡ waits eq left x
 waits_by_counts eq counts left x is =
-    ap (λ b. x.is_barred || b) (same_any _ _ (λ key. ap (nat_lt 0) (is key) ∙ any_counted (eq key) (given left)) x.wants.items)
+    ap (λ b. x.cannot_run || b) (same_any _ _ (λ key. ap (nat_lt 0) (is key) ∙ any_counted (eq key) (provided left)) x.needs.items)

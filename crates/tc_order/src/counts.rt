@@ -1,44 +1,44 @@
-//! How often keys are given.
+//! How many times steps provide each key.
 
 ghost use Rattle.std.specs.Prelude.{◌≡◌, ◌-◌, List, nat_lt, count_by, IfOk};
 ghost use Rattle.std.specs.List.{list_any};
 ghost use Rattle.tc_order.specs.Counts.{Counts, count};
-ghost use Rattle.tc_order.specs.Order.{given};
+ghost use Rattle.tc_order.specs.Order.{provided};
 
 use crate::order::Step;
 use std::alloc::{AllocError, Allocator};
 use std::collections::HashMap;
 use std::hash::{BuildHasherDefault, FoldHasher, Hash};
 
-// A number of each key.
+// A number for each key.
 pub(crate) type Numbers<K, A> = HashMap<K, usize, BuildHasherDefault<FoldHasher>, A>;
 
-// How often steps give each key.
-pub(crate) fn given_by<T: Drop, K: Eq + Hash + Copy + Drop, A: Allocator + Copy>(
+// Counts how many times steps provide each key.
+pub(crate) fn provided_counts<T: Drop, K: Eq + Hash + Copy + Drop, A: Allocator + Copy>(
     alloc: A,
     steps: &[Step<T, K, A>],
 ) -> Result<Numbers<K, A>, AllocError>
-    ensures { IfOk result (λ counts. Counts K.eq counts (given steps.now)) }
+    ensures { IfOk result (λ counts. Counts K.eq counts (provided steps.now)) }
 {
-    let keys = keys_of(alloc, steps)?;
-    counted(alloc, &keys)
+    let keys = provided_keys(alloc, steps)?;
+    counts_of(alloc, &keys)
 }
 
-// All that steps give.
-fn keys_of<T: Drop, K: Copy + Drop, A: Allocator + Copy>(
+// All keys that steps provide.
+fn provided_keys<T: Drop, K: Copy + Drop, A: Allocator + Copy>(
     alloc: A,
     steps: &[Step<T, K, A>],
 ) -> Result<Vec<K, A>, AllocError>
-    ensures { IfOk result (λ keys. keys.items ≡ given steps.now) }
+    ensures { IfOk result (λ keys. keys.items ≡ provided steps.now) }
 {
     let mut keys = Vec::new(alloc);
     for step in steps {
-        keys.extend_from_slice(&step.gives)?;
+        keys.extend_from_slice(&step.provides)?;
     }
     Ok(keys)
 }
 
-fn counted<K: Eq + Hash + Copy + Drop, A: Allocator + Copy>(
+fn counts_of<K: Eq + Hash + Copy + Drop, A: Allocator + Copy>(
     alloc: A,
     keys: &[K],
 ) -> Result<Numbers<K, A>, AllocError>
@@ -52,8 +52,8 @@ fn counted<K: Eq + Hash + Copy + Drop, A: Allocator + Copy>(
     Ok(counts)
 }
 
-// Each of these keys is given once less.
-pub(crate) fn less<K: Eq + Hash + Copy + Drop, A: Allocator + Copy>(
+// Subtracts one for each of these keys.
+pub(crate) fn subtracted<K: Eq + Hash + Copy + Drop, A: Allocator + Copy>(
     counts: Numbers<K, A>,
     keys: &[K],
 ) -> Result<Numbers<K, A>, AllocError>
@@ -68,7 +68,7 @@ pub(crate) fn less<K: Eq + Hash + Copy + Drop, A: Allocator + Copy>(
     Ok(left)
 }
 
-// True if one of these keys is given.
+// True if one of these keys has a count above 0.
 pub(crate) fn has_any<K: Eq + Hash + Copy + Drop, A: Allocator + Copy>(
     counts: &Numbers<K, A>,
     keys: &[K],

@@ -1,4 +1,4 @@
-//! An order of steps in which each finds what it needs.
+//! Topological sorting of steps that need keys which other steps provide.
 #![tactic(auto)]
 
 mod counts;

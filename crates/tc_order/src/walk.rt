@@ -1,4 +1,4 @@
-//! A walk over steps, depth first.
+//! Steps in the order of a depth-first walk.
 
 ghost use Rattle.std.specs.Prelude.{◌≡◌, map, IfOk, IsPermutation, length};
 
@@ -7,8 +7,8 @@ use std::alloc::{AllocError, Allocator};
 use std::collections::HashMap;
 use std::hash::{BuildHasherDefault, FoldHasher, Hash};
 
-// Steps as a walk leaves them: those that a step needs before it, but in a circle.
-pub(crate) fn walked<T: Drop, K: Eq + Hash + Copy + Drop, A: Allocator + Copy>(
+// Sorts steps by a depth-first walk: each after those that it depends on, except in circles.
+pub(crate) fn depth_first<T: Drop, K: Eq + Hash + Copy + Drop, A: Allocator + Copy>(
     alloc: A,
     steps: Vec<Step<T, K, A>, A>,
 ) -> Result<Vec<Step<T, K, A>, A>, AllocError>
@@ -49,66 +49,66 @@ fn without_numbers<T: Drop, K: Drop, A: Allocator + Copy>(
     Ok(made)
 }
 
-// A step that gives a key, and the place of the one before it that gives the same.
+// A step that provides a key, and the index in `all` of the previous provider of this key.
 #[derive(Clone, Copy)]
-struct Giver {
+struct Provider {
     place: usize,
     before: Option<usize>,
 }
 
-// The steps that give each key, as chains from the last of them on.
+// The providers of each key, linked from the last to the first.
 #[derive(Drop)]
-struct Givers<K: Eq + Hash, A: Allocator> {
+struct Providers<K: Eq + Hash, A: Allocator> {
     last: HashMap<K, usize, BuildHasherDefault<FoldHasher>, A>,
-    all: Vec<Giver, A>,
+    all: Vec<Provider, A>,
 }
 
-fn givers_of<T, K: Eq + Hash + Copy + Drop, A: Allocator + Copy>(
+fn providers_of<T, K: Eq + Hash + Copy + Drop, A: Allocator + Copy>(
     alloc: A,
     steps: &[Step<T, K, A>],
-) -> Result<Givers<K, A>, AllocError> {
+) -> Result<Providers<K, A>, AllocError> {
     let mut last = HashMap::new(alloc);
     let mut all = Vec::new(alloc);
     for (place, step) in steps.iter().enumerate() {
-        for key in &step.gives {
+        for key in &step.provides {
             let before = last.insert(*key, all.len())?;
-            all.push(Giver { place, before })?;
+            all.push(Provider { place, before })?;
         }
     }
-    Ok(Givers { last, all })
+    Ok(Providers { last, all })
 }
 
-// A visit of a step, whose wants before this one have been followed.
+// A visit of a step; its needs before `need` have been followed.
 #[derive(Clone, Copy)]
 struct Visit {
     place: usize,
-    want: usize,
+    need: usize,
 }
 
-// The places of steps in a walk.
+// The state of a walk.
 #[derive(Drop)]
 struct Walk<K: Eq + Hash, A: Allocator> {
-    givers: Givers<K, A>,
+    providers: Providers<K, A>,
     is_begun: Vec<bool, A>,
     numbers: Vec<usize, A>,
     next: usize,
     visits: Vec<Visit, A>,
 }
 
-// A number for each step: those that a step needs have smaller ones, but in a circle.
+// Numbers the steps: those that a step depends on have smaller numbers, except in circles.
 fn numbers_of<T, K: Eq + Hash + Copy + Drop, A: Allocator + Copy>(
     alloc: A,
     steps: &[Step<T, K, A>],
 ) -> Result<Vec<usize, A>, AllocError> {
     let mut walk = Walk {
-        givers: givers_of(alloc, steps)?,
+        providers: providers_of(alloc, steps)?,
         is_begun: vec![in alloc; false; steps.len()]?,
         numbers: vec![in alloc; 0; steps.len()]?,
         next: 0,
         visits: Vec::new(alloc),
     };
     for place in 0..steps.len() {
-        walk.visits.push(Visit { place, want: 0 })?;
+        walk.visits.push(Visit { place, need: 0 })?;
         for _ in 0..u64::MAX {
             match walk.visits.pop() {
                 Some(visit) => walk.go_on(steps, visit)?,
@@ -121,18 +121,18 @@ fn numbers_of<T, K: Eq + Hash + Copy + Drop, A: Allocator + Copy>(
 }
 
 impl<K: Eq + Hash + Copy + Drop, A: Allocator + Copy> Walk<K, A> {
-    // Follows one more want of a step, or gives the step its number.
+    // Follows the next need of a step, or numbers the step if it has no more needs.
     fn go_on<T>(&mut self, steps: &[Step<T, K, A>], visit: Visit) -> Result<(), AllocError> {
-        let Visit { place, want } = visit;
-        if want == 0 && self.begins(place) {
+        let Visit { place, need } = visit;
+        if need == 0 && self.begins(place) {
             return Ok(());
         }
         match steps.get(place) {
-            Some(step) => match step.wants.get(want) {
+            Some(step) => match step.needs.get(need) {
                 Some(key) => {
                     self.visits.push(Visit {
                         place,
-                        want: want.saturating_add(1),
+                        need: need.saturating_add(1),
                     })?;
                     self.follow(*key)
                 }
@@ -145,7 +145,7 @@ impl<K: Eq + Hash + Copy + Drop, A: Allocator + Copy> Walk<K, A> {
         }
     }
 
-    // True if a step was begun before; it is now.
+    // Marks a step as begun; true if it was already.
     fn begins(&mut self, place: usize) -> bool {
         match self.is_begun.get_mut(place) {
             Some(is_begun) => {
@@ -164,22 +164,22 @@ impl<K: Eq + Hash + Copy + Drop, A: Allocator + Copy> Walk<K, A> {
         }
     }
 
-    // The first of the steps that give a key is visited next. Each key is followed once.
+    // Visits the providers of a key next, the first of them first. Each key is followed once.
     fn follow(&mut self, key: K) -> Result<(), AllocError> {
-        let mut at = self.givers.last.remove(&key);
-        for _ in 0..self.givers.all.len() {
-            let giver = match at {
-                Some(at) => match self.givers.all.get(at) {
-                    Some(giver) => *giver,
+        let mut at = self.providers.last.remove(&key);
+        for _ in 0..self.providers.all.len() {
+            let provider = match at {
+                Some(at) => match self.providers.all.get(at) {
+                    Some(provider) => *provider,
                     None => return Ok(()),
                 },
                 None => return Ok(()),
             };
             self.visits.push(Visit {
-                place: giver.place,
-                want: 0,
+                place: provider.place,
+                need: 0,
             })?;
-            at = giver.before;
+            at = provider.before;
         }
         Ok(())
     }

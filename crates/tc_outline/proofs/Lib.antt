@@ -1,3 +1,4 @@
 pub mod OwnKinds
 pub mod Checks
 pub mod Shown
+pub mod Continued

@@ -22,14 +22,14 @@ shown_is text h = each text (recursion_from_All (λ b. IsTrue (is_shown true b))
 
 -- ---- escaped bytes
 
-or_left : (a b : Bool) → IsTrue a → IsTrue (a || b)
+pub or_left : (a b : Bool) → IsTrue a → IsTrue (a || b)
 or_left true b h = refl
 or_left false b h = absurd (cc h)
 
 pub digit_printable : (n : ℕ) → n < 16 → IsTrue (is_printable (digit_char n))
 digit_printable n h = grind arith
 
-escaped_shown : (lines : Bool) (b : ℕ) → b < 256 → IsShown lines (escaped_byte b)
+pub escaped_shown : (lines : Bool) (b : ℕ) → b < 256 → IsShown lines (escaped_byte b)
 escaped_shown lines b h = go (is_printable b) refl
   where
     digit : (n : ℕ) → n < 16 → IsTrue (is_shown lines (digit_char n))

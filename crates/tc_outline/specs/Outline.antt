@@ -1,6 +1,7 @@
 -- The lines of an outline.
-use Rattle.std.specs.Prelude.{List, map, ℕ}
+use Rattle.std.specs.Prelude.{List, ℕ}
 use Rattle.tc_columns.specs.Kinds.{kind_table, root_place}
+use Rattle.tc_columns.specs.Names.{names_of}
 use Rattle.tc_columns.specs.declared.root.KindColumns.{KindColumns}
 use Rattle.tc_columns.specs.declared.root.Root.{Root}
 use Rattle.tc_columns.specs.declared.root.Root.TheVariants as root
@@ -31,7 +32,7 @@ form_of it = tc_message
 
 -- the options of columns: the root's place, whether padding is displayed, and names of interfaces
 abbrev pub options_of : KindColumns → Options
-options_of c = record { root = root_place c.root; all = c.all; interfaces = map (λ x. (x.0, x.1.now)) c.interfaces.now }
+options_of c = record { root = root_place c.root; all = c.all; interfaces = names_of c.interfaces c.links }
 
 -- the lines of the JSON of bytes
 abbrev pub shown_lines : Options → Form → List ℕ → List ℕ

@@ -15,19 +15,6 @@ use std::alloc::{AllocError, Allocator, Global};
 use tc_columns::{KindColumns, Root};
 use tc_lines::lines_of;
 
-// The message type of this root.
-fn what_of(root: Root) -> What
-    ensures { result ≡ what_of root }
-{
-    match root {
-        Root::Action | Root::Flush => What::Action,
-        Root::Filter | Root::U32Filter => What::Filter,
-        Root::Qdisc => What::Qdisc,
-        Root::Class => What::Class,
-        Root::Chain => What::Chain,
-    }
-}
-
 // The form of messages of this root.
 fn form_of(root: Root) -> Form
     ensures { result ≡ form_of root }
@@ -68,7 +55,7 @@ pub fn outline<A: Allocator>(
         Ok(text) => page.lines(&text)?,
         Err(_) => return Err(AllocError),
     }
-    let fault = locate(bytes, what_of(columns.root));
+    let fault = locate(bytes, What::of_root(columns.root));
     if let Some(fault) = &fault {
         page.lines(line_of(alloc, fault)?.bytes())?;
     }

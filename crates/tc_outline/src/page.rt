@@ -20,6 +20,20 @@ pub enum Layout {
     OneLine,
 }
 
+impl Layout {
+    ghost use Rattle.std.specs.Prelude.{◌≡◌};
+    ghost use Rattle.tc_outline.specs.Text.{is_in_lines};
+
+    fn is_in_lines(self) -> bool
+        ensures { result ≡ is_in_lines self }
+    {
+        match self {
+            Layout::Lines => true,
+            Layout::OneLine => false,
+        }
+    }
+}
+
 /// Text that is safe for any terminal: each byte is printable ASCII or a line feed, and all other bytes of a message
 /// are escaped. Calls that write fail only if the allocator does.
 #[derive(Drop)]
@@ -35,32 +49,42 @@ impl<A: Allocator> Page<A> {
     ghost use Rattle.std.specs.Prelude.{◌≡◌, ◌≤◌, ◌++◌, ◌∷◌, [], ◌/◌, ◌%◌, IfOk, OnOk, length, true};
     ghost use Rattle.tc_outline.specs.Page.{shown, shown_byte};
     ghost use Rattle.tc_texts.specs.Escape.{escaped_byte};
-    ghost use Rattle.tc_outline.specs.Text.{has_lines, text_on};
+    ghost use Rattle.tc_outline.specs.Text.{Continues, has_lines, is_in_lines, text_on};
 
     /// An empty page.
-    pub fn new(alloc: A, layout: Layout) -> Self {
+    pub fn new(alloc: A, layout: Layout) -> Self
+        ensures form { has_lines result ≡ is_in_lines layout }
+        ensures empty { text_on result ≡ [] }
+    {
         Page {
             bytes: Vec::new(alloc),
-            has_lines: layout == Layout::Lines,
+            has_lines: layout.is_in_lines(),
             depth: 0,
         }
     }
 
     /// The text: printable ASCII and line feeds.
     pub fn bytes(&self) -> &[u8]
-        ensures { IsShown true result.now }
+        ensures shown { IsShown true result.now }
+        ensures text { result.now ≡ text_on self.now }
     {
         self.bytes.as_slice()
     }
 
-    /// Empties the page, and keeps its memory.
-    pub fn clear(&mut self) {
+    /// Empties the page for a text in this layout, and keeps its memory.
+    pub fn restart(&mut self, layout: Layout)
+        ensures form { has_lines self.new ≡ is_in_lines layout }
+        ensures empty { text_on self.new ≡ [] }
+    {
         self.bytes.clear();
+        self.has_lines = layout.is_in_lines();
         self.depth = 0;
     }
 
     /// Writes a text, each byte that isn't printable ASCII as `\x1b`.
-    pub fn text(&mut self, text: &str) -> Result<(), AllocError> {
+    pub fn text(&mut self, text: &str) -> Result<(), AllocError>
+        ensures { OnOk result (Continues self.old self.new) }
+    {
         self.escaped(text.as_bytes())
     }
 
@@ -128,7 +152,9 @@ impl<A: Allocator> Page<A> {
     }
 
     /// Writes a number in decimal.
-    pub fn number(&mut self, n: u64) -> Result<(), AllocError> {
+    pub fn number(&mut self, n: u64) -> Result<(), AllocError>
+        ensures { OnOk result (Continues self.old self.new) }
+    {
         let mut buffer = Buffer::new();
         self.text(buffer.format(n))
     }
@@ -145,7 +171,10 @@ impl<A: Allocator> Page<A> {
     }
 
     /// Writes the last hex digit of a number.
-    pub fn hex_digit(&mut self, n: u16) -> Result<(), AllocError> {
+    #[tactic(auto, using(crate::proofs::Continued::one_digit))]
+    pub fn hex_digit(&mut self, n: u16) -> Result<(), AllocError>
+        ensures { OnOk result (Continues self.old self.new) }
+    {
         self.digit((n % 16) as u8)
     }
 
@@ -158,7 +187,10 @@ impl<A: Allocator> Page<A> {
         self.digit(byte % 16)
     }
 
-    pub fn blank(&mut self) -> Result<(), AllocError> {
+    #[tactic(auto, using(crate::proofs::Continued::one_byte))]
+    pub fn blank(&mut self) -> Result<(), AllocError>
+        ensures { OnOk result (Continues self.old self.new) }
+    {
         self.byte(b' ')
     }
 
@@ -244,7 +276,10 @@ impl<A: Allocator> Page<A> {
         }
     }
 
-    fn escaped(&mut self, text: &[u8]) -> Result<(), AllocError> {
+    #[tactic(auto, using(crate::proofs::Continued::continues_none, crate::proofs::Continued::continues_then, crate::proofs::Continued::one_escaped))]
+    fn escaped(&mut self, text: &[u8]) -> Result<(), AllocError>
+        ensures { OnOk result (Continues self.old self.new) }
+    {
         if are_printable(text) {
             return self.bytes.extend_from_slice(text);
         }

@@ -1,5 +1,7 @@
 //! The object types of messages.
 
+use tc_columns::Root;
+
 /// The object that a message describes, given its `nlmsg_type`; decides the meaning of `tcm_info`.
 #[derive(Clone, Copy, PartialEq, Eq, Debug)]
 pub enum What {
@@ -16,6 +18,22 @@ pub enum What {
 }
 
 impl What {
+    ghost use Rattle.std.specs.Prelude.{◌≡◌};
+    ghost use Rattle.tc_outline.specs.Outline.{what_of};
+
+    /// The object of messages with these columns.
+    pub fn of_root(root: Root) -> What
+        ensures { result ≡ what_of root }
+    {
+        match root {
+            Root::Action | Root::Flush => What::Action,
+            Root::Filter | Root::U32Filter => What::Filter,
+            Root::Qdisc => What::Qdisc,
+            Root::Class => What::Class,
+            Root::Chain => What::Chain,
+        }
+    }
+
     /// The object of messages with this `nlmsg_type`; `None` if they aren't traffic control.
     pub fn of_type(kind: u16) -> Option<What> {
         match kind {

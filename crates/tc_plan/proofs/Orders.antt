@@ -7,7 +7,7 @@ use Rattle.tc_order.specs.Order.{IsOrder, none, next}
 use Rattle.tc_order.specs.declared.order.Step.{Step}
 use Rattle.std.proofs.lemmas.List.{map-append}
 use Rattle.std.proofs.lemmas.Grind.{flat_map-append}
-use Rattle.tc_plan.specs.Fates.{Parts, parts_of, needs_of, objects}
+use Rattle.tc_plan.specs.Fates.{Parts, parts_of, links_of, objects}
 use Rattle.tc_plan.specs.declared.entry.Entry.{Entry}
 use Rattle.tc_plan.specs.declared.entry.Item.{Item}
 use Rattle.tc_plan.specs.declared.key.Key.{Key}
@@ -58,8 +58,8 @@ module _ {A : Type 0} where
 
   -- one more step, freed
   pub needs_more : (old : List (Step ℕ Key A)) (front : List (Step Item Key A)) (new : List (Step ℕ Key A)) (more : List (Step Item Key A)) (step : Step ℕ Key A) (x : Step Item Key A)
-      → new ≡ old ++ step ∷ [] → more ≡ front ++ x ∷ [] → map (λ s. needs_of s.item s) old ≡ map (λ s. needs_of s.item.place s) front
-      → needs_of step.item step ≡ needs_of x.item.place x → map (λ s. needs_of s.item s) new ≡ map (λ s. needs_of s.item.place s) more
+      → new ≡ old ++ step ∷ [] → more ≡ front ++ x ∷ [] → map (λ s. links_of s.item s) old ≡ map (λ s. links_of s.item.place s) front
+      → links_of step.item step ≡ links_of x.item.place x → map (λ s. links_of s.item s) new ≡ map (λ s. links_of s.item.place s) more
   needs_more old front new more step x pushed is same one =
-      ap (map (λ s. needs_of s.item s)) pushed ∙ map-append (λ s. needs_of s.item s) old (step ∷ []) ∙ ap (λ l. l ++ needs_of step.item step ∷ []) same
-      ∙ ap (λ p. map (λ s. needs_of s.item.place s) front ++ p ∷ []) one ∙ sym (map-append (λ s. needs_of s.item.place s) front (x ∷ [])) ∙ ap (map (λ s. needs_of s.item.place s)) (sym is)
+      ap (map (λ s. links_of s.item s)) pushed ∙ map-append (λ s. links_of s.item s) old (step ∷ []) ∙ ap (λ l. l ++ links_of step.item step ∷ []) same
+      ∙ ap (λ p. map (λ s. links_of s.item.place s) front ++ p ∷ []) one ∙ sym (map-append (λ s. links_of s.item.place s) front (x ∷ [])) ∙ ap (map (λ s. links_of s.item.place s)) (sym is)

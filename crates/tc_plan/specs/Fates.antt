@@ -1,4 +1,4 @@
--- What becomes of a dump among others.
+-- The fate of a dump among others.
 use Rattle.std.specs.Prelude.{◌≡◌, ℕ, negsuc, Bool, true, false, List, [], ◌∷◌, ◌++◌, Option, Some, None, if◌then◌else◌, not}
 use Rattle.std.specs.List.{list_any, flat_map}
 use Rattle.std.specs.HashSet as bag
@@ -22,13 +22,13 @@ abbrev pub is_refused : Fate → Bool
 is_refused (Refused reason) = true
 is_refused fate = false
 
--- what is in a block that interfaces share (their interface is -1): each of them dumps it
+-- an object in a block that interfaces share (their interface is -1): each of them dumps it
 abbrev pub is_shared : Key → Bool
 is_shared (key.Filter index parent number handle info) = int_eq index (negsuc 0)
 is_shared (key.Chain index parent number) = int_eq index (negsuc 0)
 is_shared k = false
 
--- a set of keys has these
+-- a set of keys has exactly these
 abbrev pub IsSetOf : {K S : Type 0} → (K → K → Bool) → HashSet K S → List K → Type 0
 IsSetOf eq set keys = (key : _) → bag.contains eq set key ≡ list_any (eq key) keys
 
@@ -50,9 +50,9 @@ any_among keys own = list_any (λ k. list_any (same_key k) keys) own
 abbrev pub again : List Key → Fate
 again own = if list_any is_shared own then Made else Refused Twice
 
--- what becomes of a dump, by what all give and which objects are before it: one that can't be restored, that the kernel makes, or that is
--- there, stays that; then a second dump, a class without its parent, one that doesn't say its side of clsact, and a chain that its filters
--- make
+-- the fate of a dump, given the keys that all provide and the objects of the dumps before it. A dump that can't be restored, that the kernel
+-- makes, or that is there, keeps its fate. Of the others: a second dump; a class without its parent; a dump that doesn't say its side of
+-- clsact; a chain that its filters make
 abbrev pub fate_by : List Key → List Key → List Key → Option Key → Option Key → Option Key → Fate → Fate
 fate_by given before own must must_not made_by Request =
     if any_among before own then again own
@@ -66,32 +66,32 @@ fate_by given before own must must_not made_by fate = fate
 abbrev pub fate_among : {A : Type 0} → List Key → List Key → Entry A → Fate
 fate_among given before entry = fate_by given before entry.objects.items entry.must entry.must_not entry.made_by entry.fate
 
--- all that dumps give, and their objects
-abbrev pub gifts : {A : Type 0} → List (Entry A) → List Key
-gifts entries = flat_map (λ entry. entry.gives.items) entries
+-- all keys that dumps provide, and their objects
+abbrev pub all_provided : {A : Type 0} → List (Entry A) → List Key
+all_provided entries = flat_map (λ entry. entry.provides.items) entries
 
 abbrev pub objects : {A : Type 0} → List (Entry A) → List Key
 objects entries = flat_map (λ entry. entry.objects.items) entries
 
--- a second dump gives nothing, since the first gives it
-abbrev pub gives_by : Fate → List Key → List Key
-gives_by (Refused Twice) gives = []
-gives_by fate gives = gives
+-- a second dump provides nothing, since the first provides it
+abbrev pub provides_by : Fate → List Key → List Key
+provides_by (Refused Twice) provides = []
+provides_by fate provides = provides
 
--- the place of a dump, what becomes of it, what it gives and what it wants
+-- the place of a dump, its fate, and the keys that it provides and needs
 abbrev pub Parts : Type 0
 Parts = ℕ × Fate × List Key × List Key
 
 abbrev pub parts_of : {A : Type 0} → Step Item Key A → Parts
-parts_of step = (step.item.place, step.item.fate, step.gives.items, step.wants.items)
+parts_of step = (step.item.place, step.item.fate, step.provides.items, step.needs.items)
 
--- the same of dumps behind others, by what all give
+-- the parts of dumps after others, given the keys that all provide
 abbrev pub parts_among : {A : Type 0} → List Key → List (Entry A) → List (Entry A) → List Parts
 parts_among given before [] = []
 parts_among given before (entry ∷ entries) =
-    (entry.place, fate_among given (objects before) entry, gives_by (fate_among given (objects before) entry) entry.gives.items, entry.wants.items)
+    (entry.place, fate_among given (objects before) entry, provides_by (fate_among given (objects before) entry) entry.provides.items, entry.needs.items)
     ∷ parts_among given (before ++ entry ∷ []) entries
 
--- a place, and what a step gives and wants
-abbrev pub needs_of : {T A : Type 0} → ℕ → Step T Key A → ℕ × List Key × List Key
-needs_of place step = (place, step.gives.items, step.wants.items)
+-- a place, and the keys that a step provides and needs
+abbrev pub links_of : {T A : Type 0} → ℕ → Step T Key A → ℕ × List Key × List Key
+links_of place step = (place, step.provides.items, step.needs.items)

@@ -1,3 +1,4 @@
 pub mod Fates
 pub mod Needs
 pub mod Now
+pub mod SharedActions

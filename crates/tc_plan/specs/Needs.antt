@@ -1,4 +1,4 @@
--- What the request that restores a dump needs: what gives a key that it wants.
+-- Keys that the request which restores a dump provides and needs.
 use Rattle.std.specs.Prelude.{ℕ, ℤ, negsuc, ◌*◌, ◌-◌, ◌/◌, ◌%◌, Bool, true, false, not, ◌==◌, ◌&&◌, ◌||◌, nat_le, List, [], ◌∷◌, ◌++◌, length, replicate, Option, Some, None, if◌then◌else◌, bytes_eq, codes, string_bytes}
 use Rattle.std.specs.List.{flat_map, list_any}
 use Rattle.std.specs.Ordering.{int_eq}
@@ -17,16 +17,16 @@ use Rattle.tc_options.specs.declared.filters.cls_u32.TcFilterU32Option.TheVarian
 use Rattle.tc_messages.specs.declared.message.TcMessage.{TcMessage}
 use Rattle.tc_options.specs.declared.options.TcOption.{TcOption}
 use Rattle.tc_options.specs.declared.options.TcOption.TheVariants as option
-use Rattle.tc_requests.specs.RestoredActions.{kind_of_action}
-use Rattle.tc_requests.specs.Standing.{standing_index}
-use Rattle.tc_requests.specs.declared.restore_messages.Object.{Object}
-use Rattle.tc_requests.specs.declared.restore_messages.Object.TheVariants.{Qdisc, Class, Filter, Chain}
+use Rattle.tc_restore.specs.RestoredActions.{kind_of_action}
+use Rattle.tc_restore.specs.Standalone.{standalone_index}
+use Rattle.tc_restore.specs.declared.restore_messages.Object.{Object}
+use Rattle.tc_restore.specs.declared.restore_messages.Object.TheVariants.{Qdisc, Class, Filter, Chain}
 use Rattle.tc_plan.specs.declared.fate.Fate.{Fate}
 use Rattle.tc_plan.specs.Fates.{is_refused}
 use Rattle.tc_plan.specs.declared.key.Key.{Key}
 use Rattle.tc_plan.specs.declared.key.Key.TheVariants as key
 
--- the number of the chain that a message names first, 0 where it names none
+-- the number of the chain that a message names first, 0 if it names no chain
 abbrev pub chain_number : {A : Type 0} → List (TcAttribute A) → ℕ
 chain_number [] = 0
 chain_number (attribute.Chain n ∷ xs) = n
@@ -43,14 +43,19 @@ block_of x = []
 abbrev pub major : ℕ → ℕ
 major handle = handle / 0x10000 * 0x10000
 
--- the qdisc or class that a parent names, and its qdisc; the block, where interfaces share one (the interface is then -1).
+-- the qdisc or class of a handle. The handle 0 is none: the kernel dumps it for a default qdisc that it made, and as the parent of a
+-- class without one, such as a class of mqprio whose queue is in no traffic class
+abbrev pub node : ℤ → ℕ → List Key
+node index handle = if handle == 0 then [] else key.Node index handle ∷ []
+
+-- the qdisc or class that a parent names, and its qdisc; the block, if interfaces share it (the interface is then -1).
 -- ffff:ffff is the root, and ffff:fff1 is ingress or clsact itself: its major is the handle of this very qdisc, so it would
 -- wait for itself
 abbrev pub parents : ℤ → ℕ → List Key
 parents index parent =
     if int_eq index (negsuc 0) then key.Block parent ∷ []
     else if (parent == 0xffffffff) || (parent == 0xfffffff1) then []
-    else key.Node index parent ∷ key.Node index (major parent) ∷ []
+    else node index parent ++ node index (major parent)
 
 -- an attribute is the kind; it is this kind
 abbrev pub is_kind : {A : Type 0} → TcAttribute A → Bool
@@ -102,7 +107,7 @@ tables_of h = if int_eq h.index (negsuc 0) then handle_number h.parent else majo
 abbrev pub table_by : TcHeader → ℕ → Key
 table_by h handle = key.Table h.index (tables_of h) (handle / 0x100000)
 
--- a table has the number alone; a classifier, which is dumped without a handle, is none
+-- a table has only the number; a classifier, which is dumped without a handle, isn't a table
 abbrev pub is_table : {A : Type 0} → TcMessage A → Bool
 is_table m =
     not (handle_number m.header.handle == 0) && (handle_number m.header.handle % 0x100000 == 0) && is_of (codes "u32") m
@@ -131,36 +136,36 @@ links_in h x = flat_map (link_of h) (options_of x)
 abbrev pub links : {A : Type 0} → TcMessage A → List Key
 links m = flat_map (links_in m.header) m.attributes.items
 
--- ---- what requests give and want
+-- ---- what requests provide and need
 
 -- a class; one whose minor number is 0 is a root class, which its qdisc makes, and its handle is that of the qdisc
 abbrev pub class_of : TcHeader → List Key
 class_of h = if handle_number h.handle % 0x10000 == 0 then [] else key.Node h.index (handle_number h.handle) ∷ []
 
--- a qdisc gives itself, clsact if it is that, and its blocks, a class itself, a chain itself; a filter that its chain has one, and
--- a hash table itself
-abbrev pub gives : {A : Type 0} → List ℤ → Object → TcMessage A → List Key
-gives ingress Qdisc m =
-    (key.Node m.header.index (handle_number m.header.handle) ∷ (if is_of (codes "clsact") m then key.Clsact m.header.index ∷ [] else []))
+-- a qdisc provides itself, clsact if it is clsact, and its blocks; a class and a chain themselves; a filter provides that its chain has
+-- a filter, and a hash table itself
+abbrev pub provides : {A : Type 0} → List ℤ → Object → TcMessage A → List Key
+provides ingress Qdisc m =
+    (node m.header.index (handle_number m.header.handle) ++ (if is_of (codes "clsact") m then key.Clsact m.header.index ∷ [] else []))
     ++ flat_map block_of m.attributes.items
-gives ingress Class m = class_of m.header
-gives ingress Chain m = chain_of ingress m ∷ []
-gives ingress Filter m = in_chain ingress m ∷ table_of m
+provides ingress Class m = class_of m.header
+provides ingress Chain m = chain_of ingress m ∷ []
+provides ingress Filter m = in_chain ingress m ∷ table_of m
 
--- actions give themselves, unless they can't be made
-abbrev pub gives_actions : Fate → List Key
-gives_actions fate = if is_refused fate then [] else key.Actions ∷ []
+-- actions provide themselves, unless they can't be made
+abbrev pub provides_actions : Fate → List Key
+provides_actions fate = if is_refused fate then [] else key.Actions ∷ []
 
--- each wants its parent; a class its qdisc; a filter actions, since it may share one, its chain, and the hash tables that it is in or
+-- each needs its parent; a class its qdisc; a filter actions, since it may share one, its chain, and the hash tables that it is in or
 -- links to
-abbrev pub wants : {A : Type 0} → List ℤ → Object → TcMessage A → List Key
-wants ingress Qdisc m = parents m.header.index (handle_number m.header.parent)
-wants ingress Class m = parents m.header.index (handle_number m.header.parent) ++ key.Node m.header.index (major (handle_number m.header.handle)) ∷ []
-wants ingress Chain m = parents m.header.index (handle_number m.header.parent)
-wants ingress Filter m =
+abbrev pub needs : {A : Type 0} → List ℤ → Object → TcMessage A → List Key
+needs ingress Qdisc m = parents m.header.index (handle_number m.header.parent)
+needs ingress Class m = parents m.header.index (handle_number m.header.parent) ++ node m.header.index (major (handle_number m.header.handle))
+needs ingress Chain m = parents m.header.index (handle_number m.header.parent)
+needs ingress Filter m =
     ((parents m.header.index (handle_number m.header.parent) ++ key.Actions ∷ chain_of ingress m ∷ []) ++ in_table m) ++ links m
 
--- a kind with zeros behind it; one of more than 16 bytes the kernel doesn't have
+-- a kind padded with zeros to 16 bytes; the kernel has no longer ones
 abbrev pub name_of : List ℕ → Option (List ℕ)
 name_of kind = if nat_le (length kind) 16 then Some (kind ++ replicate (16 - length kind) 0) else None
 
@@ -169,24 +174,24 @@ abbrev pub action_by : Option (List ℕ) → Option ℕ → List Key
 action_by (Some kind) (Some index) = key.Action kind index ∷ []
 action_by kind index = []
 
--- an action that stands by itself
-abbrev pub standing_action : {A : Type 0} → TcAction A → List Key
-standing_action action = action_by (name_of (kind_of_action action.attributes.items)) (standing_index action)
+-- a standalone action
+abbrev pub standalone_action : {A : Type 0} → TcAction A → List Key
+standalone_action action = action_by (name_of (kind_of_action action.attributes.items)) (standalone_index action)
 
--- the actions of an attribute, and those of it and of a dump that stand by themselves
+-- the actions of an attribute, and the standalone actions of it and of a dump
 abbrev pub actions_in : {A : Type 0} → TcActionMessageAttribute A → List (TcAction A)
 actions_in (action_attribute.Actions actions) = actions.items
 actions_in x = []
 
-abbrev pub standing_in : {A : Type 0} → TcActionMessageAttribute A → List Key
-standing_in attribute = flat_map standing_action (actions_in attribute)
+abbrev pub standalone_in : {A : Type 0} → TcActionMessageAttribute A → List Key
+standalone_in attribute = flat_map standalone_action (actions_in attribute)
 
-abbrev pub standing_objects : {A : Type 0} → TcActionMessage A → List Key
-standing_objects m = flat_map standing_in m.attributes.items
+abbrev pub standalone_objects : {A : Type 0} → TcActionMessage A → List Key
+standalone_objects m = flat_map standalone_in m.attributes.items
 
--- what a dump is, of which one is enough
+-- the object that a dump shows; a second dump of it is a duplicate
 abbrev pub object : {A : Type 0} → List ℤ → Object → TcMessage A → List Key
-object ingress Qdisc m = key.Node m.header.index (handle_number m.header.handle) ∷ []
+object ingress Qdisc m = node m.header.index (handle_number m.header.handle)
 object ingress Class m = class_of m.header
 object ingress Chain m = chain_of ingress m ∷ []
 object ingress Filter m =
@@ -210,7 +215,7 @@ abbrev pub made_by : {A : Type 0} → List ℤ → Object → TcMessage A → Li
 made_by ingress Chain m = if has_kind m.attributes.items then [] else in_chain ingress m ∷ []
 made_by ingress kind m = []
 
--- filters of basic and bpf are kept and dumped newest first: those of one chain and priority go by a key of these, without a handle
+-- filters of basic and bpf are kept and dumped newest first: those of one chain and priority have one key, without a handle
 abbrev pub newest_first : {A : Type 0} → List ℤ → Object → TcMessage A → List Key
 newest_first ingress Filter m =
     if is_of (codes "basic") m || is_of (codes "bpf") m

@@ -1,13 +1,13 @@
--- What becomes of an action that is wanted, by those that there are now.
+-- The fate of an action, given the actions that the kernel has now.
 use Rattle.std.specs.Prelude.{◌≡◌, ℕ, Bool, map, ◌==◌, ◌||◌, List, [], ◌∷◌, Option, Some, None, option_map, bytes_eq, count_by, if◌then◌else◌}
 use Rattle.std.specs.List.{flat_map}
 use Rattle.std.specs.Option.{option_to_list}
 use Rattle.tc_actions.specs.Action.{tc_action}
 use Rattle.tc_actions.specs.declared.actions.action.TcAction.{TcAction}
 use Rattle.tc_messages.specs.declared.message.TcMessage.{TcMessage}
-use Rattle.tc_requests.specs.FilterActions.{actions_of_filter}
-use Rattle.tc_requests.specs.RestoredActions.{kind_of_action}
-use Rattle.tc_requests.specs.Standing.{index_if, use_of_action}
+use Rattle.tc_restore.specs.FilterActions.{actions_of_filter}
+use Rattle.tc_restore.specs.RestoredActions.{kind_of_action}
+use Rattle.tc_restore.specs.Standalone.{index_if, use_of_action}
 use Rattle.tc_plan.specs.declared.fate.Fate.{Fate}
 use Rattle.tc_plan.specs.declared.fate.Fate.TheVariants.{Request, There, Change, Refused}
 use Rattle.tc_plan.specs.declared.fate.Named.{Named}
@@ -30,7 +30,7 @@ named action = named_by (name_of (kind_of_action action.attributes.items)) (inde
 abbrev pub key_of : Named → Key
 key_of name = key.Action name.kind name.index
 
--- an action by its key
+-- the key of an action that a filter holds, if it has an index
 abbrev pub held_action : {A : Type 0} → TcAction A → List Key
 held_action action = option_to_list (option_map key_of (named action))
 
@@ -43,8 +43,8 @@ Holds {A = A} filter keys =
 abbrev pub own : List Key → Named → ℕ
 own held name = count_by (same_key (key_of name)) held
 
--- an action that is there stays if its request is the wanted one. Another one is changed if no other filter holds it, or where that is asked
--- for; else it can't be made
+-- an action that is there stays if its request is the same. Another one is changed if no other filter holds it, or if `replaces`; else it
+-- can't be made
 abbrev pub fate_there : {A : Type 0} → Bool → List Key → Action A → Named → List ℕ → Fate
 fate_there replaces held there name request =
     if bytes_eq there.request.items request then There

@@ -1,15 +1,15 @@
-//! What a dump provides and requires, and which other dumps must or must not exist.
+//! What the request of a dump provides and needs, and which other dumps must or must not exist.
 
 ghost use Rattle.std.specs.Prelude.{◌≡◌, ◌∷◌, ◌++◌, [], codes, IfOk, if◌then◌else◌};
 ghost use Rattle.std.specs.List.{flat_map, list_any};
 ghost use Rattle.std.specs.Option.{option_to_list};
 ghost use Rattle.std.specs.Ordering.{int_eq};
 ghost use Rattle.tc_records.specs.Header.{handle_number};
-ghost use Rattle.tc_plan.specs.Needs.{chain_number, block_of, gives, wants, parents, object, must, must_not, made_by, is_kind, is_named, is_of, has_kind, gives_actions, class_of, chain_of, in_chain};
+ghost use Rattle.tc_plan.specs.Needs.{chain_number, block_of, node, provides, needs, parents, object, must, must_not, made_by, is_kind, is_named, is_of, has_kind, provides_actions, class_of, chain_of, in_chain};
 ghost use Rattle.tc_plan.specs.Needs.{ingress_of, is_side, parent_of, tables_of, table_by, table_of, in_table, link_of, links_in, options_of, newest_first};
-ghost use Rattle.tc_plan.specs.Needs.{name_of, action_by, standing_action, actions_in, standing_in, standing_objects};
-ghost use Rattle.tc_requests.specs.declared.restore_messages.Object.TheVariants as kinds;
-ghost use Rattle.tc_plan.specs.declared.key.Key.TheVariants.{Actions, Clsact, Node};
+ghost use Rattle.tc_plan.specs.Needs.{name_of, action_by, standalone_action, actions_in, standalone_in, standalone_objects, major};
+ghost use Rattle.tc_restore.specs.declared.restore_messages.Object.TheVariants as kinds;
+ghost use Rattle.tc_plan.specs.declared.key.Key.TheVariants.{Actions, Clsact};
 
 use crate::fate::Fate;
 use crate::key::Key;
@@ -20,29 +20,29 @@ use tc_actions::TcAction;
 use tc_messages::{TcAttribute, TcMessage};
 use tc_options::{TcFilterU32Option, TcOption};
 use tc_records::TcHeader;
-use tc_requests::{Object, kind_of_action, standing_index};
+use tc_restore::{Object, kind_of_action, standalone_index};
 
 /// A dumped object in a plan, and whether it gets a request.
 #[derive(Drop, Debug)]
 pub struct Item {
-    /// The caller's number of it.
+    /// The caller's number of the dump.
     pub place: usize,
     /// Its fate among all dumps.
     pub fate: Fate,
 }
 
-/// What a plan has to know of a dump.
+/// The data of a dump for a plan.
 #[derive(Drop, Debug)]
 pub struct Entry<A: Allocator> {
-    /// The caller's number of it.
+    /// The caller's number of the dump.
     pub place: usize,
     /// Its fate before other dumps are considered.
     pub fate: Fate,
     /// Keys that its request provides.
-    pub gives: Vec<Key, A>,
-    /// Keys that its request requires.
-    pub wants: Vec<Key, A>,
-    /// The objects that it shows, of each of which one dump is enough; of actions each that is standalone or shared.
+    pub provides: Vec<Key, A>,
+    /// Keys that its request needs.
+    pub needs: Vec<Key, A>,
+    /// The objects that it shows; a second dump of one is a duplicate. Of actions, each that is standalone or shared.
     pub objects: Vec<Key, A>,
     /// A key that some dump has to provide: the class that is a class's parent.
     pub must: Option<Key>,
@@ -52,8 +52,8 @@ pub struct Entry<A: Allocator> {
     pub made_by: Option<Key>,
 }
 
-/// What a plan has to know of this dump; `place` is the caller's number of it, and `ingress` are the interfaces that have ingress, by
-/// `ingress_of` of all dumps.
+/// Makes the entry of a dump; `place` is the caller's number of it, and `ingress` are the interfaces that have ingress, found by
+/// `ingress_of` in all dumps.
 pub fn entry_of<A: Allocator + Copy>(
     alloc: A,
     place: usize,
@@ -64,8 +64,8 @@ pub fn entry_of<A: Allocator + Copy>(
 ) -> Result<Entry<A>, AllocError>
     ensures place { IfOk result (λ entry. entry.place ≡ place) }
     ensures fate { IfOk result (λ entry. entry.fate ≡ fate) }
-    ensures gives { IfOk result (λ entry. entry.gives.items ≡ gives ingress.now kind dump.now) }
-    ensures wants { IfOk result (λ entry. entry.wants.items ≡ wants ingress.now kind dump.now) }
+    ensures provides { IfOk result (λ entry. entry.provides.items ≡ provides ingress.now kind dump.now) }
+    ensures needs { IfOk result (λ entry. entry.needs.items ≡ needs ingress.now kind dump.now) }
     ensures objects { IfOk result (λ entry. entry.objects.items ≡ object ingress.now kind dump.now) }
     ensures must { IfOk result (λ entry. option_to_list entry.must ≡ must kind dump.now.header) }
     ensures must_not { IfOk result (λ entry. option_to_list entry.must_not ≡ must_not kind dump.now.header) }
@@ -74,8 +74,8 @@ pub fn entry_of<A: Allocator + Copy>(
     Ok(Entry {
         place,
         fate,
-        gives: given(alloc, kind, ingress, dump)?,
-        wants: wanted(alloc, kind, ingress, dump)?,
+        provides: provided(alloc, kind, ingress, dump)?,
+        needs: needed(alloc, kind, ingress, dump)?,
         objects: with(Vec::new(alloc), object_of(kind, ingress, dump))?,
         must: must_of(kind, &dump.header),
         must_not: must_not_of(kind, &dump.header),
@@ -83,7 +83,7 @@ pub fn entry_of<A: Allocator + Copy>(
     })
 }
 
-/// The same of actions that stand by themselves. Those that can't be made are needed by none, since a filter has its own in full.
+/// Makes the entry of a dump of actions. Actions that can't be made provide no key, since a filter has its own actions in full.
 pub fn entry_of_actions<A: Allocator + Copy>(
     alloc: A,
     place: usize,
@@ -91,33 +91,33 @@ pub fn entry_of_actions<A: Allocator + Copy>(
     dump: &TcActionMessage<A>,
 ) -> Result<Entry<A>, AllocError>
     ensures place { IfOk result (λ entry. entry.place ≡ place) }
-    ensures gives { IfOk result (λ entry. entry.gives.items ≡ gives_actions fate) }
+    ensures provides { IfOk result (λ entry. entry.provides.items ≡ provides_actions fate) }
     ensures fate { IfOk result (λ entry. entry.fate ≡ fate) }
-    ensures wants { IfOk result (λ entry. entry.wants.items ≡ []) }
-    ensures objects { IfOk result (λ entry. entry.objects.items ≡ standing_objects dump.now) }
+    ensures needs { IfOk result (λ entry. entry.needs.items ≡ []) }
+    ensures objects { IfOk result (λ entry. entry.objects.items ≡ standalone_objects dump.now) }
 {
-    let mut gives = Vec::new(alloc);
+    let mut provides = Vec::new(alloc);
     if !fate.is_refused() {
-        gives.push(Key::Actions)?;
+        provides.push(Key::Actions)?;
     }
     Ok(Entry {
         place,
         fate,
-        gives,
-        wants: Vec::new(alloc),
-        objects: standing_objects(alloc, &dump.attributes)?,
+        provides,
+        needs: Vec::new(alloc),
+        objects: standalone_objects(alloc, &dump.attributes)?,
         must: None,
         must_not: None,
         made_by: None,
     })
 }
 
-// The actions of a dump that stand by themselves.
-fn standing_objects<A: Allocator + Copy>(
+// The standalone actions of a dump.
+fn standalone_objects<A: Allocator + Copy>(
     alloc: A,
     attributes: &[TcActionMessageAttribute<A>],
 ) -> Result<Vec<Key, A>, AllocError>
-    ensures { IfOk result (λ keys. keys.items ≡ flat_map standing_in attributes.now) }
+    ensures { IfOk result (λ keys. keys.items ≡ flat_map standalone_in attributes.now) }
 {
     let mut keys = Vec::new(alloc);
     for attribute in attributes {
@@ -136,25 +136,25 @@ fn actions_in<A: Allocator>(attribute: &TcActionMessageAttribute<A>) -> &[TcActi
     }
 }
 
-// Keys, and those of these actions that stand by themselves.
-fn with_actions<A: Allocator>(
+// Appends the keys of the standalone ones of these actions.
+pub(crate) fn with_actions<A: Allocator>(
     keys: Vec<Key, A>,
     actions: &[TcAction<A>],
 ) -> Result<Vec<Key, A>, AllocError>
-    ensures { IfOk result (λ made. made.items ≡ keys.items ++ flat_map standing_action actions.now) }
+    ensures { IfOk result (λ made. made.items ≡ keys.items ++ flat_map standalone_action actions.now) }
 {
     let mut made = keys;
     for action in actions {
-        made = with(made, standing_action(action))?;
+        made = with(made, standalone_action(action))?;
     }
     Ok(made)
 }
 
-// An action that stands by itself.
-fn standing_action<A: Allocator>(action: &TcAction<A>) -> Option<Key>
-    ensures { option_to_list result ≡ standing_action action.now }
+// The key of a standalone action.
+pub(crate) fn standalone_action<A: Allocator>(action: &TcAction<A>) -> Option<Key>
+    ensures { option_to_list result ≡ standalone_action action.now }
 {
-    action_by(name_of(kind_of_action(action)), standing_index(action))
+    action_by(name_of(kind_of_action(action)), standalone_index(action))
 }
 
 fn action_by(kind: Option<[u8; 16]>, index: Option<u32>) -> Option<Key>
@@ -166,7 +166,7 @@ fn action_by(kind: Option<[u8; 16]>, index: Option<u32>) -> Option<Key>
     }
 }
 
-// A kind with zeros behind it. One of more bytes the kernel doesn't have (`IFNAMSIZ`).
+// A kind padded with zeros; `None` if it is longer than the kernel's names (`IFNAMSIZ`).
 pub(crate) fn name_of(kind: &str) -> Option<[u8; 16]>
     ensures { result ≡ name_of kind.now }
 {
@@ -179,12 +179,12 @@ pub(crate) fn name_of(kind: &str) -> Option<[u8; 16]>
     Some(name)
 }
 
-// What a dump is.
+// The object that a dump shows.
 fn object_of<A: Allocator>(kind: Object, ingress: &[i32], dump: &TcMessage<A>) -> Option<Key>
     ensures { option_to_list result ≡ object ingress.now kind dump.now }
 {
     match kind {
-        Object::Qdisc => Some(node_of(&dump.header)),
+        Object::Qdisc => node_of(&dump.header),
         Object::Class => class_of(&dump.header),
         Object::Chain => Some(chain_of(ingress, dump)),
         Object::Filter => Some(Key::Filter {
@@ -204,7 +204,10 @@ fn class_of(header: &TcHeader) -> Option<Key>
     if u32::from(header.handle) % 0x1_0000 == 0 {
         None
     } else {
-        Some(node_of(header))
+        Some(Key::Node {
+            index: header.index,
+            handle: u32::from(header.handle),
+        })
     }
 }
 
@@ -222,7 +225,7 @@ fn must_of(kind: Object, header: &TcHeader) -> Option<Key>
     }
 }
 
-// Clsact, where a parent doesn't say the side.
+// Clsact, if a parent doesn't say the side.
 fn must_not_of(kind: Object, header: &TcHeader) -> Option<Key>
     ensures { option_to_list result ≡ must_not kind header.now }
 {
@@ -258,7 +261,7 @@ fn is_kind<A: Allocator>(attribute: &TcAttribute<A>) -> bool
     matches!(attribute, TcAttribute::Kind(_))
 }
 
-// True of this kind.
+// True if an attribute is this kind.
 fn is_named<A: Allocator>(attribute: &TcAttribute<A>, name: &str) -> bool
     ensures { result ≡ is_named name.now attribute.now }
 {
@@ -268,7 +271,7 @@ fn is_named<A: Allocator>(attribute: &TcAttribute<A>, name: &str) -> bool
     }
 }
 
-// True of a message of this kind.
+// True for a message of this kind.
 fn is_of<A: Allocator>(dump: &TcMessage<A>, name: &str) -> bool
     ensures { result ≡ is_of name.now dump.now }
 {
@@ -288,8 +291,8 @@ pub fn ingress_of<A: Allocator>(kind: Object, dump: &TcMessage<A>) -> Option<i32
     }
 }
 
-/// The filters among which one of basic or bpf is the newest that isn't dumped yet: those of its chain and its priority, by a key
-/// without a handle. The kernel puts a new one before the others, and packets come to the first that matches.
+/// The key of the filters of basic or bpf that are in one chain and have one priority: that of a filter without a handle. The kernel
+/// puts a new one before the others, and dumps the newest first; packets come to the first that matches.
 pub fn newest_first<A: Allocator>(kind: Object, ingress: &[i32], dump: &TcMessage<A>) -> Option<Key>
     ensures { option_to_list result ≡ newest_first ingress.now kind dump.now }
 {
@@ -305,21 +308,21 @@ pub fn newest_first<A: Allocator>(kind: Object, ingress: &[i32], dump: &TcMessag
     }
 }
 
-// True of the parents by which filters and chains of ingress are dumped.
+// True for the parents with which filters and chains of ingress are dumped.
 fn is_side(parent: u32) -> bool
     ensures { result ≡ is_side parent }
 {
     parent == 0xFFFF_FFF2 || parent == 0xFFFF_FFF3 || parent == 0xFFFF_0000
 }
 
-// True of an interface that has ingress.
+// True for an interface that has ingress.
 fn has_ingress(ingress: &[i32], index: i32) -> bool
     ensures { result ≡ list_any (int_eq index) ingress.now }
 {
     ingress.iter().any(|known| index == *known)
 }
 
-// The parent of a filter or a chain, one where the interface has ingress.
+// The parent of a filter or a chain; always the same for ingress.
 fn parent_of(ingress: &[i32], header: &TcHeader) -> u32
     ensures { result ≡ parent_of ingress.now header.now }
 {
@@ -344,73 +347,81 @@ fn clsact_of<A: Allocator>(dump: &TcMessage<A>) -> Option<Key>
     }
 }
 
-fn given<A: Allocator + Copy>(
+fn provided<A: Allocator + Copy>(
     alloc: A,
     kind: Object,
     ingress: &[i32],
     dump: &TcMessage<A>,
 ) -> Result<Vec<Key, A>, AllocError>
-    ensures { IfOk result (λ keys. keys.items ≡ gives ingress.now kind dump.now) }
+    ensures { IfOk result (λ keys. keys.items ≡ provides ingress.now kind dump.now) }
 {
     match kind {
-        Object::Qdisc => given_by_qdisc(alloc, dump),
-        Object::Class => given_by_class(alloc, dump),
-        Object::Chain => given_by_chain(alloc, ingress, dump),
-        Object::Filter => given_by_filter(alloc, ingress, dump),
+        Object::Qdisc => provided_by_qdisc(alloc, dump),
+        Object::Class => provided_by_class(alloc, dump),
+        Object::Chain => provided_by_chain(alloc, ingress, dump),
+        Object::Filter => provided_by_filter(alloc, ingress, dump),
     }
 }
 
-fn given_by_qdisc<A: Allocator + Copy>(
+fn provided_by_qdisc<A: Allocator + Copy>(
     alloc: A,
     dump: &TcMessage<A>,
 ) -> Result<Vec<Key, A>, AllocError>
-    ensures { IfOk result (λ keys. keys.items ≡ gives [] kinds.Qdisc dump.now) }
+    ensures { IfOk result (λ keys. keys.items ≡ provides [] kinds.Qdisc dump.now) }
 {
-    let keys = one(alloc, node_of(&dump.header))?;
+    let keys = with(Vec::new(alloc), node_of(&dump.header))?;
     let keys = with(keys, clsact_of(dump))?;
     let keys = blocks(keys, &dump.attributes)?;
     Ok(keys)
 }
 
-fn given_by_class<A: Allocator + Copy>(
+fn provided_by_class<A: Allocator + Copy>(
     alloc: A,
     dump: &TcMessage<A>,
 ) -> Result<Vec<Key, A>, AllocError>
-    ensures { IfOk result (λ keys. keys.items ≡ gives [] kinds.Class dump.now) }
+    ensures { IfOk result (λ keys. keys.items ≡ provides [] kinds.Class dump.now) }
 {
     let keys = with(Vec::new(alloc), class_of(&dump.header))?;
     Ok(keys)
 }
 
-fn given_by_chain<A: Allocator + Copy>(
+fn provided_by_chain<A: Allocator + Copy>(
     alloc: A,
     ingress: &[i32],
     dump: &TcMessage<A>,
 ) -> Result<Vec<Key, A>, AllocError>
-    ensures { IfOk result (λ keys. keys.items ≡ gives ingress.now kinds.Chain dump.now) }
+    ensures { IfOk result (λ keys. keys.items ≡ provides ingress.now kinds.Chain dump.now) }
 {
     let keys = one(alloc, chain_of(ingress, dump))?;
     Ok(keys)
 }
 
-fn given_by_filter<A: Allocator + Copy>(
+fn provided_by_filter<A: Allocator + Copy>(
     alloc: A,
     ingress: &[i32],
     dump: &TcMessage<A>,
 ) -> Result<Vec<Key, A>, AllocError>
-    ensures { IfOk result (λ keys. keys.items ≡ gives ingress.now kinds.Filter dump.now) }
+    ensures { IfOk result (λ keys. keys.items ≡ provides ingress.now kinds.Filter dump.now) }
 {
     let keys = one(alloc, in_chain(ingress, dump))?;
     let keys = with(keys, table_of(dump))?;
     Ok(keys)
 }
 
-fn node_of(header: &TcHeader) -> Key
-    ensures { result ≡ Node header.now.index (handle_number header.now.handle) }
+fn node_of(header: &TcHeader) -> Option<Key>
+    ensures { option_to_list result ≡ node header.now.index (handle_number header.now.handle) }
 {
-    Key::Node {
-        index: header.index,
-        handle: u32::from(header.handle),
+    node(header.index, u32::from(header.handle))
+}
+
+// The qdisc or class of a handle.
+fn node(index: i32, handle: u32) -> Option<Key>
+    ensures { option_to_list result ≡ node index handle }
+{
+    if handle == 0 {
+        None
+    } else {
+        Some(Key::Node { index, handle })
     }
 }
 
@@ -434,7 +445,7 @@ fn in_chain<A: Allocator>(ingress: &[i32], dump: &TcMessage<A>) -> Key
     }
 }
 
-// The qdisc whose hash tables a filter of u32 finds; in a block that interfaces share, the block.
+// The qdisc whose hash tables a filter of u32 finds; in a shared block, the block.
 fn tables_of(header: &TcHeader) -> u32
     ensures { result ≡ tables_of header.now }
 {
@@ -481,7 +492,7 @@ fn in_table<A: Allocator>(dump: &TcMessage<A>) -> Option<Key>
     }
 }
 
-// Keys, and the hash tables that these options link to.
+// Appends the hash tables that these options link to.
 fn with_links<A: Allocator>(
     keys: Vec<Key, A>,
     header: &TcHeader,
@@ -496,7 +507,7 @@ fn with_links<A: Allocator>(
     Ok(made)
 }
 
-// The same of attributes.
+// Appends the hash tables that the options of these attributes link to.
 fn with_all_links<A: Allocator>(
     keys: Vec<Key, A>,
     header: &TcHeader,
@@ -511,7 +522,7 @@ fn with_all_links<A: Allocator>(
     Ok(made)
 }
 
-fn options_of<A: Allocator>(attribute: &TcAttribute<A>) -> &[TcOption<A>]
+pub(crate) fn options_of<A: Allocator>(attribute: &TcAttribute<A>) -> &[TcOption<A>]
     ensures { result.now ≡ options_of attribute.now }
 {
     match attribute {
@@ -538,7 +549,7 @@ fn one<A: Allocator>(alloc: A, key: Key) -> Result<Vec<Key, A>, AllocError>
     Ok(keys)
 }
 
-// These keys, and the blocks of a qdisc: `TCA_INGRESS_BLOCK` and `TCA_EGRESS_BLOCK`.
+// Appends the blocks of a qdisc: `TCA_INGRESS_BLOCK` and `TCA_EGRESS_BLOCK`.
 fn blocks<A: Allocator>(
     keys: Vec<Key, A>,
     attributes: &[TcAttribute<A>],
@@ -552,7 +563,7 @@ fn blocks<A: Allocator>(
     Ok(made)
 }
 
-// Keys, and one more if there is one.
+// Appends a key, if there is one.
 pub(crate) fn with<A: Allocator>(
     keys: Vec<Key, A>,
     key: Option<Key>,
@@ -584,7 +595,7 @@ fn block_of<A: Allocator>(attribute: &TcAttribute<A>) -> Option<Key>
     }
 }
 
-// The number of the chain that a message names first; 0 where it names none.
+// The number of the chain that a message names first; 0 if it names no chain.
 fn chain_number<A: Allocator>(attributes: &[TcAttribute<A>]) -> u32
     ensures { result ≡ chain_number attributes.now }
 {
@@ -596,31 +607,28 @@ fn chain_number<A: Allocator>(attributes: &[TcAttribute<A>]) -> u32
     0
 }
 
-fn wanted<A: Allocator + Copy>(
+fn needed<A: Allocator + Copy>(
     alloc: A,
     kind: Object,
     ingress: &[i32],
     dump: &TcMessage<A>,
 ) -> Result<Vec<Key, A>, AllocError>
-    ensures { IfOk result (λ keys. keys.items ≡ wants ingress.now kind dump.now) }
+    ensures { IfOk result (λ keys. keys.items ≡ needs ingress.now kind dump.now) }
 {
     let header = &dump.header;
-    let mut keys = parents(alloc, header)?;
+    let keys = parents(alloc, header)?;
     match kind {
         Object::Qdisc | Object::Chain => Ok(keys),
         Object::Class => {
-            keys.push(Key::Node {
-                index: header.index,
-                handle: u32::from(header.handle) / 0x1_0000 * 0x1_0000,
-            })?;
+            let keys = with(keys, qdisc_of(header.index, u32::from(header.handle)))?;
             Ok(keys)
         }
-        Object::Filter => wanted_by_filter(keys, ingress, dump),
+        Object::Filter => needed_by_filter(keys, ingress, dump),
     }
 }
 
-// What a filter wants beside its parents: actions, its chain, and the hash tables that it is in or links to.
-fn wanted_by_filter<A: Allocator>(
+// Appends the needs of a filter after its parents: actions, its chain, and the hash tables that it is in or links to.
+fn needed_by_filter<A: Allocator>(
     keys: Vec<Key, A>,
     ingress: &[i32],
     dump: &TcMessage<A>,
@@ -637,28 +645,31 @@ fn wanted_by_filter<A: Allocator>(
     Ok(made)
 }
 
-// The interface of what is in a block that interfaces share: `TCM_IFINDEX_MAGIC_BLOCK`.
+// The interface of objects in a shared block: `TCM_IFINDEX_MAGIC_BLOCK`.
 const SHARED: i32 = -1;
 
-// The qdisc or class that a parent names, and its qdisc; the block, where interfaces share one.
+// The qdisc of a qdisc or class, by its handle.
+fn qdisc_of(index: i32, handle: u32) -> Option<Key>
+    ensures { option_to_list result ≡ node index (major handle) }
+{
+    node(index, handle / 0x1_0000 * 0x1_0000)
+}
+
+// The qdisc or class that a parent names, and its qdisc; the block, if interfaces share it.
 fn parents<A: Allocator>(alloc: A, header: &TcHeader) -> Result<Vec<Key, A>, AllocError>
     ensures { IfOk result (λ keys. keys.items
         ≡ parents header.now.index (handle_number header.now.parent)) }
 {
     let index = header.index;
     let parent = u32::from(header.parent);
-    let mut keys = Vec::with_capacity(alloc, 5)?;
     if index == SHARED {
-        keys.push(Key::Block { number: parent })?;
-    } else if parent != 0xFFFF_FFFF && parent != 0xFFFF_FFF1 {
-        keys.push(Key::Node {
-            index,
-            handle: parent,
-        })?;
-        keys.push(Key::Node {
-            index,
-            handle: parent / 0x1_0000 * 0x1_0000,
-        })?;
+        let keys = one(alloc, Key::Block { number: parent })?;
+        Ok(keys)
+    } else if parent == 0xFFFF_FFFF || parent == 0xFFFF_FFF1 {
+        Ok(Vec::new(alloc))
+    } else {
+        let keys = with(Vec::new(alloc), node(index, parent))?;
+        let keys = with(keys, qdisc_of(index, parent))?;
+        Ok(keys)
     }
-    Ok(keys)
 }

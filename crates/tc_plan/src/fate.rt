@@ -4,7 +4,7 @@ ghost use Rattle.std.specs.Prelude.{◌≡◌};
 ghost use Rattle.tc_plan.specs.Fates.{is_refused};
 
 use std::fmt;
-use tc_requests::RestoreError;
+use tc_restore::RestoreError;
 use thiserror::Error;
 
 /// The fate of a dump: whether a request is made for it.
@@ -12,7 +12,7 @@ use thiserror::Error;
 pub enum Fate {
     /// A request restores it.
     Request,
-    /// Another request makes it, or the kernel by itself.
+    /// Another request makes it, or the kernel itself.
     Made,
     /// It is there already, as the request would make it.
     There,
@@ -54,7 +54,7 @@ impl fmt::Display for Named {
     }
 }
 
-/// Why no request is made of a dump.
+/// The reason why a dump has no request.
 #[derive(Drop, PartialEq, Eq, Error, Debug)]
 pub enum Reason {
     /// It can't be restored from what is dumped.
@@ -73,7 +73,7 @@ pub enum Reason {
     #[error("the action {0} is there and differs, and others hold it")]
     Held(Named),
 
-    /// An action that it shares is there and is another one, and no dump has that action by itself, so that no request can change it.
+    /// An action that it shares is there and is another one, and no dump of actions has it, so that no request can change it.
     #[error("the action {0} is there and differs, and no line has it by itself")]
     NoDump(Named),
 
@@ -81,11 +81,16 @@ pub enum Reason {
     #[error("the parent ffff: doesn't say which side of clsact")]
     NoSide,
 
-    /// It needs one that can't be made.
+    /// Filters share the action, and one of them has an offload flag (`skip_hw`, `skip_sw`). Linux refuses such a filter for an action that
+    /// was made by a request of its own.
+    #[error("the action {0} is shared by filters of which one has an offload flag, and can't be made by its own request")]
+    Offload(Named),
+
+    /// It needs an object that can't be made.
     #[error("it needs what can't be made")]
     Needs,
 
-    /// It needs itself, by way of others, or one that does.
+    /// It needs itself, by way of others, or an object that does.
     #[error("it needs itself, in a circle")]
     Circle,
 }

@@ -1,19 +1,19 @@
-//! What a request gives to others, or wants.
+//! Keys of the objects that requests provide and need.
 
 ghost use Rattle.std.specs.Prelude.{◌≡◌};
 ghost use Rattle.tc_plan.specs.Fates.{is_shared};
 
-/// What a request gives to others, or wants.
+/// An object that a request provides or needs.
 #[derive(Clone, Copy, PartialEq, Eq, Hash, Drop, Debug)]
 pub enum Key {
-    /// Actions that stand by themselves; a filter may share one by its index.
+    /// All standalone actions; a filter may share one by its index.
     Actions,
-    /// An action, by its kind, padded with zeros, and its index among those of that kind.
+    /// An action: its kind, padded with zeros, and its index among those of that kind.
     Action {
         kind: [u8; 16],
         index: u32,
     },
-    /// A qdisc or a class of an interface, by the number of its handle.
+    /// A qdisc or a class of an interface, and the number of its handle.
     Node {
         index: i32,
         handle: u32,
@@ -22,7 +22,7 @@ pub enum Key {
     Clsact {
         index: i32,
     },
-    /// A block that interfaces share, by its number.
+    /// A block that interfaces share, and its number.
     Block {
         number: u32,
     },
@@ -38,14 +38,13 @@ pub enum Key {
         parent: u32,
         number: u32,
     },
-    /// A hash table of u32 below this qdisc, or in this block that interfaces share, by the number in the upper 12 bits of its
-    /// handle.
+    /// A hash table of u32 below this qdisc, or in this shared block; its number is the upper 12 bits of its handle.
     Table {
         index: i32,
         parent: u32,
         number: u32,
     },
-    /// A filter of a chain, by the numbers of its header: its handle, its priority and its protocol.
+    /// A filter of a chain: its handle, and the word of its priority and its protocol.
     Filter {
         index: i32,
         parent: u32,
@@ -56,7 +55,7 @@ pub enum Key {
 }
 
 impl Key {
-    /// True if it is in a block that interfaces share, each of which dumps it.
+    /// True if it is in a shared block, which each of its interfaces dumps.
     pub(crate) fn is_shared(&self) -> bool
         ensures { result ≡ is_shared self.now }
     {

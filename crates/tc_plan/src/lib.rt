@@ -1,5 +1,5 @@
-//! What the requests that restore dumps need of one another, an order in which each comes after those that it needs, and the fate
-//! of each dump.
+//! Plans of the requests that restore dumps: which objects each provides and needs, the fate of each dump, and an order in which each
+//! request comes after those that it needs.
 //!
 //! ```
 //! let mut ingress = Vec::new(alloc);
@@ -11,13 +11,13 @@
 //!     entries.push(entry_of(alloc, place, Fate::Request, *object, &ingress, dump)?)?;
 //! }
 //! let plan = plan(alloc, entries)?;
-//! for step in &plan.order {
-//!     // all that it needs of these dumps is before it; one with `Fate::Made` is made by another
+//! for step in &plan.sorted {
+//!     // those of these dumps that it needs are before it; another request makes one with `Fate::Made`
 //!     if step.item.fate == Fate::Request {
 //!         send(step.item.place)?;
 //!     }
 //! }
-//! // those in `plan.left` can't be made, need such, or need one another in a circle
+//! // those in `plan.unordered` can't be made, need such, or need one another in a circle
 //! ```
 #![tactic(auto)]
 
@@ -27,10 +27,12 @@ pub mod key;
 mod keys;
 pub mod now;
 pub mod planned;
+pub mod shared_actions;
 
 pub use entry::{Entry, Item, entry_of, entry_of_actions, ingress_of, newest_first};
 pub use fate::{Fate, Named, Reason};
 pub use key::Key;
 pub use now::{Action, Now, fate_of_action, held_by, name_of_action};
 pub use planned::{circle, plan};
+pub use shared_actions::{has_action, made_by_filters, offloaded_by, shared_action};
 pub use tc_order::{Order, Step, ordered};

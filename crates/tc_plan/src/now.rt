@@ -1,9 +1,9 @@
-//! What the kernel has now, as far as requests depend on it.
+//! The actions that the kernel has now, on which requests depend.
 
 ghost use Rattle.std.specs.Prelude.{◌≡◌, IfOk};
 ghost use Rattle.std.specs.List.{flat_map};
 ghost use Rattle.std.specs.Option.{option_to_list};
-ghost use Rattle.tc_requests.specs.Standing.{index_if};
+ghost use Rattle.tc_restore.specs.Standalone.{index_if};
 ghost use Rattle.tc_plan.specs.Now.{fate_now, fate_there, key_of, own, named, named_by, held_action, Holds};
 
 use crate::entry::{name_of, with};
@@ -12,7 +12,7 @@ use crate::key::Key;
 use std::alloc::{AllocError, Allocator};
 use tc_actions::TcAction;
 use tc_messages::TcMessage;
-use tc_requests::{Use, actions_of_filter, kind_of_action, use_of_action};
+use tc_restore::{Use, actions_of_filter, kind_of_action, use_of_action};
 
 /// An action that is there.
 #[derive(Drop, Debug)]
@@ -21,21 +21,21 @@ pub struct Action<A: Allocator> {
     pub name: Named,
     /// The request that makes it, without a netlink header; empty if no request does.
     pub request: Vec<u8, A>,
-    /// How many filters hold it (`tc_gen.bindcnt`).
+    /// The number of filters that hold it (`tc_gen.bindcnt`).
     pub filters: usize,
 }
 
-/// What the kernel has now.
+/// The actions that the kernel has now.
 #[derive(Drop, Debug)]
 pub struct Now<A: Allocator> {
     /// The actions.
     pub actions: Vec<Action<A>, A>,
-    /// The actions that the filters of the interfaces to be restored hold: each as often as they hold it.
+    /// The actions that filters of the interfaces to be restored hold, each as often as they hold it.
     pub held: Vec<Key, A>,
 }
 
-/// The fate of a wanted action that this request makes: one that is there with the same request stays; another one
-/// is changed if only filters of the interfaces to be restored hold it, or none, or if `replaces`.
+/// The fate of an action that this request makes. If it is there with the same request, it stays; another one is changed if only
+/// filters of the interfaces to be restored hold it, or none, or if `replaces`.
 pub fn fate_of_action<A: Allocator>(
     now: &Now<A>,
     replaces: bool,
@@ -47,7 +47,7 @@ pub fn fate_of_action<A: Allocator>(
     fate_among(&now.actions, &now.held, replaces, name, request)
 }
 
-// The same by the actions that are left.
+// The fate among these actions of now.
 fn fate_among<A: Allocator>(
     actions: &[Action<A>],
     held: &[Key],
@@ -65,7 +65,7 @@ fn fate_among<A: Allocator>(
     Fate::Request
 }
 
-// What becomes of an action that is there.
+// The fate of an action that is there.
 fn fate_there<A: Allocator>(
     action: &Action<A>,
     held: &[Key],
@@ -84,22 +84,22 @@ fn fate_there<A: Allocator>(
     }
 }
 
-fn key_of(name: Named) -> Key
+pub(crate) fn key_of(name: Named) -> Key
     ensures { result ≡ key_of name }
 {
     let Named { kind, index } = name;
     Key::Action { kind, index }
 }
 
-// How often filters hold an action.
+// The number of times that filters hold an action.
 fn own(held: &[Key], name: Named) -> usize
     ensures { result ≡ own held.now name }
 {
-    let wanted = key_of(name);
-    held.iter().filter(|key| wanted == **key).count()
+    let own = key_of(name);
+    held.iter().filter(|key| own == **key).count()
 }
 
-/// The kind and the index of an action, whoever holds it; none of one whose parameters name no index, or 0.
+/// The kind and the index of an action, whoever holds it; `None` if its parameters have no index, or 0.
 pub fn name_of_action<A: Allocator>(action: &TcAction<A>) -> Option<Named>
     ensures { result ≡ named action.now }
 {

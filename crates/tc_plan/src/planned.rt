@@ -1,9 +1,9 @@
-//! Dumps in the order in which their requests work.
+//! The order of requests, and the fate of each dump.
 
 ghost use Rattle.std.specs.List.{list_any};
 ghost use Rattle.std.specs.Prelude.{◌≡◌, ◌++◌, List, [], true, false, All, map, IfOk, IsPermutation};
 ghost use Rattle.tc_order.specs.Order.{waits, IsOrder};
-ghost use Rattle.tc_plan.specs.Fates.{parts_of, parts_among, needs_of, gifts, same_key, is_refused, IsSetOf, among, any_among, lacks, again, fate_by, gives_by, is_shared};
+ghost use Rattle.tc_plan.specs.Fates.{parts_of, parts_among, links_of, all_provided, same_key, is_refused, IsSetOf, among, any_among, lacks, again, fate_by, provides_by, is_shared};
 
 use crate::entry::{Entry, Item};
 use crate::fate::{Fate, Reason};
@@ -13,54 +13,55 @@ use std::alloc::{AllocError, Allocator};
 use std::collections::HashSet;
 use tc_order::{Order, Step, ordered};
 
-/// Sorts the requests that restore dumps, each after all of these that it needs, and returns the fate of
-/// each dump. In the order are requests and what they make; `left` are dumps that can't be made, and those that
-/// need such or need one another in a circle.
+/// Sorts the requests that restore dumps, each after all of these that it needs, and decides the fate of each dump. `sorted` has
+/// requests and the objects that they make; `unordered` has dumps that can't be made, that need such, or that need one another in a
+/// circle.
 pub fn plan<A: Allocator + Copy>(
     alloc: A,
     entries: Vec<Entry<A>, A>,
 ) -> Result<Order<Item, Key, A>, AllocError>
     ensures once { IfOk result (λ made.
-        IsPermutation (parts_among (gifts entries.items) [] entries.items)
-        (map parts_of (made.order.items ++ made.left.items))) }
-    ensures behind { IfOk result (λ made.
-        IsOrder same_key (made.order.items ++ made.left.items) made.order.items) }
+        IsPermutation (parts_among (all_provided entries.items) [] entries.items)
+        (map parts_of (made.sorted.items ++ made.unordered.items))) }
+    ensures after { IfOk result (λ made.
+        IsOrder same_key (made.sorted.items ++ made.unordered.items) made.sorted.items) }
     ensures free { IfOk result (λ made.
-        All (λ step. is_refused step.item.fate ≡ false) made.order.items) }
+        All (λ step. is_refused step.item.fate ≡ false) made.sorted.items) }
     ensures stuck { IfOk result (λ made.
-        All (λ step. waits same_key made.left.items step ≡ true) made.left.items) }
+        All (λ step. waits same_key made.unordered.items step ≡ true) made.unordered.items) }
 {
     let steps = steps_of(alloc, entries)?;
     let order = ordered(alloc, steps)?;
     Ok(order)
 }
 
-/// Tells apart what is left: `left` are steps that need one another in a circle, or need such, whatever can be made.
+/// Finds the circles among the steps that `plan` couldn't order: `unordered` has steps that need one another in a circle or need such,
+/// even if all steps could run.
 pub fn circle<A: Allocator + Copy>(
     alloc: A,
     left: &[Step<Item, Key, A>],
 ) -> Result<Order<usize, Key, A>, AllocError>
     ensures once { IfOk result (λ made.
-        IsPermutation (map (λ step. needs_of step.item.place step) left.now)
-        (map (λ step. needs_of step.item step) (made.order.items ++ made.left.items))) }
+        IsPermutation (map (λ step. links_of step.item.place step) left.now)
+        (map (λ step. links_of step.item step) (made.sorted.items ++ made.unordered.items))) }
     ensures stuck { IfOk result (λ made.
-        All (λ step. waits same_key made.left.items step ≡ true) made.left.items) }
+        All (λ step. waits same_key made.unordered.items step ≡ true) made.unordered.items) }
     ensures free { IfOk result (λ made.
-        All (λ step. step.is_barred ≡ false) (made.order.items ++ made.left.items)) }
+        All (λ step. step.cannot_run ≡ false) (made.sorted.items ++ made.unordered.items)) }
 {
     let steps = freed(alloc, left)?;
     let order = ordered(alloc, steps)?;
     Ok(order)
 }
 
-// The same steps, none barred.
+// The same steps, all of which can run.
 fn freed<A: Allocator + Copy>(
     alloc: A,
     left: &[Step<Item, Key, A>],
 ) -> Result<Vec<Step<usize, Key, A>, A>, AllocError>
-    ensures needs { IfOk result (λ made. map (λ step. needs_of step.item step) made.items
-        ≡ map (λ step. needs_of step.item.place step) left.now) }
-    ensures free { IfOk result (λ made. All (λ step. step.is_barred ≡ false) made.items) }
+    ensures needs { IfOk result (λ made. map (λ step. links_of step.item step) made.items
+        ≡ map (λ step. links_of step.item.place step) left.now) }
+    ensures free { IfOk result (λ made. All (λ step. step.cannot_run ≡ false) made.items) }
 {
     let mut made = Vec::with_capacity(alloc, left.len())?;
     for step in left {
@@ -74,16 +75,16 @@ fn freed_step<A: Allocator + Copy>(
     alloc: A,
     step: &Step<Item, Key, A>,
 ) -> Result<Step<usize, Key, A>, AllocError>
-    ensures needs { IfOk result (λ made. needs_of made.item made ≡ needs_of step.now.item.place step.now) }
-    ensures free { IfOk result (λ made. made.is_barred ≡ false) }
+    ensures needs { IfOk result (λ made. links_of made.item made ≡ links_of step.now.item.place step.now) }
+    ensures free { IfOk result (λ made. made.cannot_run ≡ false) }
 {
-    let gives = copied(alloc, &step.gives)?;
-    let wants = copied(alloc, &step.wants)?;
+    let provides = copied(alloc, &step.provides)?;
+    let needs = copied(alloc, &step.needs)?;
     Ok(Step {
         item: step.item.place,
-        gives,
-        wants,
-        is_barred: false,
+        provides,
+        needs,
+        cannot_run: false,
     })
 }
 
@@ -95,21 +96,27 @@ fn copied<A: Allocator + Copy>(alloc: A, keys: &[Key]) -> Result<Vec<Key, A>, Al
     Ok(made)
 }
 
-// All that dumps give.
-fn given_by<A: Allocator + Copy>(alloc: A, entries: &[Entry<A>]) -> Result<Keys<Key, A>, AllocError>
-    ensures { IfOk result (λ set. IsSetOf same_key set (gifts entries.now)) }
+// All keys that dumps provide, as a set.
+fn all_provided<A: Allocator + Copy>(
+    alloc: A,
+    entries: &[Entry<A>],
+) -> Result<Keys<Key, A>, AllocError>
+    ensures { IfOk result (λ set. IsSetOf same_key set (all_provided entries.now)) }
 {
-    let keys = keys_of(alloc, entries)?;
+    let keys = provided_keys(alloc, entries)?;
     set_of(alloc, &keys)
 }
 
-// The same as a list.
-fn keys_of<A: Allocator + Copy>(alloc: A, entries: &[Entry<A>]) -> Result<Vec<Key, A>, AllocError>
-    ensures { IfOk result (λ keys. keys.items ≡ gifts entries.now) }
+// All keys that dumps provide.
+fn provided_keys<A: Allocator + Copy>(
+    alloc: A,
+    entries: &[Entry<A>],
+) -> Result<Vec<Key, A>, AllocError>
+    ensures { IfOk result (λ keys. keys.items ≡ all_provided entries.now) }
 {
     let mut keys = Vec::new(alloc);
     for entry in entries {
-        keys.extend_from_slice(&entry.gives)?;
+        keys.extend_from_slice(&entry.provides)?;
     }
     Ok(keys)
 }
@@ -119,19 +126,19 @@ fn steps_of<A: Allocator + Copy>(
     entries: Vec<Entry<A>, A>,
 ) -> Result<Vec<Step<Item, Key, A>, A>, AllocError>
     ensures parts { IfOk result (λ steps.
-        map parts_of steps.items ≡ parts_among (gifts entries.items) [] entries.items) }
-    ensures barred { IfOk result (λ steps.
-        All (λ step. step.is_barred ≡ is_refused step.item.fate) steps.items) }
+        map parts_of steps.items ≡ parts_among (all_provided entries.items) [] entries.items) }
+    ensures refused { IfOk result (λ steps.
+        All (λ step. step.cannot_run ≡ is_refused step.item.fate) steps.items) }
 {
-    let given = given_by(alloc, &entries)?;
+    let given = all_provided(alloc, &entries)?;
     let mut before = HashSet::new(alloc);
     let mut steps = Vec::with_capacity(alloc, entries.len())?;
     for entry in entries {
         let Entry {
             place,
             fate,
-            gives,
-            wants,
+            provides,
+            needs,
             objects,
             must,
             must_not,
@@ -140,7 +147,7 @@ fn steps_of<A: Allocator + Copy>(
         let own = objects.as_slice();
         let fate = fate_among(&given, &before, own, must, must_not, made_by, fate);
         before = with_keys(before, own)?;
-        let step = step_by(place, fate, gives, wants);
+        let step = step_by(place, fate, provides, needs);
         steps.push(step)?;
     }
     Ok(steps)
@@ -150,37 +157,37 @@ fn steps_of<A: Allocator + Copy>(
 fn step_by<A: Allocator>(
     place: usize,
     fate: Fate,
-    gives: Vec<Key, A>,
-    wants: Vec<Key, A>,
+    provides: Vec<Key, A>,
+    needs: Vec<Key, A>,
 ) -> Step<Item, Key, A>
-    ensures parts { parts_of result ≡ (place, fate, gives_by fate gives.items, wants.items) }
-    ensures barred { result.is_barred ≡ is_refused result.item.fate }
+    ensures parts { parts_of result ≡ (place, fate, provides_by fate provides.items, needs.items) }
+    ensures refused { result.cannot_run ≡ is_refused result.item.fate }
 {
-    let is_barred = fate.is_refused();
-    let gives = gives_by(&fate, gives);
+    let cannot_run = fate.is_refused();
+    let provides = provides_by(&fate, provides);
     Step {
         item: Item { place, fate },
-        gives,
-        wants,
-        is_barred,
+        provides,
+        needs,
+        cannot_run,
     }
 }
 
-// What a dump gives: a second one nothing, since the first gives it.
-fn gives_by<A: Allocator>(fate: &Fate, gives: Vec<Key, A>) -> Vec<Key, A>
-    ensures { result.items ≡ gives_by fate.now gives.items }
+// The keys that a dump provides: none for a second dump, since the first provides them.
+fn provides_by<A: Allocator>(fate: &Fate, provides: Vec<Key, A>) -> Vec<Key, A>
+    ensures { result.items ≡ provides_by fate.now provides.items }
 {
     match fate {
         Fate::Refused(Reason::Twice) => {
-            let mut none = gives;
+            let mut none = provides;
             none.clear();
             none
         }
-        _ => gives,
+        _ => provides,
     }
 }
 
-// What becomes of a dump, by what all give and by the objects before it.
+// The fate of a dump, given the keys that all provide and the objects of the dumps before it.
 fn fate_among<A: Allocator>(
     given: &Keys<Key, A>,
     before: &Keys<Key, A>,
@@ -219,7 +226,7 @@ fn fate_among<A: Allocator>(
     }
 }
 
-// True if a dump before has one of the objects of this one.
+// True if a dump before has one of these objects.
 fn is_again<A: Allocator>(before: &Keys<Key, A>, own: &[Key]) -> bool
     ensures { (keys : List Key) → IsSetOf same_key before.now keys
         → result ≡ any_among keys own.now }
@@ -227,7 +234,7 @@ fn is_again<A: Allocator>(before: &Keys<Key, A>, own: &[Key]) -> bool
     any_in(before, own)
 }
 
-// What becomes of a second dump.
+// The fate of a second dump.
 fn again(own: &[Key]) -> Fate
     ensures { result ≡ again own.now }
 {
@@ -238,7 +245,7 @@ fn again(own: &[Key]) -> Fate
     }
 }
 
-// True if one of these is in a block that interfaces share.
+// True if one of these is in a shared block.
 fn any_shared(own: &[Key]) -> bool
     ensures { result ≡ list_any is_shared own.now }
 {
@@ -248,7 +255,7 @@ fn any_shared(own: &[Key]) -> bool
     }
 }
 
-// True if there is a key, and it is in a set.
+// True if there is a key and a set has it.
 fn has<A: Allocator>(set: &Keys<Key, A>, key: Option<Key>) -> bool
     ensures { (keys : List Key) → IsSetOf same_key set.now keys → result ≡ among keys key }
 {
@@ -258,7 +265,7 @@ fn has<A: Allocator>(set: &Keys<Key, A>, key: Option<Key>) -> bool
     }
 }
 
-// True if there is a key, and it isn't in a set.
+// True if there is a key and a set lacks it.
 fn lacks<A: Allocator>(set: &Keys<Key, A>, key: Option<Key>) -> bool
     ensures { (keys : List Key) → IsSetOf same_key set.now keys → result ≡ lacks keys key }
 {

@@ -1,13 +1,4 @@
 mod Firsts
-mod KindTold
 mod Placing
 mod Naming
 mod Settling
-mod Steps
-mod Trees
-mod Anys
-mod Again
-mod Parts
-mod Nests
-mod Steadying
-mod NoActions

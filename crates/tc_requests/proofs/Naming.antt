@@ -1,4 +1,4 @@
--- What an error names, where two actions may have one place.
+-- The part that an error names, if two actions may have one order number.
 use Rattle.std.proofs.Common.{◌≡◌, ℕ, List, Option, Some, None, refl}
 use Rattle.tc_requests.specs.declared.error.RequestError.{RequestError}
 use Rattle.tc_requests.specs.declared.error.RequestError.TheVariants.{NotSettled, NoPlace, SamePlace, KnownKind, OutOfMemory}

@@ -1,4 +1,4 @@
--- The handle of a text that `tc` reads as one.
+-- The handle that a text names.
 use Rattle.std.specs.Prelude.{ℕ, List, Option, option_map}
 use Rattle.tc_records.specs.Header.{handle_of}
 use Rattle.tc_records.specs.declared.header.TcHandle.{TcHandle}

@@ -1,4 +1,4 @@
--- What a request is: its header, and its attributes in order.
+-- Requests: the header, and the attributes in order.
 use Rattle.std.specs.Prelude.{ℕ, List, [], ◌∷◌, ◌++◌, Option, Some, None}
 use Rattle.nla_frames.specs.declared.family.AddressFamily.TheVariants.{Unspec}
 use Rattle.nla_frames.specs.Frame.{Frame}
@@ -10,7 +10,7 @@ use Rattle.tc_meaning.specs.Meaning.{table_codec}
 use Rattle.tc_records.specs.declared.header.TcHeader.{TcHeader}
 use Rattle.tc_requests.specs.declared.target.Target.{Target}
 
--- the header of a request about this, with this word `info`
+-- the header of a request about this object, with this word `info`
 abbrev pub request_header : Target → ℕ → TcHeader
 request_header target info = record { family = Unspec; index = target.index; handle = target.handle; parent = target.parent; info = info }
 
@@ -22,7 +22,7 @@ kind_of name = known 1 (is_bytes name)
 abbrev pub options_of : List Attribute → Attribute
 options_of xs = known 2 (items (attributes_of xs))
 
--- an option that is kept raw
+-- a raw option
 abbrev pub raw_option : Frame → Attribute
 raw_option f = other f.word f.value
 
@@ -39,7 +39,7 @@ chain_part None = []
 abbrev pub parts_of : List ℕ → Option ℕ → List Attribute → List Attribute
 parts_of name chain xs = kind_of name ∷ (chain_part chain ++ (options_of xs ∷ []))
 
--- an option of a message is settled under a kind, and one of an action
+-- an option of a message is settled under a kind; one of an action is
 abbrev pub SettledOption : List ℕ → Attribute → Type 0
 SettledOption = (table_codec (by_kind option_kinds)).Settled
 

@@ -41,7 +41,7 @@ use tc_options::TcOption;
 use tc_records::{TcActionMessageHeader, TcHeader};
 use tc_texts::filter_info;
 
-/// A request about a qdisc: its kind, and options of this kind.
+/// Builds a request about a qdisc with options of one kind. Fails if an option isn't settled.
 pub fn qdisc<O: QdiscOption<A>, A: Allocator + Copy>(
     alloc: A,
     target: &Target,
@@ -58,8 +58,8 @@ pub fn qdisc<O: QdiscOption<A>, A: Allocator + Copy>(
     message(alloc, target.header(0), None, options)
 }
 
-/// A request about a filter of a priority and a protocol, an EtherType: its kind, its chain if one is given, and options of
-/// this kind, whose actions have places of their own.
+/// Builds a request about a filter with a priority, a protocol (an EtherType), a chain if one is given, and options of one kind.
+/// Fails if an option isn't settled, or if two actions of an option have the same order number.
 pub fn filter<O: FilterOption<A>, A: Allocator + Copy>(
     alloc: A,
     target: &Target,
@@ -75,7 +75,7 @@ pub fn filter<O: FilterOption<A>, A: Allocator + Copy>(
     ensures settled { IfOk result (λ m. SettledTc (tc_message m)) }
     ensures canonical { IfOk result (λ m.
         FitsTc (tc_message m) → CanonTc (tc_bytes (tc_message m))) }
-    ensures apart { IfOk result (λ _. doubled_in (map O.variant options.items) ≡ None) }
+    ensures distinct { IfOk result (λ _. doubled_in (map O.variant options.items) ≡ None) }
     ensures named { IfErr result (NamesOf (SettledOption O.name) (map (λ o. tc_option (O.variant o)) options.items) (doubled_in (map O.variant options.items))) }
 {
     message(
@@ -86,7 +86,7 @@ pub fn filter<O: FilterOption<A>, A: Allocator + Copy>(
     )
 }
 
-// A message of a header, a kind, a chain if one is given, and options.
+// Builds a message from a header, a chain if one is given, and options of one kind.
 fn message<O: TcKindOption<A>, A: Allocator + Copy>(
     alloc: A,
     header: TcHeader,
@@ -100,7 +100,7 @@ fn message<O: TcKindOption<A>, A: Allocator + Copy>(
     ensures settled { IfOk result (λ m. SettledTc (tc_message m)) }
     ensures canonical { IfOk result (λ m.
         FitsTc (tc_message m) → CanonTc (tc_bytes (tc_message m))) }
-    ensures apart { IfOk result (λ _. doubled_in (map O.variant options.items) ≡ None) }
+    ensures distinct { IfOk result (λ _. doubled_in (map O.variant options.items) ≡ None) }
     ensures named { IfErr result (NamesOf (SettledOption O.name) (map (λ o. tc_option (O.variant o)) options.items) (doubled_in (map O.variant options.items))) }
 {
     // A law, which does nothing.
@@ -113,7 +113,7 @@ fn message<O: TcKindOption<A>, A: Allocator + Copy>(
     Ok(sealed(TcMessage { header, attributes }))
 }
 
-// A kind, a chain if one is given, and options.
+// The attributes of a message: the kind, the chain if one is given, and the options.
 fn parts<A: Allocator + Copy>(
     alloc: A,
     kind: &str,
@@ -141,7 +141,7 @@ fn parts<A: Allocator + Copy>(
     }
 }
 
-// A settled message; the test, whose answer is known, says that its bytes are canonical.
+// Returns a settled message; the contract of the test says that its bytes are canonical.
 fn sealed<A: Allocator>(message: TcMessage<A>) -> TcMessage<A>
     requires { SettledTc (tc_message message) }
     ensures same { result ≡ message }
@@ -152,7 +152,7 @@ fn sealed<A: Allocator>(message: TcMessage<A>) -> TcMessage<A>
     message
 }
 
-/// A request about a qdisc of a kind without options, such as `clsact`, or of any kind with its defaults.
+/// Builds a request about a qdisc without options: of a kind that has none, such as `clsact`, or of any kind with its defaults.
 pub fn plain_qdisc<A: Allocator + Copy>(
     alloc: A,
     target: &Target,
@@ -175,7 +175,7 @@ pub fn plain_qdisc<A: Allocator + Copy>(
     }))
 }
 
-/// A request about a chain of filters.
+/// Builds a request about a chain of filters.
 pub fn chain<A: Allocator + Copy>(
     alloc: A,
     target: &Target,
@@ -197,7 +197,8 @@ pub fn chain<A: Allocator + Copy>(
     }))
 }
 
-/// An action for this place in its list, counted from 1: its kind, and options of this kind.
+/// Builds an action with this order number in its list, counted from 1, and options of one kind. Fails if the number is 0 or an
+/// option isn't settled.
 pub fn action<O: ActionKindOption<A>, A: Allocator + Copy>(
     alloc: A,
     place: u16,
@@ -214,8 +215,9 @@ pub fn action<O: ActionKindOption<A>, A: Allocator + Copy>(
     action_of(alloc, place, O::kind(), options)
 }
 
-/// An action of a kind whose options aren't known, such as `gact`, for this place in its list, counted from 1: its kind, and
-/// options that are kept raw. A kind whose options are known (`mirred`, `nat`, `tunnel_key`) is refused.
+/// Builds an action of a kind whose options have no types here, such as `gact`, from raw options, with this order number in its
+/// list, counted from 1. Fails if the number is 0, an option isn't settled, or the kind's options have types (`mirred`, `nat`,
+/// `tunnel_key`).
 pub fn raw_action<A: Allocator + Copy>(
     alloc: A,
     place: u16,
@@ -239,14 +241,14 @@ pub fn raw_action<A: Allocator + Copy>(
     Ok(made)
 }
 
-// True of the kinds of actions whose options are known.
+// True if options of this kind of action have types here.
 fn is_known_kind(kind: &str) -> bool
     ensures { result ≡ is_known action_option_kinds kind.now }
 {
     kind == TcActionMirror::KIND || kind == TcActionNat::KIND || kind == TcActionTunnelKey::KIND
 }
 
-// An action of a kind and of options that are settled under it.
+// Builds an action from a kind and options, which must be settled under it.
 fn action_of<O: OptionOf<TcActionOption<A>>, A: Allocator + Copy>(
     alloc: A,
     place: u16,
@@ -276,7 +278,8 @@ fn action_of<O: OptionOf<TcActionOption<A>>, A: Allocator + Copy>(
     })
 }
 
-/// A request about these actions. Their types `tab` are to be their places, counted from 1, each once.
+/// Builds a request about these actions, whose types `tab` are their order numbers, counted from 1. Fails if an action isn't
+/// settled, or if two have the same number.
 pub fn action_message<A: Allocator + Copy>(
     alloc: A,
     actions: Vec<TcAction<A>, A>,
@@ -287,18 +290,18 @@ pub fn action_message<A: Allocator + Copy>(
     ensures settled { IfOk result (λ m. SettledAct (action_message m)) }
     ensures canonical { IfOk result (λ m.
         FitsAct (action_message m) → CanonAct (act_bytes (action_message m))) }
-    ensures apart { IfOk result (λ _. doubled actions.items ≡ None) }
+    ensures distinct { IfOk result (λ _. doubled actions.items ≡ None) }
     ensures named { IfErr result
         (NamesOf ((table_codec an_action).Settled []) (map tc_action actions.items) (doubled actions.items)) }
 {
     match first_unsettled(&actions, "") {
         Some(place) => Err(RequestError::NotSettled { place }),
-        None => message_apart(alloc, actions),
+        None => message_of_distinct(alloc, actions),
     }
 }
 
-// A message of settled actions, whose places are to differ.
-fn message_apart<A: Allocator + Copy>(
+// Builds a message from settled actions; fails if two have the same order number.
+fn message_of_distinct<A: Allocator + Copy>(
     alloc: A,
     actions: Vec<TcAction<A>, A>,
 ) -> Result<TcActionMessage<A>, RequestError>
@@ -309,7 +312,7 @@ fn message_apart<A: Allocator + Copy>(
     ensures settled { IfOk result (λ m. SettledAct (action_message m)) }
     ensures canonical { IfOk result (λ m.
         FitsAct (action_message m) → CanonAct (act_bytes (action_message m))) }
-    ensures apart { IfOk result (λ _. doubled actions.items ≡ None) }
+    ensures distinct { IfOk result (λ _. doubled actions.items ≡ None) }
     ensures named { IfErr result
         (NamesOf ((table_codec an_action).Settled []) (map tc_action actions.items) (doubled actions.items)) }
 {
@@ -319,7 +322,7 @@ fn message_apart<A: Allocator + Copy>(
     }
 }
 
-// A message of settled actions.
+// Builds a message from settled actions.
 fn message_of_actions<A: Allocator + Copy>(
     alloc: A,
     actions: Vec<TcAction<A>, A>,
@@ -341,7 +344,7 @@ fn message_of_actions<A: Allocator + Copy>(
     Ok(sealed_actions(TcActionMessage { header, attributes }))
 }
 
-// The same of an action message.
+// Returns a settled action message; the contract of the test says that its bytes are canonical.
 fn sealed_actions<A: Allocator>(message: TcActionMessage<A>) -> TcActionMessage<A>
     requires { SettledAct (action_message message) }
     ensures same { result ≡ message }

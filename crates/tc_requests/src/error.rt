@@ -1,4 +1,4 @@
-//! Why no request is built.
+//! Errors of the builders.
 
 ghost use Rattle.std.specs.Prelude.{◌≡◌};
 ghost use Rattle.tc_requests.specs.declared.error.RequestError.TheVariants.{OutOfMemory};
@@ -6,15 +6,15 @@ ghost use Rattle.tc_requests.specs.declared.error.RequestError.TheVariants.{OutO
 use std::alloc::{AllocError, AllocFailed};
 use thiserror::Error;
 
-/// Why no request is built.
+/// The reason why no request is built.
 #[derive(Drop, PartialEq, Eq, Error, Debug)]
 pub enum RequestError {
-    /// The option, or the action of an action message, at this place of its list, counted from 0, doesn't read back as
-    /// itself: a number exceeds its mask, an `Other` holds a type that has a row, an action has no kind.
+    /// The option, or the action of an action message, at this index of its list, counted from 0, doesn't read back as itself:
+    /// a number exceeds its mask, an `Other` holds a type that has a row, an action has no kind.
     #[error("part {place} does not read back as itself")]
     NotSettled { place: usize },
 
-    /// The place of an action is 0: places are counted from 1, and Linux passes over an action at 0.
+    /// The order number of an action is 0: they are counted from 1, and Linux ignores an action at 0.
     #[error("an action at place 0")]
     NoPlace,
 
@@ -22,7 +22,7 @@ pub enum RequestError {
     #[error("two actions at place {0}")]
     SamePlace(u16),
 
-    /// Options of an action are kept raw, and those of its kind are known.
+    /// Options of an action are raw, and those of its kind have types.
     #[error("raw options under a kind whose options are known")]
     KnownKind,
 

@@ -8,12 +8,12 @@ ghost use Rattle.tc_requests.specs.HandleText.{handle_of_text};
 use tc_records::TcHandle;
 use tc_texts::{ArrayString, HANDLE_TEXT_LEN, handle_from_tc_text, handle_text};
 
-/// What has a text that `tc` writes and reads.
+/// A value that `tc` writes and reads as a text.
 pub trait TcText {
-    /// The text.
+    /// The text that `tc` writes.
     fn tc_text(self) -> ArrayString<HANDLE_TEXT_LEN>;
 
-    /// What a text that `tc` reads is, or none.
+    /// The value of a text, or `None` if `tc` doesn't read it.
     fn from_tc_text(text: &str) -> Option<Self>;
 }
 
@@ -25,8 +25,8 @@ impl TcText for TcHandle {
         handle_text(u32::from(self))
     }
 
-    /// The handle of a text that `tc` reads as one: `1:10`, `1:`, `:10`, `root`, `none`, `ingress`, `clsact`; digits are hex, in
-    /// either case. A number without a colon isn't read.
+    /// The handle that a text names: `1:10`, `1:`, `:10`, `root`, `none`, `ingress`, `clsact`; digits are hex, in either case.
+    /// A number without a colon is `None`.
     fn from_tc_text(text: &str) -> Option<TcHandle>
         ensures { result ≡ handle_of_text text.now }
     {

@@ -1,4 +1,4 @@
-//! Options of one kind, which know the kind's text.
+//! Types of the options of each kind, with the kind's name.
 
 ghost use Rattle.std.specs.Prelude.{◌≡◌, true, List, ℕ, codes};
 ghost use Rattle.tc_canon.specs.Descriptor.{is_known};
@@ -18,27 +18,27 @@ use tc_options::{
     TcQdiscFqCodelOption, TcQdiscIngress, TcQdiscIngressOption,
 };
 
-/// What becomes one of the options `T`, which hold options of all kinds.
+/// An option of one kind, which can be wrapped in `T`, the options of all kinds.
 pub trait OptionOf<T>: Drop {
     ghost variant: { Self → T };
 
-    /// The option in the variant of its kind.
+    /// Wraps the option in the variant of its kind.
     fn into_option(self) -> T
         ensures { result ≡ variant self };
 }
 
-/// An option of one kind.
+/// An option of one kind, whose name is known.
 pub trait OfKind<T>: OptionOf<T> {
     ghost name: { List ℕ };
 
-    /// The kind's text.
+    /// The kind's name, such as `fq_codel`.
     fn kind() -> &'static str
         ensures { result.now ≡ name };
 }
 
-/// An option of a message, of a known kind.
+/// An option of a qdisc or a filter, of a kind that is in the tables of the codec.
 pub trait TcKindOption<A: Allocator>: OfKind<TcOption<A>> {
-    /// Does nothing: the kind is known.
+    /// Does nothing: its contract says that the tables have the kind.
     fn known_kind()
         ensures { is_known option_kinds Self.name ≡ true };
 }
@@ -238,7 +238,7 @@ impl<A: Allocator> ActionKindOption<A> for TcActionNatOption<A> {}
 
 impl<A: Allocator> ActionKindOption<A> for TcActionTunnelKeyOption<A> {}
 
-// An option of an action of any other kind, kept raw.
+// A raw option of an action of any other kind.
 impl<A: Allocator> OptionOf<TcActionOption<A>> for DefaultNla<A> {
     ghost variant = { Other };
 

@@ -1,4 +1,4 @@
-//! The places of actions in their lists.
+//! Order numbers of actions in their lists.
 
 ghost use Rattle.std.specs.Prelude.{◌≡◌};
 ghost use Rattle.std.specs.List.{list_any};
@@ -8,7 +8,7 @@ use std::alloc::Allocator;
 use tc_actions::TcAction;
 use tc_options::{TcFilterFlowerOption, TcFilterMatchAllOption, TcFilterU32Option, TcOption};
 
-// The first place that an action behind has too.
+// The first order number that a later action has too.
 pub(crate) fn doubled<A: Allocator>(actions: &[TcAction<A>]) -> Option<u16>
     ensures { result ≡ doubled actions.now }
 {

@@ -1,4 +1,4 @@
-//! Lists of options and actions that are to read back as themselves.
+//! Checks that options and actions read back as themselves.
 
 ghost use Rattle.std.specs.Prelude.{◌≡◌, map, MatchOption, IfOk, IfErr};
 ghost use Rattle.std.specs.List.{AllByRecursion};
@@ -10,7 +10,7 @@ use crate::kinds::OptionOf;
 use nla_frames::Settle;
 use std::alloc::Allocator;
 
-// The place of the first element that isn't settled under this kind.
+// Finds the first element that isn't settled under this kind.
 pub(crate) fn first_unsettled<T: Settle>(items: &[T], kind: &str) -> Option<usize>
     ensures { MatchOption result
         (AllByRecursion (T.codec.Settled kind.now) (map T.see items.now))
@@ -24,7 +24,7 @@ pub(crate) fn first_unsettled<T: Settle>(items: &[T], kind: &str) -> Option<usiz
     None
 }
 
-// Options in the variants of their kinds, all settled under one kind.
+// Wraps options in the variants of their kind; fails if one isn't settled under it.
 pub(crate) fn settled_options<T: Settle + Drop, O: OptionOf<T>, A: Allocator + Copy>(
     alloc: A,
     kind: &str,
@@ -44,7 +44,7 @@ pub(crate) fn settled_options<T: Settle + Drop, O: OptionOf<T>, A: Allocator + C
     }
 }
 
-// Options in the variants of their kinds.
+// Wraps options in the variants of their kind.
 fn converted<T: Settle + Drop, O: OptionOf<T>, A: Allocator + Copy>(
     alloc: A,
     options: Vec<O, A>,

@@ -1,4 +1,4 @@
-//! What a request is about.
+//! The object that a request is about.
 
 ghost use Rattle.std.specs.Prelude.{◌≡◌};
 ghost use Rattle.tc_requests.specs.Requests.{request_header};
@@ -6,19 +6,19 @@ ghost use Rattle.tc_requests.specs.Requests.{request_header};
 use nla_frames::AddressFamily;
 use tc_records::{TcHandle, TcHeader};
 
-/// What a request is about: an interface, and two handles.
+/// The object that a request is about: an interface and two handles.
 #[derive(Clone, Copy, Default, Debug)]
 pub struct Target {
     /// The index of the interface.
     pub index: i32,
-    /// The handle of the qdisc or the filter, 0 where the kernel is to choose.
+    /// The handle of the qdisc or the filter; with 0 the kernel chooses one.
     pub handle: TcHandle,
     /// The handle of its parent.
     pub parent: TcHandle,
 }
 
 impl Target {
-    /// The header of a request about it, with this word `info`.
+    /// The header of a request about this object, with this word `info` (priority and protocol of a filter).
     pub(crate) fn header(&self, info: u32) -> TcHeader
         ensures { result ≡ request_header self.now info }
     {

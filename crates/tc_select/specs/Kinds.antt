@@ -50,6 +50,15 @@ abbrev pub kinds_from : List ℕ → List Frame → List (List ℕ)
 kinds_from kind [] = []
 kinds_from kind (f ∷ frames) = kinds_at kind f ++ kinds_from (kind_then kind_of_frame kind f) frames
 
+-- the kind after some frames: the text of the last TCA_KIND among them
+abbrev pub kind_after : List ℕ → List Frame → List ℕ
+kind_after kind [] = kind
+kind_after kind (f ∷ frames) = kind_after (kind_then kind_of_frame kind f) frames
+
+-- the kind of a traffic control message; empty if it has none
+abbrev pub kind_of : List ℕ → List ℕ
+kind_of message = kind_after [] (frames_in (drop 20 message))
+
 -- the kinds in a message after its header, `struct tcmsg` of 20 bytes or `struct tcamsg` of 4; in an action message
 -- those in the attributes of type 1 (TCA_ACT_TAB)
 abbrev pub kinds_in : MessageType → List ℕ → List (List ℕ)

@@ -1,11 +1,11 @@
 //! The kinds in a message: its own, and those of its actions.
 
-ghost use Rattle.std.specs.Prelude.{◌≡◌, ◌||◌, drop, option_map, option_copied, Some, [], bytes_eq};
+ghost use Rattle.std.specs.Prelude.{◌≡◌, ◌||◌, drop, option_map, option_copied, Some, [], bytes_eq, is_some};
 ghost use Rattle.std.specs.List.{list_any};
 ghost use Rattle.nla_frames.specs.Place.{kind_then};
 ghost use Rattle.nla_frames.specs.Buffer.{frame_of};
 ghost use Rattle.tc_canon.specs.Kind.{kind_of_frame, kinds_of_frames};
-ghost use Rattle.tc_select.specs.Kinds.{frames_in, actions_type, action_kinds, kinds_under, filter_kinds, kinds_at, kinds_from, kinds_in};
+ghost use Rattle.tc_select.specs.Kinds.{frames_in, actions_type, action_kinds, kind_after, kind_of, kinds_under, filter_kinds, kinds_at, kinds_from, kinds_in};
 ghost use Rattle.tc_select.specs.Filter.{is_kind};
 
 use nla_frames::{NlaBuffer, NlasIterator, strip_nul};
@@ -19,6 +19,39 @@ pub fn has_kind(values: &[&str], holds: MessageType, message: &[u8]) -> bool
         MessageType::Tc => in_message(values, after_header(20, message)),
         MessageType::Action => in_frames(values, 1, after_header(4, message)),
     }
+}
+
+/// The kind of a traffic control message: the text of its last `TCA_KIND` before a malformed attribute; empty if there is
+/// none.
+pub fn kind_of(message: &[u8]) -> &[u8]
+    ensures { result.now ≡ kind_of message.now }
+{
+    last_kind(after_header(20, message))
+}
+
+#[tactic(auto, using(crate::proofs::Frames::frames_of_cut))]
+fn last_kind(bytes: &[u8]) -> &[u8]
+    ensures { result.now ≡ kind_after [] (frames_in bytes.now) }
+{
+    let mut kind: &[u8] = &[];
+    for frame in NlasIterator::new(bytes) {
+        match frame {
+            Ok(frame) => {
+                if frame.kind() == 1 {
+                    kind = strip_nul(frame.value());
+                }
+            }
+            Err(_) => return kind,
+        }
+    }
+    kind
+}
+
+/// True if filters have this kind, and not qdiscs.
+pub fn is_filter_kind(kind: &[u8]) -> bool
+    ensures { result ≡ is_some (actions_type kind.now) }
+{
+    actions_type(kind).is_some()
 }
 
 /// The bytes after a header.

@@ -18,6 +18,7 @@ pub mod types;
 pub use dump::{DumpLine, dump_line};
 pub use filter::{Filter, Message};
 pub use handles::{HANDLE_FORMS, parse_handle};
+pub use kinds::{is_filter_kind, kind_of};
 pub use links::{LINK_FORMS, NamedLink, RTM_NEWLINK, link_of_line, link_of_message};
 pub use names::names_in;
 pub use pasted::push_hex;

@@ -1,4 +1,4 @@
-//! What the README shows.
+//! What README and docs/CRATES.md show.
 
 use std::alloc::{AllocError, Global};
 use std::string::String;
@@ -43,8 +43,10 @@ fn the_readme_settles_a_message(rt: HostRuntime) -> Result<(), Fail> {
     Ok(())
 }
 
-/// `tc qdisc add dev .. root handle 1: fq_codel limit 10240`, for the interface with index 2.
-fn qdisc(alloc: Global) -> Result<TcMessage, AllocError> {
+/// `tc qdisc add dev .. root handle 1: fq_codel limit 10240`, for the interface with index 2: the sample of `docs/CRATES.md`.
+#[test]
+fn the_sample_builds_a_qdisc(rt: HostRuntime) -> Result<(), Fail> {
+    let alloc = rt.alloc();
     let mut options = Vec::new(alloc);
     options.push(TcOption::FqCodel(TcQdiscFqCodelOption::Limit(10240)))?;
     let mut message = TcMessage::with_index(alloc, 2);
@@ -52,13 +54,10 @@ fn qdisc(alloc: Global) -> Result<TcMessage, AllocError> {
     message.header.parent = TcHandle::ROOT;
     message.attributes.push(TcAttribute::Kind(String::from_str(alloc, TcQdiscFqCodel::KIND)?))?;
     message.attributes.push(TcAttribute::Options(options))?;
-    Ok(message)
-}
-
-#[test]
-fn the_readme_builds_a_qdisc(rt: HostRuntime) -> Result<(), Fail> {
-    let message = qdisc(rt.alloc())?;
     assert!(rt; message.fits() && message.is_settled());
-    assert!(rt; matches!(is_written(rt.alloc(), &message), Ok(true)));
+    let mut bytes = vec![in alloc; 0; message.buffer_len()]?;
+    message.emit(&mut bytes);
+    let again = TcMessage::parse(alloc, &bytes)?;
+    assert!(rt; bytes.as_slice() == &BYTES[..] && again == message);
     Ok(())
 }

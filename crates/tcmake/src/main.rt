@@ -3,8 +3,8 @@
 
 use forms_kinds::{ACTION_MESSAGE, TC_MESSAGE, TcTables};
 use std::process::ExitCode;
-use tcmake_lib::message::Forms;
 use tcmake_lib::program::tcmake;
+use tcmake_messages::Forms;
 
 fn main(rt: HostRuntime) -> ExitCode {
     let forms = Forms {
@@ -12,5 +12,5 @@ fn main(rt: HostRuntime) -> ExitCode {
         tc: TC_MESSAGE,
         action: ACTION_MESSAGE,
     };
-    tcmake(&rt, forms, &mut rt.stderr())
+    ExitCode::from(tcmake(&rt, forms, &mut rt.stderr()).status())
 }

@@ -11,9 +11,9 @@ use Rattle.tc_meaning.specs.Message.{Message}
 use Rattle.tc_meaning.specs.Whole.{ReadsTc, tc_bytes, ReadsAct, act_bytes}
 use Rattle.tc_messages.specs.Message.{tc_message}
 use Rattle.tc_messages.specs.declared.message.TcMessage.{TcMessage}
-use Rattle.tc_requests.specs.declared.root_tables.RootTable.{RootTable}
-use Rattle.tc_requests.specs.RequestOf.{new_type, request_restored}
-use Rattle.tc_requests.specs.RestoredMessages.{actions_message_restored}
+use Rattle.tc_restore.specs.declared.root_tables.RootTable.{RootTable}
+use Rattle.tc_restore.specs.RequestOf.{new_type, request_restored}
+use Rattle.tc_restore.specs.RestoredMessages.{actions_message_restored}
 
 -- a dump of this has this message type: that of a request that makes one, or of actions `RTM_GETACTION`
 abbrev pub IsDumpOf : Option ℕ → Dump → Type 0

@@ -5,19 +5,7 @@ use clap::{Arg, ArgAction, ArgGroup, ArgMatches, Command, Error};
 use std::alloc::{AllocError, Global};
 use std::convert::AsStr;
 use tcmake_lines::OutputFormat;
-
-/// What is made of a line.
-#[derive(Clone, Copy, PartialEq, Eq, Debug)]
-pub enum Making {
-    /// The bytes that it stands for, if its verdict is that of the codec; without a verdict they have to be canonical.
-    Checked,
-    /// The bytes to which settling leads.
-    Settled,
-    /// The bytes that it stands for, whatever they are.
-    AsGiven,
-    /// The request that restores what it shows.
-    Restored,
-}
+use tcmake_messages::Making;
 
 /// What the arguments say.
 #[derive(Clone, Copy, Debug)]
@@ -47,23 +35,35 @@ pub struct Arguments<'a> {
     pub names: Option<&'a str>,
 }
 
-const ABOUT: &str =
-    "Makes traffic control messages of lines of JSON, as tcshow --json writes them, and writes them as lines of hex";
+const ABOUT: &str = "Build Linux traffic control messages from the JSON that tcshow --json prints
 
-const NOTES: &str =
-    "A line that says what the codec finds (fits, settled, canonical, or refused with its numbers) becomes the bytes that it shows, if the
-codec finds so; a line that doesn't has to be canonical. A line may have 32 MiB.
+tcmake reads one JSON object per line from standard input and prints each message as a line of hex.
+A line written by hand needs \"type\" and \"message\"; flags and seq default to 0.";
 
-With --request all lines are read first, and held in memory; then each request stands behind those that it needs. What can't be made
-gets a complaint, and so does what needs it. A save whose first line begins with {\"save\":1 has to be whole: its last line, {\"end\":N}, says
-how many lines are between them ({\"end\":true} where they were edited); else no request is written.
+const NOTES: &str = "Examples:
+  tcshow --json a.pcap | tcmake --pcap > b.pcap             copy the messages of a capture
+  tcshow --json a.pcap | sed 's/\"Limit\":10240/\"Limit\":500/' | tcmake --pcap > b.pcap
+  tcshow --json dump.pcap | tcmake --request --stream > r   requests that restore a dump
 
-Exit status: 0; 1 if something is wrong with a line; 2 for a wrong usage; 3 if a stream failed";
+Checks:
+  By default the bytes must match what the line says about them (fits, settled and canonical, or
+  refused); a line that says nothing must describe a canonical message. Unknown or misspelt
+  members are errors, with a JSON pointer to the place. A line may be up to 4 MiB long.
+  --request reads all lines before it writes anything, and holds them in memory. What can't be
+  restored, and whatever depends on it, is reported and left out. A save, which begins with
+  {\"save\":1, must be whole: its last line, {\"end\":N}, says how many lines are between them
+  ({\"end\":true} if they were edited).
 
-// What is behind an option.
+Exit status:
+  0  every line was built
+  1  a line was wrong, or something can't be restored (the rest is written)
+  2  a usage error
+  3  an I/O error, or out of memory";
+
+// The value of an option.
 #[derive(Clone, Copy)]
 enum Value {
-    // Nothing.
+    // No value.
     Nothing,
     // The index of an interface.
     Index,
@@ -71,77 +71,40 @@ enum Value {
     File,
 }
 
-// The options: the name, what is behind it, and what the help says.
-static OPTIONS: [(&str, Value, &str); 12] = [
-    (
-        "no-header",
-        Value::Nothing,
-        "Write messages without a netlink header",
-    ),
-    (
-        "pcap",
-        Value::Nothing,
-        "Write a capture, pcap with link type 253",
-    ),
-    (
-        "stream",
-        Value::Nothing,
-        "Write netlink messages one after the other, without lines of hex",
-    ),
-    (
-        "settle",
-        Value::Nothing,
-        "Make canonical messages: mask numbers, drop NULs at the end of warnings, set flags and padding",
-    ),
-    (
-        "as-given",
-        Value::Nothing,
-        "Make what lines show, whatever they say that the codec finds",
-    ),
-    (
-        "request",
-        Value::Nothing,
-        "Make of each dump the request that restores it, in an order that works",
-    ),
-    (
-        "in-order",
-        Value::Nothing,
-        "Keep the order of the lines: read a line at a time, and compare none with others",
-    ),
-    (
-        "index",
-        Value::Index,
-        "Make requests for the interface with this index",
-    ),
-    (
-        "now",
-        Value::File,
-        "Make no request for an action that FILE has too, and let that of another one change it: FILE has what the kernel has now, as tcshow --json writes it",
-    ),
-    (
-        "replace-actions",
-        Value::Nothing,
-        "Change actions that differ even if filters of other interfaces hold them",
-    ),
-    (
-        "names",
-        Value::File,
-        "Take interfaces by the names that the first line of a save has: FILE has the indices of now, as ip -o link writes them",
-    ),
-    (
-        "verbose",
-        Value::Nothing,
-        "Name the dumps that another request makes, and the actions that are there",
-    ),
+const OUTPUT: &str = "Output (at most one; default: lines of hex)";
+
+const BUILD: &str = "What to build (at most one; default: exactly the bytes shown, checked)";
+
+const REQUESTS: &str = "With --request";
+
+// The options: name, value, heading and text of the help.
+#[rattlefmt::skip]
+static OPTIONS: [(&str, Value, &str, &str); 12] = [
+    ("no-header", Value::Nothing, OUTPUT, "Print hex without the netlink header"),
+    ("pcap", Value::Nothing, OUTPUT, "Write a pcap capture (link type 253, LINKTYPE_NETLINK)"),
+    ("stream", Value::Nothing, OUTPUT, "Write binary netlink messages, one after another"),
+    ("settle", Value::Nothing, BUILD, "Build the canonical message instead, and report each change"),
+    ("as-given", Value::Nothing, BUILD, "Build the bytes shown, without checking them"),
+    ("request", Value::Nothing, BUILD, "Build the requests that restore a dump, in an order that works"),
+    ("in-order", Value::Nothing, REQUESTS, "Keep the order of the input, and don't compare lines with each other"),
+    ("index", Value::Index, REQUESTS, "Address the requests to the interface with index N"),
+    ("now", Value::File, REQUESTS, "Leave actions that FILE (tcshow --json of today's dump) has as they are, and change those that differ"),
+    ("replace-actions", Value::Nothing, REQUESTS, "Change actions that differ even if filters of other interfaces use them"),
+    ("names", Value::File, REQUESTS, "Find the interfaces of a save by name in FILE (ip -o link)"),
+    ("verbose", Value::Nothing, REQUESTS, "Report dumps that need no request because another request creates them"),
 ];
 
 fn option<'a>(
     alloc: Global,
     name: &'a str,
     value: Value,
+    heading: &'a str,
     help: &'a str,
 ) -> Result<Arg<'a>, AllocError> {
-    alone(name, with_value(described(alloc, name, help), value))
+    alone(
+        name,
+        with_value(described(alloc, name, heading, help), value),
+    )
 }
 
 // What makes no requests goes with none of their options. That these want `--request` isn't enough: clap drops what is wanted where it
@@ -156,8 +119,11 @@ fn alone<'a>(name: &str, option: Arg<'a>) -> Result<Arg<'a>, AllocError> {
     }
 }
 
-fn described<'a>(alloc: Global, name: &'a str, help: &'a str) -> Arg<'a> {
-    Arg::new(alloc, name).long(name).help(help)
+fn described<'a>(alloc: Global, name: &'a str, heading: &'a str, help: &'a str) -> Arg<'a> {
+    Arg::new(alloc, name)
+        .long(name)
+        .help_heading(heading)
+        .help(help)
 }
 
 fn with_value<'a>(option: Arg<'a>, value: Value) -> Arg<'a> {
@@ -173,7 +139,7 @@ fn with_value<'a>(option: Arg<'a>, value: Value) -> Arg<'a> {
 
 fn begun<'a>(alloc: Global) -> Command<'a> {
     Command::new(alloc, "tcmake")
-        .version("0.1.0")
+        .version("0.3.0")
         .about(ABOUT)
         .after_help(NOTES)
 }
@@ -224,8 +190,8 @@ fn with_groups<'a>(alloc: Global) -> Result<Command<'a>, AllocError> {
 
 fn command<'a>(alloc: Global) -> Result<Command<'a>, AllocError> {
     let mut command = with_groups(alloc)?;
-    for (name, value, help) in &OPTIONS {
-        command = command.arg(option(alloc, *name, *value, *help)?)?;
+    for (name, value, heading, help) in &OPTIONS {
+        command = command.arg(option(alloc, *name, *value, *heading, *help)?)?;
     }
     Ok(command)
 }

@@ -10,11 +10,7 @@
 
 pub mod arguments;
 mod complaint;
-mod given;
 pub mod lines;
-mod made;
-mod members;
-pub mod message;
 mod names;
 mod now;
 pub mod order;
@@ -22,4 +18,3 @@ pub mod program;
 mod restore;
 pub mod run;
 mod save;
-mod verdict;

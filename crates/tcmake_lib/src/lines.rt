@@ -1,12 +1,8 @@
 //! Lines of an input, and the dumps in them.
 
-use crate::arguments::Making;
-use crate::complaint::{Complaint, Found as FoundValue};
-use crate::given::is_answer;
-use crate::made::{Made, made_of_json, unread};
-use crate::message::Forms;
+use crate::complaint::Complaint;
 use crate::names::{Interfaces, mapped};
-use crate::save::{Names, Save, is_of_save};
+use crate::save::{Names, Save};
 use forms_json::Tables;
 use forms_text::read_json;
 use program_io::Stop;
@@ -15,6 +11,9 @@ use std::alloc::{AllocError, Global};
 use std::io::BufRead;
 use tc_capture::MessageType;
 use tcmake_lines::{LineStatus, NetlinkHeader, is_blank, next_line};
+use tcmake_messages::{
+    Forms, Found, LineError, Made, Making, is_answer, is_of_save, made_of_json, unread,
+};
 
 /// Where a line is.
 #[derive(Clone, Copy, PartialEq, Eq, Debug)]
@@ -73,8 +72,8 @@ pub(crate) struct Reading<'a> {
 }
 
 impl Lines {
-    // None yet.
-    fn new(alloc: Global) -> Lines {
+    /// None yet.
+    pub(crate) fn new(alloc: Global) -> Lines {
         Lines {
             dumps: Vec::new(alloc),
             remarks: Vec::new(alloc),
@@ -82,8 +81,8 @@ impl Lines {
         }
     }
 
-    // Keeps a dump.
-    fn keep(&mut self, number: u64, made: Made) -> Result<(), AllocError> {
+    /// Keeps a dump.
+    pub(crate) fn keep(&mut self, number: u64, made: Made) -> Result<(), AllocError> {
         self.dumps.push(Dumped { number, made })?;
         Ok(())
     }
@@ -161,8 +160,11 @@ fn dump_in<T: Tables>(
     number: u64,
 ) -> Result<Option<Made>, Complaint> {
     match found {
-        LineStatus::TooLong => Err(without_json(save, number, Complaint::LongLine)),
-        LineStatus::NoMemory => Err(Complaint::NoMemory),
+        LineStatus::TooLong => Err(without_json(
+            save,
+            number,
+            Complaint::Line(LineError::LongLine),
+        )),
         LineStatus::Whole | LineStatus::End => if is_blank(line) {
             Ok(None)
         } else {
@@ -194,7 +196,7 @@ fn dump_in_text<T: Tables>(
             }
             dump_in_json(alloc, forms, reading, save.names(), &json)
         }
-        Err(error) => Err(without_json(save, number, unread(error, line))),
+        Err(error) => Err(without_json(save, number, Complaint::Line(unread(error, line)))),
     }
 }
 
@@ -208,10 +210,13 @@ fn dump_in_json<T: Tables>(
     match (reading.names, saved) {
         (Some(now), Some(saved)) => {
             let text = json.to_vec(alloc)?;
-            let text = mapped(alloc, &text, Interfaces { saved, now })?;
-            match read_json(alloc, &text) {
+            let mapped = mapped(alloc, &text, Interfaces { saved, now })?;
+            if mapped == text {
+                return as_dump(made_of_json(alloc, forms, json, Making::Restored)?, None);
+            }
+            match read_json(alloc, &mapped) {
                 Ok(json) => as_dump(made_of_json(alloc, forms, &json, Making::Restored)?, None),
-                Err(error) => Err(unread(error, &text)),
+                Err(error) => Err(Complaint::Line(unread(error, &mapped))),
             }
         }
         _ => as_dump(
@@ -239,7 +244,7 @@ pub(crate) fn dump_in_line<T: Tables>(
             }
             as_dump(made_of_json(alloc, forms, &json, Making::Restored)?, index)
         }
-        Err(error) => Err(unread(error, line)),
+        Err(error) => Err(Complaint::Line(unread(error, line))),
     }
 }
 
@@ -274,11 +279,11 @@ fn is_dump(given: &NetlinkHeader) -> Result<bool, Complaint> {
     if flags & NLM_F_DUMP == NLM_F_DUMP && is_get(given.kind) {
         return Ok(false);
     }
-    Err(Complaint::Member {
+    Err(Complaint::Line(LineError::Member {
         name: "flags",
-        found: FoundValue::Number(u64::from(flags)),
+        found: Found::Number(u64::from(flags)),
         wanted: "those of a dump, without NLM_F_REQUEST (1)",
-    })
+    }))
 }
 
 // A message of this interface, if one is given; what is in a block that interfaces share has none (its index is -1).

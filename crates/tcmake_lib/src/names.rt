@@ -1,10 +1,11 @@
 //! Interfaces of a save by their names: indices of then become those of now.
 
-use crate::complaint::{Complaint, Found};
+use crate::complaint::Complaint;
 use crate::save::Names;
 use std::alloc::{AllocError, Global};
 use std::str;
 use tc_texts::{hex_string, read_hex};
+use tcmake_messages::{Found, LineError};
 
 /// The names of then and of now.
 #[derive(Clone, Copy)]
@@ -179,11 +180,11 @@ fn value_of(other: Option<u32>, around: Around) -> Result<Front, Complaint> {
     match other {
         Some(kind) if INTERFACES.contains(&kind) => Ok(Front::Word),
         Some(_) => Ok(Front::Other(around)),
-        None => Err(Complaint::Member {
+        None => Err(Complaint::Line(LineError::Member {
             name: "Hdr",
             found: Found::Nothing,
             wanted: "left and right, each with a number for its kind, before Lvalue and Rvalue",
-        }),
+        })),
     }
 }
 

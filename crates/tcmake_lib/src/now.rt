@@ -2,7 +2,6 @@
 
 use crate::complaint::Complaint;
 use crate::lines::{Dumped, Lines, Source};
-use crate::made::Made;
 use crate::restore::{Dump, dump_of, emitted, restored};
 use nla_frames::ParseableBytes;
 use std::alloc::{AllocError, Global};
@@ -14,10 +13,11 @@ use tc_plan::{
     Action, Entry, Fate, Key, Named, Now, entry_of, fate_of_action, held_by, name_of_action,
 };
 use tc_records::TcActionMessageHeader;
-use tc_requests::{
-    Object, RTM_NEWACTION, actions_of_filter, standing_index, unheld, use_of_action,
+use tc_restore::{
+    Object, RTM_NEWACTION, actions_of_filter, standalone_index, unheld, use_of_action,
 };
 use tcmake_lines::NetlinkHeader;
+use tcmake_messages::Made;
 
 /// An action of a dump by itself.
 #[derive(Drop)]
@@ -203,7 +203,7 @@ pub(crate) fn unlisted_in(
 ) -> Result<Option<Named>, Complaint> {
     let header = TcActionMessageHeader::default();
     for action in actions_of_filter(alloc, filter)? {
-        if let (Some(_), Some(name)) = (standing_index(&action), name_of_action(&action)) {
+        if let (Some(_), Some(name)) = (standalone_index(&action), name_of_action(&action)) {
             if !listed.contains(&name) {
                 let single = single_of(alloc, given, &header, action, Counts::Cleared)?;
                 let request = request_bytes(alloc, &single.made)?;

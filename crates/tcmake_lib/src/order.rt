@@ -3,24 +3,24 @@
 use crate::arguments::Request;
 use crate::complaint::Complaint;
 use crate::lines::{Dumped, Lines, Reading, Remark, RemarkKind, Source, read_lines};
-use crate::made::Made;
-use crate::message::Forms;
 use crate::now::{Counts, Single, now_of, singles_of, unlisted_in};
 use crate::restore::{Dump, dump_of, restored};
 use forms_json::Tables;
 use nla_frames::ParseableBytes;
-use program_io::{Stop, write_all};
+use program_io::{Stop, write_text};
 use std::alloc::{AllocError, Global};
 use std::io::{BufRead, Write};
 use tc_action_messages::{TcActionMessage, TcActionMessageAttribute};
 use tc_messages::TcMessage;
 use tc_plan::{
     Entry, Fate, Item, Key, Named, Now, Order, Reason, Step, circle, entry_of, entry_of_actions,
-    fate_of_action, ingress_of, name_of_action, newest_first, plan,
+    fate_of_action, has_action, ingress_of, made_by_filters, name_of_action, newest_first,
+    offloaded_by, plan, shared_action,
 };
-use tc_requests::{Object, RestoreError, RootTable, notice_of, root_table};
+use tc_restore::{Object, RestoreError, RootTable, notice_of, root_table};
 use tcmake_lines::run::put_message;
 use tcmake_lines::{NetlinkHeader, Output, OutputFormat};
+use tcmake_messages::{Forms, Made};
 
 /// What requests are made by, beside the lines of what is wanted.
 #[derive(Clone, Copy)]
@@ -110,6 +110,8 @@ struct Known<'a> {
     ingress: &'a [i32],
     // The actions that dumps have by themselves.
     listed: &'a [Named],
+    // The actions that only their filters can make.
+    by_filters: &'a [Key],
     now: Option<&'a Now<Global>>,
     replaces_actions: bool,
 }
@@ -199,10 +201,10 @@ impl Requests {
             let place = self.entries.len();
             if let Some(before) = self.rank(group, place)? {
                 if let Some(newer) = self.entries.get_mut(before) {
-                    newer.wants.extend_from_slice(&entry.objects)?;
+                    newer.needs.extend_from_slice(&entry.objects)?;
                 }
             }
-            entry.gives.extend_from_slice(&entry.objects)?;
+            entry.provides.extend_from_slice(&entry.objects)?;
         }
         self.entries.push(entry)?;
         Ok(())
@@ -233,7 +235,10 @@ fn fate_of_single(
     made: Option<Made>,
 ) -> (Fate, Option<Made>) {
     match (fate, made) {
-        (Fate::Request, Some(made)) => fate_by_now(known, single.name, made),
+        (Fate::Request, Some(made)) => {
+            let (fate, made) = fate_by_now(known, single.name, made);
+            (fate_by_filters(known, single.name, fate), made)
+        }
         (fate, made) => (fate, made),
     }
 }
@@ -249,6 +254,16 @@ fn fate_by_now(known: Known<'_>, name: Option<Named>, made: Made) -> (Fate, Opti
             (fate, Some(made))
         }
         _ => (Fate::Request, Some(made)),
+    }
+}
+
+// The fate of an action that a request would make: it is refused if only its filters can make it.
+fn fate_by_filters(known: Known<'_>, name: Option<Named>, fate: Fate) -> Fate {
+    match (name, fate) {
+        (Some(name), Fate::Request) if has_action(known.by_filters, name) => {
+            Fate::Refused(Reason::Offload(name))
+        }
+        (_, fate) => fate,
     }
 }
 
@@ -307,6 +322,28 @@ pub fn requests_of<T: Tables, R: BufRead>(
     }
 }
 
+/// The requests of dumps, each with its netlink header: those that `requests_of` makes of their lines, whose numbers are from 1.
+pub fn requests_of_dumps(
+    alloc: Global,
+    dumps: Vec<(NetlinkHeader, Vec<u8>)>,
+) -> Result<Restored, Stop> {
+    let mut lines = Lines::new(alloc);
+    let mut number = 0;
+    for (given, bytes) in dumps {
+        number = u64::wrapping_add(number, 1);
+        let settled = Vec::new(alloc);
+        lines.keep(
+            number,
+            Made {
+                given,
+                bytes,
+                settled,
+            },
+        )?;
+    }
+    requests_by(alloc, lines, None, false)
+}
+
 fn lines_of_now<T: Tables>(alloc: Global, forms: Forms<T>, text: &[u8]) -> Result<Lines, Stop> {
     let reading = Reading {
         source: Source::Now,
@@ -358,8 +395,8 @@ fn requests_by(
         say(&mut remarks, number, RemarkKind::Notice, notice)?;
     }
     let plan = plan(alloc, entries)?;
-    let is_void = say_left(alloc, &lines, &plan.left, &mut remarks)? || is_void;
-    let mut requests = requests_in_order(alloc, lines, &plan.order, &mut remarks)?;
+    let is_void = say_left(alloc, &lines, &plan.unordered, &mut remarks)? || is_void;
+    let mut requests = requests_in_order(alloc, lines, &plan.sorted, &mut remarks)?;
     if is_void {
         requests.clear();
     }
@@ -379,18 +416,31 @@ fn keep_all(
     requests: &mut Requests,
     remarks: &mut Vec<Remark>,
 ) -> Result<(), AllocError> {
-    let mut roots = Vec::new(alloc);
-    let mut ingress = Vec::new(alloc);
-    let mut listed = Vec::new(alloc);
+    let mut shown = Shown {
+        roots: Vec::new(alloc),
+        ingress: Vec::new(alloc),
+        listed: Vec::new(alloc),
+        shared: Vec::new(alloc),
+        offloaded: Vec::new(alloc),
+    };
     for dump in dumps {
-        if let Err(complaint) = keep_shown(alloc, dump, &mut roots, &mut ingress, &mut listed) {
+        if let Err(complaint) = shown.keep(alloc, dump) {
             fail_with(alloc, remarks, dump.number, &complaint)?;
         }
     }
+    let Shown {
+        roots,
+        ingress,
+        listed,
+        shared,
+        offloaded,
+    } = shown;
+    let by_filters = made_by_filters(shared, &offloaded);
     let known = Known {
         roots: &roots,
         ingress: &ingress,
         listed: &listed,
+        by_filters: &by_filters,
         now,
         replaces_actions,
     };
@@ -402,41 +452,59 @@ fn keep_all(
     Ok(())
 }
 
-// Keeps the root table, the ingress qdisc and the actions that a dump shows. What isn't a dump is complained about where its request is made.
-fn keep_shown(
-    alloc: Global,
-    dump: &Dumped,
-    roots: &mut Vec<RootTable>,
-    ingress: &mut Vec<i32>,
-    listed: &mut Vec<Named>,
-) -> Result<(), Complaint> {
-    match dump_of(dump.made.given.kind) {
-        Ok(Dump::Of(object)) => {
-            let message = TcMessage::parse(alloc, &dump.made.bytes)?;
-            if let Some(root) = root_table(object, &message) {
-                roots.push(root)?;
-            }
-            if let Some(index) = ingress_of(object, &message) {
-                ingress.push(index)?;
-            }
-            Ok(())
-        }
-        Ok(Dump::Actions) => keep_listed(alloc, &dump.made.bytes, listed),
-        Err(_) => Ok(()),
-    }
+// Parts of all dumps on which requests depend.
+#[derive(Drop)]
+struct Shown {
+    // The root tables of u32.
+    roots: Vec<RootTable>,
+    // The interfaces that have ingress.
+    ingress: Vec<i32>,
+    // The actions that dumps have by themselves.
+    listed: Vec<Named>,
+    // Those of them that filters share and nothing else holds.
+    shared: Vec<Key>,
+    // The actions of filters with an offload flag.
+    offloaded: Vec<Key>,
 }
 
-fn keep_listed(alloc: Global, bytes: &[u8], listed: &mut Vec<Named>) -> Result<(), Complaint> {
-    for attribute in &TcActionMessage::parse(alloc, bytes)?.attributes {
-        if let TcActionMessageAttribute::Actions(actions) = attribute {
-            for action in actions {
-                if let Some(name) = name_of_action(action) {
-                    listed.push(name)?;
+impl Shown {
+    // Keeps the parts of a dump. A line that isn't a dump has its complaint where its request is made.
+    fn keep(&mut self, alloc: Global, dump: &Dumped) -> Result<(), Complaint> {
+        match dump_of(dump.made.given.kind) {
+            Ok(Dump::Of(object)) => {
+                let message = TcMessage::parse(alloc, &dump.made.bytes)?;
+                if let Some(root) = root_table(object, &message) {
+                    self.roots.push(root)?;
+                }
+                if let Some(index) = ingress_of(object, &message) {
+                    self.ingress.push(index)?;
+                }
+                if object == Object::Filter {
+                    let offloaded = offloaded_by(alloc, message)?;
+                    self.offloaded.extend_from_slice(&offloaded)?;
+                }
+                Ok(())
+            }
+            Ok(Dump::Actions) => self.keep_actions(alloc, &dump.made.bytes),
+            Err(_) => Ok(()),
+        }
+    }
+
+    fn keep_actions(&mut self, alloc: Global, bytes: &[u8]) -> Result<(), Complaint> {
+        for attribute in &TcActionMessage::parse(alloc, bytes)?.attributes {
+            if let TcActionMessageAttribute::Actions(actions) = attribute {
+                for action in actions {
+                    if let Some(name) = name_of_action(action) {
+                        self.listed.push(name)?;
+                    }
+                    if let Some(key) = shared_action(action) {
+                        self.shared.push(key)?;
+                    }
                 }
             }
         }
+        Ok(())
     }
-    Ok(())
 }
 
 // Keeps what is wrong with a line.
@@ -476,7 +544,7 @@ fn say_left(
     if !left.is_empty() {
         let around = circle(alloc, left)?;
         for step in left {
-            let reason = reason_of(&step.item, &around.left);
+            let reason = reason_of(&step.item, &around.unordered);
             is_void = is_void || is_of_all(reason);
             say_reason(alloc, lines, step.item.place, reason, remarks)?;
         }
@@ -484,9 +552,12 @@ fn say_left(
     Ok(is_void)
 }
 
-// True of a reason for which no request at all is made: an action would have to be changed, and can't be.
+// True for a reason for which no request at all is made: an action can't be changed, or not be made by its own request.
 fn is_of_all(reason: &Reason) -> bool {
-    matches!(reason, Reason::Held(_) | Reason::NoDump(_))
+    matches!(
+        reason,
+        Reason::Held(_) | Reason::NoDump(_) | Reason::Offload(_)
+    )
 }
 
 fn say_reason(
@@ -624,7 +695,7 @@ fn write_remark<E: Write>(
     };
     let (number, said) = (remark.number, remark.text.as_str());
     let text = format!(in alloc; "tcmake: {place} {number}: {said}\n")?;
-    let _ = write_all(errors, text.as_bytes());
+    let _ = write_text(alloc, errors, text.as_str());
     Ok(())
 }
 

@@ -1,63 +1,105 @@
-//! The program: what it is asked for is done over its streams, and how it ends is its exit status.
+//! The program: it does over its streams what its arguments say.
 
-ghost use Rattle.std.specs.Prelude.{◌≡◌, ◌≢◌, OnOk};
-ghost use Rattle.program_io.specs.Status.{status_of};
-ghost use Rattle.tcmake_lib.specs.Answer.{IsAnswer, IsMessage};
-ghost use Rattle.tcmake_lib.specs.declared.arguments.Making.TheVariants.{Restored};
-ghost use Rattle.tcmake_lines.specs.Parts.{Ran};
-ghost use Rattle.tcmake_lines.specs.declared.run.Ended.{Ended};
+ghost use Rattle.std.specs.Prelude.{◌≡◌, ◌≢◌, Err, IfErr, OnOk};
+ghost use Rattle.std.specs.Io.Buffered.{reader_inner};
+ghost use Rattle.program_io.specs.Streams.{Shows, read_failure, write_failure, writer_inside};
+ghost use Rattle.program_io.specs.declared.stop.Stop.TheVariants.{Closed};
+ghost use Rattle.tcmake_messages.specs.Answer.{IsAnswer, IsMessage, IsRefused};
+ghost use Rattle.tcmake_messages.specs.declared.making.Making.TheVariants.{Restored};
+ghost use Rattle.tcmake_lines.specs.Lines.{left_in};
+ghost use Rattle.tcmake_lines.specs.Parts.{Ran, RanOn};
 
 use crate::arguments::{Arguments, Request, arguments_of};
-use crate::message::Forms;
 use crate::order::Asked;
 use crate::run::run;
 use clap::Error;
 use clap::error::ErrorKind;
 use forms_json::Tables;
-use program_io::{Stop, fail_with, status_of};
-use std::alloc::Global;
-use std::io::{self, BufRead, BufReader, Input, Print, Write};
-use std::process::ExitCode;
+use program_io::{Ended, Reader, Stop, Writer, cause_of, write_all, write_text};
+use std::alloc::{AllocError, Global};
+use std::io::{self, BufReader, Input, Print, Read, Write};
 use std::rt::{Env, Files};
 use std::{env, fs};
 use tc_select::names_in;
+use tcmake_messages::Forms;
 
-/// The whole program: reads its arguments, makes messages of the lines of standard input, writes them to standard output, and
-/// returns the exit status. Complaints are written to `errors`.
+/// The whole program: reads its arguments, makes messages of the lines of standard input, and writes them to standard output.
+/// Complaints are written to `errors`.
 pub fn tcmake<T: Tables, R: Env + AllocGlobal + Files + Input + Print + Eprint, E: Write>(
     rt: &R,
     forms: Forms<T>,
     errors: &mut E,
-) -> ExitCode {
+) -> Ended {
     match env::args(rt) {
         Ok(words) => match Vec::from_iter(rt.alloc(), words) {
-            Ok(words) => ExitCode::from(obey(rt, forms, words.as_slice(), errors)),
-            Err(_) => ExitCode::from(fail_with(errors, NO_MEMORY, 3)),
+            Ok(words) => obey(rt, forms, words.as_slice(), errors),
+            Err(_) => fail(errors, NO_MEMORY, Stop::NoMemory),
         },
-        Err(_) => ExitCode::from(fail_with(errors, "tcmake: an argument is no text\n", 2)),
+        Err(_) => fail(
+            errors,
+            "tcmake: an argument is not valid UTF-8\n",
+            Stop::Usage,
+        ),
     }
 }
 
-// Does what these arguments ask for.
+// Writes an error, if it can, and ends for this reason.
+fn fail<E: Write>(errors: &mut E, text: &str, stop: Stop) -> Ended {
+    let _ = write_all(errors, text.as_bytes());
+    Ended {
+        outcome: Err(stop),
+        has_refused: false,
+    }
+}
+
+// The same of a text that has a part from outside; memory may have run out for it.
+fn fail_with<E: Write>(
+    alloc: Global,
+    errors: &mut E,
+    text: Result<String, AllocError>,
+    stop: Stop,
+) -> Ended {
+    match text {
+        Ok(text) => {
+            let _ = write_text(alloc, errors, text.as_str());
+            Ended {
+                outcome: Err(stop),
+                has_refused: false,
+            }
+        }
+        Err(_) => fail(errors, NO_MEMORY, Stop::NoMemory),
+    }
+}
+
+// Does what these arguments say.
 fn obey<T: Tables, R: AllocGlobal + Files + Input + Print + Eprint, E: Write>(
     rt: &R,
     forms: Forms<T>,
     words: &[String],
     errors: &mut E,
-) -> u8 {
+) -> Ended {
     match arguments_of(rt.alloc(), words) {
         Ok(arguments) => with_now(rt, forms, &arguments, errors),
         Err(error) => say(rt, &error, errors),
     }
 }
 
-// Says what is wrong with the arguments, or the help or the version that they ask for.
-fn say<R: Print + Eprint, E: Write>(rt: &R, error: &Error, errors: &mut E) -> u8 {
+// Writes what is wrong with the arguments, or the help or the version that they ask for.
+fn say<R: AllocGlobal + Print, E: Write>(rt: &R, error: &Error, errors: &mut E) -> Ended {
     if error.kind() == ErrorKind::OutOfMemory {
-        return fail_with(errors, NO_MEMORY, 3);
+        return fail(errors, NO_MEMORY, Stop::NoMemory);
     }
-    let _ = error.print(rt);
-    if error.use_stderr() { 2 } else { 0 }
+    let alloc = rt.alloc();
+    if error.use_stderr() {
+        return fail_with(alloc, errors, format!(in alloc; "{error}"), Stop::Usage);
+    }
+    match format!(in alloc; "{error}") {
+        Ok(text) => Ended {
+            outcome: write_all(&mut io::writer(rt), text.as_bytes()),
+            has_refused: false,
+        },
+        Err(_) => fail(errors, NO_MEMORY, Stop::NoMemory),
+    }
 }
 
 const NO_MEMORY: &str = "tcmake: out of memory\n";
@@ -68,12 +110,12 @@ fn with_now<T: Tables, R: AllocGlobal + Files + Input + Print, E: Write>(
     forms: Forms<T>,
     arguments: &Arguments<'_>,
     errors: &mut E,
-) -> u8 {
+) -> Ended {
     match arguments.now {
         None => with_names(rt, forms, arguments, None, errors),
         Some(path) => match fs::read_to_string(rt, path) {
             Ok(text) => with_names(rt, forms, arguments, Some(text.as_bytes()), errors),
-            Err(_) => complain_of_file(rt.alloc(), path, errors),
+            Err(error) => complain_of_file(rt.alloc(), path, &error, errors),
         },
     }
 }
@@ -85,7 +127,7 @@ fn with_names<T: Tables, R: AllocGlobal + Files + Input + Print, E: Write>(
     arguments: &Arguments<'_>,
     now: Option<&[u8]>,
     errors: &mut E,
-) -> u8 {
+) -> Ended {
     let asked = Asked {
         index: arguments.request.index,
         now,
@@ -95,8 +137,16 @@ fn with_names<T: Tables, R: AllocGlobal + Files + Input + Print, E: Write>(
     match arguments.names {
         None => make(rt, forms, &arguments.request, &asked, errors),
         Some(path) => match fs::read_to_string(rt, path) {
-            Ok(text) => with_names_in(rt, forms, &arguments.request, asked, text.as_str(), errors),
-            Err(_) => complain_of_file(rt.alloc(), path, errors),
+            Ok(text) => with_names_in(
+                rt,
+                forms,
+                &arguments.request,
+                asked,
+                path,
+                text.as_str(),
+                errors,
+            ),
+            Err(error) => complain_of_file(rt.alloc(), path, &error, errors),
         },
     }
 }
@@ -106,9 +156,10 @@ fn with_names_in<T: Tables, R: AllocGlobal + Input + Print, E: Write>(
     forms: Forms<T>,
     request: &Request,
     asked: Asked<'_>,
+    path: &str,
     text: &str,
     errors: &mut E,
-) -> u8 {
+) -> Ended {
     match names_in(rt.alloc(), text) {
         Ok(Ok(names)) => {
             let asked = Asked {
@@ -119,27 +170,33 @@ fn with_names_in<T: Tables, R: AllocGlobal + Input + Print, E: Write>(
             };
             make(rt, forms, request, &asked, errors)
         }
-        Ok(Err(line)) => complain_of_names(rt.alloc(), line, errors),
-        Err(_) => fail_with(errors, NO_MEMORY, 3),
+        Ok(Err(line)) => complain_of_names(rt.alloc(), path, line, errors),
+        Err(_) => fail(errors, NO_MEMORY, Stop::NoMemory),
     }
 }
 
-// Writes that a file can't be read, if it can, and returns the status of a wrong usage.
-fn complain_of_file<E: Write>(alloc: Global, path: &str, errors: &mut E) -> u8 {
-    match format!(in alloc; "tcmake: {path}: the file can't be read\n") {
-        Ok(text) => fail_with(errors, text.as_str(), 2),
-        Err(_) => fail_with(errors, NO_MEMORY, 3),
-    }
+// Writes why a file can't be read.
+fn complain_of_file<E: Write>(
+    alloc: Global,
+    path: &str,
+    error: &io::Error,
+    errors: &mut E,
+) -> Ended {
+    let text = file_complaint(alloc, path, error);
+    fail_with(alloc, errors, text, Stop::Usage)
 }
 
-// Writes which line of a file of names isn't read, if it can, and returns the status of a wrong usage.
-fn complain_of_names<E: Write>(alloc: Global, line: u64, errors: &mut E) -> u8 {
-    match format!(in alloc;
-        "tcmake: --names, line {line}: found no index and name, wanted lines as ip -o link writes them\n"
-    ) {
-        Ok(text) => fail_with(errors, text.as_str(), 2),
-        Err(_) => fail_with(errors, NO_MEMORY, 3),
-    }
+fn file_complaint(alloc: Global, path: &str, error: &io::Error) -> Result<String, AllocError> {
+    let cause = cause_of(alloc, error)?;
+    format!(in alloc; "tcmake: {path}: {cause}\n")
+}
+
+// Writes which line of a file of names isn't read.
+fn complain_of_names<E: Write>(alloc: Global, path: &str, line: u64, errors: &mut E) -> Ended {
+    let text = format!(in alloc;
+        "tcmake: {path}: line {line}: found no index and name, wanted lines as ip -o link writes them\n"
+    );
+    fail_with(alloc, errors, text, Stop::Usage)
 }
 
 fn make<T: Tables, R: AllocGlobal + Input + Print, E: Write>(
@@ -148,9 +205,9 @@ fn make<T: Tables, R: AllocGlobal + Input + Print, E: Write>(
     request: &Request,
     asked: &Asked<'_>,
     errors: &mut E,
-) -> u8 {
-    let mut writer = io::writer(rt);
-    match BufReader::new(rt.alloc(), rt.reader()) {
+) -> Ended {
+    let mut writer = Writer::new(io::writer(rt));
+    match BufReader::new(rt.alloc(), Reader::new(rt.reader())) {
         Ok(mut reader) => serve_asked(
             rt.alloc(),
             forms,
@@ -160,26 +217,32 @@ fn make<T: Tables, R: AllocGlobal + Input + Print, E: Write>(
             &mut writer,
             errors,
         ),
-        Err(_) => fail_with(errors, NO_MEMORY, 3),
+        Err(_) => fail(errors, NO_MEMORY, Stop::NoMemory),
     }
 }
 
-/// Makes messages of all lines of an input, and returns the exit status.
-pub fn serve<T: Tables, R: BufRead, W: Write, E: Write>(
+/// Makes messages of all lines of an input. Complaints, and why it ended early, are written to `errors`.
+pub fn serve<T: Tables, R: Read, W: Write, E: Write>(
     alloc: Global,
     forms: Forms<T>,
     request: &Request,
-    reader: &mut R,
-    writer: &mut W,
+    reader: &mut BufReader<Reader<R>>,
+    writer: &mut Writer<W>,
     errors: &mut E,
-) -> u8
-    // The status says how the run ended. Where it came to the end of its input, each line of it became a message, nothing or a complaint;
-    // the messages are written in their order, in the form that is asked for, and the status says whether there was a complaint. Requests have
+) -> Ended
+    // It comes to the end of its input: each line became a message, nothing or a complaint, and the messages are written in their order. Requests have
     // an order of their own.
-    ensures status { (ended : Ended) × (result ≡ status_of ended.outcome ended.has_refused)
-        × (request.now.making ≢ Restored → OnOk ended.outcome (Ran
-        (IsMessage (T.parts_of forms.table) forms.tc forms.action request.now.making) IsAnswer request.now.form ended.has_refused
-        (R.remaining reader.old) (W.contents writer.old) (W.contents writer.new))) }
+    ensures ran { request.now.making ≢ Restored → OnOk result.outcome (Ran
+        (IsMessage (T.parts_of forms.table) forms.tc forms.action request.now.making) IsAnswer
+        (IsRefused (T.parts_of forms.table) forms.tc forms.action request.now.making) request.now.form result.has_refused
+        (left_in R.remaining reader.old) (W.contents (writer_inside writer.old)) (W.contents (writer_inside writer.new))) }
+    // Or its output is closed.
+    ensures closed { request.now.making ≢ Restored → result.outcome ≡ Err Closed → RanOn
+        (IsMessage (T.parts_of forms.table) forms.tc forms.action request.now.making) IsAnswer
+        (IsRefused (T.parts_of forms.table) forms.tc forms.action request.now.making) request.now.form result.has_refused
+        (left_in R.remaining reader.old) (left_in R.remaining reader.new) }
+    // A stream that failed shows why it ends early; otherwise memory ran out.
+    ensures stopped { IfErr result.outcome (Shows (read_failure (reader_inner reader.new)) (write_failure writer.new)) }
 {
     let asked = Asked {
         index: request.index,
@@ -191,29 +254,45 @@ pub fn serve<T: Tables, R: BufRead, W: Write, E: Write>(
 }
 
 /// The same of requests by what there is now, and by names.
-pub fn serve_asked<T: Tables, R: BufRead, W: Write, E: Write>(
+pub fn serve_asked<T: Tables, R: Read, W: Write, E: Write>(
     alloc: Global,
     forms: Forms<T>,
     request: &Request,
     asked: &Asked<'_>,
-    reader: &mut R,
-    writer: &mut W,
+    reader: &mut BufReader<Reader<R>>,
+    writer: &mut Writer<W>,
     errors: &mut E,
-) -> u8
-    // The status says how the run ended. Where it came to the end of its input, each line of it became a message, nothing or a complaint;
-    // the messages are written in their order, in the form that is asked for, and the status says whether there was a complaint. Requests have
+) -> Ended
+    // It comes to the end of its input: each line became a message, nothing or a complaint, and the messages are written in their order. Requests have
     // an order of their own.
-    ensures status { (ended : Ended) × (result ≡ status_of ended.outcome ended.has_refused)
-        × (request.now.making ≢ Restored → OnOk ended.outcome (Ran
-        (IsMessage (T.parts_of forms.table) forms.tc forms.action request.now.making) IsAnswer request.now.form ended.has_refused
-        (R.remaining reader.old) (W.contents writer.old) (W.contents writer.new))) }
+    ensures ran { request.now.making ≢ Restored → OnOk result.outcome (Ran
+        (IsMessage (T.parts_of forms.table) forms.tc forms.action request.now.making) IsAnswer
+        (IsRefused (T.parts_of forms.table) forms.tc forms.action request.now.making) request.now.form result.has_refused
+        (left_in R.remaining reader.old) (W.contents (writer_inside writer.old)) (W.contents (writer_inside writer.new))) }
+    // Or its output is closed.
+    ensures closed { request.now.making ≢ Restored → result.outcome ≡ Err Closed → RanOn
+        (IsMessage (T.parts_of forms.table) forms.tc forms.action request.now.making) IsAnswer
+        (IsRefused (T.parts_of forms.table) forms.tc forms.action request.now.making) request.now.form result.has_refused
+        (left_in R.remaining reader.old) (left_in R.remaining reader.new) }
+    // A stream that failed shows why it ends early; otherwise memory ran out.
+    ensures stopped { IfErr result.outcome (Shows (read_failure (reader_inner reader.new)) (write_failure writer.new)) }
 {
     let ended = run(alloc, forms, request, asked, reader, writer, errors);
-    let status = status_of(ended.outcome, ended.has_refused);
     match ended.outcome {
-        Ok(()) | Err(Stop::Closed) => status,
-        Err(Stop::Read) => fail_with(errors, "tcmake: read failed\n", status),
-        Err(Stop::Write) => fail_with(errors, "tcmake: write failed\n", status),
-        Err(Stop::NoMemory) => fail_with(errors, NO_MEMORY, status),
+        Ok(()) | Err(Stop::Closed | Stop::Usage) => {}
+        Err(Stop::Read) => say_failure(alloc, "standard input", reader.get_ref().failure(), errors),
+        Err(Stop::Write) => say_failure(alloc, "standard output", writer.failure(), errors),
+        Err(Stop::NoMemory) => {
+            let _ = write_all(errors, NO_MEMORY.as_bytes());
+        }
+    }
+    ended
+}
+
+// Writes why a stream failed, if it can.
+fn say_failure<E: Write>(alloc: Global, stream: &str, failure: Option<io::Error>, errors: &mut E) {
+    if let Some(error) = failure {
+        let text = file_complaint(alloc, stream, &error);
+        let _ = fail_with(alloc, errors, text, Stop::Write);
     }
 }

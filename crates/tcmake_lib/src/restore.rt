@@ -6,17 +6,17 @@ ghost use Rattle.tcmake_lib.specs.Restored.{IsDumpOf, held_by, request_type, Res
 ghost use Rattle.tcmake_lib.specs.Written.{IsCanonical};
 ghost use Rattle.tcmake_lib.specs.declared.restore.Dump.{Dump as DumpType};
 ghost use Rattle.tcmake_lib.specs.declared.restore.Dump.TheVariants.{Of, Actions};
-ghost use Rattle.tc_requests.specs.RequestOf.{new_type};
+ghost use Rattle.tc_restore.specs.RequestOf.{new_type};
 
-use crate::complaint::{Complaint, Found};
-use crate::made::Made;
+use crate::complaint::Complaint;
 use nla_frames::{Emitable, ParseableBytes};
 use std::alloc::Global;
 use tc_action_messages::TcActionMessage;
 use tc_capture::MessageType;
 use tc_messages::TcMessage;
-use tc_requests::{Object, RTM_NEWACTION, Request, RootTable, request_of, request_of_actions};
+use tc_restore::{Object, RTM_NEWACTION, Request, RootTable, request_of, request_of_actions};
 use tcmake_lines::{NetlinkHeader, packet_at};
+use tcmake_messages::{Found, LineError, Made};
 
 /// What is dumped.
 #[derive(Clone, Copy, PartialEq, Eq)]
@@ -100,14 +100,14 @@ pub(crate) fn dump_of(kind: Option<u16>) -> Result<Dump, Complaint>
             return Ok(Dump::Actions);
         }
     }
-    Err(Complaint::Member {
+    Err(Complaint::Line(LineError::Member {
         name: "type",
         found: match kind {
             Some(kind) => Found::Type(kind),
             None => Found::Nothing,
         },
         wanted: "RTM_NEWQDISC, RTM_NEWTCLASS, RTM_NEWTFILTER, RTM_NEWCHAIN, RTM_NEWACTION or RTM_GETACTION",
-    })
+    }))
 }
 
 // The request that restores a qdisc, a class, a filter or a chain.

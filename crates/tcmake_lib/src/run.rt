@@ -1,38 +1,47 @@
 //! A whole run.
 
-ghost use Rattle.std.specs.Prelude.{⊤, ◌≢◌, OnOk};
-ghost use Rattle.tcmake_lib.specs.Answer.{IsAnswer, IsMessage};
-ghost use Rattle.tcmake_lib.specs.declared.arguments.Making.TheVariants.{Restored};
-ghost use Rattle.tcmake_lines.specs.Parts.{Ran};
+ghost use Rattle.std.specs.Prelude.{⊤, ◌≡◌, ◌≢◌, Err, IfErr, OnOk};
+ghost use Rattle.std.specs.Io.Buffered.{reader_inner};
+ghost use Rattle.program_io.specs.Streams.{Shows, read_failure, write_failure, writer_inside};
+ghost use Rattle.program_io.specs.declared.stop.Stop.TheVariants.{Closed};
+ghost use Rattle.tcmake_messages.specs.Answer.{IsAnswer, IsMessage, IsRefused};
+ghost use Rattle.tcmake_messages.specs.declared.making.Making.TheVariants.{Restored};
+ghost use Rattle.tcmake_lines.specs.Lines.{left_in};
+ghost use Rattle.tcmake_lines.specs.Parts.{Ran, RanOn};
 
-use crate::arguments::{Making, Request};
-use crate::complaint::{Complaint, Notice};
+use crate::arguments::Request;
+use crate::complaint::Complaint;
 use crate::lines::dump_in_line;
-use crate::made::{Made, made_of};
-use crate::message::Forms;
 use crate::order::{Asked, MADE_BY_ANOTHER, restore_in_order};
 use crate::restore::restored;
 use forms_json::Tables;
-use forms_text::Difference;
+use program_io::{Ended, Reader, Writer, shown_reason};
 use std::alloc::{AllocError, Global};
-use std::io::{BufRead, Write};
-use tc_requests::RestoreError;
-use tcmake_lines::run::{Ended, run as run_lines};
+use std::io::{BufReader, Read, Write};
+use tc_restore::RestoreError;
+use tcmake_lines::run::run as run_lines;
 use tcmake_lines::{Answer, Maker};
+use tcmake_messages::{Forms, LineError, Made, Making, MessageMaker, notices_of};
 
 /// Makes messages of all lines of an input. Complaints, and what was settled, are written to `errors`.
-pub fn run<T: Tables, R: BufRead, W: Write, E: Write>(
+pub fn run<T: Tables, R: Read, W: Write, E: Write>(
     alloc: Global,
     forms: Forms<T>,
     request: &Request,
     asked: &Asked<'_>,
-    reader: &mut R,
-    writer: &mut W,
+    reader: &mut BufReader<Reader<R>>,
+    writer: &mut Writer<W>,
     errors: &mut E,
 ) -> Ended
-    ensures { request.now.making ≢ Restored → OnOk result.outcome (Ran
-        (IsMessage (T.parts_of forms.table) forms.tc forms.action request.now.making) IsAnswer request.now.form result.has_refused
-        (R.remaining reader.old) (W.contents writer.old) (W.contents writer.new)) }
+    ensures ran { request.now.making ≢ Restored → OnOk result.outcome (Ran
+        (IsMessage (T.parts_of forms.table) forms.tc forms.action request.now.making) IsAnswer
+        (IsRefused (T.parts_of forms.table) forms.tc forms.action request.now.making) request.now.form result.has_refused
+        (left_in R.remaining reader.old) (W.contents (writer_inside writer.old)) (W.contents (writer_inside writer.new))) }
+    ensures closed { request.now.making ≢ Restored → result.outcome ≡ Err Closed → RanOn
+        (IsMessage (T.parts_of forms.table) forms.tc forms.action request.now.making) IsAnswer
+        (IsRefused (T.parts_of forms.table) forms.tc forms.action request.now.making) request.now.form result.has_refused
+        (left_in R.remaining reader.old) (left_in R.remaining reader.new) }
+    ensures stopped { IfErr result.outcome (Shows (read_failure (reader_inner reader.new)) (write_failure writer.new)) }
 {
     if request.making == Making::Restored {
         return restore(alloc, forms, request, asked, reader, writer, errors);
@@ -46,15 +55,17 @@ pub fn run<T: Tables, R: BufRead, W: Write, E: Write>(
 }
 
 // Makes requests of all lines, in their order or in one in which each finds what it needs.
-fn restore<T: Tables, R: BufRead, W: Write, E: Write>(
+fn restore<T: Tables, R: Read, W: Write, E: Write>(
     alloc: Global,
     forms: Forms<T>,
     request: &Request,
     asked: &Asked<'_>,
-    reader: &mut R,
-    writer: &mut W,
+    reader: &mut BufReader<Reader<R>>,
+    writer: &mut Writer<W>,
     errors: &mut E,
-) -> Ended {
+) -> Ended
+    ensures { IfErr result.outcome (Shows (read_failure (reader_inner reader.new)) (write_failure writer.new)) }
+{
     if request.in_order {
         let maker = RequestMaker {
             alloc,
@@ -65,7 +76,7 @@ fn restore<T: Tables, R: BufRead, W: Write, E: Write>(
         return run_lines(alloc, &maker, request.form, reader, writer, errors);
     }
     let mut has_refused = false;
-    let outcome = restore_in_order(
+    let restored = restore_in_order(
         alloc,
         forms,
         request,
@@ -75,43 +86,13 @@ fn restore<T: Tables, R: BufRead, W: Write, E: Write>(
         errors,
         &mut has_refused,
     );
+    let outcome = match restored {
+        Ok(()) => Ok(()),
+        Err(stop) => Err(shown_reason(reader.get_ref(), writer, stop)),
+    };
     Ended {
         outcome,
         has_refused,
-    }
-}
-
-// What makes messages of lines.
-#[derive(Clone, Copy)]
-struct MessageMaker<T> {
-    alloc: Global,
-    forms: Forms<T>,
-    making: Making,
-}
-
-impl<T: Tables> Maker for MessageMaker<T> {
-    ghost Makes = { λ m line given bytes. IsMessage (T.parts_of m.forms.table) m.forms.tc m.forms.action m.making line given bytes };
-
-    ghost Passes = { λ _ line. IsAnswer line };
-
-    fn make(&self, line: &[u8]) -> Result<Answer, AllocError> {
-        match made_of(self.alloc, self.forms, line, self.making) {
-            Ok(
-                Some(
-                    Made {
-                        given,
-                        bytes,
-                        settled,
-                    },
-                ),
-            ) => Ok(Answer::Message {
-                given,
-                bytes,
-                notices: notices_of(self.alloc, &settled)?,
-            }),
-            Ok(None) => Ok(Answer::Nothing { notice: None }),
-            Err(complaint) => Ok(Answer::Complaint(text_of(self.alloc, &complaint)?)),
-        }
     }
 }
 
@@ -130,6 +111,8 @@ impl<T: Tables> Maker for RequestMaker<T> {
 
     ghost Passes = { λ _ _. ⊤ };
 
+    ghost Refuses = { λ _ _. ⊤ };
+
     fn make(&self, line: &[u8]) -> Result<Answer, AllocError> {
         match request_in(self.alloc, self.forms, self.index, line) {
             Ok(
@@ -146,6 +129,7 @@ impl<T: Tables> Maker for RequestMaker<T> {
                 notices: notices_of(self.alloc, &settled)?,
             }),
             Ok(None) => Ok(Answer::Nothing { notice: None }),
+            Err(Complaint::Line(LineError::NoMemory)) => Err(AllocError),
             Err(Complaint::Restore(RestoreError::MadeByKernel)) => {
                 Ok(Answer::Nothing {
                     notice: made_by_another(self.alloc, self.verbose)?,
@@ -180,16 +164,6 @@ fn made_by_another(alloc: Global, verbose: bool) -> Result<Option<String>, Alloc
     } else {
         Ok(None)
     }
-}
-
-// Notices on the places that settling changed.
-fn notices_of(alloc: Global, settled: &[Difference]) -> Result<Vec<String>, AllocError> {
-    let mut notices = Vec::new(alloc);
-    for place in settled {
-        let notice = Notice(place);
-        notices.push(format!(in alloc; "{notice}")?)?;
-    }
-    Ok(notices)
 }
 
 fn text_of(alloc: Global, complaint: &Complaint) -> Result<String, AllocError> {

@@ -1,35 +1,10 @@
 //! The first and the last line of a save: `{"save":1,"names":{"2":"wan"},..}` and `{"end":39}`.
 
-ghost use Rattle.std.specs.Prelude.{IsTrue};
-ghost use Rattle.serde_json.specs.View.{view};
-ghost use Rattle.tcmake_lib.specs.Line.{IsOfSave};
-
 use crate::complaint::Complaint;
-use crate::members::{Numbered, number_of, wrong};
 use serde_json::Value;
 use std::alloc::Global;
 use std::fmt;
-
-/// True if the line is the first or the last line of a save.
-pub(crate) fn is_of_save(json: &Value) -> bool
-    ensures { IsTrue result → IsOfSave (view json.now) }
-{
-    is_head(json) || is_end(json)
-}
-
-// True of the first line of a save.
-fn is_head(json: &Value) -> bool
-    ensures { IsTrue result → IsOfSave (view json.now) }
-{
-    json.get("save").is_some() && json.get("message").is_none()
-}
-
-// True of the last line of a save.
-fn is_end(json: &Value) -> bool
-    ensures { IsTrue result → IsOfSave (view json.now) }
-{
-    json.get("end").is_some() && json.get("message").is_none()
-}
+use tcmake_messages::{Numbered, is_end, is_head, number_of, wrong};
 
 /// Why a save isn't taken.
 #[derive(Clone, Copy)]
@@ -183,7 +158,7 @@ const COUNT: Numbered = Numbered {
 fn count_in(alloc: Global, json: &Value) -> Result<Option<u64>, Complaint> {
     match json.get("end") {
         Some(held) if held.as_bool() == Some(true) => Ok(None),
-        _ => number_of(alloc, json, &COUNT),
+        _ => Ok(number_of(alloc, json, &COUNT)?),
     }
 }
 
@@ -195,12 +170,12 @@ fn names_in(alloc: Global, json: &Value) -> Result<Names, Complaint> {
     let mut names = Vec::new(alloc);
     if let Some(held) = json.get("names") {
         let Some(members) = held.as_object() else {
-            return Err(wrong(alloc, "names", held, NAMES));
+            return Err(Complaint::Line(wrong(alloc, "names", held, NAMES)));
         };
         for (index, name) in members {
             match (index.as_str().parse::<u32>(), name.as_str()) {
                 (Ok(index), Some(name)) => names.push((index, String::from_str(alloc, name)?))?,
-                _ => return Err(wrong(alloc, "names", held, NAMES)),
+                _ => return Err(Complaint::Line(wrong(alloc, "names", held, NAMES))),
             }
         }
     }

@@ -12,8 +12,8 @@ use Rattle.tcmake_lines.specs.Ends.{TakesPart, IsEmptyAtEnd, IsLast, with_end}
 use Rattle.tcmake_lines.specs.Lines.{lines_of, in_front, Reads, AreLines, IsFound, IsNext, EndsLine, is_end}
 use Rattle.tcmake_lines.specs.declared.input.Ends.{Ends}
 use Rattle.tcmake_lines.specs.declared.input.LineStatus.{LineStatus}
-use Rattle.tcmake_lines.specs.declared.input.LineStatus.TheVariants.{Whole, TooLong, NoMemory, End}
-use Rattle.tcmake_lines.specs.declared.input.Ends.TheVariants.{Nowhere, Interrupted, LineFeed, Input}
+use Rattle.tcmake_lines.specs.declared.input.LineStatus.TheVariants.{Whole, TooLong, End}
+use Rattle.tcmake_lines.specs.declared.input.Ends.TheVariants.{Nowhere, LineFeed, Input}
 
 -- a line and its line feed come before the lines behind them
 pub lines_of_line : (line rest : List ℕ) → All (λ c. c ≢ 10) line → lines_of (line ++ 10 ∷ rest) ≡ line ∷ lines_of rest
@@ -57,6 +57,13 @@ reads_none (Some xs) None c line none taken kept end = absurd taken
 reads_none (Some xs) (Some ys) None line none taken kept end = absurd kept
 reads_none (Some xs) (Some ys) (Some zs) line none taken kept end = taken ∙ ap (λ l. l ++ ys) none ∙ kept ∙ end
 
+-- nothing is read at the end
+pub reads_end : (a b c : Option (List ℕ)) (line : List ℕ) → line ≡ [] → Consumes a b line → Consumes b c [] → Reads a c []
+reads_end None b c line none taken kept = tt
+reads_end (Some xs) None c line none taken kept = absurd taken
+reads_end (Some xs) (Some ys) None line none taken kept = absurd kept
+reads_end (Some xs) (Some ys) (Some zs) line none taken kept = ap lines_of (taken ∙ ap (λ l. l ++ ys) none ∙ kept)
+
 -- lines, and then one
 pub reads_then : (a b c : Option (List ℕ)) (lines more : List (List ℕ)) → Reads a b lines → Reads b c more → Reads a c (lines ++ more)
 reads_then None b c lines more h k = tt
@@ -83,7 +90,6 @@ nothing_in (c ∷ part) none = absurd (omega (arith, none))
 is_last : (ends : Ends) (part shown : List ℕ) (a c : Option (List ℕ)) → IsEmptyAtEnd ends shown → length (with_end ends part) ≤ length shown
     → (length shown ≡ 0 → OnSome a (IsAtEnd c)) → IsLast ends part a c
 is_last Nowhere part shown a c none room end = tt
-is_last Interrupted part shown a c none room end = tt
 is_last LineFeed part shown a c none room end = tt
 is_last Input part shown a c none room end = (nothing_in part (omega (arith, none, room)), end none)
 
@@ -101,17 +107,6 @@ takes_part a b c buffered shown part ends n h front room none is starts end kept
       last = is_last ends part shown a c none room moved.1;
     }
 
--- nothing is taken where a read is interrupted
-pub takes_nothing : (a b : Option (List ℕ)) → Keeps a b → TakesPart Interrupted [] a b
-takes_nothing a b kept = record {
-  no_line_feed = λ k d lt. absurd (omega arith);
-  taken = Consumes-kept a a b [] (Consumes-nil a) kept;
-  last = tt;
-}
-
-pub found_nothing : (found : LineStatus) (text kept : List ℕ) → IsFound found text kept → IsFound found (text ++ []) kept
-found_nothing found text kept h = subst (λ l. IsFound found l kept) (sym (append-nil text)) h
-
 -- a line that ends with its line feed
 pub next_by_line_feed : (a b c : Option (List ℕ)) (found : LineStatus) (kept text part : List ℕ) → All (λ x. x ≢ 10) text → Consumes a b text
     → TakesPart LineFeed part b c → IsFound found (text ++ part) kept → IsNext found kept a c
@@ -128,7 +123,6 @@ next_by_line_feed a b c found kept text part all taken p h = by_case found h
     by_case : (f : LineStatus) → IsFound f line kept → IsNext f kept a c
     by_case Whole k = (line, reads, k)
     by_case TooLong k = (line, reads, k)
-    by_case NoMemory k = (line, reads, k)
     by_case End k = absurd k
 
 -- a line that ends with the input
@@ -147,10 +141,9 @@ next_by_end a b c result found kept text part all taken p h ends = by_case resul
     reads some = reads_last a b c text all some taken kept_all p.last.1
 
     by_case : (r : LineStatus) → EndsLine r found text → IsNext r kept a c
-    by_case End e = reads_none a b c text e taken kept_all p.last.1
+    by_case End e = (reads_none a b c text e taken kept_all p.last.1, reads_end a b c text e taken kept_all)
     by_case Whole e = (text, reads e.0, subst (λ f. IsFound f text kept) (sym e.1) here)
     by_case TooLong e = (text, reads e.0, subst (λ f. IsFound f text kept) (sym e.1) here)
-    by_case NoMemory e = (text, reads e.0, subst (λ f. IsFound f text kept) (sym e.1) here)
 
 -- ---- the end
 
@@ -160,12 +153,15 @@ no_end e = subst (λ b. cond b ⊥ ⊤) e tt
 pub at_end : (a c : Option (List ℕ)) (found : LineStatus) (kept : List ℕ) → is_end found ≡ true → IsNext found kept a c → IsAtEnd a
 at_end a c Whole kept e h = absurd (no_end e)
 at_end a c TooLong kept e h = absurd (no_end e)
-at_end a c NoMemory kept e h = absurd (no_end e)
-at_end a c End kept e h = h
+at_end a c End kept e h = h.0
+
+pub at_end_all : (a c : Option (List ℕ)) (found : LineStatus) (kept : List ℕ) → is_end found ≡ true → IsNext found kept a c → Reads a c []
+at_end_all a c Whole kept e h = absurd (no_end e)
+at_end_all a c TooLong kept e h = absurd (no_end e)
+at_end_all a c End kept e h = h.1
 
 pub line_found : (a c : Option (List ℕ)) (found : LineStatus) (kept : List ℕ) → is_end found ≡ false → IsNext found kept a c
     → (line : List ℕ) × Reads a c (line ∷ []) × IsFound found line kept
 line_found a c Whole kept e h = h
 line_found a c TooLong kept e h = h
-line_found a c NoMemory kept e h = h
 line_found a c End kept e h = absurd (no_end (sym e))

@@ -1,5 +1,5 @@
 -- Parts of a run, one after the other.
-use Rattle.std.proofs.Common.{◌≡◌, ℕ, Bool, true, false, List, [], ◌∷◌, ◌++◌, None, Some, refl, sym, ap, subst, ◌∙◌, append_assoc, append-nil}
+use Rattle.std.proofs.Common.{◌≡◌, inr, ℕ, Bool, true, false, List, [], ◌∷◌, ◌++◌, None, Some, refl, sym, ap, subst, ◌∙◌, append_assoc, append-nil}
 use Rattle.std.proofs.KnownBytes.{Appends-trans, Appends-nil}
 use Rattle.std.specs.List.{flat_map}
 use Rattle.std.specs.Prelude.{Option, ◌||◌, if◌then◌else◌}
@@ -7,8 +7,8 @@ use Rattle.std.specs.Io.KnownBytes.{Appends}
 use Rattle.tcmake_lines.specs.declared.format.OutputFormat.{OutputFormat}
 use Rattle.tcmake_lines.specs.declared.format.OutputFormat.TheVariants.{Hex, Bare, Stream, Capture}
 use Rattle.tcmake_lines.specs.declared.netlink.NetlinkHeader.{NetlinkHeader}
-use Rattle.tcmake_lines.specs.Parts.{Part, message, nothing, complaint, messages_of, is_complaint, has_complaint, Becomes, BecomeEach, Ran}
-use Rattle.tcmake_lines.specs.Lines.{AreLines, IsFound}
+use Rattle.tcmake_lines.specs.Parts.{Part, message, nothing, complaint, messages_of, is_complaint, has_complaint, Becomes, BecomeEach, Ran, RanOn}
+use Rattle.tcmake_lines.specs.Lines.{AreLines, IsFound, Reads}
 use Rattle.tcmake_lines.specs.declared.input.LineStatus.{LineStatus}
 use Rattle.tcmake_lines.specs.declared.input.LineStatus.TheVariants.{Whole}
 use Rattle.tcmake_lines.specs.State.{State, PutsPart, PutsLine, PutsOrNot, brought, held_then, ended}
@@ -61,9 +61,9 @@ complaint_one [] part = or_false (is_complaint part)
 complaint_one (p ∷ parts) part =
     ap (λ b. is_complaint p || b) (complaint_one parts part) ∙ sym (or_assoc (is_complaint p) (has_complaint parts) (is_complaint part))
 
-module _ (Makes : List ℕ → NetlinkHeader → List ℕ → Type 0) (Passes : List ℕ → Type 0) (form : OutputFormat) where
-  become_one : (lines : List (List ℕ)) (parts : List Part) (line : List ℕ) (part : Part) → BecomeEach Makes Passes form lines parts
-      → Becomes Makes Passes form line part → BecomeEach Makes Passes form (lines ++ line ∷ []) (parts ++ part ∷ [])
+module _ (Makes : List ℕ → NetlinkHeader → List ℕ → Type 0) (Passes Refuses : List ℕ → Type 0) (form : OutputFormat) where
+  become_one : (lines : List (List ℕ)) (parts : List Part) (line : List ℕ) (part : Part) → BecomeEach Makes Passes Refuses form lines parts
+      → Becomes Makes Passes Refuses form line part → BecomeEach Makes Passes Refuses form (lines ++ line ∷ []) (parts ++ part ∷ [])
   become_one [] [] line part h k = (k, tt)
   become_one [] (p ∷ parts) line part h k = absurd h
   become_one (l ∷ lines) [] line part h k = absurd h
@@ -75,7 +75,7 @@ module _ (Makes : List ℕ → NetlinkHeader → List ℕ → Type 0) (Passes : 
   -- stands behind it
   pub record Until (old now : Option (List ℕ)) (state : State) (bad : Bool) (lines : List (List ℕ)) : Type 0 where
     pub parts : List Part
-    pub become : BecomeEach Makes Passes form lines parts
+    pub become : BecomeEach Makes Passes Refuses form lines parts
     pub is_form : state.form ≡ form
     pub bytes : List ℕ
     pub output : Appends old now bytes
@@ -130,10 +130,10 @@ module _ (Makes : List ℕ → NetlinkHeader → List ℕ → Type 0) (Passes : 
   put_form s n complaint h = ap (λ (x : State). x.form) h
 
   pub until_line : (a b : Option (List ℕ)) (s n : State) (bad wrong now : Bool) (lines : List (List ℕ)) (line : List ℕ) → Until a b s bad lines
-      → PutsLine Makes Passes line wrong s n → now ≡ (bad || wrong) → Until a b n now (lines ++ line ∷ [])
+      → PutsLine Makes Passes Refuses line wrong s n → now ≡ (bad || wrong) → Until a b n now (lines ++ line ∷ [])
   until_line a b s n bad wrong now lines line h p is = record {
     parts = h.parts ++ p.0 ∷ [];
-    become = become_one lines h.parts line p.0 h.become (subst (λ f. Becomes Makes Passes f line p.0) h.is_form p.1);
+    become = become_one lines h.parts line p.0 h.become (subst (λ f. Becomes Makes Passes Refuses f line p.0) h.is_form p.1);
     is_form = put_form s n p.0 p.3 ∙ h.is_form;
     bytes = h.bytes;
     output = h.output;
@@ -145,7 +145,7 @@ module _ (Makes : List ℕ → NetlinkHeader → List ℕ → Type 0) (Passes : 
 
   -- at the end
   pub until_end : (a b c input : Option (List ℕ)) (s n : State) (bad : Bool) (lines : List (List ℕ)) → Until a b s bad lines → AreLines input lines
-      → n.text ≡ s.text ++ ended s.form s.held → Appends b c n.text → Ran Makes Passes form bad input a c
+      → n.text ≡ s.text ++ ended s.form s.held → Appends b c n.text → Ran Makes Passes Refuses form bad input a c
   until_end a b c input s n bad lines h all last more =
       let e = ended s.form s.held in
       let last_is : text_after form s.held [] ≡ e = text_end form s.held ∙ ap (λ f. ended f s.held) (sym h.is_form) in
@@ -161,18 +161,23 @@ module _ (Makes : List ℕ → NetlinkHeader → List ℕ → Type 0) (Passes : 
         said = h.said;
       }
 
+  -- when the output is closed
+  pub until_closed : (a b input left : Option (List ℕ)) (s : State) (bad : Bool) (lines : List (List ℕ)) → Until a b s bad lines → Reads input left lines
+      → RanOn Makes Passes Refuses form bad input left
+  until_closed a b input left s bad lines h read = record { lines = lines; parts = h.parts; read = read; become = h.become; said = h.said }
+
 -- ---- a line
 
 -- a message that is put on the output, or can't be written
-pub puts_line : (Makes : List ℕ → NetlinkHeader → List ℕ → Type 0) (Passes : List ℕ → Type 0)
+pub puts_line : (Makes : List ℕ → NetlinkHeader → List ℕ → Type 0) (Passes Refuses : List ℕ → Type 0)
     (line : List ℕ) (g : NetlinkHeader) (bytes : List ℕ) (wrong : Bool) (old new : State)
-    → Makes line g bytes → PutsOrNot g bytes wrong old new → PutsLine Makes Passes line wrong old new
-puts_line Makes Passes line g bytes true old new made h = (complaint, tt, refl, h)
-puts_line Makes Passes line g bytes false old new made h = (message (record { given = g; bytes = bytes }), (made, h.0), refl, h.1)
+    → Makes line g bytes → PutsOrNot g bytes wrong old new → PutsLine Makes Passes Refuses line wrong old new
+puts_line Makes Passes Refuses line g bytes true old new made h = (complaint, inr (inr (g, bytes, made, h.0)), refl, h.1)
+puts_line Makes Passes Refuses line g bytes false old new made h = (message (record { given = g; bytes = bytes }), (made, h.0), refl, h.1)
 
 -- a line that is there
-pub puts_whole : (Makes : List ℕ → NetlinkHeader → List ℕ → Type 0) (Passes : List ℕ → Type 0) (found : LineStatus) (line kept : List ℕ) (wrong : Bool) (old new : State)
-    → found ≡ Whole → IsFound found line kept → PutsLine Makes Passes kept wrong old new → PutsLine Makes Passes line wrong old new
-puts_whole Makes Passes found line kept wrong old new is h p =
+pub puts_whole : (Makes : List ℕ → NetlinkHeader → List ℕ → Type 0) (Passes Refuses : List ℕ → Type 0) (found : LineStatus) (line kept : List ℕ) (wrong : Bool) (old new : State)
+    → found ≡ Whole → IsFound found line kept → PutsLine Makes Passes Refuses kept wrong old new → PutsLine Makes Passes Refuses line wrong old new
+puts_whole Makes Passes Refuses found line kept wrong old new is h p =
     let here = subst (λ f. IsFound f line kept) is h in
-    subst (λ l. PutsLine Makes Passes l wrong old new) here.0 p
+    subst (λ l. PutsLine Makes Passes Refuses l wrong old new) here.0 p

@@ -1,9 +1,14 @@
 -- The lines of an input.
-use Rattle.std.specs.Prelude.{◌≡◌, ◌≢◌, ◌<◌, ◌≤◌, ◌==◌, ⊤, ℕ, Bool, true, false, List, [], ◌∷◌, ◌++◌, length, slice_index, Option, Some, None, if◌then◌else◌}
+use Rattle.std.specs.Prelude.{◌≡◌, ◌≢◌, ◌⊎◌, ◌<◌, ◌≤◌, ◌==◌, ⊤, ℕ, Bool, true, false, List, [], ◌∷◌, ◌++◌, length, slice_index, Option, Some, None, if◌then◌else◌}
+use Rattle.std.specs.List.{filter}
 use Rattle.std.specs.Io.KnownBytes.{IsAtEnd}
+use Rattle.std.specs.Io.Buffered.{reader_remaining}
+use Rattle.std.specs.declared.io.BufReader.{BufReader}
+use Rattle.program_io.specs.Streams.{reader_inside}
+use Rattle.program_io.specs.declared.streams.Reader.{Reader}
 use Rattle.std.specs.Char.{is_ascii_whitespace}
 use Rattle.tcmake_lines.specs.declared.input.LineStatus.{LineStatus}
-use Rattle.tcmake_lines.specs.declared.input.LineStatus.TheVariants.{Whole, TooLong, NoMemory, End}
+use Rattle.tcmake_lines.specs.declared.input.LineStatus.TheVariants.{Whole, TooLong, End}
 
 -- a byte at the front of the first line
 abbrev pub in_front : ℕ → List (List ℕ) → List (List ℕ)
@@ -28,24 +33,33 @@ AreLines (Some xs) lines = lines ≡ lines_of xs
 
 -- the longest line that is read, in bytes
 abbrev pub most_line : ℕ
-most_line = 33554432
+most_line = 4194304
 
--- the part of a line that is kept: all, or the front if it is too long or memory ran out
+-- the most objects of a line, and how many it opens
+abbrev pub most_objects : ℕ
+most_objects = 196624
+
+abbrev pub opened : List ℕ → ℕ
+opened line = length (filter (λ c. c == 123) line)
+
+-- a line that is too long, or opens too many objects
+abbrev pub IsTooLong : List ℕ → Type 0
+IsTooLong line = (most_line < length line) ⊎ (most_objects < opened line)
+
+-- the part of a line that is kept: all, or the front if it is too long
 abbrev pub IsFound : LineStatus → List ℕ → List ℕ → Type 0
 IsFound Whole line kept = (kept ≡ line) × (length line ≤ most_line)
 IsFound TooLong line kept = most_line < length line
-IsFound NoMemory line kept = 0 < length line
 IsFound End line kept = ⊥
 
 abbrev pub is_end : LineStatus → Bool
 is_end Whole = false
 is_end TooLong = false
-is_end NoMemory = false
 is_end End = true
 
 -- the next line is read, or the input is at its end
 abbrev pub IsNext : LineStatus → List ℕ → Option (List ℕ) → Option (List ℕ) → Type 0
-IsNext End kept old new = IsAtEnd old
+IsNext End kept old new = IsAtEnd old × Reads old new []
 IsNext found kept old new = (line : List ℕ) × Reads old new (line ∷ []) × IsFound found line kept
 
 -- if an input ends after a line, the line has bytes; else there is none
@@ -53,7 +67,10 @@ abbrev pub EndsLine : LineStatus → LineStatus → List ℕ → Type 0
 EndsLine End found line = line ≡ []
 EndsLine Whole found line = (line ≢ []) × (Whole ≡ found)
 EndsLine TooLong found line = (line ≢ []) × (TooLong ≡ found)
-EndsLine NoMemory found line = (line ≢ []) × (NoMemory ≡ found)
+
+-- the bytes that a reader with a buffer has left, of those that the reader inside has
+abbrev pub left_in : {R A : Type 0} → (R → Option (List ℕ)) → BufReader (Reader R) A → Option (List ℕ)
+left_in remaining r = reader_remaining (λ inside. remaining (reader_inside inside)) r
 
 -- a line of blanks
 abbrev pub IsBlank : List ℕ → Type 0

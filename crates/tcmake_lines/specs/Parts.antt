@@ -5,7 +5,7 @@ use Rattle.tcmake_lines.specs.declared.format.OutputFormat.{OutputFormat}
 use Rattle.tcmake_lines.specs.declared.netlink.NetlinkHeader.{NetlinkHeader}
 use Rattle.tcmake_lines.specs.declared.maker.Answer.{Answer}
 use Rattle.tcmake_lines.specs.declared.maker.Answer.TheVariants as answered
-use Rattle.tcmake_lines.specs.Lines.{AreLines, IsBlank}
+use Rattle.tcmake_lines.specs.Lines.{AreLines, IsBlank, IsTooLong, Reads}
 use Rattle.tcmake_lines.specs.Written.{Message, IsWritable, written}
 
 -- a message, nothing, or a complaint
@@ -31,19 +31,24 @@ abbrev pub has_complaint : List Part → Bool
 has_complaint [] = false
 has_complaint (part ∷ parts) = is_complaint part || has_complaint parts
 
--- a maker says which message a line becomes, and which lines have none
-module _ (Makes : List ℕ → NetlinkHeader → List ℕ → Type 0) (Passes : List ℕ → Type 0) where
+-- a maker says which message a line becomes, which lines have none, and which have an error
+module _ (Makes : List ℕ → NetlinkHeader → List ℕ → Type 0) (Passes Refuses : List ℕ → Type 0) where
   -- its result for a line
   abbrev pub IsAnswer : List ℕ → Answer → Type 0
   IsAnswer line (answered.Message given bytes notices) = Makes line given bytes.items
   IsAnswer line (answered.Nothing notice) = Passes line
-  IsAnswer line (answered.Complaint text) = ⊤
+  IsAnswer line (answered.Complaint text) = Refuses line
 
-  -- a line becomes a message that can be written, nothing if it is blank or holds no message, or a complaint
+  -- a message of the line can't be written
+  abbrev pub IsUnwritable : OutputFormat → List ℕ → Type 0
+  IsUnwritable form line = (given : NetlinkHeader) × (bytes : List ℕ) × Makes line given bytes × (¬ IsWritable form given bytes)
+
+  -- a line becomes a message that can be written; nothing if it is blank or holds no message; a complaint if it has an error, is too long, or
+  -- holds a message that can't be written
   abbrev pub Becomes : OutputFormat → List ℕ → Part → Type 0
   Becomes form line (message m) = Makes line m.given m.bytes × IsWritable form m.given m.bytes
   Becomes form line nothing = IsBlank line ⊎ Passes line
-  Becomes form line complaint = ⊤
+  Becomes form line complaint = Refuses line ⊎ IsTooLong line ⊎ IsUnwritable form line
 
   -- each of some lines becomes one part
   abbrev pub BecomeEach : OutputFormat → List (List ℕ) → List Part → Type 0
@@ -59,4 +64,12 @@ module _ (Makes : List ℕ → NetlinkHeader → List ℕ → Type 0) (Passes : 
     pub all : AreLines input lines
     pub become : BecomeEach form lines parts
     pub output : Appends old new (written form (messages_of parts))
+    pub said : bad ≡ has_complaint parts
+
+  -- a run whose output is closed before: these lines were read, and `bad` says whether there is a complaint about one of them
+  pub record RanOn (form : OutputFormat) (bad : Bool) (input left : Option (List ℕ)) : Type 0 where
+    pub lines : List (List ℕ)
+    pub parts : List Part
+    pub read : Reads input left lines
+    pub become : BecomeEach form lines parts
     pub said : bad ≡ has_complaint parts

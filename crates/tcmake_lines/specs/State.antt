@@ -63,7 +63,7 @@ pub record PutsMessage (g : NetlinkHeader) (bytes : List ℕ) (old new : State) 
 
 -- or it can't be written, and nothing is appended
 abbrev pub PutsOrNot : NetlinkHeader → List ℕ → Bool → State → State → Type 0
-PutsOrNot g bytes true old new = new ≡ old
+PutsOrNot g bytes true old new = (¬ IsWritable old.form g bytes) × (new ≡ old)
 PutsOrNot g bytes false old new = IsWritable old.form g bytes × PutsMessage g bytes old new
 
 -- the result for a line is appended to an output
@@ -72,6 +72,6 @@ PutsPart (message m) old new = PutsMessage m.given m.bytes old new
 PutsPart nothing old new = new ≡ old
 PutsPart complaint old new = new ≡ old
 
-abbrev pub PutsLine : (List ℕ → NetlinkHeader → List ℕ → Type 0) → (List ℕ → Type 0) → List ℕ → Bool → State → State → Type 0
-PutsLine Makes Passes line is_wrong old new =
-    (part : Part) × Becomes Makes Passes old.form line part × (is_wrong ≡ is_complaint part) × PutsPart part old new
+abbrev pub PutsLine : (List ℕ → NetlinkHeader → List ℕ → Type 0) → (Passes Refuses : List ℕ → Type 0) → List ℕ → Bool → State → State → Type 0
+PutsLine Makes Passes Refuses line is_wrong old new =
+    (part : Part) × Becomes Makes Passes Refuses old.form line part × (is_wrong ≡ is_complaint part) × PutsPart part old new

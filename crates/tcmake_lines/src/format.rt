@@ -1,6 +1,6 @@
 //! Output formats.
 
-ghost use Rattle.std.specs.Prelude.{OnOk};
+ghost use Rattle.std.specs.Prelude.{OnErr, OnOk};
 ghost use Rattle.tcmake_lines.specs.Written.{IsWritable};
 
 use crate::netlink::NetlinkHeader;
@@ -35,7 +35,8 @@ pub(crate) const MOST_MESSAGES: usize = 0x10_0000 - 32;
 
 /// Fails unless the message can be written in this format.
 pub fn check(form: OutputFormat, given: &NetlinkHeader, bytes: &[u8]) -> Result<(), Unwritable>
-    ensures { OnOk result (IsWritable form given.now bytes.now) }
+    ensures writable { OnOk result (IsWritable form given.now bytes.now) }
+    ensures refused { OnErr result (¬ IsWritable form given.now bytes.now) }
 {
     if form == OutputFormat::Bare {
         return Ok(());

@@ -1,18 +1,22 @@
 //! Reading lines.
 
-ghost use Rattle.std.specs.Prelude.{◌≡◌, ◌≢◌, ◌≤◌, ℕ, true, List, ◌++◌, All, length, take, IfOk};
+ghost use Rattle.std.specs.Prelude.{◌≡◌, ◌≢◌, ◌≤◌, ℕ, nat_lt, true, List, ◌++◌, All, length, take, IfErr, IfOk};
+ghost use Rattle.program_io.specs.declared.stop.Stop.TheVariants.{Closed};
 ghost use Rattle.tcmake_lines.specs.Ends.{IsEmptyAtEnd, TakesPart, with_end};
-ghost use Rattle.tcmake_lines.specs.Lines.{EndsLine, IsBlank, IsFound, IsNext};
+ghost use Rattle.tcmake_lines.specs.Lines.{EndsLine, IsBlank, IsFound, IsNext, opened};
 
 use memchr::memchr;
 use program_io::Stop;
-use std::io::{BufRead, ErrorKind};
+use std::alloc::AllocError;
+use std::io::BufRead;
 
-/// The longest line that is read, in bytes.
-pub const MOST_LINE: usize = 32 * 1024 * 1024;
+/// The longest line that is read, in bytes: 4 MiB, 16 for each byte of a message of 256 KiB. The longest line of such a message
+/// has 50 bytes for each attribute without a payload, which takes four: `{"Taprio":{"SchedCycleTimeExtension":{"raw":""}}},`.
+pub const MOST_LINE: usize = 4 * 1024 * 1024;
 
-// How often an interrupted read is retried.
-const MOST_TRIES: u16 = 1024;
+/// The most objects in a line: three for each attribute of such a message, and 16 around them. They bound the memory that a
+/// line takes.
+pub const MOST_OBJECTS: usize = 3 * 65_536 + 16;
 
 /// How reading a line ended.
 #[derive(Clone, Copy, PartialEq, Eq, Debug)]
@@ -21,8 +25,6 @@ pub enum LineStatus {
     Whole,
     /// The line is too long.
     TooLong,
-    /// Memory ran out.
-    NoMemory,
     /// The end of the input; no line.
     End,
 }
@@ -32,35 +34,27 @@ pub enum LineStatus {
 pub(crate) enum Ends {
     // The line continues.
     Nowhere,
-    // The read was interrupted.
-    Interrupted,
     // At a line feed.
     LineFeed,
     // At the end of the input.
     Input,
 }
 
-/// Reads a line, without its line feed. If it is too long, its front is kept.
+/// Reads a line, without its line feed. If it is too long, its front is kept. Fails with `Stop::Read` or `Stop::NoMemory`.
 pub fn next_line<R: BufRead>(input: &mut R, line: &mut Vec<u8>) -> Result<LineStatus, Stop>
     ensures next { IfOk result (λ found. IsNext found line.new.items (R.remaining input.old) (R.remaining input.new)) }
-    ensures bound { length line.new.items ≤ 33554432 }
+    ensures bound { length line.new.items ≤ 4194304 }
+    ensures open { IfErr result (λ stop. stop ≢ Closed) }
 {
     line.clear();
     let mut found = LineStatus::Whole;
-    let mut tries = 0u16;
     for _ in 0..u64::MAX {
         let (ends, now) = next_part(input, line, found)?;
         found = now;
         match ends {
             Ends::LineFeed => return Ok(found),
             Ends::Input => return Ok(found_at_end(line, found)),
-            Ends::Nowhere => tries = 0,
-            Ends::Interrupted => {
-                tries = tries.saturating_add(1);
-                if tries == MOST_TRIES {
-                    return Err(Stop::Read);
-                }
-            }
+            Ends::Nowhere => {}
         }
     }
     Err(Stop::Read)
@@ -79,7 +73,6 @@ fn found_at_end(line: &[u8], found: LineStatus) -> LineStatus
             }
         }
         LineStatus::TooLong => LineStatus::TooLong,
-        LineStatus::NoMemory => LineStatus::NoMemory,
         LineStatus::End => LineStatus::End,
     }
 }
@@ -90,23 +83,17 @@ fn next_part<R: BufRead>(
     line: &mut Vec<u8>,
     found: LineStatus,
 ) -> Result<(Ends, LineStatus), Stop>
-    requires { length line.old.items ≤ 33554432 }
-    ensures bound { length line.new.items ≤ 33554432 }
+    requires { length line.old.items ≤ 4194304 }
+    ensures bound { length line.new.items ≤ 4194304 }
     ensures part { IfOk result (λ r. (part : List ℕ) × TakesPart r.0 part (R.remaining input.old) (R.remaining input.new)
         × ((text : List ℕ) → IsFound found text line.old.items → IsFound r.1 (text ++ part) line.new.items)) }
+    ensures open { IfErr result (λ stop. stop ≢ Closed) }
 {
-    let available = match input.fill_buf() {
-        Ok(available) => available,
-        Err(fault) => {
-            return if fault.kind() == ErrorKind::Interrupted {
-                Ok((Ends::Interrupted, found))
-            } else {
-                Err(Stop::Read)
-            };
-        }
+    let Ok(available) = input.fill_buf() else {
+        return Err(Stop::Read);
     };
     let (text, ends) = part_of(available);
-    let found = append(text, line, found);
+    let found = append(text, line, found)?;
     let used = len_of(text, ends);
     input.consume(used);
     Ok((ends, found))
@@ -143,21 +130,38 @@ fn len_of(part: &[u8], ends: Ends) -> usize
 }
 
 // Appends a part of a line.
-fn append(part: &[u8], line: &mut Vec<u8>, found: LineStatus) -> LineStatus
-    requires { length line.old.items ≤ 33554432 }
-    ensures bound { length line.new.items ≤ 33554432 }
-    ensures kept { (text : List ℕ) → IsFound found text line.old.items → IsFound result (text ++ part.now) line.new.items }
+fn append(part: &[u8], line: &mut Vec<u8>, found: LineStatus) -> Result<LineStatus, AllocError>
+    requires { length line.old.items ≤ 4194304 }
+    ensures bound { length line.new.items ≤ 4194304 }
+    ensures kept { IfOk result (λ now. (text : List ℕ) → IsFound found text line.old.items → IsFound now (text ++ part.now) line.new.items) }
 {
     if found != LineStatus::Whole || part.is_empty() {
-        return found;
+        return Ok(found);
     }
     if line.len().saturating_add(part.len()) > MOST_LINE {
-        return LineStatus::TooLong;
+        return Ok(LineStatus::TooLong);
     }
-    match line.extend_from_slice(part) {
-        Ok(()) => LineStatus::Whole,
-        Err(_) => LineStatus::NoMemory,
+    line.extend_from_slice(part)?;
+    Ok(LineStatus::Whole)
+}
+
+/// True if a line opens more than [`MOST_OBJECTS`] objects; a brace in a text counts too.
+pub fn has_many_objects(line: &[u8]) -> bool
+    ensures { result ≡ nat_lt 196624 (opened line.now) }
+{
+    opened_in(line) > MOST_OBJECTS
+}
+
+fn opened_in(line: &[u8]) -> usize
+    ensures { result ≡ opened line.now }
+{
+    let mut count = 0;
+    for byte in line {
+        if *byte == b'{' {
+            count += 1;
+        }
     }
+    count
 }
 
 /// True if the line is blank.

@@ -32,7 +32,10 @@ pub trait Maker {
     // The line has no message, and no error.
     ghost Passes: { Self → List ℕ → Type 0 };
 
+    // No message is built from the line, and it has an error.
+    ghost Refuses: { Self → List ℕ → Type 0 };
+
     /// Builds the message of a line. Fails only if memory runs out.
     fn make(&self, line: &[u8]) -> Result<Answer, AllocError>
-        ensures { IfOk result (IsAnswer (Makes self.now) (Passes self.now) line.now) };
+        ensures { IfOk result (IsAnswer (Makes self.now) (Passes self.now) (Refuses self.now) line.now) };
 }

@@ -1,45 +1,51 @@
 //! A run over an input.
 
-ghost use Rattle.std.specs.Prelude.{◌≡◌, ◌||◌, ℕ, true, false, List, IfOk, OnOk};
-ghost use Rattle.tcmake_lines.specs.Lines.{IsFound, is_end};
-ghost use Rattle.tcmake_lines.specs.Parts.{Ran};
+ghost use Rattle.std.specs.Prelude.{◌≡◌, ◌||◌, ℕ, Err, true, false, List, IfErr, IfOk, OnOk};
+ghost use Rattle.std.specs.Io.Buffered.{reader_inner};
+ghost use Rattle.program_io.specs.Streams.{Shows, read_failure, write_failure, writer_inside};
+ghost use Rattle.program_io.specs.declared.stop.Stop.TheVariants.{Closed};
+ghost use Rattle.tcmake_lines.specs.Lines.{IsFound, is_end, left_in};
+ghost use Rattle.tcmake_lines.specs.Parts.{Ran, RanOn};
 ghost use Rattle.tcmake_lines.specs.State.{PutsLine, PutsOrNot, state_of};
 
 use crate::format::{OutputFormat, check};
-use crate::input::{LineStatus, is_blank, next_line};
+use crate::input::{LineStatus, has_many_objects, is_blank, next_line};
 use crate::maker::{Answer, Maker};
 use crate::netlink::NetlinkHeader;
 use crate::output::Output;
-use program_io::{Stop, write_all};
+use program_io::{Ended, Reader, Stop, Writer, shown_reason, write_text};
 use std::alloc::{AllocError, Global};
-use std::io::{BufRead, Write};
+use std::io::{BufRead, BufReader, Read, Write};
 
 /// The error for a line longer than [`MOST_LINE`](crate::MOST_LINE).
-pub const LONG_LINE: &str = "longer than 33554432 bytes";
+pub const LONG_LINE: &str = "longer than 4194304 bytes";
 
-/// How a run ended.
-#[derive(Clone, Copy, PartialEq, Eq, Debug)]
-pub struct Ended {
-    /// The error that ended it early, if any.
-    pub outcome: Result<(), Stop>,
-    /// True if a line had an error.
-    pub has_refused: bool,
-}
+/// The error for a line with more objects than [`MOST_OBJECTS`](crate::MOST_OBJECTS).
+pub const MANY_OBJECTS: &str = "more than 196624 objects";
 
 /// Builds the messages of all lines of an input, and writes them. Errors and notices are written to `errors`.
-pub fn run<M: Maker, R: BufRead, W: Write, E: Write>(
+pub fn run<M: Maker, R: Read, W: Write, E: Write>(
     alloc: Global,
     maker: &M,
     form: OutputFormat,
-    reader: &mut R,
-    writer: &mut W,
+    reader: &mut BufReader<Reader<R>>,
+    writer: &mut Writer<W>,
     errors: &mut E,
 ) -> Ended
-    ensures { OnOk result.outcome (Ran (M.Makes maker.now) (M.Passes maker.now) form result.has_refused
-        (R.remaining reader.old) (W.contents writer.old) (W.contents writer.new)) }
+    // It comes to the end of its input.
+    ensures ran { OnOk result.outcome (Ran (M.Makes maker.now) (M.Passes maker.now) (M.Refuses maker.now) form result.has_refused
+        (left_in R.remaining reader.old) (W.contents (writer_inside writer.old)) (W.contents (writer_inside writer.new))) }
+    // Or its output is closed.
+    ensures closed { result.outcome ≡ Err Closed → RanOn (M.Makes maker.now) (M.Passes maker.now) (M.Refuses maker.now) form result.has_refused
+        (left_in R.remaining reader.old) (left_in R.remaining reader.new) }
+    // A stream that failed shows why it ends early; otherwise memory ran out.
+    ensures stopped { IfErr result.outcome (Shows (read_failure (reader_inner reader.new)) (write_failure writer.new)) }
 {
     let mut has_refused = false;
-    let outcome = make_all(alloc, maker, form, reader, writer, errors, &mut has_refused);
+    let outcome = match make_all(alloc, maker, form, reader, writer, errors, &mut has_refused) {
+        Ok(()) => Ok(()),
+        Err(stop) => Err(shown_reason(reader.get_ref(), writer, stop)),
+    };
     Ended {
         outcome,
         has_refused,
@@ -56,8 +62,10 @@ fn make_all<M: Maker, R: BufRead, W: Write, E: Write>(
     has_refused: &mut bool,
 ) -> Result<(), Stop>
     requires { has_refused.old ≡ false }
-    ensures { OnOk result (Ran (M.Makes maker.now) (M.Passes maker.now) form has_refused.new
+    ensures ran { OnOk result (Ran (M.Makes maker.now) (M.Passes maker.now) (M.Refuses maker.now) form has_refused.new
         (R.remaining reader.old) (W.contents writer.old) (W.contents writer.new)) }
+    ensures closed { result ≡ Err Closed → RanOn (M.Makes maker.now) (M.Passes maker.now) (M.Refuses maker.now) form has_refused.new
+        (R.remaining reader.old) (R.remaining reader.new) }
 {
     let mut output = Output::new(alloc, form);
     output.begin()?;
@@ -97,14 +105,13 @@ fn put_line<M: Maker, E: Write>(
     number: u64,
     output: &mut Output,
     errors: &mut E,
-) -> Result<bool, Stop>
-    ensures { (whole : List ℕ) → IsFound found whole line.now → IfOk result (λ is_wrong. PutsLine (M.Makes maker.now) (M.Passes maker.now) whole is_wrong
-        (state_of output.old) (state_of output.new)) }
+) -> Result<bool, AllocError>
+    ensures { (whole : List ℕ) → IsFound found whole line.now → IfOk result (λ is_wrong. PutsLine (M.Makes maker.now) (M.Passes maker.now)
+        (M.Refuses maker.now) whole is_wrong (state_of output.old) (state_of output.new)) }
 {
     match found {
         LineStatus::Whole => put_whole_line(alloc, maker, line, number, output, errors),
         LineStatus::TooLong => report(alloc, errors, number, LONG_LINE),
-        LineStatus::NoMemory => report(alloc, errors, number, "out of memory"),
         LineStatus::End => Ok(false),
     }
 }
@@ -117,12 +124,15 @@ fn put_whole_line<M: Maker, E: Write>(
     number: u64,
     output: &mut Output,
     errors: &mut E,
-) -> Result<bool, Stop>
-    ensures { IfOk result (λ is_wrong. PutsLine (M.Makes maker.now) (M.Passes maker.now) line.now is_wrong
+) -> Result<bool, AllocError>
+    ensures { IfOk result (λ is_wrong. PutsLine (M.Makes maker.now) (M.Passes maker.now) (M.Refuses maker.now) line.now is_wrong
         (state_of output.old) (state_of output.new)) }
 {
     if is_blank(line) {
         return Ok(false);
+    }
+    if has_many_objects(line) {
+        return report(alloc, errors, number, MANY_OBJECTS);
     }
     match maker.make(line)? {
         Answer::Message {
@@ -149,7 +159,7 @@ pub fn put_message<E: Write>(
     number: u64,
     output: &mut Output,
     errors: &mut E,
-) -> Result<bool, Stop>
+) -> Result<bool, AllocError>
     ensures { IfOk result (λ is_wrong. PutsOrNot given.now bytes.now is_wrong (state_of output.old) (state_of output.new)) }
 {
     if let Err(fault) = check(output.form(), given, bytes) {
@@ -164,7 +174,12 @@ pub fn put_message<E: Write>(
 }
 
 // Prints an error.
-fn report<E: Write>(alloc: Global, errors: &mut E, number: u64, text: &str) -> Result<bool, Stop>
+fn report<E: Write>(
+    alloc: Global,
+    errors: &mut E,
+    number: u64,
+    text: &str,
+) -> Result<bool, AllocError>
     ensures { IfOk result (λ is_wrong. is_wrong ≡ true) }
 {
     say(alloc, errors, number, text)?;
@@ -179,6 +194,6 @@ pub fn say<E: Write>(
     text: &str,
 ) -> Result<(), AllocError> {
     let text = format!(in alloc; "tcmake: line {number}: {text}\n")?;
-    let _ = write_all(errors, text.as_bytes());
+    let _ = write_text(alloc, errors, text.as_str());
     Ok(())
 }

@@ -3,22 +3,23 @@
 #![tactic(auto)]
 
 use forms_kinds::{ACTION_MESSAGE, TC_MESSAGE, TcTables};
+use program_io::{Reader, Writer};
 use std::alloc::Global;
 use std::fs;
-use std::io::{self, IsTerminal, Print, Read, Write};
+use std::io::{self, BufReader, IsTerminal, Print, Read, Write};
 use std::process::ExitCode;
 use tc_outline::Interfaces;
 use tc_select::Filter;
-use tcmake_lib::arguments::{Making, Request};
-use tcmake_lib::message::Forms;
+use tcmake_lib::arguments::Request;
 use tcmake_lines::OutputFormat;
+use tcmake_messages::{Forms, Making};
 use tcshow_lib::options::Options;
 use tcshow_lib::program::tcshow;
 
 fn main(rt: HostRuntime) -> ExitCode {
-    let status = tcshow(&rt, rt.stdout().is_terminal(), &mut rt.stderr());
-    if status != ExitCode::SUCCESS {
-        return status;
+    let status = tcshow(&rt, rt.stdout().is_terminal(), &mut rt.stderr()).status();
+    if status != 0 {
+        return ExitCode::from(status);
     }
     match fs::open(&rt, "messages") {
         Ok(mut messages) => ExitCode::from(make_again(
@@ -47,7 +48,15 @@ fn make_again<R: Print, I: Read, E: Write>(
         has_summary: false,
     };
     let mut lines = Vec::new(alloc);
-    tcshow_lib::program::serve(alloc, alloc, &options, messages, &mut lines, errors);
+    tcshow_lib::program::serve(
+        alloc,
+        alloc,
+        &options,
+        "messages",
+        &mut Reader::new(messages),
+        &mut Writer::new(&mut lines),
+        errors,
+    );
     let forms = Forms {
         table: TcTables,
         tc: TC_MESSAGE,
@@ -63,13 +72,16 @@ fn make_again<R: Print, I: Read, E: Write>(
     if io::writer(rt).write_all(&lines).is_err() {
         return 3;
     }
-    let mut shown = lines.as_slice();
-    tcmake_lib::program::serve(
-        alloc,
-        forms,
-        &request,
-        &mut shown,
-        &mut io::writer(rt),
-        errors,
-    )
+    match BufReader::new(alloc, Reader::new(lines.as_slice())) {
+        Ok(mut shown) => tcmake_lib::program::serve(
+            alloc,
+            forms,
+            &request,
+            &mut shown,
+            &mut Writer::new(io::writer(rt)),
+            errors,
+        )
+        .status(),
+        Err(_) => 3,
+    }
 }

@@ -6,5 +6,5 @@ use std::process::ExitCode;
 use tcshow_lib::program::tcshow;
 
 fn main(rt: HostRuntime) -> ExitCode {
-    tcshow(&rt, rt.stdout().is_terminal(), &mut rt.stderr())
+    ExitCode::from(tcshow(&rt, rt.stdout().is_terminal(), &mut rt.stderr()).status())
 }

@@ -1,15 +1,17 @@
 -- Texts appended to the output, one after the other.
-use Rattle.std.proofs.Common.{◌≡◌, ◌∙◌, ℕ, Bool, true, false, List, [], ◌∷◌, ◌++◌, refl, sym, ap, subst, append_assoc, append-nil}
-use Rattle.std.specs.Prelude.{◌||◌, IsTrue, is_some}
+use Rattle.std.proofs.Common.{◌≡◌, ◌∙◌, ℕ, Bool, true, false, List, [], ◌∷◌, ◌++◌, refl, sym, ap, subst, append_assoc, append-nil, true≢false}
+use Rattle.std.specs.Prelude.{◌||◌, IsTrue}
 use Rattle.std.proofs.lemmas.List.Elements.{All-push}
-use Rattle.tc_outline.specs.declared.what.What.{What}
-use Rattle.tc_outline.specs.Located.{items_of_message, message_fault}
 use Rattle.tc_outline.specs.Page.{IsShown, is_shown}
-use Rattle.tcshow_json.specs.Messages.{Header, Message, Thing, message, answer, other}
+use Rattle.tcshow_json.specs.Messages.{Header, Message, Reason, Thing, message, answer, other}
 use Rattle.tc_select.specs.declared.filter.Filter.{Filter}
 use Rattle.tcshow_input.specs.Selection.{is_matched, is_included}
-use Rattle.tcshow_input.specs.Shown.{ended, IsPage, IfTaken, Nothing, Shows, ShowsEach, ShowsMessage, ShowsAnswer}
-use Rattle.tcshow_input.specs.State.{State, Grows, Puts}
+use Rattle.tcshow_input.specs.Shown.{ended, IsEscaped, IsPage, IsOutline, IsViewOf, View, has_fault, lines_with, IfTaken, Nothing, Shows, ShowsEach, ShowsMessage, ShowsAnswer, ShowsNotice, ShowsSummary}
+use Rattle.tc_outline.specs.declared.page.Page.{Page}
+use Rattle.tc_outline.specs.Text.{Continues, is_in_lines, text_on}
+use Rattle.tcshow_input.specs.declared.options.OutputFormat.{OutputFormat}
+use Rattle.tcshow_input.specs.declared.options.OutputFormat.TheVariants.{Lines, OneLine, Json}
+use Rattle.tcshow_input.specs.State.{State, Grows, Puts, laid_out, layout_of, view_of}
 
 pub or_assoc : (a b c : Bool) → ((a || b) || c) ≡ (a || (b || c))
 or_assoc true b c = refl
@@ -25,11 +27,12 @@ nothing = record { no_text = refl; no_fault = refl }
 -- ---- more text
 
 pub grows_none : (s : State) → Grows [] false s s
-grows_none s = record { json = refl; header = refl; filter = refl; summary = refl; text = sym (append-nil s.text); bad = sym (or_false s.bad) }
+grows_none s = record { json = refl; view = refl; header = refl; filter = refl; summary = refl; text = sym (append-nil s.text); bad = sym (or_false s.bad) }
 
 pub grows_then : (t u : List ℕ) (b c : Bool) (s m n : State) → Grows t b s m → Grows u c m n → Grows (t ++ u) (b || c) s n
 grows_then t u b c s m n g h = record {
   json = h.json ∙ g.json;
+  view = h.view ∙ g.view;
   header = h.header ∙ g.header;
   filter = h.filter ∙ g.filter;
   summary = h.summary ∙ g.summary;
@@ -44,59 +47,103 @@ grows_counted t b s m n g h = subst (λ x. Grows x b s n) (append-nil t) (grows_
 -- ---- pages, messages and answers
 
 -- a page more, and the line feed that ends it
-pub page_line : (s : State) (json : Bool) (items before : List ℕ) → json ≡ s.json → (shown : List ℕ) × IsShown true shown × (before ≡ s.text ++ shown)
-    → items ≡ before ++ 10 ∷ []
-    → (text : List ℕ) × IsPage text
-    × Grows text false s (record { json = json; header = s.header; filter = s.filter; summary = s.summary; text = items; bad = s.bad })
-page_line s json items before same p fed = (
-  ended p.0,
-  (p.0, p.1, refl),
-  record {
-    json = same;
-    header = refl;
-    filter = refl;
-    summary = refl;
-    text = fed ∙ ap (λ l. l ++ 10 ∷ []) p.2 ∙ append_assoc s.text p.0 (10 ∷ []);
-    bad = sym (or_false s.bad);
-  },
-)
+pub page_line : (s : State) (json : Bool) (items before page : List ℕ) → json ≡ s.json → before ≡ s.text ++ page → items ≡ before ++ 10 ∷ []
+    → Grows (ended page) false s (record { json = json; view = s.view; header = s.header; filter = s.filter; summary = s.summary; text = items; bad = s.bad })
+page_line s json items before page same p fed = record {
+  json = same;
+  view = refl;
+  header = refl;
+  filter = refl;
+  summary = refl;
+  text = fed ∙ ap (λ l. l ++ 10 ∷ []) p ∙ append_assoc s.text page (10 ∷ []);
+  bad = sym (or_false s.bad);
+}
+
+-- a page in the formats that have a line for each message
+pub line_laid_out : (format : OutputFormat) (page : List ℕ) (s n : State) → is_in_lines (layout_of format) ≡ false → Grows (ended page) false s n
+    → Grows (laid_out format page) false s n
+line_laid_out Lines page s n is put = absurd (true≢false is)
+line_laid_out OneLine page s n is put = put
+line_laid_out Json page s n is put = put
 
 -- one more line feed, which ends a paragraph
-pub paragraph : (s m : State) (json : Bool) (items : List ℕ) → json ≡ m.json → (text : List ℕ) × IsPage text × Grows text false s m
-    → items ≡ m.text ++ 10 ∷ []
-    → (text : List ℕ) × IsPage text
-    × Grows text false s (record { json = json; header = m.header; filter = m.filter; summary = m.summary; text = items; bad = m.bad })
-paragraph s m json items same p fed =
-    let shown = subst (λ l. IsShown true l) (sym p.1.2) (All-push (λ b. IsTrue (is_shown true b)) p.1.0 10 p.1.1 refl) in (
-      ended p.0,
-      (p.0, shown, refl),
-      record {
-        json = same ∙ p.2.json;
-        header = p.2.header;
-        filter = p.2.filter;
-        summary = p.2.summary;
-        text = fed ∙ ap (λ l. l ++ 10 ∷ []) p.2.text ∙ append_assoc s.text p.0 (10 ∷ []);
-        bad = p.2.bad;
-      },
-    )
+pub paragraph : (s m : State) (json : Bool) (items text : List ℕ) → json ≡ m.json → Grows text false s m → items ≡ m.text ++ 10 ∷ []
+    → Grows (ended text) false s (record { json = json; view = m.view; header = m.header; filter = m.filter; summary = m.summary; text = items; bad = m.bad })
+paragraph s m json items text same g fed = record {
+  json = same ∙ g.json;
+  view = g.view;
+  header = g.header;
+  filter = g.filter;
+  summary = g.summary;
+  text = fed ∙ ap (λ l. l ++ 10 ∷ []) g.text ∙ append_assoc s.text text (10 ∷ []);
+  bad = g.bad;
+}
 
--- a page, and whether it ends with a fault
-pub page_counted : (what : What) (m : Message) (b : Bool) (s a n : State) → (text : List ℕ) × IsPage text × Grows text false s a
-    → b ≡ is_some (message_fault (items_of_message what m.payload)) → Grows [] b a n
-    → (text : List ℕ) × (bad : Bool) × ShowsMessage false m text bad × Grows text bad s n
-page_counted what m b s a n p e h = (p.0, b, (what, p.1, e), grows_counted p.0 b s a n p.2 h)
+with_feed : (page : List ℕ) → IsShown true page → IsShown true (ended page)
+with_feed page shown = All-push (λ b. IsTrue (is_shown true b)) page 10 shown refl
 
-pub each_append : (json : Bool) (filter : Filter) (xs ys : List Thing) (t u : List ℕ) (b c : Bool) → ShowsEach json filter xs t b → ShowsEach json filter ys u c
-    → ShowsEach json filter (xs ++ ys) (t ++ u) (b || c)
-each_append json filter [] ys t u b c h k =
-    subst (λ x. ShowsEach json filter ys (x ++ u) (b || c)) (sym h.no_text) (subst (λ x. ShowsEach json filter ys u (x || c)) (sym h.no_fault) k)
-each_append json filter (x ∷ xs) ys t u b c h k = (
+pub is_page : (format : OutputFormat) (page : List ℕ) → IsShown true page → IsPage (laid_out format page)
+is_page Lines page shown = (ended page, with_feed page shown, refl)
+is_page OneLine page shown = (page, shown, refl)
+is_page Json page shown = (page, shown, refl)
+
+-- a notice on a line of JSON, and on a page
+pub notice_line : (json : Bool) (line : List ℕ) (s n : State) → json ≡ true → (text : List ℕ) × IsEscaped line text × Grows text false s n
+    → (text : List ℕ) × ShowsNotice json text × Grows text false s n
+notice_line json line s n is x = (x.0, subst (λ j. ShowsNotice j x.0) (sym is) (x.1.0, x.1.2), x.2)
+
+pub notice_page : (json : Bool) (text : List ℕ) (s n : State) → json ≡ false → IsPage text → Grows text false s n
+    → (text : List ℕ) × ShowsNotice json text × Grows text false s n
+notice_page json text s n is page put = (text, subst (λ j. ShowsNotice j text) (sym is) page, put)
+
+-- a notice is the summary that the options ask for
+pub asked_summary : (json asked : Bool) (s n : State) → asked ≡ true → (text : List ℕ) × ShowsNotice json text × Grows text false s n
+    → (text : List ℕ) × ShowsSummary json asked text × Grows text false s n
+asked_summary json asked s n is x = (x.0, subst (λ a. ShowsSummary json a x.0) (sym is) x.1, x.2)
+
+-- a page is the outline of a message, if it is laid out in lines
+pub is_view : (format : OutputFormat) (all : Bool) (m : Message) (page : List ℕ)
+    → (is_in_lines (layout_of format) ≡ true → IsOutline all m (ended (ended page))) → IsViewOf (view_of format all) m (laid_out format page)
+is_view Lines all m page h = h refl
+is_view OneLine all m page h = tt
+is_view Json all m page h = tt
+
+module _ {A : Type 0} (all : Bool) (m : Message) where
+  -- a page that was empty, with a line and then the lines of the message, is its outline
+  pub is_outline : (p q : Page A) (bad : Bool) (page : List ℕ) → text_on p ≡ [] → Continues p q → bad ≡ has_fault m
+      → (names : List (ℕ × List ℕ)) × (line : List ℕ) × (page ≡ (text_on q ++ lines_with names all m) ++ line) × (bad ≡ false → line ≡ [])
+      → IsOutline all m (ended (ended page))
+  is_outline p q bad page empty head same x = record {
+    head = head.more;
+    names = x.0;
+    fault = x.1;
+    printable = head.printable;
+    written = ap (λ t. ended (ended t)) (x.2 ∙ ap (λ t. (t ++ lines_with x.0 all m) ++ x.1) (head.text ∙ ap (λ t. t ++ head.more) empty));
+    no_fault = λ none. x.3 (same ∙ none);
+  }
+
+-- a page in the output, and whether it ends with a fault
+pub page_counted : (format : OutputFormat) (all : Bool) (m : Message) (b : Bool) (page : List ℕ) (s a n : State) → IsShown true page
+    → (is_in_lines (layout_of format) ≡ true → IsOutline all m (ended (ended page))) → Grows (laid_out format page) false s a → b ≡ has_fault m
+    → Grows [] b a n → (text : List ℕ) × (bad : Bool) × ShowsMessage false (view_of format all) m text bad × Grows text bad s n
+page_counted format all m b page s a n shown view put e counted = (
+  laid_out format page,
+  b,
+  (is_page format page shown, is_view format all m page view, e),
+  grows_counted (laid_out format page) b s a n put counted,
+)
+
+pub each_append : (json : Bool) (view : View) (filter : Filter) (xs ys : List Thing) (t u : List ℕ) (b c : Bool) → ShowsEach json view filter xs t b → ShowsEach json view filter ys u c
+    → ShowsEach json view filter (xs ++ ys) (t ++ u) (b || c)
+each_append json view filter [] ys t u b c h k =
+    subst (λ x. ShowsEach json view filter ys (x ++ u) (b || c)) (sym h.no_text) (subst (λ x. ShowsEach json view filter ys u (x || c)) (sym h.no_fault) k)
+each_append json view filter (x ∷ xs) ys t u b c h k = (
   h.0,
   h.1 ++ u,
   h.2,
   h.3 || c,
   h.4,
-  each_append json filter xs ys h.1 u h.3 c h.5 k,
+  each_append json view filter xs ys h.1 u h.3 c h.5 k,
   ap (λ l. l ++ u) h.6 ∙ append_assoc h.0 h.1 u,
   ap (λ l. l || c) h.7 ∙ or_assoc h.2 h.3 c,
 )
@@ -106,33 +153,35 @@ puts_none s = ([], false, nothing, grows_none s)
 
 pub puts_then : (xs ys : List Thing) (s m n : State) → Puts xs s m → Puts ys m n → Puts (xs ++ ys) s n
 puts_then xs ys s m n h k =
-    let later = subst (λ j. ShowsEach j s.filter ys k.0 k.1) h.3.json (subst (λ j. ShowsEach m.json j ys k.0 k.1) h.3.filter k.2) in
-    (h.0 ++ k.0, h.1 || k.1, each_append s.json s.filter xs ys h.0 k.0 h.1 k.1 h.2 later, grows_then h.0 k.0 h.1 k.1 s m n h.3 k.3)
+    let later =
+    subst (λ j. ShowsEach j s.view s.filter ys k.0 k.1) h.3.json
+    (subst (λ (v : View). ShowsEach m.json v s.filter ys k.0 k.1) h.3.view (subst (λ (f : Filter). ShowsEach m.json m.view f ys k.0 k.1) h.3.filter k.2)) in
+    (h.0 ++ k.0, h.1 || k.1, each_append s.json s.view s.filter xs ys h.0 k.0 h.1 k.1 h.2 later, grows_then h.0 k.0 h.1 k.1 s m n h.3 k.3)
 
-pub puts_one : (x : Thing) (t : List ℕ) (b : Bool) (s n : State) → Shows s.json s.filter x t b → Grows t b s n → Puts (x ∷ []) s n
+pub puts_one : (x : Thing) (t : List ℕ) (b : Bool) (s n : State) → Shows s.json s.view s.filter x t b → Grows t b s n → Puts (x ∷ []) s n
 puts_one x t b s n h g = (t, b, (t, [], b, false, h, nothing, sym (append-nil t), sym (or_false b)), g)
 
 -- a message that the filter matches, and one that it doesn't match
 pub puts_message : (m : Message) (t : List ℕ) (b taken : Bool) (s n : State) → taken ≡ true → taken ≡ is_included s.filter m
-    → ShowsMessage s.json m t b → Grows t b s n → Puts (message m ∷ []) s n
+    → ShowsMessage s.json s.view m t b → Grows t b s n → Puts (message m ∷ []) s n
 puts_message m t b taken s n is h shown g =
-    puts_one (message m) t b s n (subst (λ x. IfTaken x (ShowsMessage s.json m t b) t b) (sym is ∙ h) shown) g
+    puts_one (message m) t b s n (subst (λ x. IfTaken x (ShowsMessage s.json s.view m t b) t b) (sym is ∙ h) shown) g
 
 pub puts_no_message : (m : Message) (taken : Bool) (s n : State) → taken ≡ false → taken ≡ is_included s.filter m → Grows [] false s n → Puts (message m ∷ []) s n
 puts_no_message m taken s n is_not h g =
-    puts_one (message m) [] false s n (subst (λ x. IfTaken x (ShowsMessage s.json m [] false) [] false) (sym is_not ∙ h) nothing) g
+    puts_one (message m) [] false s n (subst (λ x. IfTaken x (ShowsMessage s.json s.view m [] false) [] false) (sym is_not ∙ h) nothing) g
 
-pub puts_answer : (h : Header) (capped : Bool) (m : Message) (t : List ℕ) (taken : Bool) (s n : State) → taken ≡ true → taken ≡ is_matched s.filter m
-    → ShowsAnswer s.json h capped m t → Grows t false s n → Puts (answer h capped m ∷ []) s n
-puts_answer h capped m t taken s n is k shown g =
-    puts_one (answer h capped m) t false s n
-    (subst (λ x. IfTaken x (ShowsAnswer s.json h capped m t × (false ≡ false)) t false) (sym is ∙ k) (shown, refl)) g
+pub puts_answer : (h : Header) (r : Reason) (m : Message) (t : List ℕ) (taken : Bool) (s n : State) → taken ≡ true → taken ≡ is_matched s.filter m
+    → ShowsAnswer s.json h r m t → Grows t false s n → Puts (answer h r m ∷ []) s n
+puts_answer h r m t taken s n is k shown g =
+    puts_one (answer h r m) t false s n
+    (subst (λ x. IfTaken x (ShowsAnswer s.json h r m t × (false ≡ false)) t false) (sym is ∙ k) (shown, refl)) g
 
-pub puts_no_answer : (h : Header) (capped : Bool) (m : Message) (taken : Bool) (s n : State) → taken ≡ false → taken ≡ is_matched s.filter m
-    → Grows [] false s n → Puts (answer h capped m ∷ []) s n
-puts_no_answer h capped m taken s n is_not k g =
-    puts_one (answer h capped m) [] false s n
-    (subst (λ x. IfTaken x (ShowsAnswer s.json h capped m [] × (false ≡ false)) [] false) (sym is_not ∙ k) nothing) g
+pub puts_no_answer : (h : Header) (r : Reason) (m : Message) (taken : Bool) (s n : State) → taken ≡ false → taken ≡ is_matched s.filter m
+    → Grows [] false s n → Puts (answer h r m ∷ []) s n
+puts_no_answer h r m taken s n is_not k g =
+    puts_one (answer h r m) [] false s n
+    (subst (λ x. IfTaken x (ShowsAnswer s.json h r m [] × (false ≡ false)) [] false) (sym is_not ∙ k) nothing) g
 
 pub puts_other : (s n : State) → Grows [] false s n → Puts (other ∷ []) s n
 puts_other s n g = puts_one other [] false s n nothing g

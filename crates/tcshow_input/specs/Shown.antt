@@ -1,17 +1,24 @@
 -- The text that is printed for things, one after the other, and whether one of them is refused or broken.
-use Rattle.std.specs.Prelude.{◌≡◌, ℕ, Bool, true, false, ◌||◌, List, [], ◌∷◌, ◌++◌, is_some}
+use Rattle.std.specs.Prelude.{◌≡◌, ℕ, Bool, true, false, ◌||◌, List, [], ◌∷◌, ◌++◌, is_some, ⊤}
+use Rattle.tc_columns.specs.Kinds.{root_place}
 use Rattle.tc_select.specs.declared.filter.Filter.{Filter}
-use Rattle.tc_outline.specs.declared.what.What.{What}
 use Rattle.tc_outline.specs.Located.{items_of_message, message_fault}
+use Rattle.tc_outline.specs.Outline.{form_of, shown_lines, what_of}
 use Rattle.tc_outline.specs.Page.{IsShown}
 use Rattle.tcshow_json.specs.Grammars.{is_refused, IsLineOf}
 use Rattle.tcshow_input.specs.Selection.{is_matched, is_included}
-use Rattle.tcshow_json.specs.Messages.{Header, Message, Thing, message, answer, other, hole}
+use Rattle.tcshow_json.specs.Messages.{Header, Message, Reason, Thing, message, answer, other, hole}
 use Rattle.tcshow_json.specs.Line.{IsAnswered}
+use Rattle.tcshow_input.specs.Escaped.{IsSafeTextOf}
+use Rattle.tcshow_json.specs.Objects.{root_of}
 
 -- a line, and the line feed that ends it
 abbrev pub ended : List ℕ → List ℕ
 ended line = line ++ 10 ∷ []
+
+-- a line of JSON as it is printed: with control characters escaped
+abbrev pub IsEscaped : List ℕ → List ℕ → Type 0
+IsEscaped line text = (safe : List ℕ) × IsSafeTextOf line safe × (text ≡ ended safe)
 
 -- a page of printable ASCII and line feeds, and the line feed that ends it
 abbrev pub IsPage : List ℕ → Type 0
@@ -24,15 +31,43 @@ pub record Nothing (text : List ℕ) (bad : Bool) : Type 0 where
   pub no_text : text ≡ []
   pub no_fault : bad ≡ false
 
--- for a message its JSON line, or a page that ends with its fault
-abbrev pub ShowsMessage : Bool → Message → List ℕ → Bool → Type 0
-ShowsMessage true m text bad = (line : List ℕ) × IsLineOf m line × (text ≡ ended line) × (bad ≡ is_refused m)
-ShowsMessage false m text bad = (what : What) × IsPage text × (bad ≡ is_some (message_fault (items_of_message what m.payload)))
+-- how messages are shown outside JSON: as outlines with or without padding attributes, or as outlines on one line
+pub data View : Type 0 where
+  outline : Bool → View
+  one_line : View
+
+-- whether an outline ends with a fault
+abbrev pub has_fault : Message → Bool
+has_fault m = is_some (message_fault (items_of_message (what_of (root_of m)) m.payload))
+
+-- the lines of a message's JSON in the columns of its object, with these names of interfaces
+abbrev pub lines_with : List (ℕ × List ℕ) → Bool → Message → List ℕ
+lines_with names all m = shown_lines (record { root = root_place (root_of m); all = all; interfaces = names }) (form_of (root_of m)) m.payload
+
+-- an outline: the words of the packet and of the netlink header, which the lines of the message continue; the line of its fault, if it has one;
+-- an empty line
+pub record IsOutline (all : Bool) (m : Message) (text : List ℕ) : Type 0 where
+  pub head : List ℕ
+  pub names : List (ℕ × List ℕ)
+  pub fault : List ℕ
+  pub printable : IsShown false head
+  pub written : text ≡ ended (ended ((head ++ lines_with names all m) ++ fault))
+  pub no_fault : has_fault m ≡ false → fault ≡ []
+
+-- the text of a message in each view
+abbrev pub IsViewOf : View → Message → List ℕ → Type 0
+IsViewOf (outline all) m text = IsOutline all m text
+IsViewOf one_line m text = ⊤
+
+-- for a message its JSON line, or a page in this view
+abbrev pub ShowsMessage : Bool → View → Message → List ℕ → Bool → Type 0
+ShowsMessage true view m text bad = (line : List ℕ) × IsLineOf m line × IsEscaped line text × (bad ≡ is_refused m)
+ShowsMessage false view m text bad = IsPage text × IsViewOf view m text × (bad ≡ has_fault m)
 
 -- for an answer its JSON line, or a page
-abbrev pub ShowsAnswer : Bool → Header → Bool → Message → List ℕ → Type 0
-ShowsAnswer true h capped m text = (errno : List ℕ) × (line : List ℕ) × IsAnswered h errno capped m line × (text ≡ ended line)
-ShowsAnswer false h capped m text = IsPage text
+abbrev pub ShowsAnswer : Bool → Header → Reason → Message → List ℕ → Type 0
+ShowsAnswer true h r m text = (line : List ℕ) × IsAnswered h r m line × IsEscaped line text
+ShowsAnswer false h r m text = IsPage text
 
 -- for a place without a message a notice
 abbrev pub ShowsNotice : Bool → List ℕ → Type 0
@@ -48,15 +83,15 @@ abbrev pub IfTaken : Bool → Type 0 → List ℕ → Bool → Type 0
 IfTaken true Shown text bad = Shown
 IfTaken false Shown text bad = Nothing text bad
 
-abbrev pub Shows : Bool → Filter → Thing → List ℕ → Bool → Type 0
-Shows json filter (message m) text bad = IfTaken (is_included filter m) (ShowsMessage json m text bad) text bad
-Shows json filter (answer h capped m) text bad = IfTaken (is_matched filter m) (ShowsAnswer json h capped m text × (bad ≡ false)) text bad
-Shows json filter other text bad = Nothing text bad
-Shows json filter (hole fault) text bad = ShowsNotice json text × (bad ≡ fault)
+abbrev pub Shows : Bool → View → Filter → Thing → List ℕ → Bool → Type 0
+Shows json view filter (message m) text bad = IfTaken (is_included filter m) (ShowsMessage json view m text bad) text bad
+Shows json view filter (answer h r m) text bad = IfTaken (is_matched filter m) (ShowsAnswer json h r m text × (bad ≡ false)) text bad
+Shows json view filter other text bad = Nothing text bad
+Shows json view filter (hole fault) text bad = ShowsNotice json text × (bad ≡ fault)
 
 -- for several things one text after the other
-abbrev pub ShowsEach : Bool → Filter → List Thing → List ℕ → Bool → Type 0
-ShowsEach json filter [] text bad = Nothing text bad
-ShowsEach json filter (x ∷ xs) text bad =
-    (first : List ℕ) × (later : List ℕ) × (b : Bool) × (c : Bool) × Shows json filter x first b × ShowsEach json filter xs later c
+abbrev pub ShowsEach : Bool → View → Filter → List Thing → List ℕ → Bool → Type 0
+ShowsEach json view filter [] text bad = Nothing text bad
+ShowsEach json view filter (x ∷ xs) text bad =
+    (first : List ℕ) × (later : List ℕ) × (b : Bool) × (c : Bool) × Shows json view filter x first b × ShowsEach json view filter xs later c
     × (text ≡ first ++ later) × (bad ≡ (b || c))

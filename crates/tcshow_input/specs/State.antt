@@ -10,11 +10,15 @@ use Rattle.tcshow_input.specs.declared.counts.Counts.{Counts}
 use Rattle.tcshow_input.specs.declared.printer.Printer.{Printer}
 use Rattle.tcshow_json.specs.Messages.{Thing}
 use Rattle.tcshow_input.specs.Reading.{AreIn}
-use Rattle.tcshow_input.specs.Shown.{ShowsEach, ShowsSummary}
+use Rattle.tc_outline.specs.declared.page.Layout.{Layout}
+use Rattle.tc_outline.specs.declared.page.Layout.TheVariants as layout
+use Rattle.tcshow_input.specs.Shown.{View, outline, one_line, ended, ShowsEach, ShowsSummary}
 
 pub record State : Type 0 where
   -- the output is JSON
   pub json : Bool
+  -- how messages are shown otherwise
+  pub view : View
   -- the message type of lines of hex without a netlink header
   pub header : Option MessageType
   -- which messages are printed
@@ -31,12 +35,31 @@ is_json Lines = false
 is_json OneLine = false
 is_json Json = true
 
+-- the view of each format, with or without padding attributes
+abbrev pub view_of : OutputFormat → Bool → View
+view_of Lines all = outline all
+view_of OneLine all = one_line
+view_of Json all = one_line
+
+-- the layout of pages
+abbrev pub layout_of : OutputFormat → Layout
+layout_of Lines = layout.Lines
+layout_of OneLine = layout.OneLine
+layout_of Json = layout.OneLine
+
+-- a page in the output: a paragraph, or a line
+abbrev pub laid_out : OutputFormat → List ℕ → List ℕ
+laid_out Lines page = ended (ended page)
+laid_out OneLine page = ended page
+laid_out Json page = ended page
+
 abbrev pub is_bad : Counts → Bool
 is_bad c = not (c.refused == 0) || not (c.broken == 0) || not (c.cut == 0)
 
 abbrev pub state_of : {A : Type 0} → Printer A → State
 state_of s = record {
   json = s.output.is_json;
+  view = view_of s.options.now.format s.options.now.all;
   header = s.options.now.without_header;
   filter = s.options.now.filter;
   summary = s.options.now.has_summary;
@@ -47,6 +70,7 @@ state_of s = record {
 -- more text, and perhaps a fault
 pub record Grows (more : List ℕ) (fault : Bool) (old new : State) : Type 0 where
   pub json : new.json ≡ old.json
+  pub view : new.view ≡ old.view
   pub header : new.header ≡ old.header
   pub filter : new.filter ≡ old.filter
   pub summary : new.summary ≡ old.summary
@@ -55,17 +79,18 @@ pub record Grows (more : List ℕ) (fault : Bool) (old new : State) : Type 0 whe
 
 -- the text of these things is appended to the output
 abbrev pub Puts : List Thing → State → State → Type 0
-Puts things old new = (text : List ℕ) × (bad : Bool) × ShowsEach old.json old.filter things text bad × Grows text bad old new
+Puts things old new = (text : List ℕ) × (bad : Bool) × ShowsEach old.json old.view old.filter things text bad × Grows text bad old new
 
 -- a run between two states: the text of these things is appended to the output, of which a part is written
 pub record Progress (things : List Thing) (old new : Option (List ℕ)) (first last : State) : Type 0 where
   pub text : List ℕ
   pub fault : Bool
   pub out : List ℕ
-  pub shown : ShowsEach first.json first.filter things text fault
+  pub shown : ShowsEach first.json first.view first.filter things text fault
   pub written : Appends old new out
   pub kept : out ++ last.text ≡ first.text ++ text
   pub json : last.json ≡ first.json
+  pub view : last.view ≡ first.view
   pub header : last.header ≡ first.header
   pub filter : last.filter ≡ first.filter
   pub summary : last.summary ≡ first.summary
@@ -79,13 +104,14 @@ Ends things old new first last =
 -- and all of it is written
 abbrev pub Completes : List Thing → Option (List ℕ) → Option (List ℕ) → State → State → Type 0
 Completes things old new first last =
-    (text : List ℕ) × (fault : Bool) × (summary : List ℕ) × ShowsEach first.json first.filter things text fault
+    (text : List ℕ) × (fault : Bool) × (summary : List ℕ) × ShowsEach first.json first.view first.filter things text fault
     × ShowsSummary first.json first.summary summary × Appends old new (first.text ++ (text ++ summary)) × (last.bad ≡ (first.bad || fault))
 
 -- the first state of a run
 abbrev pub start : Options → State
 start options = record {
   json = is_json options.format;
+  view = view_of options.format options.all;
   header = options.without_header;
   filter = options.filter;
   summary = options.has_summary;
@@ -98,5 +124,5 @@ start options = record {
 abbrev pub Ran : Options → Bool → Option (List ℕ) → Option (List ℕ) → Option (List ℕ) → Type 0
 Ran options fault file old new =
     (things : List Thing) × (text : List ℕ) × (summary : List ℕ) × AreIn file options.without_header things
-    × ShowsEach (is_json options.format) options.filter things text fault
+    × ShowsEach (is_json options.format) (view_of options.format options.all) options.filter things text fault
     × ShowsSummary (is_json options.format) options.has_summary summary × Appends old new (text ++ summary)

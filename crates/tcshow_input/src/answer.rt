@@ -1,7 +1,7 @@
 //! Messages, printed.
 
 use crate::attributes::show_attributes;
-use crate::printer::Printer;
+use crate::printer::{Printer, layout_of};
 use std::alloc::{AllocError, Allocator};
 use tcshow_json::{Message, begin_message, line_of};
 
@@ -27,7 +27,7 @@ impl<'a, A: Allocator + Copy> Printer<'a, A> {
 
     fn show_message(&mut self, found: &Message<'_>) -> Result<(), AllocError>
         ensures form { self.new.output.is_json ≡ self.old.output.is_json }
-        ensures put { OnOk result ((text : List ℕ) × (bad : Bool) × ShowsMessage self.old.output.is_json (message_view found.now) text bad
+        ensures put { OnOk result ((text : List ℕ) × (bad : Bool) × ShowsMessage self.old.output.is_json (state_of self.old).view (message_view found.now) text bad
             × Grows text bad (state_of self.old) (state_of self.new)) }
     {
         self.count_message(found)?;
@@ -40,9 +40,10 @@ impl<'a, A: Allocator + Copy> Printer<'a, A> {
 
     fn put_outline(&mut self, found: &Message<'_>) -> Result<(), AllocError>
         ensures form { self.new.output.is_json ≡ self.old.output.is_json }
-        ensures put { OnOk result ((text : List ℕ) × (bad : Bool) × ShowsMessage false (message_view found.now) text bad
+        ensures put { OnOk result ((text : List ℕ) × (bad : Bool) × ShowsMessage false (state_of self.old).view (message_view found.now) text bad
             × Grows text bad (state_of self.old) (state_of self.new)) }
     {
+        self.page.restart(layout_of(self.options.format));
         begin_message(&mut self.page, found)?;
         let name = show_attributes(self.json, self.options, &self.links, &mut self.page, found)?;
         self.put_page()?;
@@ -52,7 +53,7 @@ impl<'a, A: Allocator + Copy> Printer<'a, A> {
     fn put_line(&mut self, found: &Message<'_>) -> Result<(), AllocError>
         requires { self.old.output.is_json ≡ true }
         ensures form { self.new.output.is_json ≡ self.old.output.is_json }
-        ensures put { OnOk result ((text : List ℕ) × (bad : Bool) × ShowsMessage true (message_view found.now) text bad
+        ensures put { OnOk result ((text : List ℕ) × (bad : Bool) × ShowsMessage true (state_of self.old).view (message_view found.now) text bad
             × Grows text bad (state_of self.old) (state_of self.new)) }
     {
         let line = line_of(self.alloc, self.json, found)?;

@@ -1,25 +1,26 @@
 //! The attributes of a message in an outline.
 
-ghost use Rattle.std.specs.Prelude.{◌≡◌, IfOk, is_some, option_map};
-ghost use Rattle.tc_outline.specs.Located.{items_of_message, message_fault};
-ghost use Rattle.tc_outline.specs.declared.what.What.{What as WhatType};
+ghost use Rattle.std.specs.Prelude.{◌≡◌, ◌++◌, [], ℕ, List, false, true, IfOk, is_some, option_map};
+ghost use Rattle.tc_outline.specs.Text.{has_lines, text_on};
 ghost use Rattle.tcshow_json.specs.Messages.{message_view};
+ghost use Rattle.tcshow_json.specs.Objects.{root_of};
+ghost use Rattle.tcshow_input.specs.Shown.{has_fault, lines_with};
 
 use crate::links::Links;
 use crate::options::Options;
 use std::alloc::{AllocError, Allocator, Global};
-use tc_columns::{KindColumns, Root};
-use tc_outline::{Fault, Page, What, outline};
-use tcshow_json::{Message, NetlinkHeader};
+use tc_columns::KindColumns;
+use tc_outline::{Fault, Page, outline};
+use tcshow_json::Message;
 
-fn columns_of<'a>(
-    options: &Options<'_>,
-    interfaces: &'a [(u32, &'a str)],
-    found: &Message<'_>,
-) -> KindColumns<'a> {
+fn columns_of<'a>(options: &Options<'a>, links: &'a Links, found: &Message<'_>) -> KindColumns<'a>
+    ensures root { result.root ≡ root_of (message_view found.now) }
+    ensures all { result.all ≡ options.now.all }
+{
     KindColumns {
-        root: root_of(found),
-        interfaces,
+        root: found.root(),
+        interfaces: options.names.names,
+        links: Some(links.names()),
         all: options.all,
     }
 }
@@ -41,32 +42,13 @@ pub(crate) fn show_attributes<A: Allocator>(
     page: &mut Page<A>,
     found: &Message<'_>,
 ) -> Result<Option<&'static str>, AllocError>
-    ensures { IfOk result (λ name. (what : WhatType) × (is_some name ≡ is_some (message_fault (items_of_message what (message_view found.now).payload)))) }
+    // If the page has lines, they are those of the message, then that of its fault.
+    ensures text { has_lines page.old ≡ true → IfOk result (λ name. (names : List (ℕ × List ℕ)) × (line : List ℕ)
+        × (text_on page.new ≡ (text_on page.old ++ lines_with names options.now.all (message_view found.now)) ++ line)
+        × (is_some name ≡ false → line ≡ [])) }
+    ensures fault { IfOk result (λ name. is_some name ≡ has_fault (message_view found.now)) }
 {
-    let given = options.names;
-    let names = links.with(given.names)?;
-    let columns = columns_of(options, names.as_slice(), found);
+    let columns = columns_of(options, links, found);
     let fault = outline(json, page, found.payload, columns)?;
     Ok(name_of(&fault))
-}
-
-// The object that a message describes, according to its type; without a netlink header, according to its kind.
-fn root_of(found: &Message<'_>) -> Root {
-    match found.what {
-        What::Qdisc => Root::Qdisc,
-        What::Class => Root::Class,
-        What::Filter if found.kind() == b"u32".as_slice() => Root::U32Filter,
-        What::Filter => Root::Filter,
-        What::Chain => Root::Chain,
-        What::Action if is_flush(&found.header) => Root::Flush,
-        What::Action => Root::Action,
-    }
-}
-
-// True if the message flushes actions: `RTM_DELACTION` with `NLM_F_ROOT`.
-fn is_flush(header: &Option<NetlinkHeader>) -> bool {
-    match header {
-        Some(header) => header.name == "RTM_DELACTION" && header.flags & 0x100 != 0,
-        None => false,
-    }
 }

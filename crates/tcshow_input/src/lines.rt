@@ -61,7 +61,7 @@ fn after_cooked(bytes: &[u8]) -> &[u8]
     }
 }
 
-/// Prints the messages of lines of hex, to the end of the input.
+/// Prints the messages of lines of hex, to the end of the input. If none of the first 16 lines is hex, the input isn't.
 pub fn show_lines<A: Allocator + Copy, R: Read, W: Write>(
     printer: &mut Printer<'_, A>,
     input: &mut Input<A>,
@@ -75,7 +75,11 @@ pub fn show_lines<A: Allocator + Copy, R: Read, W: Write>(
         × Gives (text_left (state_of printer.old).header [] (left_of input.old (R.remaining reader.old))) things (Some [])) }
 {
     let mut dump = Vec::new(printer.alloc);
-    show_lines_after(printer, &mut dump, input, reader, writer)
+    show_lines_after(printer, &mut dump, input, reader, writer)?;
+    if printer.first_lines.are_without_hex() {
+        return Err(Stop::NoCapture);
+    }
+    Ok(())
 }
 
 // Prints the messages of lines of hex, after the bytes of a dump that the lines may go on with.
@@ -120,6 +124,9 @@ fn show_line<A: Allocator + Copy, R: Read, W: Write>(
         Some(end) => {
             put_front(printer, dump, input, end)?;
             input.use_line(end);
+            if printer.first_lines.are_other_text() {
+                return Err(Stop::NoCapture);
+            }
             printer.write_much(writer)?;
             Ok(true)
         }
@@ -145,7 +152,7 @@ fn more_of_line<A: Allocator + Copy, R: Read, W: Write>(
         (text_left (state_of printer.old).header dump.new.items (left_of input.new (R.remaining reader.new)))) }
 {
     let at = input.offset();
-    printer.write(writer)?;
+    printer.write_lines(writer)?;
     let gap = input.read_line(reader)?;
     match gap {
         LineGap::More => Ok(true),
@@ -221,6 +228,7 @@ impl<'a, A: Allocator + Copy> Printer<'a, A> {
     {
         match place {
             Place::GoesOn(bytes) => {
+                self.first_lines.meet_hex();
                 dump.extend_from_slice(&bytes)?;
                 Ok(())
             }
@@ -243,6 +251,7 @@ impl<'a, A: Allocator + Copy> Printer<'a, A> {
         self.put_dump(dump.as_slice())?;
         *dump = bytes;
         self.dump_at = at;
+        self.first_lines.meet_hex();
         Ok(())
     }
 
@@ -294,9 +303,15 @@ impl<'a, A: Allocator + Copy> Printer<'a, A> {
     {
         match on_line(self.alloc, line)? {
             OnLine::Nothing => Ok(()),
-            OnLine::NoHex => self.put_hole(Notice::NoHex, at),
+            OnLine::NoHex => {
+                self.first_lines.meet_other();
+                self.put_hole(Notice::NoHex, at)
+            }
             OnLine::TooLong => self.put_hole(Notice::Skipped(line.len() as u64), at),
-            OnLine::Bytes(bytes) => self.put_bytes(&bytes, at),
+            OnLine::Bytes(bytes) => {
+                self.first_lines.meet_hex();
+                self.put_bytes(&bytes, at)
+            }
         }
     }
 

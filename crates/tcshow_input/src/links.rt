@@ -2,8 +2,10 @@
 
 use crate::printer::Printer;
 use std::alloc::{AllocError, Allocator, Global};
+use std::collections::BTreeMap;
 use std::str;
 use tc_capture::NetlinkMessage;
+use tc_columns::LinkNames;
 use tc_select::{NamedLink, RTM_NEWLINK, link_of_message};
 
 // `NLM_F_REQUEST`, `linux/netlink.h`.
@@ -13,51 +15,29 @@ const NLM_F_REQUEST: u16 = 1;
 #[derive(Drop)]
 pub(crate) struct Links {
     alloc: Global,
-    names: Vec<(u32, String)>,
+    names: LinkNames,
 }
 
 impl Links {
     pub(crate) fn new(alloc: Global) -> Links {
         Links {
             alloc,
-            names: Vec::new(alloc),
+            names: BTreeMap::new(alloc),
         }
     }
 
     // Keeps the name of an interface, unless it isn't UTF-8.
     fn learn(&mut self, link: &NamedLink<'_>) -> Result<(), AllocError> {
-        match str::from_utf8(link.name) {
-            Ok(name) => self.keep(link.index, String::from_str(self.alloc, name)?),
-            Err(_) => Ok(()),
-        }
-    }
-
-    fn keep(&mut self, index: u32, name: String) -> Result<(), AllocError> {
-        for known in self.names.iter_mut() {
-            if known.0 == index {
-                known.1 = name;
-                return Ok(());
-            }
-        }
-        self.names.push((index, name))?;
-        Ok(())
-    }
-
-    /// The names of `--names`, and after them those of the capture.
-    pub(crate) fn with<'a>(
-        &'a self,
-        given: &'a [(u32, &'a str)],
-    ) -> Result<Vec<(u32, &'a str)>, AllocError> {
-        let mut all = Vec::from_slice(self.alloc, given)?;
-        self.put_names(&mut all)?;
-        Ok(all)
-    }
-
-    fn put_names<'a>(&'a self, all: &mut Vec<(u32, &'a str)>) -> Result<(), AllocError> {
-        for name in self.names.iter() {
-            all.push((name.0, name.1.as_str()))?;
+        if let Ok(name) = str::from_utf8(link.name) {
+            let name = String::from_str(self.alloc, name)?;
+            self.names.insert(u64::from(link.index), name)?;
         }
         Ok(())
+    }
+
+    /// The names by index.
+    pub(crate) fn names(&self) -> &LinkNames {
+        &self.names
     }
 }
 

@@ -19,6 +19,7 @@ pub(crate) struct Output<A: Allocator> {
 
 impl<A: Allocator> Output<A> {
     ghost use Rattle.std.specs.Prelude.{◌++◌, ◌∷◌, [], List, ℕ, OnOk};
+    ghost use Rattle.tc_outline.specs.Text.{text_on};
     ghost use Rattle.tcshow_input.specs.Writing.{GrowsClean};
     ghost use Rattle.program_io.specs.Written.{GrowsByFront};
 
@@ -56,7 +57,8 @@ impl<A: Allocator> Output<A> {
     /// Appends the text on a page.
     pub(crate) fn page<B: Allocator>(&mut self, page: &Page<B>) -> Result<(), AllocError>
         ensures form { self.new.is_json ≡ self.old.is_json }
-        ensures put { OnOk result ((shown : List ℕ) × IsShown true shown × (self.new.bytes.items ≡ self.old.bytes.items ++ shown)) }
+        ensures shown { IsShown true (text_on page.now) }
+        ensures put { OnOk result (self.new.bytes.items ≡ self.old.bytes.items ++ text_on page.now) }
     {
         self.bytes.extend_from_slice(page.bytes())
     }

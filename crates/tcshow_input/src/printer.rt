@@ -1,9 +1,11 @@
 //! Prints messages, notices and the summary.
 
 ghost use Rattle.std.specs.Prelude.{◌≡◌};
-ghost use Rattle.tcshow_input.specs.State.{is_json};
+ghost use Rattle.tcshow_input.specs.State.{is_json, layout_of};
 
 use crate::counts::Counts;
+use crate::escaped::escaped;
+use crate::first_lines::FirstLines;
 use crate::links::Links;
 use crate::options::{Options, OutputFormat};
 use crate::output::Output;
@@ -33,10 +35,15 @@ pub struct Printer<'a, A: Allocator> {
     pub(crate) links: Links,
     /// Offset in the input of the current dump, in bytes.
     pub(crate) dump_at: u64,
+    /// The first lines of a text.
+    pub(crate) first_lines: FirstLines,
     summary: Summary,
 }
 
-pub(crate) fn layout_of(form: OutputFormat) -> Layout {
+/// The layout of pages in this format.
+pub(crate) fn layout_of(form: OutputFormat) -> Layout
+    ensures { result ≡ layout_of form }
+{
     match form {
         OutputFormat::Lines => Layout::Lines,
         OutputFormat::OneLine | OutputFormat::Json => Layout::OneLine,
@@ -45,8 +52,10 @@ pub(crate) fn layout_of(form: OutputFormat) -> Layout {
 
 impl<'a, A: Allocator + Copy> Printer<'a, A> {
     ghost use Rattle.std.specs.Prelude.{◌≡◌, true, false, List, ℕ, [], OnOk, is_some};
-    ghost use Rattle.tcshow_input.specs.Shown.{ended, IsPage, ShowsNotice, ShowsSummary};
-    ghost use Rattle.tcshow_input.specs.State.{start, state_of, Grows, Progress};
+    ghost use Rattle.tc_outline.specs.Page.{IsShown};
+    ghost use Rattle.tc_outline.specs.Text.{text_on};
+    ghost use Rattle.tcshow_input.specs.Shown.{ended, IsEscaped, ShowsNotice, ShowsSummary};
+    ghost use Rattle.tcshow_input.specs.State.{laid_out, start, state_of, Grows, Progress};
     ghost use Rattle.tcshow_input.specs.Writing.{GrowsClean};
     ghost use Rattle.program_io.specs.Written.{GrowsByFront};
 
@@ -62,6 +71,7 @@ impl<'a, A: Allocator + Copy> Printer<'a, A> {
             counts: Counts::default(),
             links: Links::new(json),
             dump_at: 0,
+            first_lines: FirstLines::default(),
             summary: Summary::new(json),
         }
     }
@@ -69,32 +79,35 @@ impl<'a, A: Allocator + Copy> Printer<'a, A> {
     /// Moves the page to the output, as a paragraph or a line.
     pub(crate) fn put_page(&mut self) -> Result<(), AllocError>
         ensures form { self.new.output.is_json ≡ self.old.output.is_json }
-        ensures put { OnOk result ((text : List ℕ) × IsPage text × Grows text false (state_of self.old) (state_of self.new)) }
+        ensures shown { IsShown true (text_on self.old.page) }
+        ensures put { OnOk result (Grows (laid_out self.old.options.now.format (text_on self.old.page)) false (state_of self.old) (state_of self.new)) }
     {
+        let format = self.options.format;
         self.put_page_line()?;
-        if self.options.format != OutputFormat::Lines {
-            return Ok(());
+        match format {
+            OutputFormat::Lines => self.output.line_feed(),
+            OutputFormat::OneLine | OutputFormat::Json => Ok(()),
         }
-        self.output.line_feed()
     }
 
     // Moves the page to the output, with one line feed.
     fn put_page_line(&mut self) -> Result<(), AllocError>
         ensures form { self.new.output.is_json ≡ self.old.output.is_json }
-        ensures put { OnOk result ((text : List ℕ) × IsPage text × Grows text false (state_of self.old) (state_of self.new)) }
+        ensures shown { IsShown true (text_on self.old.page) }
+        ensures put { OnOk result (Grows (ended (text_on self.old.page)) false (state_of self.old) (state_of self.new)) }
     {
         self.output.page(&self.page)?;
-        self.page.clear();
         self.output.line_feed()
     }
 
-    /// Appends a line of JSON to the output.
+    /// Appends a line of JSON to the output, with control characters escaped.
     pub(crate) fn put_json(&mut self, json: Vec<u8>) -> Result<(), AllocError>
         requires { self.old.output.is_json ≡ true }
         ensures form { self.new.output.is_json ≡ self.old.output.is_json }
-        ensures put { OnOk result (Grows (ended json.items) false (state_of self.old) (state_of self.new)) }
+        ensures put { OnOk result ((text : List ℕ) × IsEscaped json.items text × Grows text false (state_of self.old) (state_of self.new)) }
     {
-        self.output.json(&json)?;
+        let safe = escaped(self.json, json)?;
+        self.output.json(&safe)?;
         self.output.line_feed()
     }
 
@@ -115,6 +128,7 @@ impl<'a, A: Allocator + Copy> Printer<'a, A> {
             let line = json_of(self.json, &NoticeLine { note: words, at })?;
             return self.put_json(line);
         }
+        self.page.restart(layout_of(self.options.format));
         show_notice(&mut self.page, words, at)?;
         self.put_page()
     }
@@ -176,6 +190,18 @@ impl<'a, A: Allocator + Copy> Printer<'a, A> {
         self.output.line_feed()
     }
 
+    /// Writes the output, unless no line of the text was hex so far.
+    pub(crate) fn write_lines<W: Write>(&mut self, writer: &mut W) -> Result<(), Stop>
+        ensures form { self.new.output.is_json ≡ self.old.output.is_json }
+        ensures clean { self.old.output.is_json ≡ false → GrowsClean (W.contents writer.old) (W.contents writer.new) }
+        ensures ran { OnOk result (Progress [] (W.contents writer.old) (W.contents writer.new) (state_of self.old) (state_of self.new)) }
+    {
+        if self.first_lines.are_without_hex() {
+            return Ok(());
+        }
+        self.write(writer)
+    }
+
     /// Writes the output if it holds at least 64 KiB.
     pub(crate) fn write_much<W: Write>(&mut self, writer: &mut W) -> Result<(), Stop>
         ensures form { self.new.output.is_json ≡ self.old.output.is_json }
@@ -212,9 +238,10 @@ fn is_json(form: OutputFormat) -> bool
 
 // Writes a notice on a page, with its offset.
 fn show_notice<A: Allocator>(page: &mut Page<A>, words: &str, at: u64) -> Result<(), AllocError> {
-    page.text(words)?;
-    page.text(" at ")?;
-    page.number(at)
+    page.text("byte ")?;
+    page.number(at)?;
+    page.text(": ")?;
+    page.text(words)
 }
 
 // A page with the kind of a message; empty if it has none.

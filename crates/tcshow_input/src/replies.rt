@@ -2,13 +2,15 @@
 
 use crate::attributes::show_attributes;
 use crate::printer::{Printer, layout_of};
+use itoa::Buffer;
 use std::alloc::{AllocError, Allocator};
 use tc_outline::Page;
-use tcshow_json::{Reply, errno_page, put_request, reply_line, show_netlink, show_reason, text_of};
+use tcshow_json::{Reply, put_request, reply_line, show_netlink, show_reason};
 
 impl<'a, A: Allocator + Copy> Printer<'a, A> {
     ghost use Rattle.std.specs.Prelude.{◌≡◌, ◌∷◌, [], List, ℕ, true, false, OnOk};
-    ghost use Rattle.tcshow_json.specs.Messages.{header_view, message_view};
+    ghost use Rattle.tc_capture.specs.Answer.{answer_of};
+    ghost use Rattle.tcshow_json.specs.Messages.{header_view, message_view, reason_of};
     ghost use Rattle.tcshow_json.specs.Replies.{thing_view};
     ghost use Rattle.tcshow_input.specs.Shown.{ShowsAnswer};
     ghost use Rattle.tcshow_input.specs.State.{state_of, Grows, Puts};
@@ -28,44 +30,35 @@ impl<'a, A: Allocator + Copy> Printer<'a, A> {
 
     fn show_reply(&mut self, reply: &Reply<'_>) -> Result<(), AllocError>
         ensures form { self.new.output.is_json ≡ self.old.output.is_json }
-        ensures put { OnOk result ((text : List ℕ) × ShowsAnswer self.old.output.is_json (header_view reply.now.header) reply.now.answer.is_capped
+        ensures put { OnOk result ((text : List ℕ) × ShowsAnswer self.old.output.is_json (header_view reply.now.header) (reason_of (answer_of reply.now.answer))
             (message_view reply.now.request) text × Grows text false (state_of self.old) (state_of self.new)) }
     {
-        let errno = errno_page(self.alloc, reply)?;
-        self.show_reply_of(text_of(&errno), reply)
-    }
-
-    // Prints an answer with this name of the error.
-    fn show_reply_of(&mut self, errno: &str, reply: &Reply<'_>) -> Result<(), AllocError>
-        ensures form { self.new.output.is_json ≡ self.old.output.is_json }
-        ensures put { OnOk result ((text : List ℕ) × ShowsAnswer self.old.output.is_json (header_view reply.now.header) reply.now.answer.is_capped
-            (message_view reply.now.request) text × Grows text false (state_of self.old) (state_of self.new)) }
-    {
-        self.count_row("NLMSG_ERROR", errno)?;
+        self.count_row("NLMSG_ERROR", reply.errno(&mut Buffer::new()))?;
         if self.output.is_json() {
-            self.put_reply_line(errno, reply)
+            self.put_reply_line(reply)
         } else {
-            self.put_reply_outline(errno, reply)
+            self.put_reply_outline(reply)
         }
     }
 
-    fn put_reply_line(&mut self, errno: &str, reply: &Reply<'_>) -> Result<(), AllocError>
+    fn put_reply_line(&mut self, reply: &Reply<'_>) -> Result<(), AllocError>
         requires { self.old.output.is_json ≡ true }
         ensures form { self.new.output.is_json ≡ self.old.output.is_json }
-        ensures put { OnOk result ((text : List ℕ) × ShowsAnswer true (header_view reply.now.header) reply.now.answer.is_capped
+        ensures put { OnOk result ((text : List ℕ) × ShowsAnswer true (header_view reply.now.header) (reason_of (answer_of reply.now.answer))
             (message_view reply.now.request) text × Grows text false (state_of self.old) (state_of self.new)) }
     {
-        let line = reply_line(self.alloc, self.json, errno, reply)?;
+        let line = reply_line(self.alloc, self.json, reply)?;
         self.put_json(line)
     }
 
     // Prints the line of the answer, and the request's outline, indented.
-    fn put_reply_outline(&mut self, errno: &str, reply: &Reply<'_>) -> Result<(), AllocError>
+    fn put_reply_outline(&mut self, reply: &Reply<'_>) -> Result<(), AllocError>
         ensures form { self.new.output.is_json ≡ self.old.output.is_json }
-        ensures put { OnOk result ((text : List ℕ) × ShowsAnswer false (header_view reply.now.header) reply.now.answer.is_capped
+        ensures put { OnOk result ((text : List ℕ) × ShowsAnswer false (header_view reply.now.header) (reason_of (answer_of reply.now.answer))
             (message_view reply.now.request) text × Grows text false (state_of self.old) (state_of self.new)) }
     {
-        show_reason(self.alloc, &mut self.page, errno, reply)?;
+        self.page.restart(layout_of(self.options.format));
+        show_reason(self.alloc, &mut self.page, reply)?;
         let request = self.request_page(reply)?;
         put_request(&mut self.page, request)?;
         self.put_page()

@@ -8,6 +8,8 @@ use std::alloc::AllocError;
 /// Why a run ended before the end of its input.
 #[derive(Clone, Copy, PartialEq, Eq)]
 pub enum Stop {
+    /// The arguments, or a file that they name, can't be used.
+    Usage,
     /// The input is neither a capture nor lines of hex.
     NoCapture,
     /// The capture has packets, but none of route netlink.
@@ -33,6 +35,7 @@ impl From<AllocError> for Stop {
 impl From<program_io::Stop> for Stop {
     fn from(stop: program_io::Stop) -> Stop {
         match stop {
+            program_io::Stop::Usage => Stop::Usage,
             program_io::Stop::Closed => Stop::Closed,
             program_io::Stop::Read => Stop::Read,
             program_io::Stop::Write => Stop::Write,

@@ -1,1 +1,3 @@
 pub mod Grammars
+pub mod Escaped
+pub mod Answered

@@ -1,13 +1,18 @@
 -- The JSON lines of messages and of the kernel's answers, as events sent to serde.
-use Rattle.std.specs.Prelude.{◌⊎◌, ◌↔◌, ℕ, Bool, true, false, IsTrue, List, [], ◌∷◌, ◌++◌, Option, Some, None, codes, ◌==◌, if◌then◌else◌}
+use Rattle.std.specs.Fmt.{decimal}
+use Rattle.std.specs.Prelude.{◌⊎◌, ◌↔◌, ℕ, Bool, true, false, IsTrue, List, [], ◌∷◌, ◌++◌, ◌-◌, Option, Some, None, codes, ◌==◌, if◌then◌else◌}
+use Rattle.std.specs.Prelude.{flat_map, option_map, unwrap_or}
 use Rattle.serde.specs.Event.{Event, boolean, unsigned, text, map_begins, map_ends, field_key}
 use Rattle.serde.specs.declared.name.Case.TheVariants.{AsIs}
 use Rattle.serde_json.specs.Sent.{IsTextOf}
 use Rattle.nla_frames.specs.Fault.{name_of}
+use Rattle.nla_frames.specs.Value.{strip}
 use Rattle.nla_frames.specs.declared.error.DecodeError.{DecodeError}
 use Rattle.nla_frames.specs.declared.error.DecodeError.TheVariants as fault
+use Rattle.tc_capture.specs.Errno.{errno_name}
 use Rattle.tc_capture.specs.declared.kind.MessageType.{MessageType}
 use Rattle.tc_capture.specs.declared.kind.MessageType.TheVariants.{Tc, Action}
+use Rattle.tc_texts.specs.Escape.{escaped_byte}
 use Rattle.forms_values.specs.declared.form.Form.{Form}
 use Rattle.forms_values.specs.Sent.{events}
 use Rattle.forms_json.specs.Shown.{shown_of}
@@ -17,7 +22,7 @@ use Rattle.forms_kinds.specs.Table.{tc_tables, tc_message, action_message}
 use Rattle.tcshow_json.specs.declared.message.Origin.{Origin}
 use Rattle.tcshow_json.specs.declared.json.Verdict.{Verdict}
 use Rattle.tcshow_json.specs.declared.json.Verdict.TheVariants.{Read, Refused}
-use Rattle.tcshow_json.specs.Messages.{Header, Message}
+use Rattle.tcshow_json.specs.Messages.{Header, Message, Reason}
 
 -- ---- members of an object
 
@@ -187,8 +192,29 @@ answer_events error capped m = error ++ request_events capped m
 abbrev pub answered_events : Option (List ℕ) → Header → List Event → Bool → Message → List Event
 answered_events time h error capped m = object (origin_events time m.origin (Some h) ++ answer_events error capped m)
 
+-- the text of an error number: its name, or the number if it has none; `warning` for 0
+unfoldable pub errno_text : ℕ → List ℕ
+errno_text number = if number == 0 then codes "warning" else unwrap_or (errno_name number) (decimal number)
+
+-- the kernel's text without its NUL, each byte that isn't printable ASCII as `\x1b`; empty if there is none
+abbrev pub escaped_text : Option (List ℕ) → List ℕ
+escaped_text None = []
+escaped_text (Some said) = flat_map escaped_byte (strip said)
+
+-- a text, if it isn't empty
+abbrev pub some_text : List ℕ → Option (List ℕ)
+some_text [] = None
+some_text (c ∷ cs) = Some (c ∷ cs)
+
+-- an offset from the end of the netlink header, instead of from its beginning
+abbrev pub offset_in_message : Option ℕ → Option ℕ
+offset_in_message offset = option_map (λ n. n - 16) offset
+
+-- the error, the text and the offset of an answer's bytes, and a path
+abbrev pub told_events : Reason → Option (List ℕ) → List Event
+told_events r path = error_events (errno_text r.error) (some_text (escaped_text r.text)) (offset_in_message r.offset) path
+
 -- the JSON line of an answer
-unfoldable pub IsAnswered : Header → List ℕ → Bool → Message → List ℕ → Type 0
-IsAnswered h errno capped m line =
-    (time : Option (List ℕ)) × (said : Option (List ℕ)) × (offset : Option ℕ) × (path : Option (List ℕ))
-    × IsTextOf (Some (answered_events time h (error_events errno said offset path) capped m)) line
+unfoldable pub IsAnswered : Header → Reason → Message → List ℕ → Type 0
+IsAnswered h r m line =
+    (time : Option (List ℕ)) × (path : Option (List ℕ)) × IsTextOf (Some (answered_events time h (told_events r path) r.is_capped m)) line

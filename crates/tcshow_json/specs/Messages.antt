@@ -27,11 +27,19 @@ pub record Message : Type 0 where
   pub holds : MessageType
   pub payload : List ℕ
 
+-- why the kernel answers: the number of the error, its text, the offset of the fault in the request, and whether only the request's header is
+-- quoted
+pub record Reason : Type 0 where
+  pub error : ℕ
+  pub text : Option (List ℕ)
+  pub offset : Option ℕ
+  pub is_capped : Bool
+
 -- a thing found in an input: a traffic control message; an answer of the kernel, with the request that it quotes; another netlink message; a
 -- place without a message, which is a fault unless something was only too long
 pub data Thing : Type 0 where
   message : Message → Thing
-  answer : Header → Bool → Message → Thing
+  answer : Header → Reason → Message → Thing
   other : Thing
   hole : Bool → Thing
 
@@ -51,17 +59,20 @@ message_with origin m named = record { origin = origin; header = Some (header_wi
 abbrev pub message_in : Origin → Netlink → Option Message
 message_in origin m = option_map (message_with origin m) (rtm_at m.kind)
 
+abbrev pub reason_of : Answer → Reason
+reason_of a = record { error = a.error; text = a.text; offset = a.offset; is_capped = a.is_capped }
+
 -- an error or a warning about a traffic control request
-abbrev pub answer_to : Netlink → Bool → Option Message → Thing
-answer_to m capped (Some request) = answer (header_with (codes "NLMSG_ERROR") m) capped request
-answer_to m capped None = other
+abbrev pub answer_to : Netlink → Reason → Option Message → Thing
+answer_to m reason (Some request) = answer (header_with (codes "NLMSG_ERROR") m) reason request
+answer_to m reason None = other
 
 -- an acknowledgement without a text
 abbrev pub is_silent : Answer → Bool
 is_silent a = a.error == 0 && not (is_some a.text)
 
 abbrev pub answer_with : Origin → Netlink → Option Answer → Thing
-answer_with origin m (Some a) = if is_silent a then other else answer_to m a.is_capped (message_in origin a.request)
+answer_with origin m (Some a) = if is_silent a then other else answer_to m (reason_of a) (message_in origin a.request)
 answer_with origin m None = other
 
 abbrev pub netlink_or : Thing → Option Message → Thing

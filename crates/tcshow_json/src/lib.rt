@@ -16,5 +16,5 @@ pub use line::{Line, json_of, line_of};
 pub use message::{Message, NO_ORIGIN, NetlinkHeader, Origin};
 pub use notice::{Notice, NoticeLine};
 pub use pages::{begin_message, show_netlink, show_word, text_of};
-pub use reply::{Reply, errno_page, put_request, reply_line, show_reason};
+pub use reply::{Reply, put_request, reply_line, show_reason};
 pub use verdict::is_refused;

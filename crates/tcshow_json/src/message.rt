@@ -1,12 +1,17 @@
 //! Traffic control messages, with the packet and the netlink header they came in.
 
-ghost use Rattle.std.specs.Prelude.{◌≡◌};
+ghost use Rattle.std.specs.Prelude.{◌≡◌, is_some, if◌then◌else◌};
 ghost use Rattle.tc_capture.specs.Message.{message_of};
+ghost use Rattle.tc_columns.specs.declared.root.Root.TheVariants.{Qdisc};
+ghost use Rattle.tc_select.specs.Kinds.{actions_type};
 ghost use Rattle.tcshow_json.specs.Messages.{header_view, header_with};
+ghost use Rattle.tcshow_json.specs.Objects.{action_root, filter_root, root_by_kind, root_by_type};
 
 use nla_frames::{NlasIterator, strip_nul};
 use tc_capture::{MessageType, NetlinkMessage, Time, rtm_of};
+use tc_columns::Root;
 use tc_outline::What;
+use tc_select::{is_filter_kind, kind_of};
 
 /// A netlink header (`struct nlmsghdr`) without its length.
 #[derive(Clone, Copy)]
@@ -49,29 +54,25 @@ pub struct Message<'a> {
     /// The netlink header; `None` for a line of hex without one.
     pub header: Option<NetlinkHeader>,
     pub holds: MessageType,
-    pub what: What,
     pub payload: &'a [u8],
 }
 
 impl<'a> Message<'a> {
     ghost use Rattle.std.specs.Prelude.{◌≡◌, None, option_map};
     ghost use Rattle.tc_capture.specs.Message.{message_of};
+    ghost use Rattle.tc_outline.specs.Outline.{what_of};
     ghost use Rattle.tcshow_json.specs.Messages.{header_view, message_view, message_in, no_origin};
+    ghost use Rattle.tcshow_json.specs.Objects.{root_of};
 
     /// The traffic control message in a netlink message; `None` if its type is another.
     pub fn in_netlink(origin: Origin, message: &NetlinkMessage<'a>) -> Option<Message<'a>>
         ensures { option_map message_view result ≡ message_in origin (message_of message.now) }
     {
         let rtm = rtm_of(message.kind)?;
-        let what = match What::of_type(message.kind) {
-            Some(what) => what,
-            None => what_of(rtm.holds, message.payload),
-        };
         Some(Message {
             origin,
             header: Some(header_of(rtm.name, message)),
             holds: rtm.holds,
-            what,
             payload: message.payload,
         })
     }
@@ -84,9 +85,25 @@ impl<'a> Message<'a> {
             origin: NO_ORIGIN,
             header: None,
             holds,
-            what: what_of(holds, payload),
             payload,
         }
+    }
+
+    /// The object that it describes: by its type, or without a netlink header by its kind.
+    pub fn root(&self) -> Root
+        ensures { result ≡ root_of (message_view self.now) }
+    {
+        match &self.header {
+            Some(header) => root_by_type(header, self.payload),
+            None => root_by_kind(self.holds, self.payload),
+        }
+    }
+
+    /// The object that it describes, whatever its columns.
+    pub fn what(&self) -> What
+        ensures { result ≡ what_of (root_of (message_view self.now)) }
+    {
+        What::of_root(self.root())
     }
 
     /// Name of the message type; empty without a netlink header.
@@ -117,31 +134,63 @@ pub fn header_of(name: &'static str, message: &NetlinkMessage<'_>) -> NetlinkHea
     }
 }
 
-// The object that a message without a netlink header describes: a filter if its kind is a filter's, else a qdisc.
-fn what_of(holds: MessageType, payload: &[u8]) -> What {
+// The object of messages of this type.
+fn root_by_type(header: &NetlinkHeader, payload: &[u8]) -> Root
+    ensures { result ≡ root_by_type (header_view header.now) payload.now }
+{
+    match header.kind {
+        36..=38 => Root::Qdisc,
+        40..=42 => Root::Class,
+        44..=46 => filter_root(kind_of(payload)),
+        100..=102 => Root::Chain,
+        _ => action_root(header),
+    }
+}
+
+fn filter_root(kind: &[u8]) -> Root
+    ensures { result ≡ filter_root kind.now }
+{
+    if kind == "u32".as_bytes() {
+        Root::U32Filter
+    } else {
+        Root::Filter
+    }
+}
+
+// A flush is `RTM_DELACTION` with `NLM_F_ROOT`.
+fn action_root(header: &NetlinkHeader) -> Root
+    ensures { result ≡ action_root (header_view header.now) }
+{
+    if header.kind == 49 && header.flags / 0x100 % 2 == 1 {
+        Root::Flush
+    } else {
+        Root::Action
+    }
+}
+
+// The object of a message without a netlink header.
+fn root_by_kind(holds: MessageType, payload: &[u8]) -> Root
+    ensures { result ≡ root_by_kind holds payload.now }
+{
     match holds {
-        MessageType::Action => What::Action,
-        MessageType::Tc => match kind_in(holds, payload) {
-            b"basic"
-            | b"bpf"
-            | b"cgroup"
-            | b"flow"
-            | b"flower"
-            | b"fw"
-            | b"matchall"
-            | b"route"
-            | b"rsvp"
-            | b"rsvp6"
-            | b"tcindex"
-            | b"u32" => What::Filter,
-            _ => What::Qdisc,
-        },
+        MessageType::Tc => root_of_kind(kind_of(payload)),
+        MessageType::Action => Root::Action,
+    }
+}
+
+fn root_of_kind(kind: &[u8]) -> Root
+    ensures { result ≡ if is_some (actions_type kind.now) then filter_root kind.now else Qdisc }
+{
+    if is_filter_kind(kind) {
+        filter_root(kind)
+    } else {
+        Root::Qdisc
     }
 }
 
 fn kind_in(holds: MessageType, payload: &[u8]) -> &[u8] {
     match holds {
-        MessageType::Tc => last_kind(after_header(20, payload)),
+        MessageType::Tc => kind_of(payload),
         MessageType::Action => first_action_kind(after_header(4, payload)),
     }
 }
@@ -150,22 +199,6 @@ fn kind_in(holds: MessageType, payload: &[u8]) -> &[u8] {
 fn after_header(header: usize, payload: &[u8]) -> &[u8] {
     let (_, rest) = payload.split_at(header.min(payload.len()));
     rest
-}
-
-// The last `TCA_KIND` before the first broken attribute.
-fn last_kind(bytes: &[u8]) -> &[u8] {
-    let mut kind: &[u8] = &[];
-    for frame in NlasIterator::new(bytes) {
-        match frame {
-            Ok(frame) => {
-                if frame.kind() == 1 {
-                    kind = strip_nul(frame.value());
-                }
-            }
-            Err(_) => return kind,
-        }
-    }
-    kind
 }
 
 // The kind of the first action that has one (`TCA_ACT_KIND`), in the first list of actions.

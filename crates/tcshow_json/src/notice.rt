@@ -23,13 +23,13 @@ impl Notice {
     /// The notice in words.
     pub fn text(&self, alloc: Global) -> Result<String, AllocError> {
         match self {
-            Notice::Cut(fault) => format!(in alloc; "cut: {fault}"),
+            Notice::Cut(fault) => format!(in alloc; "truncated: {fault}"),
             Notice::Snapped => {
-                format!(in alloc; "cut: the capture has only the first bytes of this packet")
+                format!(in alloc; "truncated: the capture has only the first bytes of this packet")
             }
             Notice::Skipped(length) => format!(in alloc; "skipped: {length} bytes"),
-            Notice::Broken(fault) => format!(in alloc; "broken: {fault}"),
-            Notice::NoHex => format!(in alloc; "broken: no hex"),
+            Notice::Broken(fault) => format!(in alloc; "malformed: {fault}"),
+            Notice::NoHex => format!(in alloc; "not hex"),
         }
     }
 }

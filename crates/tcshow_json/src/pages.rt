@@ -1,5 +1,8 @@
 //! The parts of an outline that aren't attributes: time, netlink header, path of a fault.
 
+ghost use Rattle.std.specs.Prelude.{OnOk};
+ghost use Rattle.tc_outline.specs.Text.{Continues};
+
 use crate::message::{Message, NetlinkHeader, Origin};
 use std::alloc::{AllocError, Allocator};
 use std::str;
@@ -12,7 +15,10 @@ pub fn text_of<A: Allocator>(page: &Page<A>) -> &str {
 }
 
 // Writes a time: seconds, a point and nine digits.
-fn show_time<A: Allocator>(page: &mut Page<A>, time: &Time) -> Result<(), AllocError> {
+#[tactic(auto, using(tc_outline::proofs::Continued::continues_none, tc_outline::proofs::Continued::continues_then))]
+fn show_time<A: Allocator>(page: &mut Page<A>, time: &Time) -> Result<(), AllocError>
+    ensures { OnOk result (Continues page.old page.new) }
+{
     page.number(time.seconds)?;
     page.text(".")?;
     let mut place = 100_000_000u32;
@@ -24,7 +30,10 @@ fn show_time<A: Allocator>(page: &mut Page<A>, time: &Time) -> Result<(), AllocE
 }
 
 /// Writes a blank and the word, unless it is empty.
-pub fn show_word<A: Allocator>(page: &mut Page<A>, word: &str) -> Result<(), AllocError> {
+#[tactic(auto, using(tc_outline::proofs::Continued::continues_none, tc_outline::proofs::Continued::continues_then))]
+pub fn show_word<A: Allocator>(page: &mut Page<A>, word: &str) -> Result<(), AllocError>
+    ensures { OnOk result (Continues page.old page.new) }
+{
     if word.is_empty() {
         return Ok(());
     }
@@ -33,20 +42,23 @@ pub fn show_word<A: Allocator>(page: &mut Page<A>, word: &str) -> Result<(), All
 }
 
 /// Writes the time and the netlink header that the line of a message begins with.
+#[tactic(auto, using(tc_outline::proofs::Continued::continues_none, tc_outline::proofs::Continued::continues_then))]
 pub fn begin_message<A: Allocator>(
     page: &mut Page<A>,
     found: &Message<'_>,
-) -> Result<(), AllocError> {
+) -> Result<(), AllocError>
+    ensures { OnOk result (Continues page.old page.new) }
+{
     show_time_of(page, &found.origin)?;
     show_netlink(page, found)
 }
 
 /// Writes the netlink header of a message: type, flags in words, sequence number, and the port unless it is 0. For a message
 /// without a netlink header, `tc` or `action`.
-pub fn show_netlink<A: Allocator>(
-    page: &mut Page<A>,
-    found: &Message<'_>,
-) -> Result<(), AllocError> {
+#[tactic(auto, using(tc_outline::proofs::Continued::continues_none, tc_outline::proofs::Continued::continues_then))]
+pub fn show_netlink<A: Allocator>(page: &mut Page<A>, found: &Message<'_>) -> Result<(), AllocError>
+    ensures { OnOk result (Continues page.old page.new) }
+{
     match &found.header {
         Some(header) => {
             page.text(header.name)?;
@@ -60,10 +72,13 @@ pub fn show_netlink<A: Allocator>(
 }
 
 /// Writes the flags, the sequence number and the port of a netlink header.
+#[tactic(auto, using(tc_outline::proofs::Continued::continues_none, tc_outline::proofs::Continued::continues_then))]
 pub fn show_numbers<A: Allocator>(
     page: &mut Page<A>,
     header: &NetlinkHeader,
-) -> Result<(), AllocError> {
+) -> Result<(), AllocError>
+    ensures { OnOk result (Continues page.old page.new) }
+{
     show_flags(page, header)?;
     page.text(" seq ")?;
     page.number(u64::from(header.sequence))?;
@@ -75,7 +90,10 @@ pub fn show_numbers<A: Allocator>(
 }
 
 // Writes flags in words, and the bits that have no word in hex.
-fn show_flags<A: Allocator>(page: &mut Page<A>, header: &NetlinkHeader) -> Result<(), AllocError> {
+#[tactic(auto, using(tc_outline::proofs::Continued::continues_none, tc_outline::proofs::Continued::continues_then))]
+fn show_flags<A: Allocator>(page: &mut Page<A>, header: &NetlinkHeader) -> Result<(), AllocError>
+    ensures { OnOk result (Continues page.old page.new) }
+{
     let mut rest = header.flags;
     for words in [FLAGS.as_slice(), flags_of(header.name)] {
         for (bit, word) in words {
@@ -137,7 +155,10 @@ fn flags_of(name: &str) -> &'static [(u16, &'static str)] {
 }
 
 /// Writes the time of a packet and a blank, if the time is known.
-pub fn show_time_of<A: Allocator>(page: &mut Page<A>, origin: &Origin) -> Result<(), AllocError> {
+#[tactic(auto, using(tc_outline::proofs::Continued::continues_none, tc_outline::proofs::Continued::continues_then))]
+pub fn show_time_of<A: Allocator>(page: &mut Page<A>, origin: &Origin) -> Result<(), AllocError>
+    ensures { OnOk result (Continues page.old page.new) }
+{
     if let Some(time) = &origin.time {
         show_time(page, time)?;
         page.blank()?;
@@ -171,7 +192,7 @@ pub fn show_place<A: Allocator>(
     path: &mut Page<A>,
     found: &Message<'_>,
 ) -> Result<usize, AllocError> {
-    match locate(found.payload, found.what) {
+    match locate(found.payload, found.what()) {
         Some(fault) => {
             fault.path.show(path)?;
             Ok(fault.offset)

@@ -1,19 +1,23 @@
 //! The kernel's answers (`NLMSG_ERROR`) to traffic control requests.
 
-ghost use Rattle.std.specs.Prelude.{◌≡◌, IfOk};
+ghost use Rattle.std.specs.Prelude.{◌≡◌, ◌++◌, IfOk, IsAscii, OnOk, Some, flat_map, option_map};
+ghost use Rattle.serde_json.specs.Sent.{IsTextOf};
 ghost use Rattle.tc_capture.specs.Answer.{answer_of};
-ghost use Rattle.tcshow_json.specs.Messages.{header_view, is_silent, message_view};
-ghost use Rattle.tcshow_json.specs.Line.{IsAnswered};
+ghost use Rattle.tc_texts.specs.Escape.{escaped_byte};
+ghost use Rattle.tcshow_json.specs.Messages.{header_view, is_silent, message_view, reason_of};
+ghost use Rattle.tcshow_json.specs.Line.{IsAnswered, answered_events, error_events, escaped_text, some_text};
 
 use crate::json::{AnswerLine, Reason};
 use crate::line::json_of;
 use crate::message::{Message, NetlinkHeader, Origin, header_of};
 use crate::pages::{show_numbers, show_some_time, show_time_of, show_word, some_text, text_of};
+use itoa::Buffer;
 use nla_frames::strip_nul;
 use std::alloc::{AllocError, Allocator, Global};
 use std::str;
 use tc_capture::{Answer, NLMSG_HEADER_LEN, NetlinkMessage, answer_in, errno_name};
 use tc_outline::{Layout, Page, path_at};
+use tc_texts::put_escaped_byte;
 
 // True if the answer is an acknowledgement without a text. With a text it is a warning.
 fn is_silent(answer: &Answer<'_>) -> bool
@@ -32,10 +36,11 @@ pub struct Reply<'a> {
 }
 
 impl<'a> Reply<'a> {
-    ghost use Rattle.std.specs.Prelude.{◌≡◌};
-    ghost use Rattle.tc_capture.specs.Answer.{answer_in};
+    ghost use Rattle.std.specs.Prelude.{◌≡◌, IfOk, IsAscii};
+    ghost use Rattle.tc_capture.specs.Answer.{answer_in, answer_of};
     ghost use Rattle.tc_capture.specs.Message.{message_of};
-    ghost use Rattle.tcshow_json.specs.Messages.{answer_with};
+    ghost use Rattle.tcshow_json.specs.Messages.{answer_with, reason_of};
+    ghost use Rattle.tcshow_json.specs.Line.{errno_text, escaped_text, offset_in_message};
     ghost use Rattle.tcshow_json.specs.Replies.{reply_thing};
 
     /// The answer in a netlink message. `None` if it isn't an answer, is an acknowledgement without a text, or answers another request.
@@ -54,41 +59,49 @@ impl<'a> Reply<'a> {
         })
     }
 
+    /// The name of the error, such as `EINVAL`; its number if it has no name, or `warning` for error 0.
+    #[tactic(auto, unfolding(crate::specs::Line::errno_text))]
+    pub fn errno<'b>(&self, buffer: &'b mut Buffer) -> &'b str
+        ensures { result.now ≡ errno_text self.now.answer.error }
+    {
+        if self.answer.error == 0 {
+            return "warning";
+        }
+        match errno_name(self.answer.error) {
+            Some(name) => name,
+            None => buffer.format(self.answer.error),
+        }
+    }
+
+    // The kernel's text, escaped; empty if there is none.
+    fn text<A: Allocator>(&self, alloc: A) -> Result<Vec<u8, A>, AllocError>
+        ensures text { IfOk result (λ text. text.items ≡ escaped_text (reason_of (answer_of self.now.answer)).text) }
+        ensures ascii { IfOk result (λ text. IsAscii text.items) }
+    {
+        match self.answer.text {
+            Some(text) => escaped(alloc, strip_nul(text)),
+            None => Ok(Vec::new(alloc)),
+        }
+    }
+
     // Offset of the fault in the request, in bytes from the end of the netlink header.
-    fn offset(&self) -> Option<u64> {
+    fn offset(&self) -> Option<u64>
+        ensures { result ≡ offset_in_message (reason_of (answer_of self.now.answer)).offset }
+    {
         match self.answer.offset {
             Some(offset) => Some(u64::from(offset).saturating_sub(NLMSG_HEADER_LEN as u64)),
             None => None,
         }
     }
 
-    // Writes the name of the error, its number if it has no name, or `warning` for error 0.
-    fn show_errno<A: Allocator>(&self, page: &mut Page<A>) -> Result<(), AllocError> {
-        if self.answer.error == 0 {
-            return page.text("warning");
-        }
-        match errno_name(self.answer.error) {
-            Some(name) => page.text(name),
-            None => page.number(u64::from(self.answer.error)),
-        }
-    }
-
-    // Writes the kernel's text (`NLMSGERR_ATTR_MSG`), in hex if it isn't UTF-8.
-    fn show_text<A: Allocator>(&self, page: &mut Page<A>) -> Result<(), AllocError> {
-        let bytes = match self.answer.text {
-            Some(text) => strip_nul(text),
-            None => return Ok(()),
-        };
-        match str::from_utf8(bytes) {
-            Ok(text) => page.text(text),
-            Err(_) => page.hex(bytes),
-        }
-    }
-
     // Writes the path of the fault, if the answer has its offset.
     fn show_path<A: Allocator>(&self, page: &mut Page<A>) -> Result<(), AllocError> {
         if let Some(offset) = self.offset() {
-            if let Some(path) = path_at(self.request.payload, self.request.what, offset as usize) {
+            if let Some(path) = path_at(
+                self.request.payload,
+                self.request.what(),
+                offset as usize,
+            ) {
                 path.show(page)?;
             }
         }
@@ -96,11 +109,38 @@ impl<'a> Reply<'a> {
     }
 }
 
-/// A page with the name of the error; see [`Reply`].
-pub fn errno_page<A: Allocator>(alloc: A, reply: &Reply<'_>) -> Result<Page<A>, AllocError> {
-    let mut page = Page::new(alloc, Layout::OneLine);
-    reply.show_errno(&mut page)?;
-    Ok(page)
+// A text with each byte that isn't printable ASCII as `\x1b`.
+fn escaped<A: Allocator>(alloc: A, text: &[u8]) -> Result<Vec<u8, A>, AllocError>
+    ensures text { IfOk result (λ escaped. escaped.items ≡ flat_map escaped_byte text.now) }
+    ensures ascii { IfOk result (λ escaped. IsAscii escaped.items) }
+{
+    let mut escaped = Vec::with_capacity(alloc, text.len())?;
+    for byte in text {
+        push_escaped(&mut escaped, *byte)?;
+    }
+    Ok(escaped)
+}
+
+fn push_escaped<A: Allocator>(out: &mut Vec<u8, A>, byte: u8) -> Result<(), AllocError>
+    ensures text { OnOk result (out.new.items ≡ out.old.items ++ escaped_byte byte) }
+    ensures ascii { IsAscii out.old.items → OnOk result (IsAscii out.new.items) }
+{
+    put_escaped_byte(out, byte)
+}
+
+// ASCII as a text; `None` if it is empty.
+#[tactic(auto, using(crate::proofs::Escaped::ascii_is_utf8))]
+fn some_ascii(bytes: &[u8]) -> Option<&str>
+    requires { IsAscii bytes.now }
+    ensures { option_map (λ text. text.now) result ≡ some_text bytes.now }
+{
+    if bytes.is_empty() {
+        return None;
+    }
+    match str::from_utf8(bytes) {
+        Ok(text) => Some(text),
+        Err(_) => unreachable!(),
+    }
 }
 
 /// Writes the outline of a request, indented.
@@ -121,10 +161,9 @@ fn put_indented<A: Allocator>(page: &mut Page<A>, text: &str) -> Result<(), Allo
 pub fn show_reason<A: Allocator + Copy>(
     alloc: A,
     page: &mut Page<A>,
-    errno: &str,
     reply: &Reply<'_>,
 ) -> Result<(), AllocError> {
-    begin_answer(page, errno, reply)?;
+    begin_answer(page, reply)?;
     if let Some(text) = reply.answer.text {
         page.blank()?;
         page.quoted(strip_nul(text))?;
@@ -135,15 +174,11 @@ pub fn show_reason<A: Allocator + Copy>(
     }
 }
 
-fn begin_answer<A: Allocator>(
-    page: &mut Page<A>,
-    errno: &str,
-    reply: &Reply<'_>,
-) -> Result<(), AllocError> {
+fn begin_answer<A: Allocator>(page: &mut Page<A>, reply: &Reply<'_>) -> Result<(), AllocError> {
     show_time_of(page, &reply.request.origin)?;
     page.text(reply.header.name)?;
     page.blank()?;
-    page.text(errno)?;
+    page.text(reply.errno(&mut Buffer::new()))?;
     show_numbers(page, &reply.header)
 }
 
@@ -161,11 +196,10 @@ fn show_fault_at<A: Allocator>(
     show_word(page, text_of(&path))
 }
 
-// Texts in the JSON line of an answer.
+// Time and place in the JSON line of an answer.
 #[derive(Drop)]
 struct Texts<A: Allocator> {
     time: Page<A>,
-    text: Page<A>,
     path: Page<A>,
 }
 
@@ -173,14 +207,12 @@ impl<A: Allocator + Copy> Texts<A> {
     fn new(alloc: A) -> Texts<A> {
         Texts {
             time: Page::new(alloc, Layout::OneLine),
-            text: Page::new(alloc, Layout::OneLine),
             path: Page::new(alloc, Layout::OneLine),
         }
     }
 
     fn show(&mut self, reply: &Reply<'_>) -> Result<(), AllocError> {
         show_some_time(&mut self.time, &reply.request.origin)?;
-        reply.show_text(&mut self.text)?;
         reply.show_path(&mut self.path)
     }
 }
@@ -189,36 +221,63 @@ impl<A: Allocator + Copy> Texts<A> {
 pub fn reply_line<A: Allocator + Copy>(
     alloc: A,
     json: Global,
-    errno: &str,
     reply: &Reply<'_>,
 ) -> Result<Vec<u8>, AllocError>
-    ensures { IfOk result (λ line. IsAnswered (header_view reply.now.header) errno.now reply.now.answer.is_capped
+    ensures { IfOk result (λ line. IsAnswered (header_view reply.now.header) (reason_of (answer_of reply.now.answer))
         (message_view reply.now.request) line.items) }
 {
     let mut texts = Texts::new(alloc);
     texts.show(reply)?;
-    line_with(json, errno, reply, &texts)
+    let text = reply.text(alloc)?;
+    line_with(
+        json,
+        reply,
+        &text,
+        some_text(&texts.time),
+        some_text(&texts.path),
+    )
 }
 
-#[tactic(auto, unfolding(crate::specs::Line::IsAnswered))]
-fn line_with<A: Allocator>(
+fn line_with(
     json: Global,
-    errno: &str,
     reply: &Reply<'_>,
-    texts: &Texts<A>,
+    text: &[u8],
+    time: Option<&str>,
+    path: Option<&str>,
 ) -> Result<Vec<u8>, AllocError>
-    ensures { IfOk result (λ line. IsAnswered (header_view reply.now.header) errno.now reply.now.answer.is_capped
+    requires text { text.now ≡ escaped_text (reason_of (answer_of reply.now.answer)).text }
+    requires ascii { IsAscii text.now }
+    ensures { IfOk result (λ line. IsAnswered (header_view reply.now.header) (reason_of (answer_of reply.now.answer))
         (message_view reply.now.request) line.items) }
 {
+    let mut buffer = Buffer::new();
+    let errno = reply.errno(&mut buffer);
+    let text = some_ascii(text);
+    let offset = reply.offset();
+    let reason = Reason {
+        errno,
+        text,
+        offset,
+        path,
+    };
+    line_for(json, reply, reason, time)
+}
+
+// The line of an answer with this error, text and place.
+fn line_for(
+    json: Global,
+    reply: &Reply<'_>,
+    reason: Reason<'_, '_, '_>,
+    time: Option<&str>,
+) -> Result<Vec<u8>, AllocError>
+    ensures { IfOk result (λ line. IsTextOf (Some (answered_events (option_map (λ t. t.now) time.entry) (header_view reply.now.header)
+        (error_events reason.entry.errno.now (option_map (λ t. t.now) reason.entry.text) reason.entry.offset
+        (option_map (λ t. t.now) reason.entry.path)) reply.now.answer.is_capped (message_view reply.now.request))) line.items) }
+{
     let line = AnswerLine {
-        time: some_text(&texts.time),
+        time,
         header: reply.header,
-        reason: Reason {
-            errno,
-            text: some_text(&texts.text),
-            offset: reply.offset(),
-            path: some_text(&texts.path),
-        },
+        reason,
         is_capped: reply.answer.is_capped,
         request: reply.request,
         alloc: json,

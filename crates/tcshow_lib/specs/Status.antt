@@ -1,19 +1,20 @@
 -- The exit status.
 use Rattle.std.specs.Prelude.{ℕ, Bool, true, false, Result, Ok, Err}
 use Rattle.tcshow_input.specs.declared.stop.Stop.{Stop}
-use Rattle.tcshow_input.specs.declared.stop.Stop.TheVariants.{NoCapture, NoRoute, Closed, Read, Write, NoMemory}
+use Rattle.tcshow_input.specs.declared.stop.Stop.TheVariants.{Usage, NoCapture, NoRoute, Closed, Read, Write, NoMemory}
 
 -- 1 if something was refused
 abbrev pub refused_status : Bool → ℕ
 refused_status true = 1
 refused_status false = 0
 
--- 3 for a failed stream, 2 for an input without messages of route netlink, else 1 if something was refused; a closed output counts as the end of
--- the input
+-- 3 for a failed stream, 2 for wrong arguments or an input without messages of route netlink, else 1 if something was refused; a closed output
+-- counts as the end of the input
 abbrev pub status_of : {X : Type 0} → Result X Stop → Bool → ℕ
 status_of (Err Read) refused = 3
 status_of (Err Write) refused = 3
 status_of (Err NoMemory) refused = 3
+status_of (Err Usage) refused = 2
 status_of (Err NoCapture) refused = 2
 status_of (Err NoRoute) refused = 2
 status_of (Err Closed) refused = refused_status refused

@@ -83,31 +83,46 @@ impl Colours {
 }
 
 const ABOUT: &str =
-    "Shows the traffic control messages of a capture: pcap, pcapng, a file of rtmon, a stream of netlink messages, or hex";
+    "Decode Linux traffic control messages (tc: qdiscs, classes, filters, chains, actions)
 
-const NOTES: &str =
-    "A message is shown if it has, of each option that chooses, one of the values that are given: --kind, --type, --dev, --handle, --parent,
---chain and --pref can be given several times.
-A handle is one such as 1:10, ffff:, root, 800::800 or 0x1. A time is in seconds since 1970, with decimals, or 2026-11-26T14:00:00Z;
---since and --until leave out messages without a time.
+FILE is a capture (pcap, pcapng), a file written by rtmon, a stream of netlink messages, or text
+with messages in hex. The format is detected. Without FILE, or if it is -, tcshow reads standard
+input.";
 
-Hex is a message a line, with blanks, colons and 0x among the digits and comments after #, or a dump with offsets, as xxd, tcpdump -x
-and Wireshark print it; offset 0 begins a message. The cooked header of nlmon may stand before it.
-A packet, block or message of more than 1 MiB is skipped, with a line that says so.
-In outlines a tick is one of the packet scheduler, 64 ns as in Linux since 2.6.31; clock_t is a hundredth of a second.
-Captures of big-endian hosts can be opened, but their netlink messages, which are big-endian too, are shown as broken.
+const NOTES: &str = "Examples:
+  tcshow f.pcap                                 every message, one attribute per line
+  tcshow --oneline --kind htb --dev 7 f.pcap    htb messages of interface 7, one line each
+  tcshow --refused f.pcap                       malformed messages and requests the kernel rejected
+  tcshow --json f.pcap | jq .message            messages as JSON
+  tcshow --explain fq_codel                     the attributes of a kind
 
-Exit status: 0; 1 if a message that is shown is refused, or the input is broken or cut; 2 for a wrong usage, no capture,
-or a capture without route netlink; 3 if a stream failed or memory ran out";
+Notes:
+  Repeat a filter to allow several values; different filters must all match.
+  Handles are such as 1:10, ffff:, root, 800::800 or 0x1.
+  Times are such as 1764028801.25 or 2026-11-26T14:00:00Z. --since and --until also drop messages
+  that have no time.
+  --dev takes a name only if --names lists it.
+  Hex may contain spaces, colons, 0x prefixes and # comments. One message per line, or a dump with
+  offsets (xxd, tcpdump -x, Wireshark), in which offset 0 starts a new message.
+  Packets, blocks and messages larger than 1 MiB are skipped and reported.
+  In outlines, ticks are packet scheduler ticks of 64 ns and clock_t units are 10 ms.
+  Captures made on big-endian hosts can be opened, but their messages are reported as malformed.
+
+Exit status:
+  0  no problem
+  1  a message that was shown is malformed, or the input is damaged or truncated
+  2  bad arguments, a file that can't be opened, or input that is not a capture or has no route
+     netlink
+  3  an I/O error, or out of memory";
 
 // Headings of the help.
-const INPUT: &str = "What is read";
+const INPUT: &str = "Input";
 
-const FORMS: &str = "How messages are shown";
+const FORMS: &str = "Output";
 
-const FILTERS: &str = "Which messages are shown";
+const FILTERS: &str = "Filters";
 
-const TABLES: &str = "What there is";
+const TABLES: &str = "Reference";
 
 // The value of an option.
 #[derive(Clone, Copy)]
@@ -134,115 +149,115 @@ static OPTIONS: [(&str, Value, &str, &str); 19] = [
         "no-header",
         Value::Word("WHAT", &["tc", "action"]),
         INPUT,
-        "Lines of hex are messages without a netlink header",
+        "Each line of hex is a message without a netlink header",
     ),
     (
         "names",
         Value::Text("FILE"),
         INPUT,
-        "Names of interfaces, in lines such as '7 eth0' or those of 'ip -o link'",
+        "Read interface names from FILE: lines like '7 eth0', or 'ip -o link'",
     ),
     (
         "oneline",
         Value::Nothing,
         FORMS,
-        "Show each message on one line",
+        "Print each message on one line",
     ),
     (
         "json",
         Value::Nothing,
         FORMS,
-        "Show each message as a line of JSON",
+        "Print each message as one line of JSON",
     ),
     (
         "all",
         Value::Nothing,
         FORMS,
-        "Show paddings in outlines too",
+        "Print padding attributes and fields as well",
     ),
     (
         "color",
         Value::Word("WHEN", &["auto", "always", "never"]),
         FORMS,
-        "Outlines in colours: auto (on a terminal, unless NO_COLOR is set), always or never",
+        "Color the outlines; by default on a terminal, unless NO_COLOR is set",
     ),
     (
         "summary",
         Value::Nothing,
         FORMS,
-        "Count the messages at the end",
+        "Print message counts at the end",
     ),
     (
         "kind",
         Value::Texts("KIND"),
         FILTERS,
-        "Show messages of this kind, and filters and action messages with an action of it",
+        "Messages of this kind, and messages that contain an action of this kind",
     ),
     (
         "type",
         Value::Texts("TYPE"),
         FILTERS,
-        "Show messages of this type: newtclass, RTM_NEWTCLASS, tclass for all three, or a number",
+        "Messages of this type: newtclass, RTM_NEWTCLASS, tclass (new, del and get), or a number",
     ),
     (
         "dev",
         Value::Texts("DEV"),
         FILTERS,
-        "Show messages of the interface with this number or name",
+        "Messages about this interface, by index or name",
     ),
     (
         "handle",
         Value::Texts("HANDLE"),
         FILTERS,
-        "Show messages with this handle",
+        "Messages with this handle",
     ),
     (
         "parent",
         Value::Texts("HANDLE"),
         FILTERS,
-        "Show messages with this parent",
+        "Messages with this parent",
     ),
     (
         "chain",
         Value::Numbers("CHAIN"),
         FILTERS,
-        "Show filters of this chain, and the chain",
+        "Filters in this chain, and the chain itself",
     ),
     (
         "pref",
         Value::ShortNumbers("PREF"),
         FILTERS,
-        "Show filters of this priority",
+        "Filters with this priority",
     ),
     (
         "since",
         Value::Text("TIME"),
         FILTERS,
-        "Show messages captured at this time or later",
+        "Messages captured at or after TIME",
     ),
     (
         "until",
         Value::Text("TIME"),
         FILTERS,
-        "Show messages captured at this time or earlier",
+        "Messages captured at or before TIME",
     ),
     (
         "refused",
         Value::Nothing,
         FILTERS,
-        "Show messages that are refused, and refusals and warnings of the kernel",
+        "Malformed messages, and errors and warnings that the kernel returned",
     ),
     (
         "explain",
         Value::TextOrNothing("KIND"),
         TABLES,
-        "Print the attributes of a kind: names, forms and units; without KIND the names of all kinds",
+        "Describe the attributes of KIND; without KIND, list all kinds",
     ),
     (
         "schema",
         Value::Nothing,
         TABLES,
-        "Print the JSON Schema of the lines of --json",
+        "Print the JSON Schema of a --json line",
     ),
 ];
 
@@ -311,25 +326,18 @@ fn file<'a>(alloc: Global) -> Result<Arg<'a>, AllocError> {
     Arg::new(alloc, "FILE")
         .value_name("FILE")
         .action(ArgAction::Set)
-        .help("Read FILE in place of standard input")
+        .help("File to read")
         .conflicts_with("read")
 }
 
 fn read<'a>(alloc: Global) -> Arg<'a> {
-    option(
-        alloc,
-        "read",
-        Value::Text("FILE"),
-        INPUT,
-        "Read FILE, as the argument does",
-    )
-    .short('r')
+    option(alloc, "read", Value::Text("FILE"), INPUT, "Same as FILE").short('r')
 }
 
 fn begun<'a>(alloc: Global) -> Result<Command<'a>, AllocError> {
     let file = file(alloc)?;
     Command::new(alloc, "tcshow")
-        .version("0.1.0")
+        .version("0.3.0")
         .about(ABOUT)
         .after_help(NOTES)
         .arg(file)

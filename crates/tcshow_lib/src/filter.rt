@@ -1,10 +1,10 @@
 //! Values of the options that filter messages.
 
 use crate::arguments::Arguments;
-use crate::kinds::{is_known, write_all_kinds};
+use crate::kinds::is_known;
 use crate::names::interface_of;
+use crate::nearest::nearest_kinds;
 use std::alloc::{AllocError, Global};
-use std::fmt;
 use tc_capture::Time;
 use tc_select::{
     Filter, HANDLE_FORMS, TIME_FORMS, TYPE_FORMS, Types, parse_handle, parse_time, parse_types,
@@ -40,23 +40,19 @@ impl<'a> From<AllocError> for FilterError<'a> {
 }
 
 impl<'a> FilterError<'a> {
-    /// The complaint: the word, and the words or forms that are known.
-    pub fn text(&self, alloc: Global) -> Result<String, fmt::Error> {
-        let mut text = String::new(alloc);
-        self.write(&mut text)?;
-        Ok(text)
-    }
-
-    fn write<W: fmt::Write>(&self, out: &mut W) -> fmt::Result {
+    /// The complaint: the word, and the words or forms that it may have been.
+    pub fn text(&self, alloc: Global) -> Result<String, AllocError> {
         match *self {
             FilterError::Kind(kind) => {
-                write!(out, "tcshow: unknown kind '{kind}'; the kinds are:\n")?;
-                write_all_kinds(out)
+                let [first, second, third] = nearest_kinds(kind);
+                format!(in alloc;
+                    "tcshow: unknown kind '{kind}'; near it are {first}, {second} and {third} (tcshow --explain lists all)\n"
+                )
             }
             FilterError::Word(what, word, forms) => {
-                write!(out, "tcshow: unknown {what} '{word}': {forms}\n")
+                format!(in alloc; "tcshow: unknown {what} '{word}': {forms}\n")
             }
-            FilterError::NoMemory => Err(fmt::Error),
+            FilterError::NoMemory => Err(AllocError),
         }
     }
 }

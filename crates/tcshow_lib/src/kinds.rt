@@ -7,7 +7,7 @@ use std::fmt;
 use tc_schema::{Note, kinds_of, knows_kind, put_kind, put_schema};
 
 // The places of the lists with kinds: of qdiscs and filters, and of actions.
-const LISTS: [usize; 2] = [TC_LIST, ACTION_LIST];
+pub(crate) const LISTS: [usize; 2] = [TC_LIST, ACTION_LIST];
 
 /// True if the tables have the kind.
 pub(crate) fn is_known(kind: &str) -> bool {

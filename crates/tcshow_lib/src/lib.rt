@@ -7,6 +7,7 @@ pub mod arguments;
 pub mod filter;
 pub mod kinds;
 pub mod names;
+mod nearest;
 mod notes;
 pub mod options;
 pub mod program;

@@ -12,6 +12,7 @@ use tc_units::{Name, Unit};
 const COLUMNS: KindColumns<'static> = KindColumns {
     root: Root::Qdisc,
     interfaces: &[],
+    links: None,
     all: true,
 };
 

@@ -1,11 +1,11 @@
 //! The program: its arguments are obeyed, and how it ends is its exit status.
 
-ghost use Rattle.std.specs.Prelude.{◌≡◌, ◌≢◌, OnOk};
+ghost use Rattle.std.specs.Prelude.{◌≡◌, ◌≢◌, OnOk, IfErr};
+ghost use Rattle.program_io.specs.Streams.{read_failure, reader_inside, write_failure, writer_inside};
 ghost use Rattle.tcshow_input.specs.State.{Ran};
-ghost use Rattle.tcshow_lib.specs.Status.{status_of};
 ghost use Rattle.tcshow_input.specs.Writing.{GrowsClean};
 ghost use Rattle.tcshow_input.specs.declared.options.OutputFormat.TheVariants.{Json};
-ghost use Rattle.tcshow_lib.specs.declared.run.Ended.{Ended};
+ghost use Rattle.tcshow_lib.specs.Streams.{ShowsEnd};
 
 use crate::arguments::{Arguments, Task, arguments_of};
 use crate::filter::{FilterError, FilterValues};
@@ -13,40 +13,42 @@ use crate::kinds::{explain, is_known, put_schema_of_line, write_all_kinds};
 use crate::names::names_in;
 use crate::options::{Options, OutputFormat, options_of};
 use crate::run::{Ended, run};
-use crate::status::status_of;
 use clap::Error;
 use clap::error::ErrorKind;
-use program_io::{Coloured, fail_with, write_all};
-use std::alloc::{Allocator, Global};
+use program_io::{Coloured, Reader, Writer, cause_of, write_all, write_text};
+use std::alloc::{AllocError, Allocator, Global};
 use std::io::{self, Input, Print, Read, Write};
-use std::process::ExitCode;
 use std::rt::{Env, Files};
 use std::{env, fs};
 use tc_select::{Filter, LINK_FORMS};
 use tcshow_input::{Packets, Stop};
 
-/// The program `tcshow`: reads its arguments, prints the messages of its input on standard output, and returns the exit
-/// status. Complaints are written to `errors`. `is_terminal` says whether standard output is a terminal.
-pub fn tcshow<R: Env + AllocGlobal + Files + Input + Print + Eprint, E: Write>(
+/// The program `tcshow`: reads its arguments, prints the messages of its input on standard output, and returns how it
+/// ended. Complaints are written to `errors`. `is_terminal` says whether standard output is a terminal.
+pub fn tcshow<R: Env + AllocGlobal + Files + Input + Print, E: Write>(
     rt: &R,
     is_terminal: bool,
     errors: &mut E,
-) -> ExitCode {
+) -> Ended {
     match env::args(rt) {
         Ok(words) => match Vec::from_iter(rt.alloc(), words) {
-            Ok(words) => ExitCode::from(obey(rt, words.as_slice(), is_terminal, errors)),
-            Err(_) => ExitCode::from(fail_with(errors, NO_MEMORY, 3)),
+            Ok(words) => obey(rt, words.as_slice(), is_terminal, errors),
+            Err(_) => fail_without_memory(errors),
         },
-        Err(_) => ExitCode::from(fail_with(errors, "tcshow: an argument is no text\n", 2)),
+        Err(_) => complain(
+            errors,
+            "tcshow: an argument is not valid UTF-8\n",
+            Stop::Usage,
+        ),
     }
 }
 
-fn obey<R: Env + AllocGlobal + Files + Input + Print + Eprint, E: Write>(
+fn obey<R: Env + AllocGlobal + Files + Input + Print, E: Write>(
     rt: &R,
     words: &[String],
     is_terminal: bool,
     errors: &mut E,
-) -> u8 {
+) -> Ended {
     match arguments_of(rt.alloc(), words) {
         Ok(mut arguments) => {
             arguments.in_colours = arguments.format == OutputFormat::Lines
@@ -58,12 +60,18 @@ fn obey<R: Env + AllocGlobal + Files + Input + Print + Eprint, E: Write>(
 }
 
 // Prints what is wrong with the arguments, or the help or the version that they ask for.
-fn say<R: Print + Eprint, E: Write>(rt: &R, error: &Error, errors: &mut E) -> u8 {
+fn say<R: AllocGlobal + Print, E: Write>(rt: &R, error: &Error, errors: &mut E) -> Ended {
     if error.kind() == ErrorKind::OutOfMemory {
-        return fail_with(errors, NO_MEMORY, 3);
+        return fail_without_memory(errors);
     }
-    let _ = error.print(rt);
-    if error.use_stderr() { 2 } else { 0 }
+    let text = format!(in rt.alloc(); "{error}");
+    if error.use_stderr() {
+        return fail(rt.alloc(), errors, text, Stop::Usage);
+    }
+    match text {
+        Ok(text) => print(rt, text.as_bytes(), errors),
+        Err(_) => fail_without_memory(errors),
+    }
 }
 
 // True unless `NO_COLOR` is set to some text.
@@ -74,13 +82,11 @@ fn allows_colours<R: Env + AllocGlobal>(rt: &R) -> bool {
     }
 }
 
-const NO_MEMORY: &str = "tcshow: out of memory\n";
-
 fn perform<R: AllocGlobal + Files + Input + Print, E: Write>(
     rt: &R,
     arguments: &Arguments<'_>,
     errors: &mut E,
-) -> u8 {
+) -> Ended {
     match arguments.task {
         Task::Show => show(rt, arguments, errors),
         Task::Schema => print_schema(rt, errors),
@@ -89,38 +95,42 @@ fn perform<R: AllocGlobal + Files + Input + Print, E: Write>(
     }
 }
 
-fn print_schema<R: AllocGlobal + Print, E: Write>(rt: &R, errors: &mut E) -> u8 {
+fn print_schema<R: AllocGlobal + Print, E: Write>(rt: &R, errors: &mut E) -> Ended {
     let mut text = Vec::new(rt.alloc());
     match put_schema_of_line(rt.alloc(), &mut text) {
         Ok(()) => print(rt, text.as_slice(), errors),
-        Err(_) => fail_with(errors, NO_MEMORY, 3),
+        Err(_) => fail_without_memory(errors),
     }
 }
 
-fn print_kinds<R: AllocGlobal + Print, E: Write>(rt: &R, errors: &mut E) -> u8 {
+fn print_kinds<R: AllocGlobal + Print, E: Write>(rt: &R, errors: &mut E) -> Ended {
     let mut text = String::new(rt.alloc());
     match write_all_kinds(&mut text) {
         Ok(()) => print(rt, text.as_bytes(), errors),
-        Err(_) => fail_with(errors, NO_MEMORY, 3),
+        Err(_) => fail_without_memory(errors),
     }
 }
 
-fn print_kind<R: AllocGlobal + Print, E: Write>(rt: &R, kind: &str, errors: &mut E) -> u8 {
+fn print_kind<R: AllocGlobal + Print, E: Write>(rt: &R, kind: &str, errors: &mut E) -> Ended {
     if !is_known(kind) {
         return complain_of_filter(rt.alloc(), FilterError::Kind(kind), errors);
     }
     let mut text = Vec::new(rt.alloc());
     match explain(rt.alloc(), kind, &mut text) {
         Ok(()) => print(rt, text.as_slice(), errors),
-        Err(_) => fail_with(errors, NO_MEMORY, 3),
+        Err(_) => fail_without_memory(errors),
     }
 }
 
-// Writes a text on standard output, and returns the exit status.
-fn print<R: Print, E: Write>(rt: &R, text: &[u8], errors: &mut E) -> u8 {
-    match write_all(&mut io::writer(rt), text) {
-        Ok(()) | Err(program_io::Stop::Closed) => 0,
-        Err(_) => fail_with(errors, "tcshow: write failed\n", 3),
+// Writes a text on standard output.
+fn print<R: AllocGlobal + Print, E: Write>(rt: &R, text: &[u8], errors: &mut E) -> Ended {
+    let mut writer = Writer::new(io::writer(rt));
+    match write_all(&mut writer, text) {
+        Ok(()) | Err(program_io::Stop::Closed) => Ended::well(),
+        Err(stop) => {
+            say_failure(rt.alloc(), errors, OUTPUT, writer.failure());
+            Ended::early(Stop::from(stop))
+        }
     }
 }
 
@@ -129,27 +139,28 @@ fn show<R: AllocGlobal + Files + Input + Print, E: Write>(
     rt: &R,
     arguments: &Arguments<'_>,
     errors: &mut E,
-) -> u8 {
+) -> Ended {
     match arguments.names {
-        None => show_with(rt, arguments, "", errors),
+        None => show_with(rt, arguments, "", "", errors),
         Some(path) => match fs::read_to_string(rt, path) {
-            Ok(text) => show_with(rt, arguments, text.as_str(), errors),
-            Err(_) => complain_of_file(rt.alloc(), path, errors),
+            Ok(text) => show_with(rt, arguments, path, text.as_str(), errors),
+            Err(error) => complain_of_file(rt.alloc(), path, &error, errors),
         },
     }
 }
 
-// Prints messages, with the names of interfaces in this text.
+// Prints messages, with the names of interfaces in this text of a file.
 fn show_with<R: AllocGlobal + Files + Input + Print, E: Write>(
     rt: &R,
     arguments: &Arguments<'_>,
+    path: &str,
     text: &str,
     errors: &mut E,
-) -> u8 {
+) -> Ended {
     match names_in(rt.alloc(), text) {
         Ok(Ok(names)) => show_named(rt, arguments, names.as_slice(), errors),
-        Ok(Err(line)) => complain_of_names(rt.alloc(), line, errors),
-        Err(_) => fail_with(errors, NO_MEMORY, 3),
+        Ok(Err(line)) => complain_of_names(rt.alloc(), path, line, errors),
+        Err(_) => fail_without_memory(errors),
     }
 }
 
@@ -158,7 +169,7 @@ fn show_named<R: AllocGlobal + Files + Input + Print, E: Write>(
     arguments: &Arguments<'_>,
     names: &[(u32, &str)],
     errors: &mut E,
-) -> u8 {
+) -> Ended {
     match FilterValues::of_arguments(rt.alloc(), arguments, names) {
         Ok(values) => show_filtered(rt, arguments, names, values.filter(), errors),
         Err(none) => complain_of_filter(rt.alloc(), none, errors),
@@ -171,13 +182,14 @@ fn show_filtered<R: AllocGlobal + Files + Input + Print, E: Write>(
     names: &[(u32, &str)],
     filter: Filter<'_>,
     errors: &mut E,
-) -> u8 {
+) -> Ended {
     let options = options_of(arguments, filter, names);
-    let mut writer = io::writer(rt);
+    let writer = io::writer(rt);
     if arguments.in_colours {
-        let mut writer = Coloured::new(rt.alloc(), writer);
+        let mut writer = Writer::new(Coloured::new(rt.alloc(), writer));
         return show_file(rt, arguments.file, &options, &mut writer, errors);
     }
+    let mut writer = Writer::new(writer);
     show_file(rt, arguments.file, &options, &mut writer, errors)
 }
 
@@ -186,87 +198,148 @@ fn show_file<R: AllocGlobal + Files + Input, W: Write, E: Write>(
     rt: &R,
     file: Option<&str>,
     options: &Options<'_>,
-    writer: &mut W,
+    writer: &mut Writer<W>,
     errors: &mut E,
-) -> u8 {
+) -> Ended {
     let alloc = rt.alloc();
     match file {
-        None => serve(alloc, alloc, options, &mut rt.reader(), writer, errors),
+        None | Some("-") => {
+            let mut reader = Reader::new(rt.reader());
+            serve(alloc, alloc, options, INPUT, &mut reader, writer, errors)
+        }
         Some(path) => match fs::open(rt, path) {
-            Ok(mut file) => serve(alloc, alloc, options, &mut file, writer, errors),
-            Err(_) => complain_of_file(alloc, path, errors),
+            Ok(file) => {
+                let mut reader = Reader::new(file);
+                serve(alloc, alloc, options, path, &mut reader, writer, errors)
+            }
+            Err(error) => complain_of_file(alloc, path, &error, errors),
         },
     }
 }
 
-/// Prints the messages of an input, and returns the exit status. Complaints are written to `errors`.
+/// Prints the messages of an input of this name. Why it ended early is written to `errors`.
 pub fn serve<A: Allocator + Copy, R: Read, W: Write, E: Write>(
     alloc: A,
     json: Global,
     options: &Options<'_>,
-    reader: &mut R,
-    writer: &mut W,
+    name: &str,
+    reader: &mut Reader<R>,
+    writer: &mut Writer<W>,
     errors: &mut E,
-) -> u8
-    // The status says how the run ended. If it reached the end of its input, the text of all things in it is written, and the status says
-    // whether one of them is refused or broken.
-    ensures status { (ended : Ended) × (result ≡ status_of ended.outcome ended.has_refused)
-        × OnOk ended.outcome (Ran options.now ended.has_refused (R.remaining reader.old) (W.contents writer.old) (W.contents writer.new)) }
+) -> Ended
+    // It comes to the end of its input: the text of all things in it is written, and has_refused says whether one of them is refused or broken.
+    ensures ran { OnOk result.outcome (Ran options.now result.has_refused (R.remaining (reader_inside reader.old))
+        (W.contents (writer_inside writer.old)) (W.contents (writer_inside writer.new))) }
+    // Or its streams show why it ends early.
+    ensures stopped { IfErr result.outcome (ShowsEnd (read_failure reader.new) (write_failure writer.new)) }
     // Outlines hold only printable ASCII and line feeds.
-    ensures clean { options.now.format ≢ Json → GrowsClean (W.contents writer.old) (W.contents writer.new) }
+    ensures clean { options.now.format ≢ Json → GrowsClean (W.contents (writer_inside writer.old)) (W.contents (writer_inside writer.new)) }
 {
     let ended = run(alloc, json, options, reader, writer);
-    let status = status_of(ended.outcome, ended.has_refused);
-    if matches!(ended.outcome, Err(Stop::NoRoute)) {
-        return complain_of_packets(json, errors, &ended.packets, status);
-    }
-    match reason(&ended) {
-        Some(text) => fail_with(errors, text, status),
-        None => status,
-    }
-}
-
-// The complaint about a run that ended early, if there is one.
-fn reason(ended: &Ended) -> Option<&'static str> {
     match ended.outcome {
-        Ok(()) | Err(Stop::Closed | Stop::NoRoute) => None,
-        Err(Stop::NoCapture) => Some("tcshow: no capture, and no hex\n"),
-        Err(Stop::Read) => Some("tcshow: read failed\n"),
-        Err(Stop::Write) => Some("tcshow: write failed\n"),
-        Err(Stop::NoMemory) => Some(NO_MEMORY),
+        Ok(()) | Err(Stop::Usage | Stop::Closed) => {}
+        Err(Stop::NoCapture) => say_of(
+            json,
+            errors,
+            name,
+            "not a capture, and its first lines are not hex",
+        ),
+        Err(Stop::NoRoute) => say_no_route(json, errors, name, &ended.packets),
+        Err(Stop::Read) => say_failure(json, errors, name, reader.failure()),
+        Err(Stop::Write) => say_failure(json, errors, OUTPUT, writer.failure()),
+        Err(Stop::NoMemory) => say_no_memory(errors),
+    }
+    ended
+}
+
+const NO_MEMORY: &str = "tcshow: out of memory\n";
+
+// Names of the streams in complaints.
+const INPUT: &str = "standard input";
+
+const OUTPUT: &str = "standard output";
+
+fn say_no_memory<E: Write>(errors: &mut E) {
+    let _ = write_all(errors, NO_MEMORY.as_bytes());
+}
+
+fn fail_without_memory<E: Write>(errors: &mut E) -> Ended {
+    say_no_memory(errors);
+    Ended::early(Stop::NoMemory)
+}
+
+fn complain<E: Write>(errors: &mut E, text: &str, stop: Stop) -> Ended {
+    let _ = write_all(errors, text.as_bytes());
+    Ended::early(stop)
+}
+
+// Writes a complaint as a terminal gets it, and ends for this reason.
+fn fail<E: Write>(
+    alloc: Global,
+    errors: &mut E,
+    text: Result<String, AllocError>,
+    stop: Stop,
+) -> Ended {
+    match text {
+        Ok(text) => {
+            let _ = write_text(alloc, errors, text.as_str());
+            Ended::early(stop)
+        }
+        Err(_) => fail_without_memory(errors),
     }
 }
 
-// Complains about a capture without route netlink, and returns the status.
-fn complain_of_packets<E: Write>(json: Global, errors: &mut E, packets: &Packets, status: u8) -> u8
-    ensures { result ≡ status }
-{
-    match format!(in json; "tcshow: {packets}\n") {
-        Ok(text) => fail_with(errors, text.as_str(), status),
-        Err(_) => fail_with(errors, "tcshow: no route netlink\n", status),
+// Writes what is wrong with a stream.
+fn say_of<E: Write>(alloc: Global, errors: &mut E, name: &str, what: &str) {
+    match format!(in alloc; "tcshow: {name}: {what}\n") {
+        Ok(text) => {
+            let _ = write_text(alloc, errors, text.as_str());
+        }
+        Err(_) => say_no_memory(errors),
     }
 }
 
-// Complains about a file that can't be read, and returns the status of a usage error.
-fn complain_of_file<E: Write>(alloc: Global, path: &str, errors: &mut E) -> u8 {
-    match format!(in alloc; "tcshow: {path}: the file can't be read\n") {
-        Ok(text) => fail_with(errors, text.as_str(), 2),
-        Err(_) => fail_with(errors, NO_MEMORY, 3),
+// Writes why a stream failed, if it is known.
+fn say_failure<E: Write>(alloc: Global, errors: &mut E, name: &str, failure: Option<io::Error>) {
+    match failure {
+        Some(error) => say_cause(alloc, errors, name, &error),
+        None => say_of(alloc, errors, name, "failed"),
     }
 }
 
-// Complains about a line in a file of names, and returns the status of a usage error.
-fn complain_of_names<E: Write>(alloc: Global, line: u64, errors: &mut E) -> u8 {
-    match format!(in alloc; "tcshow: names, line {line}: {LINK_FORMS}\n") {
-        Ok(text) => fail_with(errors, text.as_str(), 2),
-        Err(_) => fail_with(errors, NO_MEMORY, 3),
+fn say_cause<E: Write>(alloc: Global, errors: &mut E, name: &str, error: &io::Error) {
+    match cause_of(alloc, error) {
+        Ok(cause) => say_of(alloc, errors, name, cause.as_str()),
+        Err(_) => say_no_memory(errors),
     }
 }
 
-// Complains about a value of a filter, and returns the status of a usage error.
-fn complain_of_filter<E: Write>(alloc: Global, none: FilterError<'_>, errors: &mut E) -> u8 {
-    match none.text(alloc) {
-        Ok(text) => fail_with(errors, text.as_str(), 2),
-        Err(_) => fail_with(errors, NO_MEMORY, 3),
+// Writes what a capture without route netlink holds.
+fn say_no_route<E: Write>(alloc: Global, errors: &mut E, name: &str, packets: &Packets) {
+    match format!(in alloc; "{packets}") {
+        Ok(text) => say_of(alloc, errors, name, text.as_str()),
+        Err(_) => say_no_memory(errors),
     }
+}
+
+// Complains about a file that can't be read.
+fn complain_of_file<E: Write>(
+    alloc: Global,
+    path: &str,
+    error: &io::Error,
+    errors: &mut E,
+) -> Ended {
+    say_cause(alloc, errors, path, error);
+    Ended::early(Stop::Usage)
+}
+
+// Complains about a line in a file of names.
+fn complain_of_names<E: Write>(alloc: Global, path: &str, line: u64, errors: &mut E) -> Ended {
+    let text = format!(in alloc; "tcshow: {path}: line {line}: {LINK_FORMS}\n");
+    fail(alloc, errors, text, Stop::Usage)
+}
+
+// Complains about a value of a filter.
+fn complain_of_filter<E: Write>(alloc: Global, none: FilterError<'_>, errors: &mut E) -> Ended {
+    fail(alloc, errors, none.text(alloc), Stop::Usage)
 }

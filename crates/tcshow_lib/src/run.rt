@@ -1,15 +1,20 @@
 //! A run over an input.
 
-ghost use Rattle.std.specs.Prelude.{◌≡◌, ◌≢◌, false, List, OnOk};
+ghost use Rattle.std.specs.Prelude.{◌≡◌, ◌≢◌, ◌↔◌, false, List, OnOk, IfErr, IsTrue, IsSomeAnd};
+ghost use Rattle.std.specs.IoError.{error_kind};
+ghost use Rattle.program_io.specs.Streams.{read_failure, reader_inside, write_failure, writer_inside};
 ghost use Rattle.tc_input.specs.Left.{rest_of, left_of};
 ghost use Rattle.tcshow_json.specs.Messages.{Thing};
 ghost use Rattle.tcshow_input.specs.Reading.{AreIn, Begins};
 ghost use Rattle.tcshow_input.specs.declared.options.OutputFormat.TheVariants.{Json};
 ghost use Rattle.tcshow_input.specs.State.{state_of, Progress, Ends, Completes, Ran};
 ghost use Rattle.tcshow_input.specs.Writing.{GrowsClean};
+ghost use Rattle.tcshow_lib.specs.Streams.{ShowsEnd};
 
+use crate::status::status_of;
+use program_io::{Reader, Writer};
 use std::alloc::{Allocator, Global};
-use std::io::{Read, Write};
+use std::io::{ErrorKind, Read, Write};
 use tc_capture::Capture;
 use tc_input::Input;
 use tcshow_input::{Options, Packets, Printer, Stop, is_hex_text, show_capture, show_lines};
@@ -25,24 +30,103 @@ pub struct Ended {
     pub packets: Packets,
 }
 
+impl Ended {
+    ghost use Rattle.std.specs.Prelude.{◌≡◌};
+    ghost use Rattle.tcshow_lib.specs.Status.{status_of};
+
+    /// An end before anything was read.
+    pub fn early(stop: Stop) -> Ended {
+        Ended {
+            outcome: Err(stop),
+            has_refused: false,
+            packets: Packets::new(),
+        }
+    }
+
+    /// The end of a run that has nothing to read.
+    pub fn well() -> Ended {
+        Ended {
+            outcome: Ok(()),
+            has_refused: false,
+            packets: Packets::new(),
+        }
+    }
+
+    /// The exit status.
+    pub fn status(&self) -> u8
+        ensures { result ≡ status_of self.now.outcome self.now.has_refused }
+    {
+        status_of(self.outcome, self.has_refused)
+    }
+}
+
 /// Prints the messages of an input. Text is written before each read, and at the end.
 pub fn run<A: Allocator + Copy, R: Read, W: Write>(
     alloc: A,
     json: Global,
     options: &Options<'_>,
-    reader: &mut R,
-    writer: &mut W,
+    reader: &mut Reader<R>,
+    writer: &mut Writer<W>,
 ) -> Ended
-    ensures ran { OnOk result.outcome (Ran options.now result.has_refused (R.remaining reader.old) (W.contents writer.old) (W.contents writer.new)) }
-    ensures clean { options.now.format ≢ Json → GrowsClean (W.contents writer.old) (W.contents writer.new) }
+    // It comes to the end of its input: the text of all things in it is written, and has_refused says whether one of them is refused or broken.
+    ensures ran { OnOk result.outcome (Ran options.now result.has_refused (R.remaining (reader_inside reader.old))
+        (W.contents (writer_inside writer.old)) (W.contents (writer_inside writer.new))) }
+    // Or its streams show why it ends early.
+    ensures stopped { IfErr result.outcome (ShowsEnd (read_failure reader.new) (write_failure writer.new)) }
+    // Outlines hold only printable ASCII and line feeds.
+    ensures clean { options.now.format ≢ Json → GrowsClean (W.contents (writer_inside writer.old)) (W.contents (writer_inside writer.new)) }
 {
     let mut printer = Printer::new(alloc, json, options);
     let mut packets = Packets::new();
-    let outcome = show_and_write(&mut printer, &mut packets, reader, writer);
+    let outcome = show_to_end(&mut printer, &mut packets, reader, writer);
     Ended {
         outcome,
         has_refused: printer.counts.has_refused(),
         packets,
+    }
+}
+
+// Prints all messages. If that ends early, the streams show why.
+fn show_to_end<A: Allocator + Copy, R: Read, W: Write>(
+    printer: &mut Printer<'_, A>,
+    packets: &mut Packets,
+    reader: &mut Reader<R>,
+    writer: &mut Writer<W>,
+) -> Result<(), Stop>
+    requires { packets.old.count ≡ 0 }
+    ensures clean { printer.old.output.is_json ≡ false
+        → GrowsClean (W.contents (writer_inside writer.old)) (W.contents (writer_inside writer.new)) }
+    ensures ran { OnOk result ((things : List Thing) × AreIn (R.remaining (reader_inside reader.old)) (state_of printer.old).header things
+        × Completes things (W.contents (writer_inside writer.old)) (W.contents (writer_inside writer.new)) (state_of printer.old)
+        (state_of printer.new)) }
+    ensures stopped { IfErr result (ShowsEnd (read_failure reader.new) (write_failure writer.new)) }
+{
+    match show_and_write(printer, packets, reader, writer) {
+        Ok(()) => Ok(()),
+        Err(stop) => Err(shown_end(reader, writer, stop)),
+    }
+}
+
+// The reason for an early end, if the streams show it; otherwise memory ran out.
+fn shown_end<R, W>(reader: &Reader<R>, writer: &Writer<W>, stop: Stop) -> Stop
+    ensures { ShowsEnd (read_failure reader.now) (write_failure writer.now) result }
+{
+    match stop {
+        Stop::NoCapture => Stop::NoCapture,
+        Stop::NoRoute => Stop::NoRoute,
+        Stop::Read if reader.failure().is_some() => Stop::Read,
+        Stop::Write if writer.failure().is_some() => Stop::Write,
+        Stop::Closed if is_broken_pipe(writer) => Stop::Closed,
+        _ => Stop::NoMemory,
+    }
+}
+
+fn is_broken_pipe<W>(writer: &Writer<W>) -> bool
+    ensures { IsTrue result ↔ IsSomeAnd (write_failure writer.now) (λ e. error_kind e ≡ ErrorKind.BrokenPipe) }
+{
+    match writer.failure() {
+        Some(error) => error.kind() == ErrorKind::BrokenPipe,
+        None => false,
     }
 }
 
@@ -61,9 +145,23 @@ fn show_and_write<A: Allocator + Copy, R: Read, W: Write>(
     match show(printer, packets, reader, writer) {
         Ok(()) => printer.write(writer),
         Err(stop) => {
-            let _ = printer.write(writer);
+            write_rest(printer, writer, stop);
             Err(stop)
         }
+    }
+}
+
+// Writes the rest of the text of a run that ended early; of an input that is no capture and no hex nothing.
+#[tactic(auto, using(tcshow_input::proofs::Clean::clean_none))]
+fn write_rest<A: Allocator + Copy, W: Write>(
+    printer: &mut Printer<'_, A>,
+    writer: &mut W,
+    stop: Stop,
+)
+    ensures clean { printer.old.output.is_json ≡ false → GrowsClean (W.contents writer.old) (W.contents writer.new) }
+{
+    if stop != Stop::NoCapture {
+        let _ = printer.write(writer);
     }
 }
 

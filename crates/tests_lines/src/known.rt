@@ -18,6 +18,7 @@ fn text_of(alloc: Global, known: &Known, all: bool) -> Result<Vec<u8>, AllocErro
     let columns = KindColumns {
         root: known.root,
         interfaces: &[(4, "eth0")],
+        links: None,
         all,
     };
     let bytes = match hex::decode(alloc, known.digits.as_bytes()) {

@@ -53,6 +53,7 @@ fn each_part_has_its_columns(rt: HostRuntime) {
     let columns = KindColumns {
         root: Root::Qdisc,
         interfaces: &[],
+        links: None,
         all: false,
     };
     let mut parts = 0usize;

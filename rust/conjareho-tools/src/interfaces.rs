@@ -10,7 +10,7 @@ use std::collections::BTreeSet;
 pub fn indices_in(line: &Value) -> BTreeSet<u32> {
     let mut found = BTreeSet::new();
     if let (Some(root), Some(message)) = (root_of(line), line.get("message")) {
-        let columns = KindColumns { root, interfaces: &[], all: true };
+        let columns = KindColumns { root, interfaces: &[], links: None, all: true };
         let place = columns.root();
         walk(&columns, place, place, message, &mut found);
     }

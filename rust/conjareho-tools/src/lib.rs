@@ -58,17 +58,17 @@ use host::HostRuntime;
 use std::io::IsTerminal as _;
 use std::process::ExitCode;
 use forms_kinds::{ACTION_MESSAGE, TC_MESSAGE, TcTables};
-use tcmake_lib::message::Forms;
+use tcmake_messages::Forms;
 
 /// Shows the traffic control messages of a capture, or of lines of hex.
 pub fn tcshow() -> ExitCode {
-    tcshow_lib::program::tcshow(&HostRuntime, std::io::stdout().is_terminal(), &mut HostRuntime.stderr())
+    ExitCode::from(tcshow_lib::program::tcshow(&HostRuntime, std::io::stdout().is_terminal(), &mut HostRuntime.stderr()).status())
 }
 
 /// Makes traffic control messages of JSON.
 pub fn tcmake() -> ExitCode {
     let forms = Forms { table: TcTables, tc: TC_MESSAGE, action: ACTION_MESSAGE };
-    tcmake_lib::program::tcmake(&HostRuntime, forms, &mut HostRuntime.stderr())
+    ExitCode::from(tcmake_lib::program::tcmake(&HostRuntime, forms, &mut HostRuntime.stderr()).status())
 }
 
 /// Reads a traffic control message as hex text, and reports on it.

@@ -1,6 +1,7 @@
 //! Messages as lines of JSON, as `tcshow --json` writes them.
 
 use crate::netlink::Fault;
+use crate::program_io::{Reader, Writer};
 use crate::tc_select::Filter;
 use crate::tc_outline::Interfaces;
 use crate::tcshow_lib::options::{Options, OutputFormat};
@@ -30,7 +31,8 @@ pub fn lines_of(messages: &[Vec<u8>]) -> Result<Shown, Fault> {
         has_summary: false,
     };
     let (mut written, mut complaints) = (Vec::new(), Vec::new());
-    let status = serve(&options, &mut stream.as_slice(), &mut written, &mut complaints);
+    let (mut reader, mut writer) = (Reader::new(stream.as_slice()), Writer::new(&mut written));
+    let status = serve(&options, "a stream", &mut reader, &mut writer, &mut complaints).status();
     let text = String::from_utf8(written).map_err(|_| Fault::Broken("a message that isn't shown as text"))?;
     if status > 1 || text.lines().count() != messages.len() || !text.ends_with('\n') {
         return Err(Fault::Broken("a message that isn't shown as one line"));

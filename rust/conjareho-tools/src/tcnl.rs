@@ -12,12 +12,21 @@ use std::io::{Read, Write};
 use std::process::ExitCode;
 
 const NOTES: &str = "\
-DEV is the name of an interface, another name of it (an altname), or its index.
+Examples:
+  tcnl dump --links dev wan | tcshow
+  tcnl monitor --links | tcshow --oneline
+  tcnl dump dev wan | tcshow --json | tcmake --request --stream | tcnl send
 
-Exit status: 0; 1 if there is no such interface, if the kernel refused something, if what is
-dumped kept changing, or if messages were lost; 2 for a wrong usage; 3 if a socket or a stream
-failed, or if a stream has anything but whole requests of traffic control (nothing of it is
-sent)";
+DEV is the name of an interface, one of its altnames, or its index. send and clear take
+CAP_NET_ADMIN.
+
+Exit status:
+  0  done
+  1  no such interface, something that the kernel refused, an interface that kept changing during a
+     dump, or notifications that were lost
+  2  usage error
+  3  a socket or a stream failed, or a stream to send has anything but whole requests of traffic
+     control: nothing of it is sent";
 
 const OBJECTS: [(&str, Objects); 5] = [
     ("qdisc", Objects { qdiscs: true, ..Objects::NONE }),
@@ -38,21 +47,21 @@ fn command() -> Command {
     let any = Arg::new("any").long("any").help("Send requests of other types too").action(ArgAction::SetTrue);
     Command::new("tcnl")
         .version(env!("CARGO_PKG_VERSION"))
-        .about("Traffic control between a kernel and netlink streams")
+        .about("Dumps, monitors and sends traffic control messages as netlink streams")
         .after_help(NOTES)
         .subcommand_required(true)
         .subcommand(
             Command::new("dump")
-                .about("Writes what the kernel has as a stream")
+                .about("Write what the kernel has as a stream")
                 .override_usage("tcnl dump [--links] [qdisc|class|filter|chain|action] [dev DEV]")
                 .arg(links.clone())
                 .arg(words("WORDS", 3, "The objects (default: all), and their interface (default: all)")),
         )
-        .subcommand(Command::new("monitor").about("Writes what changes as a stream, until it is ended").arg(links))
-        .subcommand(Command::new("send").about("Sends the requests of the stream at standard input").arg(any))
+        .subcommand(Command::new("monitor").about("Write what changes as a stream, until it is ended").arg(links))
+        .subcommand(Command::new("send").about("Send the requests of the stream at standard input").arg(any))
         .subcommand(
             Command::new("clear")
-                .about("Deletes the root, ingress and clsact qdiscs of an interface")
+                .about("Delete the root, ingress and clsact qdiscs of an interface")
                 .override_usage("tcnl clear dev DEV")
                 .arg(words("WORDS", 2, "dev and the interface")),
         )

@@ -10,13 +10,20 @@ use std::io::Write;
 use std::process::ExitCode;
 
 const NOTES: &str = "\
-DEV is the name of an interface, another name of it (an altname), or its index. The save has all
-actions of the network namespace too, since these belong to no interface. It is written once all
-of it was read.
+Examples:
+  tcsave wan ifb0 > saved.json
+  tcrestore --clear saved.json
 
-Exit status: 0; 1 if there is no such interface, if the kernel refused a dump, if what is saved
-kept changing, or if the codec refuses a message (its line says so); 2 for a wrong usage; 3 if a
-socket or standard output failed";
+The save has all actions of the network namespace too, since these belong to no interface. Nothing
+is written before all of it was read. Whatever else changes meanwhile, it shows one state: if one
+of the interfaces changes, it is dumped again.
+
+Exit status:
+  0  saved
+  1  no such interface, a dump that the kernel refused, an interface that kept changing, or a
+     message that the codec refuses (its line says so)
+  2  usage error
+  3  a socket or standard output failed";
 
 fn command() -> Command {
     Command::new("tcsave")
@@ -25,7 +32,7 @@ fn command() -> Command {
         .after_help(NOTES)
         .arg(
             Arg::new("DEV")
-                .help("The interfaces")
+                .help("Interfaces: each by its name, by one of its altnames, or by its index")
                 .required(true)
                 .num_args(1..)
                 .value_parser(NonEmptyStringValueParser::new()),

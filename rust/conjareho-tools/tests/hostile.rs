@@ -46,6 +46,8 @@ struct Manners {
     loses: usize,
     strangers: usize,
     refuses: usize,
+    /// Dumps that are marked as interrupted.
+    marks: usize,
 }
 
 /// A datagram, or the error of a receipt; with the port id of its sender.
@@ -58,11 +60,13 @@ struct Peer {
     receipts: VecDeque<Receipt>,
     /// How often each message that is no dump was taken, by its bytes without sequence number and port id.
     taken: Rc<RefCell<BTreeMap<Vec<u8>, usize>>>,
+    /// The type of dumps that are refused, and the error.
+    refused: Option<(u16, i32)>,
 }
 
 impl Peer {
     fn new(seed: u64, manners: Manners) -> Peer {
-        Peer { random: Random(seed), manners, receipts: VecDeque::new(), taken: Rc::default() }
+        Peer { random: Random(seed), manners, receipts: VecDeque::new(), taken: Rc::default(), refused: None }
     }
 
     fn happens(&mut self, count: usize) -> bool {
@@ -81,11 +85,17 @@ impl Peer {
             };
             return [found, vec![acknowledgement(header.sequence, errno)]].concat();
         }
+        if let Some((_, errno)) = self.refused.filter(|(refused, _)| *refused == kind) {
+            return vec![acknowledgement(header.sequence, errno)];
+        }
         let mut datagrams: Vec<Vec<u8>> = dumped(kind, request)
             .chunks(3)
             .map(|some| stream_of(&some.iter().map(|it| stamped(it, header.sequence)).collect::<Vec<_>>()))
             .collect();
-        let errno: i32 = if self.happens(self.manners.refuses) { -12 } else { 0 };
+        let errno: i32 = if self.happens(self.manners.refuses) { [-12, -1][self.random.below(2)] } else { 0 };
+        if self.happens(self.manners.marks) {
+            datagrams.iter_mut().for_each(|datagram| datagram[6] |= NLM_F_DUMP_INTR as u8);
+        }
         datagrams.push(stamped(&message(NLMSG_DONE, 2, &errno.to_ne_bytes()), header.sequence));
         datagrams
     }
@@ -139,6 +149,10 @@ impl Transport for Peer {
         4096
     }
 
+    fn room(&self) -> usize {
+        1 << 20
+    }
+
     fn send(&mut self, datagram: &[u8]) -> io::Result<usize> {
         if self.happens(self.manners.interrupts) {
             return Err(io::ErrorKind::Interrupted.into());
@@ -146,21 +160,33 @@ impl Transport for Peer {
         if self.happens(self.manners.loses.saturating_mul(4)) {
             return Err(io::Error::from_raw_os_error(105));
         }
-        let header = header_of(datagram).expect("a request has a header");
-        assert_eq!(
-            (header.len, header.port),
-            (datagram.len(), PORT),
-            "a request is as long as it says, and has our port id"
-        );
-        assert!(header.sequence != 0 && header.flags & NLM_F_REQUEST != 0);
-        if header.flags & NLM_F_ACK != 0 {
-            *self.taken.borrow_mut().entry([&datagram[..8], &datagram[HEADER..]].concat()).or_default() += 1;
+        let requests: Vec<(Header, &[u8])> =
+            Messages::of(datagram).map(|message| message.expect("a whole request, as long as it says")).collect();
+        for (header, request) in &requests {
+            assert!(header.port == PORT && header.sequence != 0 && header.flags & NLM_F_REQUEST != 0);
+            if header.flags & NLM_F_ACK != 0 {
+                *self.taken.borrow_mut().entry([&request[..8], &request[HEADER..]].concat()).or_default() += 1;
+            }
         }
         if self.happens(self.manners.breaks.saturating_mul(8)) {
             return Ok(self.random.below(datagram.len()));
         }
-        let answer = self.answer(header, datagram);
-        self.post(answer);
+        // A dump that isn't over keeps the kernel busy; what is left of it comes as it is read, after the answers to all requests.
+        let (mut now, mut later) = (Vec::new(), Vec::new());
+        for (header, request) in requests {
+            let is_dump = header.flags & NLM_F_DUMP == NLM_F_DUMP;
+            if is_dump && !later.is_empty() {
+                now.push(acknowledgement(header.sequence, -16));
+                continue;
+            }
+            let mut answer = self.answer(header, request);
+            if is_dump && answer.len() > 1 {
+                later = answer.split_off(1);
+            }
+            now.append(&mut answer);
+        }
+        self.post(now);
+        self.post(later);
         Ok(datagram.len())
     }
 
@@ -342,7 +368,9 @@ fn a_dump_that_is_refused_or_lost_is_an_error() {
         match saved(Peer::new(seed, refusing), &[2]) {
             // Without an answer about root tables, a priority has those of the other too.
             Ok(lines) => assert!([32, 34, 36].contains(&lines.len()), "seed {seed}: {}", lines.len()),
-            Err(Fault::Refused(refusal) | Fault::Cut(refusal)) => assert_eq!(refusal.name(), "ENOMEM", "seed {seed}"),
+            Err(Fault::Refused(refusal) | Fault::Cut(refusal)) => {
+                assert!(["ENOMEM", "EPERM"].contains(&refusal.name().as_str()), "seed {seed}: {refusal}")
+            }
             Err(fault) => panic!("seed {seed}: {fault}"),
         }
         let losing = Manners { loses: 40, ..Manners::default() };
@@ -350,6 +378,38 @@ fn a_dump_that_is_refused_or_lost_is_an_error() {
             assert_eq!(lines.len(), 32, "seed {seed}");
         }
     }
+}
+
+#[test]
+fn a_dump_of_actions_without_rights_is_an_error() {
+    for errno in [-1, -12] {
+        let mut peer = Peer::new(1, Manners::default());
+        peer.refused = Some((RTM_GETACTION, errno));
+        assert!(matches!(saved(peer, &[2]), Err(Fault::Refused(_))), "error {errno}");
+    }
+    // The kernel lacks the kind.
+    for errno in [-2, -22] {
+        let mut peer = Peer::new(1, Manners::default());
+        peer.refused = Some((RTM_GETACTION, errno));
+        assert_eq!(saved(peer, &[2]).expect("others are dumped").len(), 32, "error {errno}");
+    }
+}
+
+#[test]
+fn an_interrupted_dump_is_repeated() {
+    let honest = without_sequences(saved(Peer::new(1, Manners::default()), &[2, 3]).expect("nothing is broken"));
+    let (runs, first) = runs();
+    let mut repeated = 0;
+    for seed in first..first + runs / 10 {
+        match saved(Peer::new(seed, Manners { marks: 9, ..Manners::default() }), &[2, 3]) {
+            Ok(lines) => {
+                repeated += 1;
+                assert_eq!(without_sequences(lines), honest, "seed {seed}");
+            }
+            Err(fault) => assert!(matches!(fault, Fault::Changing(8)), "seed {seed}: {fault}"),
+        }
+    }
+    assert!(repeated > 0);
 }
 
 /// Says one thing each time that it is asked what was heard.
@@ -364,6 +424,10 @@ impl Transport for Chatter {
     }
 
     fn most(&self) -> usize {
+        0
+    }
+
+    fn room(&self) -> usize {
         0
     }
 
@@ -410,7 +474,8 @@ fn broken_answers() {
     let (runs, first) = runs();
     for seed in first..first + runs {
         let mut random = Random(seed);
-        let manners = Manners { breaks: 2 + random.below(60), interrupts: 9, loses: 50, strangers: 20, refuses: 20 };
+        let manners =
+            Manners { breaks: 2 + random.below(60), interrupts: 9, loses: 50, strangers: 20, refuses: 20, marks: 0 };
         let _ = saved(Peer::new(seed, manners), &[2, 4]);
         let _ = Devices::of(&mut Kernel::over(Peer::new(seed, manners)));
         each_once(seed, manners, &mut random);

@@ -6,8 +6,8 @@
 
 #[cfg(not(target_endian = "little"))]
 compile_error!("the codec reads and writes little-endian numbers, as little-endian kernels do");
-#[cfg(not(target_pointer_width = "64"))]
-compile_error!("the proofs that the codec was made from are about lengths of 64 bits");
+#[cfg(not(any(target_pointer_width = "32", target_pointer_width = "64")))]
+compile_error!("lengths have 32 bits in some messages and captures");
 
 extern crate alloc;
 
@@ -84,17 +84,32 @@ pub mod tc {
         parse_mac, parse_string, parse_u8, parse_u16, parse_u16_be, parse_u32, parse_u32_be, put_list, rewrite_action,
         rewrite_tc, settle_action, settle_tc,
     };
+    // Former paths of what stands in the root, until 0.4.
+    #[doc(hidden)]
+    pub use crate::{
+        AddressFamily, DecodeError, DefaultNla, Emitable, NLA_F_NESTED, NLA_F_NET_BYTEORDER, NLA_HEADER_SIZE,
+        NLA_TYPE_MASK, Nla, NlaBuffer, NlasIterator, Parseable, ParseableBytes, ParseableParametrized, RewriteError,
+        Settle, SettleBytes,
+    };
 }
 
 /// Requests built from typed parts, and dumps made into the requests that restore them.
 pub mod requests {
     pub use crate::tc_requests::{
-        ActionKindOption, FilterOption, NEW_FLAGS, Notice, Object, OfKind, OptionOf, QdiscOption, RTM_NEWACTION,
-        Request, RequestError, RestoreError, RootTable, Target, TcKindOption, TcText, Use, action, action_message,
-        chain, filter, kind_of_action, notice_of, plain_qdisc, qdisc, raw_action, request_of, request_of_actions,
-        root_table, standing_index, use_of_action,
+        ActionKindOption, FilterOption, OfKind, OptionOf, QdiscOption, RequestError, Target, TcKindOption, TcText,
+        action, action_message, chain, filter, plain_qdisc, qdisc, raw_action,
+    };
+    pub use crate::tc_restore::{
+        NEW_FLAGS, Notice, Object, RTM_NEWACTION, Request, RestoreError, RootTable, Use, kind_of_action, notice_of,
+        request_of, request_of_actions, root_table, standalone_index, use_of_action,
     };
     pub use crate::verb::Verb;
+
+    /// The old name of [`standalone_index`].
+    #[deprecated(since = "0.3.0", note = "renamed to `standalone_index`")]
+    pub fn standing_index(action: &crate::tc::TcAction) -> Option<u32> {
+        standalone_index(action)
+    }
 }
 
 /// All attributes of a message, each before those in it, without memory.
@@ -110,6 +125,13 @@ pub mod capture {
         Answer, Capture, CaptureError, Contents, Link, MessageType, Messages, NLMSG_ERROR, NLMSG_HEADER_LEN,
         NLMSG_TSTAMP, NetlinkMessage, Packet, Piece, RtmType, Time, answer_in, errno_name, rtm_of,
     };
+    pub use crate::tc_capture::{
+        message::next_message, order::Order, pcap::Pcap, pcap::Variant, pcapng::section::Section,
+    };
+
+    /// The former name of [`MessageType`].
+    #[deprecated(since = "0.3.0", note = "it is called `MessageType`")]
+    pub type Holds = MessageType;
 }
 
 /// Any bytes as JSON and back, without loss, by the tables of all kinds that Linux has.

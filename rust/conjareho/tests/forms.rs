@@ -7,7 +7,7 @@ use std::path::Path;
 /// The bytes of which a text is the hex, or nothing.
 fn bytes_of(hex: &str) -> Option<Vec<u8>> {
     let octets = (0..hex.len() / 2).map(|at| u8::from_str_radix(hex.get(2 * at..2 * at + 2)?, 16).ok());
-    if hex.len().is_multiple_of(2) { octets.collect() } else { None }
+    if hex.len() % 2 == 0 { octets.collect() } else { None }
 }
 
 /// The JSON of the message in a line: a label, `tc` or `action`, and hex.

@@ -1,6 +1,6 @@
 //! What is written beside the erased code, and what a caller's duty turned into.
 
-use conjareho::capture::CaptureError;
+use conjareho::capture::{Capture, CaptureError, Piece};
 use conjareho::requests::{Object, Target, Verb};
 use conjareho::tc::{TcActionMessage, TcActionType, TcAttribute, TcHandle, TcMessage, TcOption};
 use conjareho::{DecodeError, DefaultNla, Emitable, Netlink, NetlinkError, Nla, ParseableBytes, Payload, RewriteError};
@@ -154,4 +154,41 @@ fn a_request_has_the_type_and_the_flags_of_its_verb() {
     assert_eq!((request.message_type, request.flags, request.sequence), (40, 0x405, 7));
     let request = Netlink::action_request(Verb::Dump, 8, TcActionMessage::default());
     assert_eq!((request.message_type, request.flags, request.to_bytes().map(|bytes| bytes.len())), (50, 0x301, Ok(20)));
+}
+
+/// The first error in a capture.
+fn error_in(mut capture: Capture, bytes: &[u8]) -> CaptureError {
+    let mut rest = bytes;
+    loop {
+        match capture.next(rest) {
+            Ok(Piece { used, packet: Ok(_) }) => rest = &rest[used..],
+            Ok(Piece { packet: Err(e), .. }) | Err(e) => return e,
+        }
+    }
+}
+
+#[test]
+fn lengths_of_almost_4_gib_are_too_long() {
+    let words = |words: &[u32]| words.iter().flat_map(|word| word.to_le_bytes()).collect::<Vec<u8>>();
+    let (most, of_file) = (u32::MAX as usize, |bytes: &[u8]| Capture::of_first(bytes).expect("a file"));
+    let stream = words(&[u32::MAX, 36, 0, 0]);
+    assert!(
+        matches!(error_in(Capture::Stream(None), &stream), CaptureError::Short { needed, left: 16 } if needed >= most)
+    );
+    let pcap = words(&[0xa1b2_c3d4, 0x4_0002, 0, 0, 0x4_0000, 253, 0, 0, u32::MAX, u32::MAX]);
+    assert!(matches!(error_in(of_file(&pcap), &pcap), CaptureError::Short { needed, left: 16 } if needed >= most));
+    // A section, an interface, and an enhanced packet.
+    let section = [0x0a0d_0d0a, 28, 0x1a2b_3c4d, 1, u32::MAX, u32::MAX, 28];
+    let packet = [6, 32, 0, 0, 0, u32::MAX, u32::MAX, 32];
+    let pcapng = words(&[&section[..], &[1, 20, 253, 0, 20], &packet].concat());
+    assert!(
+        matches!(error_in(of_file(&pcapng), &pcapng), CaptureError::BodyTooShort { needed, left: 20 } if needed >= most)
+    );
+}
+
+#[test]
+#[allow(deprecated)]
+fn former_names_are_there_for_a_release() {
+    assert_eq!(conjareho::capture::Holds::Tc, conjareho::capture::MessageType::Tc);
+    assert_eq!(conjareho::tc::DecodeError::MissingKind, DecodeError::MissingKind);
 }

@@ -1,7 +1,7 @@
 //! The builder of arguments, over the real `clap`; some of its calls fail where there is no memory, as in the sources.
 
 use crate::fallible::AllocError;
-use crate::host::{AsStr, io::Print};
+use crate::host::AsStr;
 pub use ::clap::{ArgAction, value_parser};
 use std::marker::PhantomData;
 
@@ -47,8 +47,11 @@ impl Error {
     pub fn use_stderr(&self) -> bool {
         self.0.as_ref().is_none_or(|e| e.use_stderr())
     }
-    pub fn print<R: Print>(&self, _rt: &R) -> std::io::Result<()> {
-        self.0.as_ref().map_or(Ok(()), |e| e.print())
+}
+
+impl std::fmt::Display for Error {
+    fn fmt(&self, f: &mut std::fmt::Formatter<'_>) -> std::fmt::Result {
+        self.0.as_ref().map_or(Ok(()), |e| write!(f, "{e}"))
     }
 }
 

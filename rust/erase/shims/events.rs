@@ -1,9 +1,9 @@
 //! The serializer that the sources send events to, and the same events as a value of the real `serde`.
 
-use crate::fallible::{self, AllocError, Fallible as _};
+use crate::fallible::{AllocError, Fallible as _};
 use ::serde::ser::{Error as _, SerializeMap as _, SerializeSeq as _};
 use alloc::{string::String, vec::Vec};
-use core::cell::Cell;
+use core::{cell::Cell, ops::Range};
 
 /// What events are sent to.
 pub trait Serializer: Sized {
@@ -41,45 +41,56 @@ enum Event {
     Bool(bool),
     I64(i64),
     U64(u64),
-    Text(String),
+    /// A text that is these bytes of all texts.
+    Text(Range<usize>),
     List,
     Object,
     End,
 }
 
-impl Serializer for Vec<Event> {
+/// Events, with their texts one after the other.
+#[derive(Default)]
+struct Events {
+    all: Vec<Event>,
+    texts: String,
+}
+
+impl Serializer for Events {
     type Error = AllocError;
 
     fn bool(&mut self, v: bool) -> Result<(), AllocError> {
-        self.try_push(Event::Bool(v))
+        self.all.try_push(Event::Bool(v))
     }
 
     fn i64(&mut self, v: i64) -> Result<(), AllocError> {
-        self.try_push(Event::I64(v))
+        self.all.try_push(Event::I64(v))
     }
 
     fn u64(&mut self, v: u64) -> Result<(), AllocError> {
-        self.try_push(Event::U64(v))
+        self.all.try_push(Event::U64(v))
     }
 
     fn str(&mut self, v: &str) -> Result<(), AllocError> {
-        self.try_push(Event::Text(fallible::text(v)?))
+        let begin = self.texts.len();
+        self.texts.try_reserve(v.len()).map_err(|_| AllocError)?;
+        self.texts.push_str(v);
+        self.all.try_push(Event::Text(begin..self.texts.len()))
     }
 
     fn begin_seq(&mut self, _len: Option<usize>) -> Result<(), AllocError> {
-        self.try_push(Event::List)
+        self.all.try_push(Event::List)
     }
 
     fn end_seq(&mut self) -> Result<(), AllocError> {
-        self.try_push(Event::End)
+        self.all.try_push(Event::End)
     }
 
     fn begin_map(&mut self, _len: Option<usize>) -> Result<(), AllocError> {
-        self.try_push(Event::Object)
+        self.all.try_push(Event::Object)
     }
 
     fn end_map(&mut self) -> Result<(), AllocError> {
-        self.try_push(Event::End)
+        self.all.try_push(Event::End)
     }
 
     fn key(&mut self, name: &str) -> Result<(), AllocError> {
@@ -91,8 +102,8 @@ impl Serializer for Vec<Event> {
     }
 }
 
-/// The value that comes next.
-struct Next<'a>(&'a Cell<&'a [Event]>);
+/// The value that comes next, and the texts.
+struct Next<'a>(&'a Cell<&'a [Event]>, &'a str);
 
 impl<'a> Next<'a> {
     /// Whether a list or an object goes on; where it ends, the end is taken.
@@ -117,7 +128,7 @@ impl ::serde::Serialize for Next<'_> {
             Some(Event::Bool(v)) => to.serialize_bool(*v),
             Some(Event::I64(v)) => to.serialize_i64(*v),
             Some(Event::U64(v)) => to.serialize_u64(*v),
-            Some(Event::Text(v)) => to.serialize_str(v),
+            Some(Event::Text(v)) => to.serialize_str(&self.1[v.clone()]),
             Some(Event::List) => {
                 let mut list = to.serialize_seq(None)?;
                 while self.goes_on() {
@@ -139,9 +150,9 @@ impl ::serde::Serialize for Next<'_> {
 
 /// Sends a value to a serializer of the real `serde`.
 pub fn serialize<T: Serialize, S: ::serde::Serializer>(value: &T, to: S) -> Result<S::Ok, S::Error> {
-    let mut events = Vec::new();
+    let mut events = Events::default();
     value.serialize(&mut events).map_err(S::Error::custom)?;
-    ::serde::Serialize::serialize(&Next(&Cell::new(&events)), to)
+    ::serde::Serialize::serialize(&Next(&Cell::new(&events.all), &events.texts), to)
 }
 
 impl<T: crate::forms_json::Tables> ::serde::Serialize for crate::forms_json::Shown<'_, T> {

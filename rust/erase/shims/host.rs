@@ -25,6 +25,15 @@ fn stream(fd: BorrowedFd<'_>) -> std::fs::File {
     fd.try_clone_to_owned().map(std::fs::File::from).unwrap_or_else(|_| std::fs::File::open("/dev/null").expect("/dev/null"))
 }
 
+/// A copy of an error, with its kind and its number.
+pub fn copied(error: &std::io::Error) -> std::io::Error {
+    error.raw_os_error().map_or_else(|| error.kind().into(), std::io::Error::from_raw_os_error)
+}
+
+pub fn copied_if_any(error: &Option<std::io::Error>) -> Option<std::io::Error> {
+    error.as_ref().map(copied)
+}
+
 impl HostRuntime {
     pub fn stderr(&self) -> std::fs::File {
         stream(std::io::stderr().as_fd())
@@ -55,11 +64,30 @@ pub mod io {
         rt.out()
     }
 
-    pub struct BufReader;
-    impl BufReader {
-        #[allow(clippy::new_ret_no_self)]
-        pub fn new<R: Read>(reader: R) -> Result<std::io::BufReader<R>> {
-            Ok(std::io::BufReader::new(reader))
+    /// A reader with a buffer, whose memory may not be there.
+    pub struct BufReader<R>(std::io::BufReader<R>);
+
+    impl<R: Read> BufReader<R> {
+        pub fn new(reader: R) -> Result<Self> {
+            Ok(BufReader(std::io::BufReader::new(reader)))
+        }
+        pub fn get_ref(&self) -> &R {
+            self.0.get_ref()
+        }
+    }
+
+    impl<R: Read> Read for BufReader<R> {
+        fn read(&mut self, buf: &mut [u8]) -> Result<usize> {
+            self.0.read(buf)
+        }
+    }
+
+    impl<R: Read> BufRead for BufReader<R> {
+        fn fill_buf(&mut self) -> Result<&[u8]> {
+            self.0.fill_buf()
+        }
+        fn consume(&mut self, amount: usize) {
+            self.0.consume(amount);
         }
     }
 }

@@ -6,7 +6,13 @@ use crate::pattern::Rule;
 pub(crate) const LAW_CRATES: &[&str] = &["tc_meaning"];
 
 /// Modules for which a shim stands.
-pub(crate) const STOOD_FOR: &[(&str, &str)] = &[("forms_text::read", "pub use crate::strict::*;"), ("forms_text::repeated", ""), ("tc_lines::log", "")];
+pub(crate) const STOOD_FOR: &[(&str, &str)] = &[
+    ("forms_text::read", "pub use crate::strict::*;"),
+    ("forms_text::repeated", ""),
+    ("program_io::copied", "pub(crate) use crate::host::{copied, copied_if_any};"),
+    ("tc_lines::log", ""),
+    ("tcshow_input::same", "pub(crate) use crate::jsontext::have_same_tokens;"),
+];
 
 /// Classes of words: types of allocators, the names of their values, traits that only contracts name (one that isn't listed stays
 /// as a trait with nothing in it), and modules of `std` for which `host` stands.
@@ -102,6 +108,9 @@ pub(crate) const RULES: &[Rule] = &[
     ("# [ derive_where ( $*x ) ]", "#[derive($*x)]"),
     ("impl < %A > $x < %A > { $;a pub fn default_in ( %v ) -> $x < %A > { $;b } $;c }", DEFAULT),
     (":: default_in (", "::default("),
+    ("String::from_utf8_lossy ( %v , $*x )", "Ok(String::from_utf8_lossy($*x).into_owned())"),
+    // A call from C takes slices, which in Rust aren't a pointer and a length: what exports it is written by hand.
+    ("# [ unsafe ( no_mangle ) ] pub extern $t fn", "pub fn"),
     // A variant has a byte of its own, as in Rattle: that of one in another would be told by what the inner one holds.
     ("pub enum $x < %A > {", "#[repr(u8)]\npub enum $x {"),
     // Allocators: types, values, parameters and fields.

@@ -10,11 +10,14 @@ use differences::{Made, REASONS, Value, reason};
 use netlink_packet_core::{Emitable as _, Parseable as _};
 use std::hint::black_box;
 use std::panic::{AssertUnwindSafe, catch_unwind};
-use std::process::ExitCode;
+use std::process::{Command, ExitCode};
 use std::time::Instant;
 
 /// Samples of each message and operation, by turns.
 const PASSES: usize = 60;
+
+/// The options of the compiler, which are those of Cargo.toml.
+const OPTIONS: &str = "opt-level 3, fat LTO, one codegen unit";
 
 macro_rules! sides {
     ($ours:ident, $theirs:ident, $type:ident) => {
@@ -145,6 +148,17 @@ fn times(is_action: bool, bytes: &[u8]) -> [[f64; 2]; 3] {
     took
 }
 
+/// The day, the processor and its load, the compiler and its options.
+fn circumstances() -> String {
+    let file = |path: &str| std::fs::read_to_string(path).unwrap_or_default();
+    let (processors, load) = (file("/proc/cpuinfo"), file("/proc/loadavg"));
+    let model = processors.lines().find_map(|line| line.strip_prefix("model name")?.split_once(": "));
+    let date = Command::new("date").args(["-u", "+%-d %B %Y"]).output().map(|it| it.stdout).unwrap_or_default();
+    let (date, load) = (String::from_utf8_lossy(&date), load.split(' ').next().unwrap_or(""));
+    let model = model.map_or("unknown processor", |(_, name)| name);
+    format!("{}, {model}, load {load}, {}, {OPTIONS}", date.trim(), env!("COMPILER"))
+}
+
 fn print_times(stored: &[(bool, Vec<u8>)]) {
     let mut logs = [[0.0; 2]; 3];
     let read = stored
@@ -156,6 +170,7 @@ fn print_times(stored: &[(bool, Vec<u8>)]) {
             (0..2).for_each(|side| log[side] += took[side].ln() / timed.len() as f64);
         }
     }
+    println!("{}:\n", circumstances());
     println!(
         "| {} messages, geometric mean | conjareho, ns | netlink-packet-route, ns | ratio |\n|---|---:|---:|---:|",
         timed.len()
@@ -185,6 +200,7 @@ fn main() -> ExitCode {
     }
     _ = std::panic::take_hook();
     print_times(&stored);
+    println!();
     for (name, count) in REASONS.iter().zip(counts).filter(|(_, count)| *count > 0) {
         println!("{count} messages: {name}");
     }

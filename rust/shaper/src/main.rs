@@ -8,6 +8,7 @@ use conjareho::requests::{Object, Verb};
 use netlink_options::{NetlinkOption, turn_on};
 use netlink_sys::{Socket, SocketAddr, protocols::NETLINK_ROUTE};
 use std::error::Error;
+use std::process::ExitCode;
 
 /// How often a dump is made until nothing changed meanwhile.
 const TRIES: usize = 5;
@@ -50,23 +51,35 @@ impl Session {
     }
 }
 
-fn main() -> Result<(), Box<dyn Error>> {
+fn run() -> Result<(), Box<dyn Error>> {
     let words: Vec<String> = std::env::args().skip(1).collect();
     let [index, rates @ ..] = words.as_slice() else { return Err("usage: shaper INDEX RATE..".into()) };
     let (index, mut session) = (index.parse()?, Session::open()?);
     let root = HtbGlob { version: 3, rate2quantum: 10, defcls: 1, ..HtbGlob::default() };
     let at = |handle, parent| Message::on(index).handle(handle).parent(parent);
     let qdisc = at(Handle::new(1, 0), Handle::ROOT).of(HtbAttr::list().with_init(root));
-    session.ask(&qdisc, Object::Qdisc, Verb::Replace)?;
+    // A root that is there can't be changed into htb, nor htb into itself; and there may be none.
+    _ = session.ask(&Message::on(index).parent(Handle::ROOT), Object::Qdisc, Verb::Delete);
+    session.ask(&qdisc, Object::Qdisc, Verb::Add)?;
     for (number, rate) in (1..).zip(rates) {
         let (class, rate) = (Handle::new(1, number), rate.parse::<Rate>()?);
-        session.ask(&at(class, Handle::new(1, 0)).of(HtbClass::new(rate)), Object::Class, Verb::Replace)?;
+        session.ask(&at(class, Handle::new(1, 0)).of(HtbClass::new(rate)), Object::Class, Verb::Add)?;
         let queue = FqCodelAttr::list().with_limit(1000);
-        session.ask(&at(Handle::new(number + 1, 0), class).of(queue), Object::Qdisc, Verb::Replace)?;
+        session.ask(&at(Handle::new(number + 1, 0), class).of(queue), Object::Qdisc, Verb::Add)?;
     }
     for class in session.ask(&Message::on(index), Object::Class, Verb::Dump)? {
         let sent = class.stats().and_then(|stats| stats.basic()).map_or(0, |basic| basic.bytes);
         println!("{} {} {sent} bytes", class.kind(), class.header.handle);
     }
     Ok(())
+}
+
+fn main() -> ExitCode {
+    match run() {
+        Ok(()) => ExitCode::SUCCESS,
+        Err(error) => {
+            eprintln!("shaper: {error}");
+            ExitCode::FAILURE
+        }
+    }
 }

@@ -138,12 +138,9 @@ fn word_of(line: &[u8]) -> usize
     }
 }
 
-// True for a line about refused, broken, cut or skipped input.
+// True for a line about a fault, or about a byte of the input that is malformed, truncated or skipped.
 fn is_refused(line: &[u8]) -> bool {
-    line.starts_with(b"refused ")
-        || line.starts_with(b"broken: ")
-        || line.starts_with(b"cut: ")
-        || line.starts_with(b"skipped: ")
+    line.starts_with(b"refused ") || line.starts_with(b"byte ")
 }
 
 // Appends a text in a color.

@@ -63,7 +63,8 @@ fn held_in<'a>(
     requires { place ≤ 20 }
     ensures { seen captured_of result ≡ held_in interface time is_whole place long body.now }
 {
-    let end = place + long as usize;
+    // If `usize` has 32 bits, a sum that overflows is longer than any slice.
+    let end = place.saturating_add(long as usize);
     if body.len() < end {
         return Err(CaptureError::BodyTooShort {
             needed: end,

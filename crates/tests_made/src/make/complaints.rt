@@ -1,10 +1,18 @@
 //! Complaints about lines.
 
-use crate::make::runs::{HEX, makes, makes_line};
+use crate::make::runs::{HEX, bare, made, makes, makes_line};
+use std::alloc::AllocError;
 use std::test::Fail;
+use tcmake_lines::MOST_LINE;
+use tcmake_messages::Making;
 
 // Lines of which no message is made, and the complaints.
-static ROWS: [(&str, &str); 21] = [
+static ROWS: [(&str, &str); 22] = [
+    // a control of C1, and one that turns the direction of text
+    (
+        "{\"type\":\"\u{9b}1m\u{202e}\",\"message\":{}}",
+        r#"/type: found "\xc2\x9b1m\xe2\x80\xae", wanted RTM_NEWQDISC, RTM_DELQDISC, RTM_GETQDISC, the same of TCLASS, TFILTER, ACTION or CHAIN, or NLMSG_ERROR"#,
+    ),
     (
         r#"{"type":"RTM_NEWQDISC","seq":-1,"message":{"header":{"family":"Unspec","index":2,"handle":"1:","parent":"root","info":0},"attributes":[{"Kind":"fq_codel"}]}}"#,
         r#"/seq: found -1, wanted a number from 0 to 4294967295"#,
@@ -31,11 +39,11 @@ static ROWS: [(&str, &str); 21] = [
     ),
     (
         r#"{"type":"RTM_NEWQDISC","message":{"header":{"family":"Unspec","index":2,"handle":"1:","parent":"root","info":0},"attributes":[{"Kind":"fq_codle"},{"Options":[{"FqCodel":{"Limit":5}}]}]}}"#,
-        r#"/attributes/1/Options: found "Options", wanted the name of an attribute of the table, or a known Kind before it"#,
+        r#"/attributes/1/Options: unknown attribute "Options" (the kind fq_codle isn't known; tcshow --explain lists those that are)"#,
     ),
     (
         r#"{"type":"RTM_NEWACTION","message":{"header":{"family":"Unspec"},"attributes":[{"Actions":[{"tab":1,"attributes":[{"Kind":"mirrred"},{"Options":[{"Mirror":{"Tm":{}}}]}]}]}]}}"#,
-        r#"/attributes/0/Actions/0/attributes/1/Options/0/Mirror: found "Mirror", wanted the name of an attribute of the table, or a known Kind before it"#,
+        r#"/attributes/0/Actions/0/attributes/1/Options/0/Mirror: unknown attribute "Mirror" (tcshow --explain mirrred lists them)"#,
     ),
     (
         r#"{"type":"RTM_NEWQDISC","portid":[],"message":{"header":{"family":"Unspec","index":2,"handle":"1:","parent":"root","info":0},"attributes":[{"Kind":"fq_codel"}]}}"#,
@@ -111,9 +119,53 @@ static NEXT_MADE: &str = "1400000032000000000000000000000000000000\n";
 #[test]
 fn a_long_line(rt: HostRuntime) -> Result<(), Fail> {
     let alloc = rt.alloc();
-    let mut lines = vec![in alloc; b' '; 33_554_433]?;
+    let mut lines = vec![in alloc; b' '; 4_194_305]?;
     lines.extend_from_slice(NEXT.as_bytes())?;
-    let said = "tcmake: line 1: longer than 33554432 bytes\n";
+    let said = "tcmake: line 1: longer than 4194304 bytes\n";
+    assert!(rt; makes(alloc, &HEX, &lines, 1, NEXT_MADE.as_bytes(), said));
+    Ok(())
+}
+
+// The longest lines of a message are those with the longest names of attributes without a payload.
+static FRONT: &str =
+    r#"{"message":{"header":{"family":"Unspec","index":2,"handle":"1:","parent":"root","info":0},"attributes":[{"Kind":"taprio"}"#;
+
+static SHORTEST: &str = r#"{"Taprio":{"SchedCycleTimeExtension":{"raw":""}}}"#;
+
+fn put_options(line: &mut Vec<u8>, count: usize) -> Result<(), AllocError> {
+    line.extend_from_slice(b",{\"Options\":[")?;
+    for at in 0..count {
+        if at > 0 {
+            line.push(b',')?;
+        }
+        line.extend_from_slice(SHORTEST.as_bytes())?;
+    }
+    line.extend_from_slice(b"]}")
+}
+
+// A message of 256 KiB, whose line has 3.2 MB.
+#[test]
+fn the_longest_line(rt: HostRuntime) -> Result<(), Fail> {
+    let alloc = rt.alloc();
+    let mut line = Vec::new(alloc);
+    line.extend_from_slice(FRONT.as_bytes())?;
+    for count in [16_382usize, 16_382, 16_382, 16_378] {
+        put_options(&mut line, count)?;
+    }
+    line.extend_from_slice(b"]}}")?;
+    assert!(rt; line.len() > MOST_LINE * 3 / 4 && line.len() < MOST_LINE);
+    let run = made(alloc, &bare(Making::Checked), &line);
+    assert!(rt; run.status == 0 && run.written.len() == 2 * 262_144 + 1);
+    Ok(())
+}
+
+// More objects than such a message has.
+#[test]
+fn many_objects(rt: HostRuntime) -> Result<(), Fail> {
+    let alloc = rt.alloc();
+    let mut lines = vec![in alloc; b'{'; 196_625]?;
+    lines.extend_from_slice(NEXT.as_bytes())?;
+    let said = "tcmake: line 1: more than 196624 objects\n";
     assert!(rt; makes(alloc, &HEX, &lines, 1, NEXT_MADE.as_bytes(), said));
     Ok(())
 }

@@ -5,7 +5,7 @@ use forms_json::Shown;
 use forms_kinds::{ACTION_MESSAGE, TC_MESSAGE, TcTables};
 use std::alloc::{AllocError, Global};
 use std::test::Fail;
-use tcmake_lib::arguments::Making;
+use tcmake_messages::Making;
 use tests_data::{self as messages, Expected, Form, Input, Row, captured, large_messages};
 
 // The JSON of a message.

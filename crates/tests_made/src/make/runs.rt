@@ -1,11 +1,13 @@
 //! Runs in memory.
 
 use forms_kinds::{ACTION_MESSAGE, TC_MESSAGE, TcTables};
+use program_io::{Reader, Writer};
 use std::alloc::Global;
-use tcmake_lib::arguments::{Making, Request};
-use tcmake_lib::message::Forms;
+use std::io::BufReader;
+use tcmake_lib::arguments::Request;
 use tcmake_lib::program::serve;
 use tcmake_lines::OutputFormat;
+use tcmake_messages::{Forms, Making};
 
 /// The forms of both messages.
 pub(crate) const FORMS: Forms<TcTables> = Forms {
@@ -62,18 +64,22 @@ pub(crate) struct Outcome {
 
 /// A run over lines.
 pub(crate) fn made(alloc: Global, request: &Request, lines: &[u8]) -> Outcome {
-    let (mut reader, mut written, mut errors) = (lines, Vec::new(alloc), Vec::new(alloc));
-    let status = serve(
-        alloc,
-        FORMS,
-        request,
-        &mut reader,
-        &mut written,
-        &mut errors,
-    );
+    let mut writer = Writer::new(Vec::new(alloc));
+    let mut errors = Vec::new(alloc);
+    let status = match BufReader::new(alloc, Reader::new(lines)) {
+        Ok(mut reader) => serve(
+            alloc,
+            FORMS,
+            request,
+            &mut reader,
+            &mut writer,
+            &mut errors,
+        ).status(),
+        Err(_) => 3,
+    };
     Outcome {
         status,
-        written,
+        written: writer.into_inner(),
         errors,
     }
 }

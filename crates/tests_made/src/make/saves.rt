@@ -1,11 +1,14 @@
 //! Saves, what there is now, and names of interfaces.
 
 use crate::make::runs::FORMS;
+use program_io::{Reader, Writer};
 use std::alloc::Global;
-use tcmake_lib::arguments::{Making, Request, arguments_of};
+use std::io::BufReader;
+use tcmake_lib::arguments::{Request, arguments_of};
 use tcmake_lib::order::Asked;
 use tcmake_lib::program::serve_asked;
 use tcmake_lines::OutputFormat;
+use tcmake_messages::Making;
 
 // The first line of a save of the interface wan.
 #[rattlefmt::skip]
@@ -135,11 +138,11 @@ fn makes(
 ) -> bool {
     match (joined(alloc, input), joined(alloc, written)) {
         (Some(lines), Some(wanted)) => {
-            let (mut reader, mut output, mut errors) = (
-                lines.as_bytes(),
-                Vec::new(alloc),
-                Vec::new(alloc),
-            );
+            let Ok(mut reader) = BufReader::new(alloc, Reader::new(lines.as_bytes())) else {
+                return false;
+            };
+            let mut output = Writer::new(Vec::new(alloc));
+            let mut errors = Vec::new(alloc);
             let ended = serve_asked(
                 alloc,
                 FORMS,
@@ -149,8 +152,8 @@ fn makes(
                 &mut output,
                 &mut errors,
             );
-            ended == status
-                && output.as_slice() == wanted.as_bytes()
+            ended.status() == status
+                && output.into_inner().as_slice() == wanted.as_bytes()
                 && errors.as_slice() == said.as_bytes()
         }
         _ => false,

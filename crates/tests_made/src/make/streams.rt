@@ -1,6 +1,7 @@
 //! Streams that fail, that are interrupted, and that are closed.
 
 use crate::make::runs::{FORMS, HEX, Outcome, PCAP, made};
+use program_io::{Reader, Writer};
 use std::alloc::Global;
 use std::io::{BufReader, ErrorKind, Result};
 use tcmake_lib::arguments::Request;
@@ -21,13 +22,13 @@ fn run(
     writer: Stream,
 ) -> Result<Outcome> {
     let from = slowly(lines.as_bytes(), reader);
-    let mut from = BufReader::with_capacity(alloc, 64, from)?;
-    let mut to = slowly(Vec::new(alloc), writer);
+    let mut from = BufReader::with_capacity(alloc, 64, Reader::new(from))?;
+    let mut to = Writer::new(slowly(Vec::new(alloc), writer));
     let mut errors = Vec::new(alloc);
-    let status = serve(alloc, FORMS, request, &mut from, &mut to, &mut errors);
+    let ended = serve(alloc, FORMS, request, &mut from, &mut to, &mut errors);
     Ok(Outcome {
-        status,
-        written: to.inner,
+        status: ended.status(),
+        written: to.into_inner().inner,
         errors,
     })
 }
@@ -69,9 +70,9 @@ fn reads_of_all() -> usize {
     (LINES.len().saturating_add(6) / 7).saturating_add(1)
 }
 
-static READ_FAILED: (u8, &str) = (3, "tcmake: read failed\n");
+static READ_FAILED: (u8, &str) = (3, "tcmake: standard input: timed out\n");
 
-static WRITE_FAILED: (u8, &str) = (3, "tcmake: write failed\n");
+static WRITE_FAILED: (u8, &str) = (3, "tcmake: standard output: timed out\n");
 
 #[test]
 fn each_read_fails(rt: HostRuntime) {

@@ -3,7 +3,7 @@
 use crate::make::runs::{bare, makes, makes_line};
 use std::alloc::{AllocError, Global};
 use std::test::Fail;
-use tcmake_lib::arguments::Making;
+use tcmake_messages::Making;
 
 // A canonical message.
 static CANONICAL_TEXTS: (&str, &str) = (

@@ -1,4 +1,4 @@
-//! Actions that stand by themselves and those that are a filter's own; places of actions in their lists.
+//! Standalone actions and those that are a filter's own; order numbers of actions in their lists.
 
 use crate::requests::in_hex::{self, is_written};
 use nla_frames::DefaultNla;
@@ -8,14 +8,12 @@ use tc_action_messages::TcActionMessageAttribute;
 use tc_actions::{TcAction, TcActionNatOption};
 use tc_options::{TcFilterFlowerOption, TcFilterMatchAllOption, TcFilterU32Option};
 use tc_records::TcNat;
-use tc_requests::{
-    FilterOption, RequestError, RestoreError, Target, action, action_message, filter,
-    kind_of_action, raw_action, request_of_actions, standing_index,
-};
+use tc_requests::{FilterOption, RequestError, Target, action, action_message, filter, raw_action};
+use tc_restore::{RestoreError, kind_of_action, request_of_actions, standalone_index};
 
-// What Linux dumps of mirred: three actions that a filter holds each (1 reference, 1 of a filter), and one that stands alone (1, 0).
+// What Linux dumps of mirred: three actions that a filter holds each (1 reference, 1 of a filter), and a standalone one (1, 0).
 #[rattlefmt::skip]
-const STANDING: &str =
+const STANDALONE: &str =
 "000000000800030004000000e4020100b80000000b0001006d69727265640000040005005000040004000600140001000000\
 0000000000000000000000000000040006001400070000000000000000000000000000000000040006001800030000000000\
 0000000000000000000000000000000008000a00000000004c00020020000200010000000000000003000000010000000100\
@@ -35,7 +33,7 @@ b80001000b0001006d69727265640000040005005000040004000600140001000000000000000000
 
 // The last of them alone, as the first of its list.
 #[rattlefmt::skip]
-static STANDING_RESTORED: &str =
+static STANDALONE_RESTORED: &str =
 "0000000038000100340001000b0001006d6972726564000024000280200002005800000000000000030000000000000000000000020000000b000000";
 
 // What it dumps of nat, pedit and police: each held by one filter, its counts at another byte.
@@ -81,10 +79,10 @@ const POLICE: &str =
 0b000100706f6c6963650000400002003c00010007090a0b02000000000000000088130\
 0f8070000000100000000000048e80100000000000000000000000000010000000000000000000000";
 
-// The actions of dumps: their kinds, and the index of each that stands by itself.
+// The actions of dumps: their kinds, and the index of each standalone one.
 static INDICES: [(&str, &[(&str, Option<u32>)]); 4] = [
     (
-        STANDING,
+        STANDALONE,
         &[
             ("mirred", None),
             ("mirred", None),
@@ -111,9 +109,9 @@ fn refusal(alloc: Global, dump: &str) -> Result<Option<RestoreError>, Fail> {
 }
 
 #[test]
-fn actions_that_stand_alone(rt: HostRuntime) -> Result<(), Fail> {
+fn standalone_actions(rt: HostRuntime) -> Result<(), Fail> {
     let alloc = rt.alloc();
-    assert!(rt; is_restored(alloc, INDICES[0].0, STANDING_RESTORED)?);
+    assert!(rt; is_restored(alloc, INDICES[0].0, STANDALONE_RESTORED)?);
     for dump in &HELD {
         assert!(rt; refusal(alloc, dump)? == Some(RestoreError::MadeByKernel));
     }
@@ -122,13 +120,13 @@ fn actions_that_stand_alone(rt: HostRuntime) -> Result<(), Fail> {
     Ok(())
 }
 
-// True if these are the kinds of actions, each with its index where it stands by itself.
+// True if these are the kinds of actions, each with its index if it is standalone.
 fn are(actions: &[TcAction], wanted: &[(&str, Option<u32>)]) -> bool {
     let mut rest = actions;
     for (kind, index) in wanted {
         match rest.split_first() {
             Some((action, others)) => {
-                if kind_of_action(action) != *kind || standing_index(action) != *index {
+                if kind_of_action(action) != *kind || standalone_index(action) != *index {
                     return false;
                 }
                 rest = others;

@@ -5,7 +5,7 @@
 use crate::requests::in_hex::{is_written, tc_message};
 use std::alloc::Global;
 use std::test::Fail;
-use tc_requests::{Object, RestoreError, RootTable, request_of, root_table};
+use tc_restore::{Object, RestoreError, RootTable, request_of, root_table};
 
 // The root tables of two priorities of u32 under one parent.
 static ROOTS: [RootTable; 2] = [

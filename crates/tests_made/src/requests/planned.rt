@@ -3,10 +3,12 @@
 use crate::requests::in_hex::{action_message, tc_message};
 use std::alloc::{AllocError, Global};
 use std::test::Fail;
+use tc_action_messages::TcActionMessageAttribute;
 use tc_plan::{
-    Entry, Fate, Item, Key, Order, Reason, Step, circle, entry_of, entry_of_actions, plan,
+    Entry, Fate, Item, Key, Order, Reason, Step, circle, entry_of, entry_of_actions,
+    made_by_filters, offloaded_by, plan, shared_action,
 };
-use tc_requests::{Object, RestoreError};
+use tc_restore::{Object, RestoreError};
 
 // What is dumped.
 #[derive(Clone, Copy)]
@@ -208,6 +210,44 @@ const ACTIONS: &[(Dump, &str)] = &[
     (Dump::RefusedActions, "00000000"),
 ];
 
+// A qdisc that the kernel made, below a class of mqprio in no traffic class, the class, and mqprio.
+const DEFAULTS: &[(Dump, &str)] = &[
+    // 0: under 8001:5
+    (Dump::Qdisc, "0000000003000000000000000500018000000000"),
+    // 8001:5 under 0:
+    (Dump::Class, "0000000003000000050001800000000000000000"),
+    // 8001: at the root
+    (Dump::Qdisc, "000000000300000000000180ffffffff00000000"),
+];
+
+// Filters that share gact 5, of which one has `skip_hw`; a filter with an own gact.
+const SHARED: &[(Dump, &str)] = &[
+    // flower, with its own gact
+    (
+        Dump::Filter,
+        "000000000300000001000000f2ffffff080001c00b000100666c6f77657200003c000200080016000800000030000300\
+2c0001000900010067616374000000001c000200180002000900000000000000000000000100000001000000",
+    ),
+    // flower with skip_hw, and gact 5
+    (
+        Dump::Filter,
+        "000000000300000002000000f2ffffff080001c00b000100666c6f77657200003c000200080016000100000030000300\
+2c0001000900010067616374000000001c000200180002000500000000000000000000000200000002000000",
+    ),
+    // matchall, and gact 5
+    (
+        Dump::Filter,
+        "000000000300000001000000f2ffffff080002c00d0001006d61746368616c6c000000003c0002000800030008000000\
+300002002c0001000900010067616374000000001c000200180002000500000000000000000000000200000002000000",
+    ),
+    // gact 5, which two filters hold
+    (
+        Dump::Actions,
+        "00000000300001002c0000000900010067616374000000001c0002001800020005000000000000000000000002000000\
+02000000",
+    ),
+];
+
 fn entry_of_object(
     alloc: Global,
     place: usize,
@@ -243,6 +283,48 @@ fn entry(alloc: Global, place: usize, dump: Dump, digits: &str) -> Result<Entry<
     }
 }
 
+// The actions of dumps that filters share.
+fn shared_in(alloc: Global, rows: &[(Dump, &str)]) -> Result<Vec<Key>, Fail> {
+    let mut keys = Vec::new(alloc);
+    for (dump, digits) in rows {
+        if let Dump::Actions = dump {
+            for attribute in &action_message(alloc, digits)?.attributes {
+                if let TcActionMessageAttribute::Actions(actions) = attribute {
+                    for action in actions {
+                        keys.extend(shared_action(action))?;
+                    }
+                }
+            }
+        }
+    }
+    Ok(keys)
+}
+
+// The actions of filters with an offload flag.
+fn offloaded_in(alloc: Global, rows: &[(Dump, &str)]) -> Result<Vec<Key>, Fail> {
+    let mut keys = Vec::new(alloc);
+    for (dump, digits) in rows {
+        if let Dump::Filter = dump {
+            keys.extend_from_slice(&offloaded_by(alloc, tc_message(alloc, digits)?)?)?;
+        }
+    }
+    Ok(keys)
+}
+
+#[test]
+fn shared_actions_of_offloaded_filters(rt: HostRuntime) -> Result<(), Fail> {
+    let alloc = rt.alloc();
+    let offloaded = offloaded_in(alloc, SHARED)?;
+    let keys = made_by_filters(shared_in(alloc, SHARED)?, &offloaded);
+    let action = Key::Action {
+        kind: *b"gact\0\0\0\0\0\0\0\0\0\0\0\0",
+        index: 5,
+    };
+    assert!(rt; keys.len() == 1 && keys.contains(&action));
+    assert!(rt; made_by_filters(shared_in(alloc, ACTIONS)?, &offloaded).is_empty());
+    Ok(())
+}
+
 fn planned(alloc: Global, rows: &[(Dump, &str)]) -> Result<Order<Item, Key, Global>, Fail> {
     let mut entries = Vec::new(alloc);
     for (place, (dump, digits)) in rows.iter().enumerate() {
@@ -271,26 +353,28 @@ fn come_in(
     left: &[usize],
 ) -> Result<bool, Fail> {
     let made = planned(alloc, rows)?;
-    Ok(are_at(&made.order, order) && are_at(&made.left, left))
+    Ok(are_at(&made.sorted, order) && are_at(&made.unordered, left))
 }
 
 // Dumps, the places of those that come into an order, and of those that are left.
-static ORDERS: [(&[(Dump, &str)], &[usize], &[usize]); 6] = [
+static ORDERS: [(&[(Dump, &str)], &[usize], &[usize]); 7] = [
     (TREE, &[7, 8, 2, 0, 4, 1, 5, 3, 6], &[]),
     // one that is left comes last
     (ONE_LEFT, &[1, 0], &[]),
-    // root classes behind their qdisc
+    // root classes after their qdisc
     (ROOT_CLASS, &[2, 0, 1], &[]),
     // blocks before their filters
     (BLOCKS, &[3, 0, 1, 2], &[]),
     // circles are left
     (CIRCLE, &[1], &[2, 0, 3]),
-    // keys behind their own tables and those that they link to, and behind no others
+    // keys after their own tables and those that they link to, and after no others
     (LINKED, &[0, 4, 5, 6, 1, 2, 3], &[]),
+    // a handle of 0 is no qdisc
+    (DEFAULTS, &[2, 1, 0], &[]),
 ];
 
 #[test]
-fn each_behind_what_it_needs(rt: HostRuntime) -> Result<(), Fail> {
+fn each_after_what_it_needs(rt: HostRuntime) -> Result<(), Fail> {
     for (dumps, order, left) in &ORDERS {
         assert!(rt; come_in(rt.alloc(), dumps, order, left)?, "{order:?}");
     }
@@ -339,11 +423,11 @@ static FATES: [(&[(Dump, &str)], &[(usize, &str)], &[(usize, &str)]); 3] = [
 // How many of the steps that are left are in an order, and how many in a circle.
 fn around(alloc: Global, left: &[Step<Item, Key, Global>]) -> Result<(usize, usize), AllocError> {
     let around = circle(alloc, left)?;
-    Ok((around.order.len(), around.left.len()))
+    Ok((around.sorted.len(), around.unordered.len()))
 }
 
 fn around_in(alloc: Global, rows: &[(Dump, &str)]) -> Result<(usize, usize), Fail> {
-    Ok(around(alloc, &planned(alloc, rows)?.left)?)
+    Ok(around(alloc, &planned(alloc, rows)?.unordered)?)
 }
 
 #[test]
@@ -390,7 +474,7 @@ fn come_to(
     left: &[(usize, &str)],
 ) -> Result<bool, Fail> {
     let made = planned(alloc, rows)?;
-    Ok(have_fates(alloc, &made.order, order) && have_fates(alloc, &made.left, left))
+    Ok(have_fates(alloc, &made.sorted, order) && have_fates(alloc, &made.unordered, left))
 }
 
 #[test]
@@ -417,7 +501,7 @@ fn is_one_chain(alloc: Global, ingress: &[i32]) -> Result<bool, Fail> {
         entries.push(entry)?;
     }
     let made = plan(alloc, entries)?;
-    Ok(made.order.iter().any(|step| step.item.fate == Fate::Made))
+    Ok(made.sorted.iter().any(|step| step.item.fate == Fate::Made))
 }
 
 #[test]

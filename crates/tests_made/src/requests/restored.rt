@@ -5,7 +5,7 @@ use crate::requests::in_hex::{action_message, is_written};
 use failing_alloc::Failing;
 use std::alloc::Global;
 use std::test::Fail;
-use tc_requests::{
+use tc_restore::{
     NEW_FLAGS, Object, RTM_NEWACTION, Request, RestoreError, request_of, request_of_actions,
 };
 use tc_wire::{ParseableBytes, TcMessage};

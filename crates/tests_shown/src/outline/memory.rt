@@ -13,6 +13,7 @@ fn fails(failing: &Failing<Global>, alloc: Global, bytes: &[u8]) -> bool {
     let columns = KindColumns {
         root: TWO_ACTIONS.root,
         interfaces: &[],
+        links: None,
         all: false,
     };
     outline(alloc, &mut page, bytes, columns).is_err()

@@ -162,6 +162,7 @@ fn is_refused(alloc: Global, what: What, bytes: &[u8], last: &str) -> bool {
     let columns = KindColumns {
         root: root_of(what),
         interfaces: &[],
+        links: None,
         all: false,
     };
     match outline(alloc, &mut page, bytes, columns) {

@@ -13,6 +13,7 @@ fn columns_of(root: Root) -> KindColumns<'static> {
     KindColumns {
         root,
         interfaces: &[],
+        links: None,
         all: false,
     }
 }
@@ -94,6 +95,7 @@ fn on_one_line(rt: HostRuntime) {
     let columns = KindColumns {
         root: TWO_ACTIONS.root,
         interfaces: &[(3, "eth0"), (6, "wan \x1b[2J")],
+        links: None,
         all: false,
     };
     let line = Want::Text(ONE_LINE);

@@ -172,22 +172,22 @@ fn is_refused(alloc: Global, capture: &str, complaint: &str) -> bool {
 fn zeros_behind_messages(rt: HostRuntime) {
     let alloc = rt.alloc();
     assert!(rt; is_shown(alloc, ZEROS, 0, &[TIMED]));
-    assert!(rt; is_shown(alloc, BROKEN_IN_PACKET, 1, &[TIMED, "broken: message length 15 under 16 at 120\n", TIMED]));
-    assert!(rt; is_shown(alloc, ZEROS_IN_STREAM, 1, &[UNTIMED, "broken: message length 0 under 16 at 64\n"]));
+    assert!(rt; is_shown(alloc, BROKEN_IN_PACKET, 1, &[TIMED, "byte 120: malformed: message length 15 under 16\n", TIMED]));
+    assert!(rt; is_shown(alloc, ZEROS_IN_STREAM, 1, &[UNTIMED, "byte 64: malformed: message length 0 under 16\n"]));
 }
 
 #[test]
 #[rattlefmt::skip]
 fn lengths_that_lie(rt: HostRuntime) {
     let alloc = rt.alloc();
-    assert!(rt; is_shown(alloc, LONG_RECORD, 1, &[TIMED, "broken: 4294967311 bytes needed, 192 left at 120\n"]));
-    assert!(rt; is_shown(alloc, LONG_BLOCK, 1, &[TIMED, "broken: 4294967292 bytes needed, 204 left at 160\n"]));
-    assert!(rt; is_shown(alloc, LONG_MESSAGE, 1, &[UNTIMED, "broken: 4294967296 bytes needed, 128 left at 64\n"]));
-    assert!(rt; is_shown(alloc, LONG_IN_PACKET, 1, &[TIMED, "broken: 4294967295 bytes needed, 64 left at 120\n"]));
+    assert!(rt; is_shown(alloc, LONG_RECORD, 1, &[TIMED, "byte 120: malformed: 4294967311 bytes needed, 192 left\n"]));
+    assert!(rt; is_shown(alloc, LONG_BLOCK, 1, &[TIMED, "byte 160: malformed: 4294967292 bytes needed, 204 left\n"]));
+    assert!(rt; is_shown(alloc, LONG_MESSAGE, 1, &[UNTIMED, "byte 64: malformed: 4294967296 bytes needed, 128 left\n"]));
+    assert!(rt; is_shown(alloc, LONG_IN_PACKET, 1, &[TIMED, "byte 120: malformed: 4294967295 bytes needed, 64 left\n"]));
 }
 
 static SHORT_BODIES: &str =
-    "broken: block body of 4 bytes, 20 needed at 48\nbroken: block body of 4 bytes, 8 needed at 64\n";
+    "byte 48: malformed: block body of 4 bytes, 20 needed\nbyte 64: malformed: block body of 4 bytes, 8 needed\n";
 
 #[test]
 #[rattlefmt::skip]
@@ -195,8 +195,8 @@ fn blocks_of_pcapng(rt: HostRuntime) {
     let alloc = rt.alloc();
     assert!(rt; is_shown(alloc, PACKET_BLOCK, 0, &[TIMED]));
     assert!(rt; is_shown(alloc, EARLIER, 0, &[EARLY, UNTIMED]));
-    assert!(rt; is_shown(alloc, UNKNOWN_INTERFACE, 1, &["broken: unknown interface 9 at 48\n", TIMED]));
-    assert!(rt; is_shown(alloc, SHORT_BODY, 1, &[SHORT_BODIES, TIMED, "broken: unknown interface 1 at 212\n"]));
+    assert!(rt; is_shown(alloc, UNKNOWN_INTERFACE, 1, &["byte 48: malformed: unknown interface 9\n", TIMED]));
+    assert!(rt; is_shown(alloc, SHORT_BODY, 1, &[SHORT_BODIES, TIMED, "byte 212: malformed: unknown interface 1\n"]));
 }
 
 #[test]

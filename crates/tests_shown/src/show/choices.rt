@@ -156,10 +156,10 @@ static UNKNOWN: [(&str, &str, &str); 9] = [
     (
         "--kind",
         "fq_code",
-        "unknown kind 'fq_code'; the kinds are:\n",
+        "unknown kind 'fq_code'; near it are fq_codel, fq_pie and codel (tcshow --explain lists all)\n",
     ),
-    ("--kind", "Htb", "\nhtb\n"),
-    ("--kind", "gac", "\ngact\n"),
+    ("--kind", "Htb", "near it are htb, "),
+    ("--kind", "gac", "near it are gact, "),
     (
         "--type",
         "newclass",
@@ -369,18 +369,37 @@ fn words_of_a_command_line(rt: HostRuntime) {
     );
 }
 
-// A message of a link, which names the interface 2, a request to name it otherwise, and a qdisc of it.
-static LINK: &str =
+// A message of a link, which names the interface 2, a request to name it otherwise, and a qdisc of it; then other names of 2 and of 1,
+// and a qdisc of each.
+static LINKS: &str =
     "2c00000010000000010000000000000000000100020000000000000000000000 0900 0300 6574683900 000000
 2c00000010000100010000000000000000000100020000000000000000000000 0900 0300 6c616e3000 000000
 34000000240000060100000000000000000000000200000000000100ffffffff000000000d00010066715f636f64656c00000000
+2c00000010000000010000000000000000000100020000000000000000000000 0900 0300 64736c3000 000000
+2c00000010000000010000000000000000000100010000000000000000000000 0900 0300 77616e3000 000000
+34000000240000060100000000000000000000000200000000000100ffffffff000000000d00010066715f636f64656c00000000
+34000000240000060100000000000000000000000100000000000100ffffffff000000000d00010066715f636f64656c00000000
 ";
 
 #[test]
 fn links_name(rt: HostRuntime) {
     let options = all_in(OutputFormat::OneLine);
-    let part = Written::Has("index 2 (eth9) handle 1: parent root");
-    assert!(rt; gives(rt.alloc(), &options, LINK.as_bytes(), 0, part, ""));
+    for part in [
+        "index 2 (eth9) handle 1: parent root",
+        "index 2 (dsl0) handle 1: parent root",
+        "index 1 (wan0) handle 1: parent root",
+    ] {
+        assert!(rt;
+            gives(
+                rt.alloc(),
+                &options,
+                LINKS.as_bytes(),
+                0,
+                Written::Has(part),
+                ""
+            )
+        );
+    }
 }
 
 // Kinds, and what is written in words about them: lines, and the kernel's names in them, of bits too, and of a number below zero, as

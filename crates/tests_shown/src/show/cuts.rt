@@ -9,8 +9,8 @@ use tests_data::{FORMATS, Format};
 // What a run says of a place where a capture is cut, up to the numbers.
 fn note_of(form: OutputFormat) -> &'static [u8] {
     match form {
-        OutputFormat::Lines | OutputFormat::OneLine => b"cut: ",
-        OutputFormat::Json => b"{\"note\":\"cut: ",
+        OutputFormat::Lines | OutputFormat::OneLine => b"byte ",
+        OutputFormat::Json => b"{\"note\":\"truncated: ",
     }
 }
 

@@ -88,7 +88,7 @@ static GAP: &str = "00000000: 3800 0000 2400 0506 81f1 2469 0000 0000  8...$....
 ";
 
 static GAP_SHOWN: &str =
-    "{\"note\":\"broken: 56 bytes needed, 16 left\",\"at\":0}\n{\"note\":\"broken: no hex\",\"at\":68}\n";
+    "{\"note\":\"malformed: 56 bytes needed, 16 left\",\"at\":0}\n{\"note\":\"not hex\",\"at\":68}\n";
 
 #[test]
 fn gaps(rt: HostRuntime) {

@@ -33,11 +33,11 @@ fn put_all(file: &mut Vec<u8>) -> Result<(), AllocError> {
 }
 
 static SNAPPED: [&str; 5] = [
-    "{\"note\":\"cut: 56 bytes needed, 20 left\",\"at\":56}",
+    "{\"note\":\"truncated: 56 bytes needed, 20 left\",\"at\":56}",
     "{\"time\"",
-    "{\"note\":\"cut: the capture has only the first bytes of this packet\",\"at\":144}",
+    "{\"note\":\"truncated: the capture has only the first bytes of this packet\",\"at\":144}",
     "{\"time\"",
-    "{\"note\":\"broken:",
+    "{\"note\":\"malformed:",
 ];
 
 #[test]
@@ -57,7 +57,7 @@ fn long_stream(alloc: Global) -> Result<Vec<u8>, AllocError> {
     Ok(stream)
 }
 
-static STREAM_LINES: [&str; 2] = ["skipped: 1048592 bytes at 0", "RTM_NEWQDISC "];
+static STREAM_LINES: [&str; 2] = ["byte 0: skipped: 1048592 bytes", "RTM_NEWQDISC "];
 
 #[test]
 fn long_messages_are_skipped(rt: HostRuntime) -> Result<(), Fail> {
@@ -87,11 +87,11 @@ fn long_text(alloc: Global) -> Result<Vec<u8>, AllocError> {
 }
 
 static TEXT_LINES: [&str; 5] = [
-    "broken: no hex at 0",
+    "byte 0: not hex",
     "action raw 00 refused BufferTooSmall len 1 needed 4 offset 0 path /header",
-    "skipped: ",
+    "byte 6: skipped: ",
     "action",
-    "broken: no hex at 3300036",
+    "byte 3300036: not hex",
 ];
 
 #[test]
@@ -100,7 +100,7 @@ fn long_lines_are_skipped(rt: HostRuntime) -> Result<(), Fail> {
     let options = alone_in(OutputFormat::OneLine, MessageType::Action);
     let lines = Written::BeginsWithLines(&TEXT_LINES);
     assert!(rt; gives(rt.alloc(), &options, &text, 1, lines, ""));
-    let end = Written::Ends("\naction\nbroken: no hex at 3300036\n");
+    let end = Written::Ends("\naction\nbyte 3300036: not hex\n");
     assert!(rt; gives(rt.alloc(), &options, &text, 1, end, ""));
     Ok(())
 }

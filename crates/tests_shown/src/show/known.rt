@@ -1,6 +1,7 @@
 //! Known messages and their output.
 
-use crate::show::runs::{Written, all_in, chosen_in, counted_in, gives, writes};
+use crate::show::runs::{Written, all_in, alone_in, chosen_in, counted_in, gives, writes};
+use tc_capture::MessageType;
 use tc_outline::Interfaces;
 use tc_select::{Filter, Types};
 use tcshow_lib::options::OutputFormat;
@@ -114,7 +115,14 @@ fn known_messages(rt: HostRuntime) {
 }
 
 // Inputs that are neither a capture nor hex, and hex without a message.
-static NO_CAPTURES: [&[u8]; 4] = [b"", b"\x7fELF", b"\x01\x02", b"text"];
+static NO_CAPTURES: [&[u8]; 6] = [
+    b"",
+    b"\x7fELF",
+    b"\x01\x02",
+    b"text",
+    b"# a comment\n\ndear reader,\nthis is no capture\n",
+    b"1 a line\n2\n3\n4\n5\n6\n7\n8\n9\n10 g\n11 g\n12 g\n13 g\n14 g\n15 g\n16 g\n00000000\n",
+];
 
 static NO_MESSAGES: [&str; 3] = ["#", "\n\n\n\n\n", "# text"];
 
@@ -129,11 +137,35 @@ fn no_capture(rt: HostRuntime) {
                 input,
                 2,
                 Written::Is(&[]),
-                "tcshow: no capture, and no hex\n"
+                "tcshow: input: not a capture, and its first lines are not hex\n"
             )
         );
     }
     for input in &NO_MESSAGES {
         assert!(rt; writes(rt.alloc(), &options, input, 0, ""));
+    }
+}
+
+// A kind of `a`, U+009B, U+202E and U+007F, in a message without a netlink header.
+static HIDDEN: &str = "0000000000000000000000000000000000000000 0c000100 61c29be280ae7f00";
+
+#[test]
+fn control_characters(rt: HostRuntime) {
+    let alloc = rt.alloc();
+    for (form, shown) in [
+        (OutputFormat::Json, r#"{"Kind":"a\u009b\u202e\u007f"}"#),
+        (OutputFormat::OneLine, r#"kind "a\xc2\x9b\xe2\x80\xae\x7f""#),
+    ] {
+        let options = alone_in(form, MessageType::Tc);
+        assert!(rt;
+            gives(
+                alloc,
+                &options,
+                HIDDEN.as_bytes(),
+                0,
+                Written::Has(shown),
+                ""
+            )
+        );
     }
 }

@@ -2,6 +2,7 @@
 
 use crate::show::runs::{FORMS, Outcome, counted_in, file_of_first, is_front, shown};
 use failing_alloc::Failing;
+use program_io::{Reader, Writer};
 use std::alloc::Global;
 use std::test::Fail;
 use tcshow_lib::options::Options;
@@ -9,19 +10,20 @@ use tcshow_lib::program::serve;
 use tests_data::Format;
 
 // The status of a run over a file where the request for memory of this number is refused, what it wrote, and whether one was refused.
-fn run_at(alloc: Global, at: u64, options: &Options<'_>, mut file: &[u8]) -> (Outcome, bool) {
+fn run_at(alloc: Global, at: u64, options: &Options<'_>, file: &[u8]) -> (Outcome, bool) {
     let failing = Failing::new(alloc, at);
     let (mut written, mut errors) = (Vec::new(alloc), Vec::new(alloc));
-    let status = serve(
+    let ended = serve(
         &failing,
         alloc,
         options,
-        &mut file,
-        &mut written,
+        "input",
+        &mut Reader::new(file),
+        &mut Writer::new(&mut written),
         &mut errors,
     );
     let outcome = Outcome {
-        status,
+        status: ended.status(),
         written,
         errors,
     };

@@ -1,5 +1,6 @@
 //! A run in memory.
 
+use program_io::{Reader, Writer};
 use std::alloc::Global;
 use std::str;
 use std::test::Fail;
@@ -58,17 +59,18 @@ pub(crate) struct Outcome {
 
 /// A run over an input.
 pub(crate) fn shown(alloc: Global, options: &Options<'_>, input: &[u8]) -> Outcome {
-    let (mut reader, mut written, mut errors) = (input, Vec::new(alloc), Vec::new(alloc));
-    let status = serve(
+    let (mut written, mut errors) = (Vec::new(alloc), Vec::new(alloc));
+    let ended = serve(
         alloc,
         alloc,
         options,
-        &mut reader,
-        &mut written,
+        "input",
+        &mut Reader::new(input),
+        &mut Writer::new(&mut written),
         &mut errors,
     );
     Outcome {
-        status,
+        status: ended.status(),
         written,
         errors,
     }

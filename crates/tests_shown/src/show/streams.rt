@@ -1,6 +1,7 @@
 //! Streams that fail, that are interrupted, and that are closed.
 
 use crate::show::runs::{Outcome, all_in, file_of_first, is_front, shown};
+use program_io::{Reader, Writer};
 use std::alloc::Global;
 use std::io::ErrorKind;
 use std::test::Fail;
@@ -15,9 +16,17 @@ fn run(alloc: Global, file: &[u8], reader: Stream, writer: Stream) -> Outcome {
     let mut to = slowly(Vec::new(alloc), writer);
     let mut errors = Vec::new(alloc);
     let options = all_in(OutputFormat::OneLine);
-    let status = serve(alloc, alloc, &options, &mut from, &mut to, &mut errors);
+    let ended = serve(
+        alloc,
+        alloc,
+        &options,
+        "input",
+        &mut Reader::new(&mut from),
+        &mut Writer::new(&mut to),
+        &mut errors,
+    );
     Outcome {
-        status,
+        status: ended.status(),
         written: to.inner,
         errors,
     }
@@ -61,9 +70,9 @@ fn stored(alloc: Global) -> std::result::Result<Answered, Fail> {
     Ok(Answered { file, written })
 }
 
-static READ_FAILED: (u8, &str) = (3, "tcshow: read failed\n");
+static READ_FAILED: (u8, &str) = (3, "tcshow: input: timed out\n");
 
-static WRITE_FAILED: (u8, &str) = (3, "tcshow: write failed\n");
+static WRITE_FAILED: (u8, &str) = (3, "tcshow: standard output: timed out\n");
 
 #[test]
 fn each_read_fails(rt: HostRuntime) -> std::result::Result<(), Fail> {

@@ -14,6 +14,12 @@ pub const PATIENCE: Duration = Duration::from_secs(10);
 /// The most datagrams of an earlier dump that are skipped before the next.
 const MOST_LEFT: usize = 1 << 16;
 
+/// The most dumps that are asked for at once.
+pub const MOST_AT_ONCE: usize = 64;
+/// What an answer of a dump takes of the room for datagrams: the kernel makes one of 32 KiB, and counts what it uses besides. Half of the room is
+/// left for the rest.
+const ROOM_OF_ONE: usize = 2 * 48 << 10;
+
 const NLMSGERR_ATTR_MSG: u16 = 1;
 const NLMSGERR_ATTR_OFFS: u16 = 2;
 /// The greatest error that the kernel answers with, `MAX_ERRNO`.
@@ -27,6 +33,41 @@ pub struct Kernel<T = Socket> {
     datagram: Vec<u8>,
     // A dump ended early, so that more of it may come.
     has_left: bool,
+    // How many dumps are asked for at once next time, and at most.
+    at_once: usize,
+    most_at_once: usize,
+}
+
+// A dump that was asked for, and what came of it.
+#[derive(Default)]
+struct Asked {
+    sequence: u32,
+    dumped: Vec<Vec<u8>>,
+    has_ended: bool,
+    // The kernel was busy with a dump that was asked for before.
+    is_refused: bool,
+}
+
+impl Asked {
+    // Takes a message of its answer.
+    fn take(&mut self, header: Header, message: &[u8], is_first: bool) -> Result<(), Fault> {
+        match header.kind {
+            NLMSG_NOOP => {}
+            NLMSG_OVERRUN => return Err(Fault::Lost),
+            NLMSG_DONE | NLMSG_ERROR => {
+                self.has_ended = true;
+                match ended(header, message) {
+                    Ok(()) if header.kind == NLMSG_ERROR => return Err(Fault::Broken("an acknowledgement of a dump")),
+                    Err(Fault::Refused(refusal)) if !self.dumped.is_empty() => return Err(Fault::Cut(refusal)),
+                    Err(Fault::Refused(refusal)) if !is_first && refusal.is(Errno::EBUSY) => self.is_refused = true,
+                    answer => answer?,
+                }
+            }
+            kind if kind >= NLMSG_MIN_TYPE => self.dumped.push(message.to_vec()),
+            _ => return Err(Fault::Broken("not an answer to a dump")),
+        }
+        Ok(())
+    }
 }
 
 impl Kernel<Socket> {
@@ -38,7 +79,8 @@ impl Kernel<Socket> {
 
 impl<T: Transport> Kernel<T> {
     pub fn over(transport: T) -> Kernel<T> {
-        Kernel { transport, sequence: 0, datagram: Vec::new(), has_left: false }
+        let most_at_once = (transport.room() / ROOM_OF_ONE).clamp(1, MOST_AT_ONCE);
+        Kernel { transport, sequence: 0, datagram: Vec::new(), has_left: false, at_once: most_at_once, most_at_once }
     }
 
     /// Our port id, which notifications of our changes have.
@@ -53,9 +95,10 @@ impl<T: Transport> Kernel<T> {
 
     /// Sends a request, and returns the answers before its acknowledgement.
     pub fn request(&mut self, message: &[u8]) -> Result<Vec<Vec<u8>>, Fault> {
-        self.send(message, NLM_F_REQUEST | NLM_F_ACK)?;
+        let mut datagram = Vec::new();
+        let ours = (self.stamp(message, NLM_F_REQUEST | NLM_F_ACK, &mut datagram)?, self.port());
+        self.send(&datagram)?;
         let mut answers = Vec::new();
-        let ours = (self.sequence, self.port());
         loop {
             self.receive()?;
             for message in Messages::of(&self.datagram) {
@@ -76,66 +119,92 @@ impl<T: Transport> Kernel<T> {
 
     /// Sends the request of a dump, and returns what is dumped.
     pub fn dump(&mut self, message: &[u8]) -> Result<Vec<Vec<u8>>, Fault> {
-        self.skip_left()?;
-        self.send(message, NLM_F_REQUEST | NLM_F_DUMP)?;
-        self.has_left = true;
-        let mut dumped = Vec::new();
-        match self.read_dump(&mut dumped) {
-            Ok(true) => Err(Fault::Interrupted),
-            Ok(false) => Ok(dumped),
-            Err(Fault::Refused(refusal)) if !dumped.is_empty() => Err(Fault::Cut(refusal)),
-            Err(fault) => Err(fault),
-        }
+        Ok(self.dumps(&[message])?.pop().unwrap_or_default())
     }
 
-    // Reads up to the end of a dump. True if the kernel says that it was interrupted.
-    fn read_dump(&mut self, dumped: &mut Vec<Vec<u8>>) -> Result<bool, Fault> {
-        let ours = (self.sequence, self.port());
+    /// Sends requests of dumps, and returns what each of them dumps. Several are sent at once: the kernel answers a dump that has nothing while it
+    /// takes the request. Another dump goes on as its answers are read, and until its end the kernel refuses those after it, which are sent again.
+    pub fn dumps(&mut self, messages: &[impl AsRef<[u8]>]) -> Result<Vec<Vec<Vec<u8>>>, Fault> {
+        let mut dumped = Vec::with_capacity(messages.len());
+        while dumped.len() < messages.len() {
+            let left = &messages[dumped.len()..];
+            let asked = &left[..self.at_once.min(left.len())];
+            let found = self.first_dumps(asked)?;
+            if found.len() < asked.len() {
+                self.at_once = found.len();
+            } else if asked.len() == self.at_once {
+                self.at_once = (2 * self.at_once).min(self.most_at_once);
+            }
+            dumped.extend(found);
+        }
+        Ok(dumped)
+    }
+
+    // Sends requests of dumps at once, and returns what is dumped for those that the kernel took, which are the first of them.
+    fn first_dumps(&mut self, messages: &[impl AsRef<[u8]>]) -> Result<Vec<Vec<Vec<u8>>>, Fault> {
+        self.skip_left()?;
+        let mut datagram = Vec::new();
+        let mut asked = Vec::new();
+        for message in messages {
+            asked.push(Asked {
+                sequence: self.stamp(message.as_ref(), NLM_F_REQUEST | NLM_F_DUMP, &mut datagram)?,
+                ..Asked::default()
+            });
+        }
+        self.send(&datagram)?;
+        self.has_left = true;
+        let is_interrupted = self.read_dumps(&mut asked)?;
+        self.has_left = false;
+        if is_interrupted {
+            return Err(Fault::Interrupted);
+        }
+        Ok(asked.into_iter().take_while(|asked| !asked.is_refused).map(|asked| asked.dumped).collect())
+    }
+
+    // Reads up to the end of all of these dumps. True if the kernel says that one was interrupted.
+    fn read_dumps(&mut self, asked: &mut [Asked]) -> Result<bool, Fault> {
         let mut interrupted = false;
-        loop {
+        while asked.iter().any(|asked| !asked.has_ended) {
             self.receive()?;
             for message in Messages::of(&self.datagram) {
                 let (header, message) = message?;
-                if (header.sequence, header.port) != ours {
-                    continue;
-                }
-                interrupted |= header.flags & NLM_F_DUMP_INTR != 0;
-                match header.kind {
-                    NLMSG_NOOP => {}
-                    NLMSG_DONE => {
-                        self.has_left = false;
-                        return ended(header, message).map(|()| interrupted);
-                    }
-                    NLMSG_ERROR => {
-                        self.has_left = false;
-                        return ended(header, message).and(Err(Fault::Broken("an acknowledgement of a dump")));
-                    }
-                    NLMSG_OVERRUN => return Err(Fault::Lost),
-                    kind if kind >= NLMSG_MIN_TYPE => dumped.push(message.to_vec()),
-                    _ => return Err(Fault::Broken("not an answer to a dump")),
+                let is_answered = |asked: &Asked| asked.sequence == header.sequence && !asked.has_ended;
+                let place = asked.iter().position(is_answered).filter(|_| header.port == self.transport.port());
+                if let Some(place) = place {
+                    interrupted |= header.flags & NLM_F_DUMP_INTR != 0;
+                    asked[place].take(header, message, place == 0)?;
                 }
             }
         }
+        Ok(interrupted)
     }
 
-    // Sends a message with a sequence number of its own.
-    fn send(&mut self, message: &[u8], flags: u16) -> Result<(), Fault> {
+    // Adds a message to a datagram, with a sequence number of its own, which is returned.
+    fn stamp(&mut self, message: &[u8], flags: u16, datagram: &mut Vec<u8>) -> Result<u32, Fault> {
         let header = header_of(message).filter(|header| header.len == message.len());
         let Some(header) = header else {
             return Err(Fault::Broken("a request of another length than its header says"));
         };
         self.sequence = self.sequence.wrapping_add(1).max(1);
-        let mut message = message.to_vec();
-        message[6..8].copy_from_slice(&(header.flags | flags).to_ne_bytes());
-        message[8..12].copy_from_slice(&self.sequence.to_ne_bytes());
-        message[12..16].copy_from_slice(&self.port().to_ne_bytes());
+        let begin = datagram.len().next_multiple_of(4);
+        datagram.resize(begin, 0);
+        datagram.extend_from_slice(message);
+        let stamped = &mut datagram[begin..];
+        stamped[6..8].copy_from_slice(&(header.flags | flags).to_ne_bytes());
+        stamped[8..12].copy_from_slice(&self.sequence.to_ne_bytes());
+        stamped[12..16].copy_from_slice(&self.transport.port().to_ne_bytes());
+        Ok(self.sequence)
+    }
+
+    // Sends a datagram.
+    fn send(&mut self, datagram: &[u8]) -> Result<(), Fault> {
         let sent = loop {
-            match self.transport.send(&message) {
+            match self.transport.send(datagram) {
                 Err(error) if error.kind() == io::ErrorKind::Interrupted => {}
                 sent => break sent.map_err(|error| Fault::Socket("send", error))?,
             }
         };
-        if sent == message.len() { Ok(()) } else { Err(Fault::Broken("a request that was sent in part")) }
+        if sent == datagram.len() { Ok(()) } else { Err(Fault::Broken("a request that was sent in part")) }
     }
 
     // Receives the next datagram of the kernel.

@@ -4,7 +4,7 @@ use super::transport::Transport;
 use netlink_options::{NetlinkOption, turn_on};
 use netlink_sys::{SocketAddr, protocols::NETLINK_ROUTE};
 use nix::errno::Errno;
-use nix::libc::{MSG_DONTWAIT, MSG_PEEK, MSG_TRUNC};
+use nix::libc::{MSG_DONTWAIT, MSG_TRUNC};
 use nix::poll::{PollFd, PollFlags, poll};
 use nix::sys::socket::{getsockopt, setsockopt, sockopt};
 use std::io;
@@ -15,6 +15,8 @@ use std::time::Duration;
 pub const RTNLGRP_TC: u32 = 4;
 /// The size of the buffers for datagrams that are received and sent, in bytes.
 const BUFFER: usize = 4 << 20;
+/// The longest datagram that is received, in bytes: far longer than any that the kernel makes.
+const LONGEST: usize = 1 << 20;
 /// What the kernel needs of the buffer for itself when a datagram is sent.
 const SEND_OVERHEAD: usize = 32;
 
@@ -53,8 +55,7 @@ impl Socket {
     // The next datagram; `WouldBlock` if there is none.
     fn receive_now(&mut self, into: &mut Vec<u8>) -> io::Result<u32> {
         into.clear();
-        let (len, _) = self.socket.recv_from(&mut &mut [0u8; 0][..], MSG_DONTWAIT | MSG_PEEK | MSG_TRUNC)?;
-        into.reserve(len);
+        into.reserve(LONGEST);
         let (received, sender) = self.socket.recv_from(into, MSG_DONTWAIT | MSG_TRUNC)?;
         if received != into.len() {
             return Err(io::Error::new(io::ErrorKind::InvalidData, "a datagram was cut"));
@@ -83,6 +84,10 @@ impl Transport for Socket {
 
     fn most(&self) -> usize {
         getsockopt(self.socket.as_raw_fd(), sockopt::SndBuf).map_or(0, |size: usize| size.saturating_sub(SEND_OVERHEAD))
+    }
+
+    fn room(&self) -> usize {
+        getsockopt(self.socket.as_raw_fd(), sockopt::RcvBuf).unwrap_or(0)
     }
 
     fn send(&mut self, datagram: &[u8]) -> io::Result<usize> {

@@ -3,7 +3,7 @@
 use super::attributes::{attribute, put, text};
 use super::devices::Devices;
 use super::fault::Fault;
-use super::kernel::Kernel;
+use super::kernel::{Kernel, MOST_AT_ONCE};
 use super::listener::{Changes, Listener};
 use super::message::*;
 use super::transport::Transport;
@@ -14,8 +14,8 @@ use std::collections::BTreeSet;
 /// How often a dump is begun before it is given up, if what it shows keeps changing.
 pub const MOST_TRIES: u32 = 8;
 
-/// The most notifications that are taken between two requests.
-const MOST_BETWEEN: usize = 64;
+/// The most notifications that are taken between requests for several dumps.
+const MOST_BETWEEN: usize = 1 << 12;
 
 const TCA_KIND: u16 = 1;
 const TCA_INGRESS_BLOCK: u16 = 13;
@@ -115,11 +115,13 @@ impl<T: Transport, L: Transport> Dumper<'_, T, L> {
             dump.messages = actions(self.kernel)?;
         }
         let interfaces = if self.objects.are_of_interfaces() { interfaces } else { &[] };
-        let mut qdiscs = if interfaces.is_empty() { Vec::new() } else { self.dump_tc(RTM_GETQDISC, 0, 0)? };
+        let mut qdiscs =
+            if interfaces.is_empty() { Vec::new() } else { self.dump_each(RTM_GETQDISC, 0, &[0])?.concat() };
         let mut below = Vec::new();
         for index in interfaces {
-            let is_own = |qdisc: &mut Vec<u8>| tcmsg_of(qdisc).is_some_and(|tcmsg| tcmsg.index == *index as i32);
-            let own: Vec<Vec<u8>> = qdiscs.extract_if(.., is_own).collect();
+            let is_own = |qdisc: &Vec<u8>| tcmsg_of(qdisc).is_some_and(|tcmsg| tcmsg.index == *index as i32);
+            let own;
+            (own, qdiscs) = qdiscs.into_iter().partition(is_own);
             self.dump_interface(*index, own, &mut dump, &mut below)?;
         }
         dump.messages.extend(below);
@@ -142,8 +144,8 @@ impl<T: Transport, L: Transport> Dumper<'_, T, L> {
             tree.extend(self.classes(index, &tree)?);
         }
         let mut own = Vec::new();
-        for parent in if self.objects.are_below() { parents(&tree)? } else { Vec::new() } {
-            let mut found = self.below(index, parent)?;
+        let parents = if self.objects.are_below() { parents(&tree)? } else { Vec::new() };
+        for mut found in self.below(index, &parents)? {
             found.retain(|message| block_of(message).is_none_or(|block| !self.blocks.contains(&block)));
             self.blocks.extend(found.iter().filter_map(|message| block_of(message)));
             own.extend(found);
@@ -154,64 +156,79 @@ impl<T: Transport, L: Transport> Dumper<'_, T, L> {
         Ok(())
     }
 
-    // A dump of messages with a `struct tcmsg`, of an interface (and what is in blocks), or of all.
-    fn dump_tc(&mut self, kind: u16, index: u32, parent: u32) -> Result<Vec<Vec<u8>>, Fault> {
-        self.changes.listen_shortly(self.listener, MOST_BETWEEN)?;
-        let asked = Tcmsg { index: index as i32, parent, ..Tcmsg::default() };
-        let mut dumped = self.kernel.dump(&tc_request(kind, NLM_F_DUMP, asked))?;
-        for message in &dumped {
+    // What there is of an interface (and in blocks) below each of these parents, or of all interfaces.
+    fn dump_each(&mut self, kind: u16, index: u32, parents: &[u32]) -> Result<Vec<Vec<Vec<u8>>>, Fault> {
+        let asked = |parent: &u32| {
+            tc_request(kind, NLM_F_DUMP, Tcmsg { index: index as i32, parent: *parent, ..Tcmsg::default() })
+        };
+        let mut all = Vec::with_capacity(parents.len());
+        for some in parents.chunks(MOST_AT_ONCE) {
+            self.changes.listen_shortly(self.listener, MOST_BETWEEN)?;
+            all.extend(self.kernel.dumps(&some.iter().map(asked).collect::<Vec<_>>())?);
+        }
+        let is_answer = |message: &Vec<u8>| {
             // A NEW is two before its GET.
-            if tcmsg_of(message).is_none() || header_of(message).is_none_or(|header| header.kind + 2 != kind) {
-                return Err(Fault::Broken("another message than was asked for"));
-            }
+            tcmsg_of(message).is_some() && header_of(message).is_some_and(|header| header.kind + 2 == kind)
+        };
+        if !all.iter().flatten().all(is_answer) {
+            return Err(Fault::Broken("another message than was asked for"));
         }
         let is_ours = |tcmsg: Tcmsg| index == 0 || tcmsg.index == index as i32 || tcmsg.index == MAGIC_BLOCK;
-        dumped.retain(|message| tcmsg_of(message).is_some_and(is_ours));
-        Ok(dumped)
+        for dumped in &mut all {
+            dumped.retain(|message| tcmsg_of(message).is_some_and(is_ours));
+        }
+        Ok(all)
     }
 
     // The classes of each qdisc, asked for by its handle: a dump of all ends early at some kinds of qdiscs. A root without a handle (such as the mq
     // that the kernel makes) can't be asked for so; its classes have no major number.
     fn classes(&mut self, index: u32, qdiscs: &[Vec<u8>]) -> Result<Vec<Vec<u8>>, Fault> {
-        let mut classes = Vec::new();
+        let mut handles = Vec::new();
         let mut asked = BTreeSet::new();
         for qdisc in qdiscs.iter().filter_map(|qdisc| tcmsg_of(qdisc)) {
             let is_root = qdisc.parent == TC_H_ROOT;
             if (qdisc.handle == 0 && !is_root) || !asked.insert(qdisc.handle) {
                 continue;
             }
-            let dumped = self.dump_tc(RTM_GETTCLASS, index, qdisc.handle)?;
-            let is_of_it =
-                |class: &Vec<u8>| tcmsg_of(class).is_some_and(|class| class.handle & 0xffff_0000 == qdisc.handle);
-            classes.extend(dumped.into_iter().filter(is_of_it));
+            handles.push(qdisc.handle);
         }
-        Ok(classes)
+        let dumped = self.dump_each(RTM_GETTCLASS, index, &handles)?;
+        let is_of = |handle: u32, class: &Vec<u8>| tcmsg_of(class).is_some_and(|it| it.handle & 0xffff_0000 == handle);
+        let own = |(handle, classes): (u32, Vec<Vec<u8>>)| classes.into_iter().filter(move |it| is_of(handle, it));
+        Ok(handles.into_iter().zip(dumped).flat_map(own).collect())
     }
 
-    // The chains of a parent, then its filters, which are all in a chain. The kernel dumps a chain with its qdisc as the parent; it gets the parent
-    // that was asked for, which differs for the two sides of clsact.
-    fn below(&mut self, index: u32, parent: u32) -> Result<Vec<Vec<u8>>, Fault> {
-        let mut below = Vec::new();
-        if self.objects.chains {
-            below = match self.dump_tc(RTM_GETCHAIN, index, parent) {
-                // Linux before 4.19 has none.
-                Err(Fault::Refused(refusal)) if refusal.is(Errno::EOPNOTSUPP) => Vec::new(),
-                Ok(chains) if chains.is_empty() => return Ok(chains),
-                chains => chains?,
-            };
-            // After a chain that only actions hold (`goto chain`), the kernel dumps the last ones twice.
-            let mut seen = BTreeSet::new();
-            below.retain(|chain| seen.insert(chain.clone()));
-            for chain in &mut below {
-                if tcmsg_of(chain).is_some_and(|tcmsg| tcmsg.index != MAGIC_BLOCK) {
-                    chain[HEADER + 12..HEADER + 16].copy_from_slice(&parent.to_ne_bytes());
-                }
+    // Of each of these parents its chains, then its filters. All filters are in a chain, so a parent without chains isn't asked for them.
+    fn below(&mut self, index: u32, parents: &[u32]) -> Result<Vec<Vec<Vec<u8>>>, Fault> {
+        let (parents, mut below): (Vec<u32>, Vec<_>) = self.chains(index, parents)?.into_iter().unzip();
+        if self.objects.filters {
+            for (below, filters) in below.iter_mut().zip(self.dump_each(RTM_GETTFILTER, index, &parents)?) {
+                below.extend(filters);
             }
         }
-        if self.objects.filters {
-            below.extend(self.dump_tc(RTM_GETTFILTER, index, parent)?);
-        }
         Ok(below)
+    }
+
+    // Those of these parents that have chains, with these; all of them, without any, if chains aren't asked for or the kernel has none.
+    fn chains(&mut self, index: u32, parents: &[u32]) -> Result<Vec<(u32, Vec<Vec<u8>>)>, Fault> {
+        let chains = match self.objects.chains.then(|| self.dump_each(RTM_GETCHAIN, index, parents)).transpose() {
+            // Linux before 4.19 has none.
+            Err(Fault::Refused(refusal)) if refusal.is(Errno::EOPNOTSUPP) => None,
+            chains => chains?,
+        };
+        let Some(chains) = chains else { return Ok(parents.iter().map(|parent| (*parent, Vec::new())).collect()) };
+        let mut all: Vec<(u32, Vec<Vec<u8>>)> =
+            parents.iter().copied().zip(chains).filter(|(_, chains)| !chains.is_empty()).collect();
+        for (parent, chains) in &mut all {
+            // After a chain that only actions hold (`goto chain`), the kernel dumps the last ones twice.
+            let mut seen = BTreeSet::new();
+            chains.retain(|chain| seen.insert(chain.clone()));
+            // The kernel dumps a chain with its qdisc as the parent, which doesn't say on which side of clsact it is.
+            for chain in chains.iter_mut().filter(|it| tcmsg_of(it).is_some_and(|tcmsg| tcmsg.index != MAGIC_BLOCK)) {
+                chain[HEADER + 12..HEADER + 16].copy_from_slice(&parent.to_ne_bytes());
+            }
+        }
+        Ok(all)
     }
 }
 

@@ -11,6 +11,9 @@ pub trait Transport {
     /// The longest datagram that can be sent, in bytes.
     fn most(&self) -> usize;
 
+    /// How many bytes of datagrams can wait at this end.
+    fn room(&self) -> usize;
+
     /// Sends a datagram to the kernel. Returns how many bytes of it were sent.
     fn send(&mut self, datagram: &[u8]) -> io::Result<usize>;
 

@@ -9,13 +9,30 @@ use std::path::PathBuf;
 /// Where the states before are kept.
 const STATE: &str = "/var/lib/conjareho";
 
-const ABOUT: &str = "Makes again what tcsave saved: qdiscs, classes, filters, chains and actions";
+const ABOUT: &str =
+    "Restores the traffic control configuration that tcsave saved: qdiscs, classes, filters, chains and actions";
 
-const NOTES: &str = "All requests are made before the first is sent, and what there is now is saved below DIR. If a request is refused, if a signal comes, or if
-another program changes the interface, it stops and makes again what was there before. At the end it compares what there is with FILE.
+const NOTES: &str = "\
+Examples:
+  tcrestore --clear saved.json                   what was saved, instead of what is there
+  tcrestore --clear --dev wan1 saved.json        the same on another interface
+  tcrestore --clear --map ids=ids0 saved.json    filters that name ids name ids0
 
-Exit status: 0 what is there is what FILE says; 1 nothing was sent; 2 wrong usage; 3 a socket or a file failed, nothing was sent;
-4 as 0, except for what can't be made (--partial); 5 it failed, and the state before is back; 6 it failed, and the state before isn't back";
+All requests are made before the first is sent, and what there is now is saved in DIR. If a request
+is refused, or a signal comes, what was there before is made again. If another program changes the
+interface, tcrestore stops. At the end it compares what there is with FILE. It takes CAP_NET_ADMIN.
+
+Exit status:
+  0  what is there is what FILE says
+  1  nothing was sent: FILE is cut, an interface is missing, something can't be made, another
+     program is changing the interface, or a signal came
+  2  usage error
+  3  a socket or a file failed, and nothing was sent
+  4  as 0, except for what can't be made and was named (--partial)
+  5  the kernel refused a request, a signal came, or the result differs from FILE; what was there
+     before is there again, which was compared
+  6  the same, or another program changed the interface meanwhile; what was there before isn't there
+     again, and the message names the file that has it";
 
 /// What the arguments say.
 #[derive(Debug)]
@@ -69,14 +86,14 @@ fn command() -> Command {
                 .value_name("FILE")
                 .required(true)
                 .value_parser(::clap::value_parser!(OsString))
-                .help("What tcsave wrote; - for standard input"),
+                .help("Save to restore; - for standard input"),
         )
         .arg(
             Arg::new("dev")
                 .long("dev")
                 .value_name("DEV")
                 .value_parser(NonEmptyStringValueParser::new())
-                .help("Restore the one interface of FILE as this one"),
+                .help("Restore the only interface of FILE as DEV"),
         )
         .arg(
             Arg::new("map")
@@ -84,18 +101,18 @@ fn command() -> Command {
                 .value_name("NAME=NAME")
                 .action(ArgAction::Append)
                 .value_parser(pair_of)
-                .help("An interface of FILE, and its name today (again for others)"),
+                .help("Interface of FILE, and its name now; can be repeated"),
         )
-        .arg(flag("clear", "First delete the root, ingress and clsact qdiscs of the interfaces of FILE"))
-        .arg(flag("partial", "Leave out what can't be made, and name it"))
-        .arg(flag("replace-actions", "Change actions that other interfaces hold too"))
-        .arg(flag("no-rollback", "Leave what is there if a request is refused; clear what can't be made again"))
+        .arg(flag("clear", "First delete the root, ingress and clsact qdiscs of the interfaces"))
+        .arg(flag("partial", "Leave out what can't be made, and report it"))
+        .arg(flag("replace-actions", "Change actions that filters of other interfaces use too"))
+        .arg(flag("no-rollback", "Don't go back if something fails; --clear even what can't be made again"))
         .arg(
             Arg::new("state")
                 .long("state")
                 .value_name("DIR")
                 .value_parser(::clap::value_parser!(OsString))
-                .help(format!("Keep what was there before in this folder, the last ten times [default: {STATE}]")),
+                .help(format!("Folder for what was there before, the last ten times [default: {STATE}]")),
         )
 }
 

@@ -1,14 +1,14 @@
 //! What requests make, and where what two lists of requests make differs.
 //!
-//! Requests that `tc_requests` makes of dumps have neither statistics nor times. What is left to be passed over is what the kernel counts or
+//! Requests that `tc_restore` makes of dumps have neither statistics nor times. What is left to be passed over is what the kernel counts or
 //! chooses in a field of a configuration, and what it shows otherwise from one dump to the next.
 
 use super::messages::{actions_of, chain_of, kind_of, payload_of, type_of};
+use crate::forms_json::Shown;
+use crate::forms_kinds::{ACTION_MESSAGE, TC_MESSAGE, TcTables};
 use crate::netlink::message::{
     RTM_NEWACTION, RTM_NEWCHAIN, RTM_NEWQDISC, RTM_NEWTCLASS, RTM_NEWTFILTER, Tcmsg, tcmsg_of,
 };
-use crate::forms_json::Shown;
-use crate::forms_kinds::{ACTION_MESSAGE, TC_MESSAGE, TcTables};
 use crate::tc_texts::handle_text;
 use ::serde_json::{Value, json};
 use std::borrow::Cow;

@@ -8,7 +8,7 @@ use crate::netlink::message::{
 use crate::nla_frames::{Emitable as _, ParseableBytes as _};
 use crate::tc_action_messages::{TcActionMessage, TcActionMessageAttribute};
 use crate::tc_actions::{TcAction, TcActionAttribute};
-use crate::tc_requests::{kind_of_action, standing_index};
+use crate::tc_restore::{kind_of_action, standalone_index};
 
 /// Flags of `linux/netlink.h`.
 pub(crate) const NLM_F_REPLACE: u16 = 0x100;
@@ -60,7 +60,7 @@ pub(crate) fn actions_of(message: &[u8]) -> Vec<Action> {
     actions
         .flatten()
         .filter_map(|parts| {
-            Some(Action { kind: kind_of_action(&parts).to_string(), index: standing_index(&parts)?, parts })
+            Some(Action { kind: kind_of_action(&parts).to_string(), index: standalone_index(&parts)?, parts })
         })
         .collect()
 }

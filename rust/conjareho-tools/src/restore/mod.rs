@@ -18,7 +18,7 @@ mod world;
 
 use arguments::{Arguments, arguments_of};
 use compare::{Held, Key, Objects, differences, objects_of};
-use plan::{Wanted, requests};
+use plan::requests_of_dump;
 use prepare::{Prepared, prepare};
 use sending::{PATIENCE, PAUSE, Sending};
 use status::Status;
@@ -26,6 +26,7 @@ use world::{Stop, World};
 
 use crate::netlink::fault::Printable;
 use crate::netlink::{Fault, Kernel, Listener, Transport};
+use crate::shown::lines_of;
 use signal_hook::consts::{SIGHUP, SIGINT, SIGTERM};
 use std::fs;
 use std::io::{self, Read as _, Write as _};
@@ -150,26 +151,28 @@ fn carried_out<T: Transport, L: Transport>(
     let was_there = |key: &Key, held: &Held| prepared.before.get(key).is_some_and(|before| before.is_same(held));
     let may_be = |key: &Key, held: &Held| key.is_action() || !arguments.clear && was_there(key, held);
     let after = same(sending, &prepared.wanted, |_| true, may_be)?;
-    said.extend(hardware::lost(prepared.in_hardware, hardware::count(after.lines())));
+    if prepared.in_hardware > 0 {
+        said.extend(hardware::lost(prepared.in_hardware, hardware::count(lines_of(&after)?.text.lines())));
+    }
     Ok(())
 }
 
-// What is there, as a save; an error if it isn't what is wanted, among the keys that are looked at. What was deleted may live on for a time.
+// What is there, as it is dumped; an error if it isn't what is wanted, among the keys that are looked at. What was deleted may live on for a time.
 fn same<T: Transport, L: Transport>(
     sending: &mut Sending<'_, '_, T, L>,
     wanted: &Objects,
     is_seen: impl Fn(&Key) -> bool,
     may_be: impl Fn(&Key, &Held) -> bool,
-) -> Result<String, Stop> {
+) -> Result<Vec<Vec<u8>>, Stop> {
     let seen = |objects: Objects| objects.into_iter().filter(|(key, _)| is_seen(key)).collect::<Objects>();
     let wanted = seen(wanted.clone());
     let place = sending.place;
     let until = Instant::now() + PATIENCE;
     loop {
         sending.world.check_devices(place)?;
-        let after = sending.world.lines(&place.indices())?;
+        let after = sending.world.dump(&place.indices())?.messages;
         sending.world.look(place, None)?;
-        let all = requests(&Wanted { text: &after, ..Wanted::default() }).requests;
+        let all = requests_of_dump(&after).requests;
         let found = differences(&wanted, &seen(objects_of(&all)), &may_be);
         if found.is_empty() {
             return Ok(after);

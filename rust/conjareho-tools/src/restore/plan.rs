@@ -1,12 +1,17 @@
 //! Requests, in the order in which they are sent: those that `tcmake --request --stream` makes of the same lines.
 
-use super::messages::type_of;
-use crate::netlink::message::{RTM_NEWACTION, RTM_NEWTFILTER};
+use super::messages::{payload_of, type_of};
 use crate::forms_kinds::{ACTION_MESSAGE, TC_MESSAGE, TcTables};
+use crate::netlink::message::{Header, RTM_NEWACTION, RTM_NEWTFILTER, header_of, is_action};
 use crate::program_io::Stop;
+use crate::tc_capture::{MessageType, Time};
 use crate::tcmake_lib::lines::{RemarkKind, Source};
-use crate::tcmake_lib::message::Forms;
-use crate::tcmake_lib::order::{Asked, Restored, requests_of};
+use crate::tcmake_messages::Forms;
+use crate::tcmake_lib::order::{Asked, Restored, requests_of, requests_of_dumps};
+use crate::tcmake_lines::{NetlinkHeader, packet_at};
+
+/// The head of a save.
+const LINES_BEFORE: u64 = 1;
 
 /// What is to be made.
 #[derive(Clone, Copy, Default, Debug)]
@@ -44,10 +49,28 @@ pub(crate) fn requests(wanted: &Wanted<'_>) -> Plan {
         replaces_actions: wanted.replaces_actions,
         names: wanted.names,
     };
-    requests_of(forms, &asked, &mut wanted.text.as_bytes()).and_then(planned).unwrap_or_else(|_| {
-        let complaints = vec!["out of memory".to_string()];
-        Plan { complaints, is_void: true, ..Plan::default() }
-    })
+    let restored = requests_of(forms, &asked, &mut wanted.text.as_bytes());
+    restored.and_then(|restored| planned(restored, 0)).unwrap_or_else(|_| no_memory())
+}
+
+/// The requests that make what was dumped: those of its lines in a save, whose numbers complaints have.
+pub(crate) fn requests_of_dump(messages: &[Vec<u8>]) -> Plan {
+    let dumps = messages.iter().filter_map(|message| Some((given_of(message)?, payload_of(message).to_vec())));
+    requests_of_dumps(dumps.collect())
+        .and_then(|restored| planned(restored, LINES_BEFORE))
+        .unwrap_or_else(|_| no_memory())
+}
+
+// What the netlink header of a dumped message has.
+fn given_of(message: &[u8]) -> Option<NetlinkHeader> {
+    let Header { kind, flags, sequence, port, .. } = header_of(message)?;
+    let holds = if is_action(kind) { MessageType::Action } else { MessageType::Tc };
+    let packet = packet_at(Time { seconds: 0, nanoseconds: 0 });
+    Some(NetlinkHeader { holds, kind: Some(kind), flags, sequence, port, packet })
+}
+
+fn no_memory() -> Plan {
+    Plan { complaints: vec!["out of memory".to_string()], is_void: true, ..Plan::default() }
 }
 
 /// The requests beside what there is. `alone` are those of the same without it. If these have neither actions nor filters, which can hold some, and
@@ -57,12 +80,13 @@ pub(crate) fn requests_beside(wanted: &Wanted<'_>, alone: &Plan, has_refused: bo
     if has_actions || has_refused || alone.is_void { requests(wanted) } else { alone.clone() }
 }
 
-fn planned(restored: Restored) -> Result<Plan, Stop> {
+// The requests, and what is said of lines, of which there are some before the first.
+fn planned(restored: Restored, lines_before: u64) -> Result<Plan, Stop> {
     let mut plan = Plan { is_void: restored.is_void, ..Plan::default() };
     for remark in &restored.remarks {
         let place = match (&remark.source, remark.number) {
             (Source::Wanted, 0) => String::new(),
-            (Source::Wanted, number) => format!("line {number}: "),
+            (Source::Wanted, number) => format!("line {}: ", number + lines_before),
             (Source::Now, 0) => "what is there now: ".to_string(),
             (Source::Now, number) => format!("what is there now, line {number}: "),
         };

@@ -5,7 +5,7 @@ use super::compare::{Objects, differences_in_blocks, objects_of};
 use super::file::{Save, read_save};
 use super::hardware;
 use super::messages::{blocks_of, type_of};
-use super::plan::{Plan, Wanted, requests, requests_beside};
+use super::plan::{Plan, Wanted, requests, requests_beside, requests_of_dump};
 use super::sending::{PATIENCE, PAUSE};
 use super::state;
 use super::status::Status;
@@ -79,19 +79,15 @@ pub(crate) fn prepare<T: Transport, L: Transport>(
     let others = blocks_of_others(world, &targets)?;
     let wanted = wanted_of(arguments, &save, &targets, &names);
     let alone = requests(&wanted);
-    let Planned { blocks, now, beside, has_refused, plan } =
+    let Planned { blocks, now, before, beside, has_refused, plan } =
         planned(arguments, &wanted, &alone, &targets, &others, world)?;
     let plan = checked(arguments, plan, said)?;
     let wanted = alone.requests;
     check_blocks(world, &others, &wanted)?;
     let is_own = |request: &Vec<u8>| !is_in_block(request, &others);
     let blocks = wanted.iter().flat_map(|request| blocks_of(request)).chain(blocks).collect();
-    let before = requests(&of_now(&now, None));
-    let back = if arguments.clear {
-        requests_beside(&of_now(&now, Some(&beside)), &before, has_refused)
-    } else {
-        Plan::default()
-    };
+    let back =
+        if arguments.clear { requests_beside(&of_now(&now, &beside), &before, has_refused) } else { Plan::default() };
     check_back(arguments, &back)?;
     let kept = state::keep(&arguments.state, &targets.names(), &now).map_err(|error| {
         Ended::because(
@@ -137,17 +133,18 @@ fn wanted_of<'a>(arguments: &Arguments, save: &'a Save, targets: &Targets, names
     }
 }
 
-// What there is now, to be made where nothing is or beside what stays.
-fn of_now<'a>(now: &'a str, stays: Option<&'a str>) -> Wanted<'a> {
-    Wanted { text: now, now: stays, replaces_actions: true, ..Wanted::default() }
+// What there is now, to be made beside what stays.
+fn of_now<'a>(now: &'a str, stays: &'a str) -> Wanted<'a> {
+    Wanted { text: now, now: Some(stays), replaces_actions: true, ..Wanted::default() }
 }
 
 // What there is now, and the requests.
 struct Planned {
     // The shared blocks of the interfaces.
     blocks: Vec<u32>,
-    // The save.
+    // The save, and the requests that make it where nothing is.
     now: String,
+    before: Plan,
     // The lines of it with the actions that are there when requests are sent, and with those that hold them.
     beside: String,
     // The codec refuses a message of it.
@@ -174,7 +171,8 @@ fn planned<T: Transport, L: Transport>(
         }
         let plan = requests_beside(&Wanted { now: Some(&beside), ..*wanted }, alone, has_refused);
         if !plan.is_void || alone.is_void || Instant::now() >= until {
-            return Ok(Planned { blocks: dump.blocks, now, beside, has_refused, plan });
+            let before = requests_of_dump(&dump.messages);
+            return Ok(Planned { blocks: dump.blocks, now, before, beside, has_refused, plan });
         }
         sleep(PAUSE);
     }
@@ -210,7 +208,7 @@ fn blocks_of_others<T: Transport, L: Transport>(
     let own = targets.own();
     let mut others = BTreeMap::new();
     for qdisc in world.qdiscs()? {
-        let holder = tcmsg_of(&qdisc).map(|header| header.index.cast_unsigned()).filter(|index| !own.contains(index));
+        let holder = tcmsg_of(&qdisc).map(|header| header.index as u32).filter(|index| !own.contains(index));
         if let Some(holder) = holder.filter(|_| type_of(&qdisc) == RTM_NEWQDISC) {
             others.extend(blocks_of(&qdisc).into_iter().map(|block| (block, holder)));
         }

@@ -293,6 +293,11 @@ pub fn of_kind<F: Json>(value: &F::Value, name: &'static str, seen: Seen<'_>) ->
     }
 }
 
+/// What options or statistics are shown as that don't fit: statistics of a length of their own have no name then.
+pub fn unread<F: Form>(bytes: &[u8], name: &'static str) -> Value {
+    if name.is_empty() || F::WIDTH.is_some() { raw(bytes) } else { object([(name, raw(bytes))]) }
+}
+
 macro_rules! by_kind_json {
     ($name:ident $other:literal $shown:ident ($other_form:ty) { $($variant:ident $json:literal $layer:literal ($form:ty) = $($kind:literal)|+,)* }) => {
         impl Json for $name {
@@ -303,7 +308,7 @@ macro_rules! by_kind_json {
             fn member(value: &Self, name: &'static str, seen: Seen<'_>) -> (&'static str, serde_json::Value) {
                 match (value, seen.kind) {
                     $(($name::$variant(value), _) => (name, of_kind::<$form>(value, $json, seen.layer($layer))),)*
-                    $(($name::Other(bytes), $($kind)|+) => (name, if $json.is_empty() { raw(bytes) } else { object([($json, raw(bytes))]) }),)*
+                    $(($name::Other(bytes), $($kind)|+) => (name, unread::<$form>(bytes, $json)),)*
                     ($name::Other(bytes), kind) => {
                         let levels = super::wire::DEEPEST;
                         let shown = within::<$other_form>(bytes, Place { kind, levels }).map(|(value, _)| <$other_form as Json>::json(&value, seen));

@@ -40,7 +40,7 @@ pub use values::{Bytes, Handle, Mac, Nla, NotAHandle, NotAMac, NotHex, Prob, Tic
 use wire::{Attr, Form, Found, Kinds, NLA_TYPE_MASK, Out, Place, chosen, field, total, within};
 
 #[cfg(kinds_json)]
-use json::{Json, JsonAttr, JsonCode, Seen, hex, object, of_kind, raw, with_rest};
+use json::{Json, JsonAttr, JsonCode, Seen, hex, object, of_kind, raw, unread, with_rest};
 
 #[doc = include_str!(concat!(env!("OUT_DIR"), "/kinds.md"))]
 pub mod table {}

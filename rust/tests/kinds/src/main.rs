@@ -30,9 +30,7 @@ fn in_capture(mut capture: Capture, bytes: &[u8]) -> Vec<Message> {
     let (mut rest, mut found) = (bytes, Vec::new());
     while let Ok(piece) = capture.next(rest) {
         rest = &rest[piece.used..];
-        if let Ok(Some(packet)) = piece.packet
-            && let Ok(Contents::Route { messages, .. }) = packet.contents()
-        {
+        if let Ok(Some(Ok(Contents::Route { messages, .. }))) = piece.packet.map(|it| it.map(|it| it.contents())) {
             found.extend(in_stream(messages));
         }
         if rest.is_empty() {
@@ -140,6 +138,6 @@ fn main() -> ExitCode {
         made.add(&(*is_action, changed(&mut numbers, bytes, other)), at % every == 0);
     }
     println!("{}\n{}", whole.said("stored"), made.said("changed"));
-    let fails = whole.other_bytes + whole.other_json + made.other_bytes;
+    let fails = whole.other_bytes + whole.other_json + made.other_bytes + made.other_json;
     ExitCode::from(u8::from(fails > 0))
 }

@@ -1,7 +1,7 @@
 use Rattle.std.proofs.Common.{◌≡◌, ◌++◌, ◌∷◌, ◌+◌, [], take, ap, sym, subst, ◌∙◌}
 use Rattle.std.specs.List.{flat_map}
 use Rattle.std.proofs.lemmas.List.{take_more}
-use Rattle.tc_plan.proofs.Lists.{given_more}
+use Rattle.tc_plan.proofs.Lists.{joined_more}
 use Rattle.tc_plan.specs.Now.{held_action}
 use Rattle.tc_plan.proofs.now.held_among.Goals as goal
 
@@ -13,5 +13,5 @@ loop-action-preserved g c =
     let more : take (i + 1) xs ≡ take i xs ++ x ∷ [] =
     subst (λ y. take (i + 1) xs ≡ take i xs ++ y ∷ []) (sym c.action-item.is) (take_more xs i x c.loop-action-test.true) in
     let old = c.loop-action.keys.items in
-    given_more held_action [] old c.in_ok-keys.keys.items xs i x more
+    joined_more held_action [] old c.in_ok-keys.keys.items xs i x more
     (c.in_ok-keys.ensures ∙ ap (λ l. old ++ l) c.held_action.ensures) c.loop-action.invariant

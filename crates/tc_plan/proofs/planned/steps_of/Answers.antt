@@ -1,7 +1,7 @@
 use Rattle.std.proofs.Common.{◌≡◌, ◌∷◌, ◌++◌, [], All, map, sym, ap, subst, ◌∙◌, append_assoc, append-nil, arith}
 use Rattle.std.proofs.lemmas.List.{nil_from_length}
 use Rattle.std.specs.Vec.Iter.{into_iter_items}
-use Rattle.tc_plan.specs.Fates.{parts_of, parts_among, gifts, objects, is_refused, gives_by, fate_by, IsSetOf, same_key}
+use Rattle.tc_plan.specs.Fates.{parts_of, parts_among, all_provided, objects, is_refused, provides_by, fate_by, IsSetOf, same_key}
 use Rattle.tc_plan.proofs.Orders.{all_more, parts_more, objects_more}
 use Rattle.tc_plan.proofs.planned.steps_of.Goals as goal
 
@@ -15,15 +15,15 @@ loop-entry-preserved g c =
     let step = c.step_by-step.result in
     let old = c.loop-entry.steps.items in
     let own : c.as_slice-own.result.now ≡ x.objects.items = c.as_slice-own.ensures.value in
-    let fate = c.fate_among-fate.ensures (gifts entries) (objects yielded) inv.given inv.before
-    ∙ ap (λ o. fate_by (gifts entries) (objects yielded) o x.must x.must_not x.made_by x.fate) own in
+    let fate = c.fate_among-fate.ensures (all_provided entries) (objects yielded) inv.given inv.before
+    ∙ ap (λ o. fate_by (all_provided entries) (objects yielded) o x.must x.must_not x.made_by x.fate) own in
     record {
       all = append_assoc yielded (x ∷ []) rest ∙ rw (← c.in-Some.ensures.steps.0) inv.all;
-      parts = parts_more old c.push.new.self.items step (parts_among (gifts entries) (yielded ++ x ∷ []) rest) (parts_among (gifts entries) [] entries) _ c.in_ok-push.ensures.items
-          (c.step_by-step.ensures.parts ∙ ap (λ f. (x.place, f, gives_by f x.gives.items, x.wants.items)) fate)
-          (subst (λ l. map parts_of old ++ parts_among (gifts entries) yielded l ≡ parts_among (gifts entries) [] entries) c.in-Some.ensures.steps.0 inv.parts);
-      barred = subst (All (λ s. s.is_barred ≡ is_refused s.item.fate)) (sym c.in_ok-push.ensures.items)
-          (all_more (λ s. s.is_barred ≡ is_refused s.item.fate) old step inv.barred c.step_by-step.ensures.barred);
+      parts = parts_more old c.push.new.self.items step (parts_among (all_provided entries) (yielded ++ x ∷ []) rest) (parts_among (all_provided entries) [] entries) _ c.in_ok-push.ensures.items
+          (c.step_by-step.ensures.parts ∙ ap (λ f. (x.place, f, provides_by f x.provides.items, x.needs.items)) fate)
+          (subst (λ l. map parts_of old ++ parts_among (all_provided entries) yielded l ≡ parts_among (all_provided entries) [] entries) c.in-Some.ensures.steps.0 inv.parts);
+      refused = subst (All (λ s. s.cannot_run ≡ is_refused s.item.fate)) (sym c.in_ok-push.ensures.items)
+          (all_more (λ s. s.cannot_run ≡ is_refused s.item.fate) old step inv.refused c.step_by-step.ensures.refused);
       given = inv.given;
       before = subst (IsSetOf same_key c.in_ok-before.before) (ap (λ o. objects yielded ++ o) own ∙ sym (objects_more yielded x)) (c.in_ok-before.ensures (objects yielded) inv.before);
     }
@@ -34,7 +34,7 @@ returns-clause-parts g c =
     let entries = c.args.entries.items in
     let none : into_iter_items c.loop-entry.entry-iterator ≡ [] = nil_from_length _ (omega (arith, c.loop-entry.entry-iterator.rest.ok.0, c.in-None.ensures.steps.0)) in
     sym (append-nil (map parts_of c.loop-entry.steps.items))
-    ∙ subst (λ l. map parts_of c.loop-entry.steps.items ++ parts_among (gifts entries) c.loop-entry.yielded l ≡ parts_among (gifts entries) [] entries) none inv.parts
+    ∙ subst (λ l. map parts_of c.loop-entry.steps.items ++ parts_among (all_provided entries) c.loop-entry.yielded l ≡ parts_among (all_provided entries) [] entries) none inv.parts
 
-pub returns-clause-barred : goal.returns-clause-barred
-returns-clause-barred g c = c.loop-entry.invariant.barred
+pub returns-clause-refused : goal.returns-clause-refused
+returns-clause-refused g c = c.loop-entry.invariant.refused

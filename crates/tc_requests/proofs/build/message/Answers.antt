@@ -39,7 +39,7 @@ returns-in_err-options-clause-named g c =
 pub returns-in-Some-clause-named : goal.returns-in-Some-clause-named
 returns-in-Some-clause-named g c = sym (c.in-Some.ensures ∙ ap doubled_in (c.deref.ensures.value ∙ c.in_ok-options.ensures.made))
 
-pub returns-clause-apart : goal.returns-clause-apart
-returns-clause-apart g c =
+pub returns-clause-distinct : goal.returns-clause-distinct
+returns-clause-distinct g c =
     sym (ap doubled_in (c.deref.ensures.value ∙ c.in_ok-options.ensures.made)) ∙ sym c.doubled_in.ensures
     ∙ not_some c.doubled_in.result c.in_default.not-Some

@@ -8,7 +8,7 @@ use Rattle.tcmake_lines.proofs.run.put_line.Goals as goal
 pub returns-in-Whole : goal.returns-in-Whole
 returns-in-Whole g c = λ whole h.
     IfOk-weaker c.put_whole_line.result _ _
-    (λ wrong p. puts_whole (g.M.Maker.Makes c.args.maker.now) (g.M.Maker.Passes c.args.maker.now) c.args.found whole c.args.line.now wrong
+    (λ wrong p. puts_whole (g.M.Maker.Makes c.args.maker.now) (g.M.Maker.Passes c.args.maker.now) (g.M.Maker.Refuses c.args.maker.now) c.args.found whole c.args.line.now wrong
     (state_of c.args.output.now) (state_of c.put_whole_line.new.output) c.in-Whole.is h p) c.put_whole_line.ensures
 
 pub returns-in-End : goal.returns-in-End

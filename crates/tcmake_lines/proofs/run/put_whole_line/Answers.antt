@@ -9,11 +9,12 @@ pub returns-in-Message : goal.returns-in-Message
 returns-in-Message g c =
     let Makes = g.M.Maker.Makes c.args.maker.now in
     let Passes = g.M.Maker.Passes c.args.maker.now in
+    let Refuses = g.M.Maker.Refuses c.args.maker.now in
     let line = c.args.line.now in
     let given = c.in-Message.given in
-    let made = subst (IsAnswer Makes Passes line) c.in-Message.is c.in_ok-given.ensures in
+    let made = subst (IsAnswer Makes Passes Refuses line) c.in-Message.is c.in_ok-given.ensures in
     let bytes = c.in-Message.bytes.items in
     let puts = subst (λ b. IfOk c.put_message.result (λ is_wrong. PutsOrNot given b is_wrong (state_of c.args.output.now) (state_of c.put_message.new.output)))
     c.deref.ensures.value c.put_message.ensures in
     IfOk-weaker c.put_message.result _ _
-    (λ is_wrong h. puts_line Makes Passes line given bytes is_wrong (state_of c.args.output.now) (state_of c.put_message.new.output) made h) puts
+    (λ is_wrong h. puts_line Makes Passes Refuses line given bytes is_wrong (state_of c.args.output.now) (state_of c.put_message.new.output) made h) puts

@@ -1,7 +1,36 @@
-use Rattle.std.proofs.Common.{◌∙◌, ap}
-use Rattle.std.specs.Prelude.{is_some}
-use Rattle.tc_outline.specs.Outline.{what_of}
+use Rattle.std.proofs.Common.{◌≡◌, ◌∙◌, ◌++◌, ℕ, List, Bool, false, ap, refl, sym}
+use Rattle.std.specs.Prelude.{Option, Some, None, is_some, option_map}
+use Rattle.tc_columns.specs.Kinds.{root_place}
+use Rattle.tc_columns.specs.Names.{names_of}
+use Rattle.tc_columns.specs.declared.root.Root.{Root}
+use Rattle.tc_outline.specs.Located.{items_of_message, message_fault}
+use Rattle.tc_outline.specs.Outline.{form_of, shown_lines, what_of}
+use Rattle.tc_outline.specs.Text.{text_on}
+use Rattle.tcshow_json.specs.Messages.{message_view}
+use Rattle.tcshow_json.specs.Objects.{root_of}
 use Rattle.tcshow_input.proofs.attributes.show_attributes.Goals as goal
 
-pub returns : goal.returns
-returns g c = (what_of c.columns_of-columns.result.root, c.name_of.ensures ∙ ap is_some c.in_ok-fault.ensures.error)
+none_of : {X Y : Type 0} (f : X → Y) (o : Option X) → is_some (option_map f o) ≡ false → o ≡ None
+none_of f None h = refl
+none_of f (Some x) h = absurd (cc h)
+
+pub returns-clause-text : goal.returns-clause-text
+returns-clause-text g c = λ on.
+    let found = c.in_ok-fault.ensures.text on in
+    let columns = c.columns_of-columns.result in
+    let names : List (ℕ × List ℕ) = names_of columns.interfaces columns.links in
+    let lines : Root → Bool → List ℕ =
+    λ r a. shown_lines (record { root = root_place r; all = a; interfaces = names }) (form_of r) c.args.found.now.payload.now in
+    let about = root_of (message_view c.args.found.now) in
+    let same : lines columns.root columns.all ≡ lines about c.args.options.now.all =
+    ap (λ r. lines r columns.all) c.columns_of-columns.ensures.root ∙ ap (λ a. lines about a) c.columns_of-columns.ensures.all in (
+      names,
+      found.0,
+      found.1 ∙ ap (λ l. (text_on c.args.page.now ++ l) ++ found.0) same,
+      λ none. found.2 (none_of (λ fault. fault.error) c.in_ok-fault.fault (sym c.name_of.ensures ∙ none)),
+    )
+
+pub returns-clause-fault : goal.returns-clause-fault
+returns-clause-fault g c =
+    c.name_of.ensures ∙ ap is_some c.in_ok-fault.ensures.error
+    ∙ ap (λ r. is_some (message_fault (items_of_message (what_of r) c.args.found.now.payload.now))) c.columns_of-columns.ensures.root

@@ -14,7 +14,7 @@ returns-in-More-clause-ran g c =
     let before = left_of c.args.input.now (g.R.Read.remaining c.args.reader.now) in
     let after = left_of c.read_line.new.self (g.R.Read.remaining c.read_line.new.reader) in
     let gap = subst (λ (gap : LineGap). IsLineGap gap (rest_of c.read_line.new.self) before after) c.in-More.is c.in_ok-gap.ensures in
-    ([], c.in_ok-write.ensures.ran, text_kept (state_of c.args.printer.now).header c.args.dump.now.items before after gap)
+    ([], c.in_ok-write_lines.ensures.ran, text_kept (state_of c.args.printer.now).header c.args.dump.now.items before after gap)
 
 pub returns-in_ok-put_long-in-Long-clause-ran : goal.returns-in_ok-put_long-in-Long-clause-ran
 returns-in_ok-put_long-in-Long-clause-ran g c =
@@ -26,10 +26,10 @@ returns-in_ok-put_long-in-Long-clause-ran g c =
     let after = left_of c.read_line.new.self (g.R.Read.remaining c.read_line.new.reader) in
     let gap = subst (λ (gap : LineGap). IsLineGap gap rest before after) c.in-Long.is c.in_ok-gap.ensures in
     let put =
-    subst (λ h. Puts (things_dumped h dump ++ (hole false ∷ [])) (state_of c.write.new.self) (state_of c.put_long.new.self))
-    c.in_ok-write.ensures.ran.header c.in_ok-put_long-in-Long.ensures.put in (
+    subst (λ h. Puts (things_dumped h dump ++ (hole false ∷ [])) (state_of c.write_lines.new.self) (state_of c.put_long.new.self))
+    c.in_ok-write_lines.ensures.ran.header c.in_ok-put_long-in-Long.ensures.put in (
       things,
-      progress_more things _ _ _ _ _ c.in_ok-write.ensures.ran put,
+      progress_more things _ _ _ _ _ c.in_ok-write_lines.ensures.ran put,
       long_gives header dump c.put_long.new.dump.items c.in-Long.length c.in-Long.goes_on rest before after gap
           c.in_ok-put_long-in-Long.ensures.dump,
     )
@@ -46,9 +46,9 @@ returns-in_ok-put_last-in-Last-clause-ran g c =
     let gap = subst (λ (gap : LineGap). IsLineGap gap rest before after) c.in-Last.is c.in_ok-gap.ensures in
     let last = subst (λ l. Gives (lines_left before) (l ∷ []) (Some [])) (sym c.rest.ensures) gap in
     let put =
-    subst (λ h. Puts (things_at h dump line ++ things_dumped h (dump_after dump line)) (state_of c.write.new.self) (state_of c.put_last.new.self))
-    c.in_ok-write.ensures.ran.header c.in_ok-put_last-in-Last.ensures.put in (
+    subst (λ h. Puts (things_at h dump line ++ things_dumped h (dump_after dump line)) (state_of c.write_lines.new.self) (state_of c.put_last.new.self))
+    c.in_ok-write_lines.ensures.ran.header c.in_ok-put_last-in-Last.ensures.put in (
       things,
-      progress_more things _ _ _ _ _ c.in_ok-write.ensures.ran put,
+      progress_more things _ _ _ _ _ c.in_ok-write_lines.ensures.ran put,
       last_gives header dump line before last,
     )

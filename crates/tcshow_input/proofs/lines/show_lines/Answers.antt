@@ -1,5 +1,4 @@
 use Rattle.std.proofs.Common.{List, ℕ, [], Some, subst}
-use Rattle.std.proofs.lemmas.Result.{on_ok_weaker}
 use Rattle.tc_input.specs.Left.{left_of, Gives}
 use Rattle.tcshow_input.specs.Reading.{text_left}
 use Rattle.tcshow_input.specs.State.{state_of}
@@ -9,6 +8,5 @@ pub returns-clause-ran : goal.returns-clause-ran
 returns-clause-ran g c =
     let header = (state_of c.args.printer.now).header in
     let left = left_of c.args.input.now (g.R.Read.remaining c.args.reader.now) in
-    on_ok_weaker c.show_lines_after.result
-    (λ x. (x.0, x.1, subst (λ (d : List ℕ). Gives (text_left header d left) x.0 (Some [])) c.new-dump.ensures.items x.2))
-    c.show_lines_after.ensures.ran
+    let x = c.in_ok-show_lines_after.ensures.ran in
+    (x.0, x.1, subst (λ (d : List ℕ). Gives (text_left header d left) x.0 (Some [])) c.new-dump.ensures.items x.2)

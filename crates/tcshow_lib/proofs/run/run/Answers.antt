@@ -5,7 +5,7 @@ use Rattle.tcshow_lib.proofs.run.run.Goals as goal
 
 pub returns-clause-ran : goal.returns-clause-ran
 returns-clause-ran g c =
-    on_ok_weaker c.show_and_write-outcome.result
-    (ran c.args.options.now _ _ _ (state_of c.new-printer.result) (state_of c.show_and_write-outcome.new.printer) c.has_refused.result c.new-printer.ensures
+    on_ok_weaker c.show_to_end-outcome.result
+    (ran c.args.options.now _ _ _ (state_of c.new-printer.result) (state_of c.show_to_end-outcome.new.printer) c.has_refused.result c.new-printer.ensures
     c.has_refused.ensures)
-    c.show_and_write-outcome.ensures.ran
+    c.show_to_end-outcome.ensures.ran

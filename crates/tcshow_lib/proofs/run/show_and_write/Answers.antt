@@ -7,7 +7,7 @@ pub returns-in-Ok-clause-clean : goal.returns-in-Ok-clause-clean
 returns-in-Ok-clause-clean g c = clean_step _ _ _ _ _ c.show.ensures.clean c.show.ensures.form c.write.ensures.clean
 
 pub returns-in-Err-clause-clean : goal.returns-in-Err-clause-clean
-returns-in-Err-clause-clean g c = clean_step _ _ _ _ _ c.show.ensures.clean c.show.ensures.form c.write-in-Err.ensures.clean
+returns-in-Err-clause-clean g c = clean_step _ _ _ _ _ c.show.ensures.clean c.show.ensures.form c.write_rest.ensures.clean
 
 pub returns-in-Ok-clause-ran : goal.returns-in-Ok-clause-ran
 returns-in-Ok-clause-ran g c =

@@ -173,7 +173,7 @@ impl State {
     fn change(&mut self, header: Header, message: &[u8]) -> i32 {
         let Some(tcmsg) = tcmsg_of(message) else { return 22 };
         let at = self.objects.iter().position(|it| is_same(it, header.kind / 4 * 4, tcmsg));
-        if header.kind.is_multiple_of(4) {
+        if header.kind % 4 == 0 {
             if at.is_some() && header.flags & NLM_F_EXCL != 0 {
                 return EEXIST;
             }
@@ -236,8 +236,15 @@ impl Transport for End {
         1 << 20
     }
 
+    fn room(&self) -> usize {
+        1 << 20
+    }
+
     fn send(&mut self, datagram: &[u8]) -> io::Result<usize> {
-        self.fake.answer(datagram);
+        for message in Messages::of(datagram) {
+            let Ok((_, message)) = message else { panic!("a request that is cut") };
+            self.fake.answer(message);
+        }
         Ok(datagram.len())
     }
 

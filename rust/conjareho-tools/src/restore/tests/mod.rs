@@ -330,7 +330,7 @@ fn a_save_without_a_head() {
 fn sends_what_tcmake_makes() {
     let file = saved(tree(1000));
     let ran = run(&["--clear"], &file, tree(2000), &Fake::new(taking()));
-    let sent = ran.sent.iter().filter(|it| type_of(it).is_multiple_of(4));
+    let sent = ran.sent.iter().filter(|it| type_of(it) % 4 == 0);
     let without_numbers = |message: &[u8]| [&message[..8], &message[HEADER..]].concat();
     let sent: Vec<Vec<u8>> = sent.map(|it| without_numbers(it)).collect();
     let made = made_by_tcmake(&file);

@@ -1,0 +1,7 @@
+"""The command line of `vtc`."""
+
+import sys
+
+from . import main
+
+sys.exit(main())

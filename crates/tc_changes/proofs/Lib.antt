@@ -1,0 +1,16 @@
+pub mod Lookups
+pub mod Apart
+pub mod Runs
+pub mod Wholes
+pub mod Makes
+pub mod Cascades
+pub mod Removals
+pub mod Keeps
+pub mod Exact
+pub mod Certain
+pub mod Equal
+pub mod Passes
+pub mod Indexes
+pub mod Parted
+pub mod Steps
+pub mod Firsts

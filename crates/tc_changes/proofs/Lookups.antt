@@ -1,0 +1,156 @@
+-- What is found by a key.
+use Rattle.std.proofs.Common.{◌≡◌, Bool, true, false, not, cond, ◌&&◌, ◌||◌, List, [], ◌∷◌, ◌++◌, Option, Some, None, refl, sym, ap, ◌∙◌}
+use Rattle.std.specs.Prelude.{filter, is_some}
+use Rattle.std.specs.List.{list_any, list_all, AllByRecursion}
+use Rattle.tc_changes.specs.Model.{Thing, or_else, at_key, among, found, has}
+use Rattle.tc_changes.specs.Requests.{without}
+
+pub and_left : (a b : Bool) → (a && b) ≡ true → a ≡ true
+and_left true b is = refl
+and_left false b is = absurd (cc is)
+
+pub and_right : (a b : Bool) → (a && b) ≡ true → b ≡ true
+and_right true b is = is
+and_right false b is = absurd (cc is)
+
+pub or_left : (a b : Bool) → (a || b) ≡ false → a ≡ false
+or_left false b is = refl
+or_left true b is = absurd (cc is)
+
+pub or_right : (a b : Bool) → (a || b) ≡ false → b ≡ false
+or_right false b is = is
+or_right true b is = absurd (cc is)
+
+pub not_true : (a : Bool) → not a ≡ true → a ≡ false
+not_true false is = refl
+not_true true is = absurd (cc is)
+
+pub or_true : (a : Bool) → (a || true) ≡ true
+or_true true = refl
+or_true false = refl
+
+-- one of two cases
+pub by_cases : (P : Type 0) (b : Bool) → (b ≡ true → P) → (b ≡ false → P) → P
+by_cases P true here there = here refl
+by_cases P false here there = there refl
+
+pub or_else_assoc : {X : Type 0} (a b c : Option X) → or_else (or_else a b) c ≡ or_else a (or_else b c)
+or_else_assoc (Some x) b c = refl
+or_else_assoc None b c = refl
+
+pub or_else_none : {X : Type 0} (a : Option X) → or_else a None ≡ a
+or_else_none (Some x) = refl
+or_else_none None = refl
+
+-- what holds of each element holds of each of a part
+module _ {X : Type 0} (P : X → Type 0) where
+  pub all_append : (xs ys : List X) → AllByRecursion P xs → AllByRecursion P ys → AllByRecursion P (xs ++ ys)
+  all_append [] ys here there = there
+  all_append (x ∷ xs) ys here there = (here.0, all_append xs ys here.1 there)
+
+pub all_by : {X : Type 0} (P Q : X → Type 0) → ((x : X) → P x → Q x) → (xs : List X) → AllByRecursion P xs → AllByRecursion Q xs
+all_by P Q turn [] all = tt
+all_by P Q turn (x ∷ xs) all = (turn x all.0, all_by P Q turn xs all.1)
+
+pub none_of : {X : Type 0} (test : X → Bool) (xs : List X) → AllByRecursion (λ x. test x ≡ false) xs → list_any test xs ≡ false
+none_of test [] all = refl
+none_of test (x ∷ xs) all = ap (λ b. b || list_any test xs) all.0 ∙ none_of test xs all.1
+
+module _ {K C : Type 0} (eq : K → K → Bool) where
+  pub found-append : (a b : List (Thing K C)) (k : K) → found eq (a ++ b) k ≡ or_else (found eq b k) (found eq a k)
+  found-append [] b k = sym (or_else_none (found eq b k))
+  found-append (x ∷ a) b k = ap (λ o. or_else o (at_key eq x k)) (found-append a b k) ∙ or_else_assoc (found eq b k) (found eq a k) (at_key eq x k)
+
+  at_or_else : (b : Bool) (x : Thing K C) (o : Option (Thing K C)) → or_else (cond b (Some x) None) o ≡ cond b (Some x) o
+  at_or_else true x o = refl
+  at_or_else false x o = refl
+
+  -- one more object
+  pub found-push : (s : List (Thing K C)) (x : Thing K C) (k : K) → found eq (s ++ x ∷ []) k ≡ cond (eq k x.key) (Some x) (found eq s k)
+  found-push s x k = found-append s (x ∷ []) k ∙ at_or_else (eq k x.key) x (found eq s k)
+
+  without_step : (x : Thing K C) (w : List (Thing K C)) (k : K) (g : Option (Thing K C)) (a b c : Bool) → eq k x.key ≡ c → (a ≡ true → c ≡ b)
+      → (b ≡ true → c ≡ a)
+      → found eq w k ≡ cond b None g → found eq (cond (not a) (x ∷ w) w) k ≡ cond b None (or_else g (cond c (Some x) None))
+  without_step x w k g true true c at one two is = is
+  without_step x w k g true false true at one two is = absurd (cc (one refl))
+  without_step x w k g true false false at one two is = is ∙ sym (or_else_none g)
+  without_step x w k g false true true at one two is = absurd (cc (two refl))
+  without_step x w k g false true false at one two is = ap (λ o. or_else o (at_key eq x k)) is ∙ ap (λ b. cond b (Some x) None) at
+  without_step x w k g false false c at one two is = ap (λ o. or_else o (at_key eq x k)) is ∙ ap (λ b. or_else g (cond b (Some x) None)) at
+
+  without_append : (j : K) (a b : List (Thing K C)) → without eq j (a ++ b) ≡ without eq j a ++ without eq j b
+  without_append j [] b = refl
+  without_append j (x ∷ a) b = filter_step (not (eq j x.key)) x (without_append j a b)
+    where
+      filter_step : (t : Bool) (x : Thing K C) → without eq j (a ++ b) ≡ without eq j a ++ without eq j b
+          → cond t (x ∷ without eq j (a ++ b)) (without eq j (a ++ b)) ≡ cond t (x ∷ without eq j a) (without eq j a) ++ without eq j b
+      filter_step true x is = ap (λ l. x ∷ l) is
+      filter_step false x is = is
+
+  -- objects none of which has a key stay as they are without it
+  pub without_none : (j : K) (s : List (Thing K C)) → AllByRecursion (λ o. eq j o.key ≡ false) s → without eq j s ≡ s
+  without_none j [] all = refl
+  without_none j (x ∷ s) all = ap (λ b. cond (not b) (x ∷ without eq j s) (without eq j s)) all.0 ∙ ap (λ l. x ∷ l) (without_none j s all.1)
+
+  -- one object taken out of the middle
+  pub without_one : (o : Thing K C) (front rest : List (Thing K C)) → eq o.key o.key ≡ true → AllByRecursion (λ p. eq o.key p.key ≡ false) front
+      → AllByRecursion (λ p. eq o.key p.key ≡ false) rest
+      → without eq o.key (front ++ o ∷ rest) ≡ front ++ rest
+  without_one o front rest one here there =
+      without_append o.key front (o ∷ rest)
+      ∙ ap (λ l. l ++ without eq o.key (o ∷ rest)) (without_none o.key front here)
+      ∙ ap (λ b. front ++ cond (not b) (o ∷ without eq o.key rest) (without eq o.key rest)) one
+      ∙ ap (λ l. front ++ l) (without_none o.key rest there)
+
+  -- an object is found where it is
+  pub has_one : (o : Thing K C) (front rest : List (Thing K C)) → eq o.key o.key ≡ true → has eq (front ++ o ∷ rest) o.key ≡ true
+  has_one o front rest one =
+      ap is_some (found-append front (o ∷ rest) o.key) ∙ some_in (found eq rest o.key) (eq o.key o.key) one (found eq front o.key)
+    where
+      some_in : (a : Option (Thing K C)) (b : Bool) → b ≡ true → (c : Option (Thing K C)) → is_some (or_else (or_else a (cond b (Some o) None)) c) ≡ true
+      some_in (Some x) b is c = refl
+      some_in None true is c = refl
+      some_in None false is c = absurd (cc is)
+
+module _ {K : Type 0} (eq : K → K → Bool) (sound : (a b : K) → eq a b ≡ true → a ≡ b) (same : (a : K) → eq a a ≡ true) where
+  -- keys that differ one way differ the other way
+  pub differ : (a b : K) → eq a b ≡ false → eq b a ≡ false
+  differ a b is = by_cases (eq b a ≡ false) (eq b a)
+      (λ here. absurd (cc (sym is ∙ ap (λ x. eq x b) (sym (sound b a here)) ∙ same b)))
+      (λ there. there)
+
+  -- a key that isn't among some is none of those that are
+  pub none_among : (before : List K) (j : K) (ns : List K) → among eq before j ≡ false → list_all (among eq before) ns ≡ true → among eq ns j ≡ false
+  none_among before j [] not_there all = refl
+  none_among before j (n ∷ ns) not_there all =
+      by_cases (among eq (n ∷ ns) j ≡ false) (eq j n)
+      (λ here. absurd (cc (sym not_there ∙ ap (among eq before) (sound j n here) ∙ and_left _ _ all)))
+      (λ there. ap (λ b. b || among eq ns j) there ∙ none_among before j ns not_there (and_right (among eq before n) _ all))
+
+module _ {K C : Type 0} (eq : K → K → Bool) (sound : (a b : K) → eq a b ≡ true → a ≡ b) where
+  filter_step : (x : Thing K C) (w : List (Thing K C)) (k : K) (g : Option (Thing K C)) (a b c : Bool) → eq k x.key ≡ c → (c ≡ true → a ≡ b)
+      → found eq w k ≡ cond b None g → found eq (cond (not a) (x ∷ w) w) k ≡ cond b None (or_else g (cond c (Some x) None))
+  filter_step x w k g true true c at one is = is
+  filter_step x w k g true false true at one is = absurd (cc (one refl))
+  filter_step x w k g true false false at one is = is ∙ sym (or_else_none g)
+  filter_step x w k g false true true at one is = absurd (cc (one refl))
+  filter_step x w k g false true false at one is = ap (λ o. or_else o (at_key eq x k)) is ∙ ap (λ b. cond b (Some x) None) at
+  filter_step x w k g false false c at one is = ap (λ o. or_else o (at_key eq x k)) is ∙ ap (λ b. or_else g (cond b (Some x) None)) at
+
+  -- what is found without the keys that pass a test
+  pub found-filter : (test : K → Bool) (s : List (Thing K C)) (k : K) → found eq (filter (λ o. not (test o.key)) s) k ≡ cond (test k) None (found eq s k)
+  found-filter test [] k = by_cases _ (test k) (λ here. sym (ap (λ b. cond {A = Option (Thing K C)} b None None) here))
+      (λ there. sym (ap (λ b. cond {A = Option (Thing K C)} b None None) there))
+  found-filter test (x ∷ s) k = filter_step x (filter (λ o. not (test o.key)) s) k (found eq s k) (test x.key) (test k) (eq k x.key) refl
+      (λ here. ap test (sym (sound k x.key here)))
+      (found-filter test s k)
+
+  -- what is found without a key
+  pub found-without : (j : K) (s : List (Thing K C)) (k : K) → found eq (without eq j s) k ≡ cond (eq k j) None (found eq s k)
+  found-without j [] k = by_cases _ (eq k j) (λ here. sym (ap (λ b. cond {A = Option (Thing K C)} b None None) here))
+      (λ there. sym (ap (λ b. cond {A = Option (Thing K C)} b None None) there))
+  found-without j (x ∷ s) k = without_step eq x (without eq j s) k (found eq s k) (eq j x.key) (eq k j) (eq k x.key) refl
+      (λ here. ap (eq k) (sym (sound j x.key here)))
+      (λ here. ap (λ y. eq y x.key) (sound k j here))
+      (found-without j s k)

@@ -1,0 +1,5 @@
+pub mod Model
+pub mod Requests
+pub mod Plans
+pub mod Planned
+pub mod Objects

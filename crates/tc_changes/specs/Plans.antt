@@ -1,0 +1,77 @@
+-- What a plan promises: what it touches, what it leaves alone, and why there is none.
+use Rattle.std.specs.Prelude.{◌≡◌, Bool, true, false, cond, ◌||◌, List, [], ◌∷◌, Some, All}
+use Rattle.std.specs.List.{list_any, list_all, flat_map, IsDistinct}
+use Rattle.tc_changes.specs.Model.{Thing, needs, among, found, has}
+use Rattle.tc_changes.specs.Requests.{Request, Make, Change, Delete}
+
+-- an object is as wanted, or can be changed into what is wanted
+abbrev pub fits : {X : Type 0} → (X → X → Bool) → (X → X → Bool) → X → X → Bool
+fits alike takes o w = alike o w || takes o w
+
+-- the key of the object that a request is about
+abbrev pub key_of : {K C : Type 0} → Request K C → K
+key_of (Make o) = o.key
+key_of (Change o) = o.key
+key_of (Delete k) = k
+
+-- a request deletes a key
+abbrev pub deletes : {K C : Type 0} → (K → K → Bool) → K → Request K C → Bool
+deletes eq k (Delete key) = eq k key
+deletes eq k r = false
+
+-- two requests delete one object, or make one object or change it
+abbrev pub is_repeated : {K C : Type 0} → (K → K → Bool) → Request K C → Request K C → Bool
+is_repeated eq (Delete j) (Delete k) = eq j k
+is_repeated eq (Delete j) r = false
+is_repeated eq r (Delete k) = false
+is_repeated eq r s = eq (key_of r) (key_of s)
+
+-- the key of the object that a request makes, or changes another into, if it can't be made
+abbrev pub barred_by : {K C : Type 0} → (Thing K C → Bool) → Request K C → List K
+barred_by can (Make o) = cond (can o) [] (o.key ∷ [])
+barred_by can (Change o) = cond (can o) [] (o.key ∷ [])
+barred_by can (Delete k) = []
+
+abbrev pub barred_keys : {K C : Type 0} → (Thing K C → Bool) → List (Request K C) → List K
+barred_keys can requests = flat_map (barred_by can) requests
+
+-- the keys of requests pass each test that the keys of both states pass, such as to be of one interface
+abbrev pub IsConfined : {K C : Type 0} → List (Thing K C) → List (Thing K C) → List (Request K C) → Type 0
+IsConfined state want requests = (test : _ → Bool) → list_all (λ o. test o.key) state ≡ true → list_all (λ o. test o.key) want ≡ true
+    → list_all (λ r. test (key_of r)) requests ≡ true
+
+module _ {K C : Type 0} (eq : K → K → Bool) where
+  -- no request is about a key
+  abbrev pub IsUntouched : K → List (Request K C) → Type 0
+  IsUntouched k requests = list_any (λ r. eq k (key_of r)) requests ≡ false
+
+  -- a request deletes what is there, makes what is wanted, or changes what is there into what is wanted
+  abbrev pub IsAbout : List (Thing K C) → List (Thing K C) → Request K C → Type 0
+  IsAbout state want (Delete k) = has eq state k ≡ true
+  IsAbout state want (Make o) = found eq want o.key ≡ Some o
+  IsAbout state want (Change o) = (found eq want o.key ≡ Some o) × (has eq state o.key ≡ true)
+
+  -- each request is about an object of either state, and no two do the same
+  abbrev pub IsExact : List (Thing K C) → List (Thing K C) → List (Request K C) → Type 0
+  IsExact state want requests = All (IsAbout state want) requests × IsDistinct (is_repeated eq) requests
+
+module _ {K C : Type 0} (eq : K → K → Bool) (fit : Thing K C → Thing K C → Bool) (state want : List (Thing K C)) where
+  -- an object can stay: it is as wanted or can be changed into that, and all that it needs can stay too
+  pub data CanStay : K → Type 0 where
+    can_stay : (k : K) (o w : Thing K C) → found eq state k ≡ Some o → found eq want k ≡ Some w → fit o w ≡ true
+        → ((n : K) → among eq (needs o) n ≡ true → CanStay n) → CanStay k
+
+  abbrev pub NeedsCanStay : Thing K C → Type 0
+  NeedsCanStay o = (n : K) → among eq (needs o) n ≡ true → CanStay n
+
+  -- an object that is equal in both states isn't touched, if all that it needs can stay
+  abbrev pub IsLeftAlone : List (Request K C) → Type 0
+  IsLeftAlone requests = (o : Thing K C) → found eq state o.key ≡ Some o → found eq want o.key ≡ Some o → NeedsCanStay o → IsUntouched eq o.key requests
+
+  -- what can stay isn't deleted
+  abbrev pub IsSpared : List (Request K C) → Type 0
+  IsSpared requests = (k : K) → CanStay k → list_any (deletes eq k) requests ≡ false
+
+  -- what is wanted of a key can't be made, and isn't there already, or can't stay because of something that it needs
+  abbrev pub IsBarred : (Thing K C → Bool) → K → Type 0
+  IsBarred can k = (o : Thing K C) × (found eq want k ≡ Some o) × (can o ≡ false) × (found eq state k ≡ Some o → NeedsCanStay o → ⊥)

@@ -1,0 +1,34 @@
+//! The requests that bring a kernel from the state that it has to the state that is wanted.
+//!
+//! ```
+//! if !is_ready(alloc, &state)? || !is_ready(alloc, &want)? {
+//!     return Err(Error::Order); // two objects of one name, or one without what it needs before it
+//! }
+//! match plan(alloc, &rules, &state, want)? {
+//!     Plan::Steps(steps) => send(&steps)?,    // none, if nothing differs
+//!     Plan::Refused(keys) => report(&keys)?,  // these can't be made, or must be made again
+//! }
+//! ```
+#![tactic(auto)]
+
+pub mod key;
+mod keys;
+pub mod laws;
+pub mod object;
+pub mod order;
+mod parts;
+mod places;
+pub mod planned;
+mod removed;
+pub mod rules;
+pub mod step;
+
+pub use key::Key;
+pub use object::Object;
+pub use order::is_ready;
+pub use planned::plan;
+pub use rules::Rules;
+pub use step::{Plan, Step};
+
+#[cfg(test)]
+mod tests;

@@ -1,0 +1,32 @@
+//! Objects in an order in which each comes after all that it needs.
+
+ghost use Rattle.std.specs.Prelude.{◌≡◌, [], List, IfOk};
+ghost use Rattle.tc_changes.specs.Model.{ready, is_next};
+ghost use Rattle.tc_changes.specs.Objects.{thing, things, same_key, IsSetOf};
+
+use crate::keys::{Keys, all_in};
+use crate::object::Object;
+use std::alloc::{AllocError, Allocator};
+use std::collections::HashSet;
+
+/// True if no object has the key of another, and each comes after all that it needs.
+pub fn is_ready<A: Allocator + Copy>(alloc: A, objects: &[Object<A>]) -> Result<bool, AllocError>
+    ensures { IfOk result (λ is. is ≡ ready same_key [] (things objects.now)) }
+{
+    let mut before = HashSet::new(alloc);
+    for object in objects {
+        if !is_next(&before, object) {
+            return Ok(false);
+        }
+        before.insert(object.key)?;
+    }
+    Ok(true)
+}
+
+// True if an object can come after those of these keys.
+fn is_next<A: Allocator>(before: &Keys<A>, object: &Object<A>) -> bool
+    ensures { (some : List _) → IsSetOf before.now some → result ≡ is_next same_key some (thing object.now) }
+{
+    !before.contains(&object.key)
+        && (all_in(before, &object.under) && all_in(before, &object.refers))
+}

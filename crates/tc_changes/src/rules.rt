@@ -1,0 +1,22 @@
+//! What a kernel changes in place, and what it makes.
+
+ghost use Rattle.std.specs.Prelude.{◌≡◌, Bool};
+ghost use Rattle.tc_changes.specs.Objects.{thing, KernelThing};
+
+use crate::object::Object;
+use std::alloc::Allocator;
+
+/// What a kernel changes in place, and what it makes.
+pub trait Rules<A: Allocator> {
+    ghost takes: { Self → KernelThing → KernelThing → Bool };
+
+    ghost can_make: { Self → KernelThing → Bool };
+
+    /// True if one request changes the old object into the new one.
+    fn takes(&self, old: &Object<A>, new: &Object<A>) -> bool
+        ensures { result ≡ takes self.now (thing old.now) (thing new.now) };
+
+    /// True if a request can make an object.
+    fn can_make(&self, object: &Object<A>) -> bool
+        ensures { result ≡ can_make self.now (thing object.now) };
+}

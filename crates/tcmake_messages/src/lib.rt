@@ -1,0 +1,27 @@
+//! Messages of lines of JSON, as `tcshow --json` writes them.
+//!
+//! [`made_of`] makes the message of a line, and [`MessageMaker`] those of all lines of an input. A line that no message is
+//! made of has a [`LineError`], which says where the mistake is.
+//!
+//! Calls that take an allocator fail with `LineError::NoMemory` or `AllocError` if it fails.
+#![tactic(auto)]
+
+mod error;
+mod given;
+mod made;
+mod maker;
+mod making;
+mod members;
+mod message;
+mod save;
+mod unknown;
+mod verdict;
+
+pub use error::{Found, LineError, Notice, Place};
+pub use given::is_answer;
+pub use made::{Made, made_of, made_of_json, unread};
+pub use maker::{MessageMaker, notices_of};
+pub use making::Making;
+pub use members::{Numbered, number_of, wrong};
+pub use message::Forms;
+pub use save::{is_end, is_head, is_of_save};
