@@ -206,14 +206,14 @@ fn other_packets(rt: HostRuntime) {
         is_refused(
             alloc,
             ETHERNET,
-            "tcshow: no route netlink in 2 packets, but link type 1\n"
+            "tcshow: input: no route netlink in 2 packets, but link type 1\n"
         )
     );
     assert!(rt;
         is_refused(
             alloc,
             GENERIC,
-            "tcshow: no route netlink in 2 packets, but netlink family 16\n"
+            "tcshow: input: no route netlink in 2 packets, but netlink family 16\n"
         )
     );
     assert!(rt; is_shown(alloc, MIXED, 0, &[TIMED]));
