@@ -20,13 +20,11 @@ static ROWS_OF_STATISTICS: [&'static [Row<'static>]; 8] = [
     ],
     &[ // 1657, `list stats`
         Row { key: "Pad", word: "", style: Style::Value, with: "", left: LeftOut::Always },
-        Row { key: "BasicHw", word: "sent_hardware", style: Style::Flat, with: "", left: LeftOut::Never },
         Row { key: "Pkt64", word: "", style: Style::Value, with: "", left: LeftOut::Equal(0) },
         Row { key: "App", word: "", style: Style::Statistics, with: "", left: LeftOut::Never },
     ],
     &[ // 1658, `list stats`: the rows of all kinds
         Row { key: "Pad", word: "", style: Style::Value, with: "", left: LeftOut::Always },
-        Row { key: "BasicHw", word: "sent_hardware", style: Style::Flat, with: "", left: LeftOut::Never },
         Row { key: "Pkt64", word: "", style: Style::Value, with: "", left: LeftOut::Equal(0) },
     ],
     &[ // 1659, `list stats`: the rows of other kinds
