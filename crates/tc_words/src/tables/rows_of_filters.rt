@@ -14,7 +14,7 @@ static ROWS_OF_FILTERS_BASIC: [&'static [Row<'static>]; 3] = [
         Row { key: "ClassId", word: "classid", style: Style::Value, with: "", left: LeftOut::Never },
         Row { key: "Ematches", word: "", style: Style::Flat, with: "", left: LeftOut::Never },
         Row { key: "Action", word: "", style: Style::Actions, with: "", left: LeftOut::Never },
-        Row { key: "Police", word: "", style: Style::Actions, with: "", left: LeftOut::Never },
+        Row { key: "Police", word: "police", style: Style::Actions, with: "", left: LeftOut::Never },
         Row { key: "Pcnt", word: "", style: Style::Statistics, with: "", left: LeftOut::Never },
         Row { key: "Pad", word: "", style: Style::Value, with: "", left: LeftOut::Always },
     ],
@@ -39,7 +39,7 @@ pub(crate) fn rows_of_filters_basic() -> &'static [&'static [Row<'static>]]
 static ROWS_OF_FILTERS_BPF: [&'static [Row<'static>]; 2] = [
     &[ // 576, `list bpf`
         Row { key: "Act", word: "", style: Style::Actions, with: "", left: LeftOut::Never },
-        Row { key: "Police", word: "", style: Style::Actions, with: "", left: LeftOut::Never },
+        Row { key: "Police", word: "police", style: Style::Actions, with: "", left: LeftOut::Never },
         Row { key: "ClassId", word: "classid", style: Style::Value, with: "", left: LeftOut::Never },
         Row { key: "OpsLen", word: "", style: Style::Value, with: "", left: LeftOut::Always },
         Row { key: "Ops", word: "bytecode", style: Style::Value, with: "", left: LeftOut::Never },
@@ -65,7 +65,7 @@ pub(crate) fn rows_of_filters_bpf() -> &'static [&'static [Row<'static>]]
 static ROWS_OF_FILTERS_CGROUP: [&'static [Row<'static>]; 2] = [
     &[ // 600, `list cgroup`
         Row { key: "Action", word: "", style: Style::Actions, with: "", left: LeftOut::Never },
-        Row { key: "Police", word: "", style: Style::Actions, with: "", left: LeftOut::Never },
+        Row { key: "Police", word: "police", style: Style::Actions, with: "", left: LeftOut::Never },
         Row { key: "Ematches", word: "", style: Style::Flat, with: "", left: LeftOut::Never },
     ],
     &[ // 601, `list tc`: the rows of cgroup
@@ -93,7 +93,7 @@ static ROWS_OF_FILTERS_FLOW: [&'static [Row<'static>]; 3] = [
         Row { key: "Xor", word: "xor", style: Style::Value, with: "", left: LeftOut::Never },
         Row { key: "Divisor", word: "divisor", style: Style::Value, with: "", left: LeftOut::Never },
         Row { key: "Action", word: "", style: Style::Actions, with: "", left: LeftOut::Never },
-        Row { key: "Police", word: "", style: Style::Actions, with: "", left: LeftOut::Never },
+        Row { key: "Police", word: "police", style: Style::Actions, with: "", left: LeftOut::Never },
         Row { key: "Ematches", word: "", style: Style::Flat, with: "", left: LeftOut::Never },
         Row { key: "Perturb", word: "perturb", style: Style::Value, with: "", left: LeftOut::Never },
     ],
@@ -149,7 +149,7 @@ pub(crate) fn rows_of_filters_flower() -> &'static [&'static [Row<'static>]]
 static ROWS_OF_FILTERS_FW: [&'static [Row<'static>]; 2] = [
     &[ // 672, `list fw`
         Row { key: "ClassId", word: "classid", style: Style::Value, with: "", left: LeftOut::Never },
-        Row { key: "Police", word: "", style: Style::Actions, with: "", left: LeftOut::Never },
+        Row { key: "Police", word: "police", style: Style::Actions, with: "", left: LeftOut::Never },
         Row { key: "InDev", word: "indev", style: Style::Value, with: "", left: LeftOut::Never },
         Row { key: "Action", word: "", style: Style::Actions, with: "", left: LeftOut::Never },
     ],
@@ -198,7 +198,7 @@ static ROWS_OF_FILTERS_ROUTE: [&'static [Row<'static>]; 2] = [
         Row { key: "To", word: "to", style: Style::Value, with: "", left: LeftOut::Never },
         Row { key: "From", word: "from", style: Style::Value, with: "", left: LeftOut::Never },
         Row { key: "Iif", word: "fromif", style: Style::Value, with: "", left: LeftOut::Never },
-        Row { key: "Police", word: "", style: Style::Actions, with: "", left: LeftOut::Never },
+        Row { key: "Police", word: "police", style: Style::Actions, with: "", left: LeftOut::Never },
         Row { key: "Action", word: "", style: Style::Actions, with: "", left: LeftOut::Never },
     ],
     &[ // 721, `list tc`: the rows of route
@@ -218,12 +218,12 @@ pub(crate) fn rows_of_filters_route() -> &'static [&'static [Row<'static>]]
 static ROWS_OF_FILTERS_RSVP: [&'static [Row<'static>]; 6] = [
     &[ // 744, `list rsvp`
         Row { key: "ClassId", word: "classid", style: Style::Value, with: "", left: LeftOut::Never },
-        Row { key: "Police", word: "", style: Style::Actions, with: "", left: LeftOut::Never },
+        Row { key: "Police", word: "police", style: Style::Actions, with: "", left: LeftOut::Never },
         Row { key: "Action", word: "", style: Style::Actions, with: "", left: LeftOut::Never },
     ],
     &[ // 745, `list rsvp6`
         Row { key: "ClassId", word: "classid", style: Style::Value, with: "", left: LeftOut::Never },
-        Row { key: "Police", word: "", style: Style::Actions, with: "", left: LeftOut::Never },
+        Row { key: "Police", word: "police", style: Style::Actions, with: "", left: LeftOut::Never },
         Row { key: "Action", word: "", style: Style::Actions, with: "", left: LeftOut::Never },
     ],
     &[], &[],
@@ -252,7 +252,7 @@ static ROWS_OF_FILTERS_TCINDEX: [&'static [Row<'static>]; 2] = [
         Row { key: "Shift", word: "shift", style: Style::Value, with: "", left: LeftOut::Never },
         Row { key: "FallThrough", word: "pass_on|fall_through", style: Style::Choice, with: "", left: LeftOut::Never },
         Row { key: "ClassId", word: "classid", style: Style::Value, with: "", left: LeftOut::Never },
-        Row { key: "Police", word: "", style: Style::Actions, with: "", left: LeftOut::Never },
+        Row { key: "Police", word: "police", style: Style::Actions, with: "", left: LeftOut::Never },
         Row { key: "Action", word: "", style: Style::Actions, with: "", left: LeftOut::Never },
     ],
     &[ // 769, `list tc`: the rows of tcindex
@@ -276,7 +276,7 @@ static ROWS_OF_FILTERS_U32: [&'static [Row<'static>]; 6] = [
         Row { key: "Link", word: "link", style: Style::Value, with: "", left: LeftOut::Never },
         Row { key: "Divisor", word: "divisor", style: Style::Value, with: "", left: LeftOut::Never },
         Row { key: "Selector", word: "", style: Style::Flat, with: "", left: LeftOut::Never },
-        Row { key: "Police", word: "", style: Style::Actions, with: "", left: LeftOut::Never },
+        Row { key: "Police", word: "police", style: Style::Actions, with: "", left: LeftOut::Never },
         Row { key: "Action", word: "", style: Style::Actions, with: "", left: LeftOut::Never },
         Row { key: "Indev", word: "indev", style: Style::Value, with: "", left: LeftOut::Never },
         Row { key: "Pnct", word: "", style: Style::Statistics, with: "", left: LeftOut::Never },
