@@ -672,7 +672,7 @@ static ROWS_OF_QDISCS_HTB: [&'static [Row<'static>]; 7] = [
         Row { key: "prio", word: "prio", style: Style::Value, with: "", left: LeftOut::Never },
     ],
     &[ // 1251, `struct tc_htb_glob`
-        Row { key: "version", word: "", style: Style::Value, with: "", left: LeftOut::Equal(3) },
+        Row { key: "version", word: "", style: Style::Value, with: "", left: LeftOut::Always },
         Row { key: "rate2quantum", word: "r2q", style: Style::Value, with: "", left: LeftOut::Never },
         Row { key: "defcls", word: "default", style: Style::Value, with: "", left: LeftOut::Never },
         Row { key: "debug", word: "", style: Style::Value, with: "", left: LeftOut::Equal(0) },
@@ -1002,7 +1002,9 @@ static ROWS_OF_QDISCS_RED: [&'static [Row<'static>]; 7] = [
         Row { key: "Scell_log", word: "Scell_log", style: Style::Value, with: "", left: LeftOut::Never },
         Row { key: "flags", word: "", style: Style::Alone, with: "", left: LeftOut::Equal(0) },
     ],
-    &[],
+    &[ // 1490, `struct tca_red_flags`
+        Row { key: "selector", word: "", style: Style::Value, with: "", left: LeftOut::Equal(15) },
+    ],
     &[ // 1491, `struct tc_red_xstats`
         Row { key: "early", word: "", style: Style::Value, with: "", left: LeftOut::Equal(0) },
         Row { key: "pdrop", word: "", style: Style::Value, with: "", left: LeftOut::Equal(0) },
@@ -1212,7 +1214,7 @@ static ROWS_OF_QDISCS_TBF: [&'static [Row<'static>]; 3] = [
         Row { key: "peakrate", word: "peakrate", style: Style::Rate, with: "Prate64", left: LeftOut::Equal(0) },
         Row { key: "limit", word: "limit", style: Style::Value, with: "", left: LeftOut::Never },
         Row { key: "buffer", word: "burst", style: Style::Burst, with: "rate", left: LeftOut::Never },
-        Row { key: "mtu", word: "mtu", style: Style::Burst, with: "peakrate", left: LeftOut::Never },
+        Row { key: "mtu", word: "mtu", style: Style::Burst, with: "peakrate", left: LeftOut::Equal(0) },
     ],
     &[ // 1610, `list tc`: the rows of tbf
         Row { key: "Options", word: "", style: Style::Flat, with: "", left: LeftOut::Never },

@@ -23,7 +23,7 @@ static ROWS_OF_SHARED: [&'static [Row<'static>]; 4] = [
     &[ // 1635, `struct tc_sizespec`
         Row { key: "cell_log", word: "", style: Style::Value, with: "", left: LeftOut::Equal(0) },
         Row { key: "size_log", word: "", style: Style::Value, with: "", left: LeftOut::Equal(0) },
-        Row { key: "cell_align", word: "", style: Style::Value, with: "", left: LeftOut::Equal(0) },
+        Row { key: "cell_align", word: "", style: Style::Value, with: "", left: LeftOut::Always },
         Row { key: "overhead", word: "overhead", style: Style::Value, with: "", left: LeftOut::Never },
         Row { key: "linklayer", word: "linklayer", style: Style::Value, with: "", left: LeftOut::Never },
         Row { key: "mpu", word: "mpu", style: Style::Value, with: "", left: LeftOut::Never },
