@@ -15,7 +15,6 @@ static ROWS_OF_ACTIONS_BPF: [&'static [Row<'static>]; 3] = [
     &[ // 24, `list act_bpf`
         Row { key: "Tm", word: "", style: Style::Statistics, with: "", left: LeftOut::Never },
         Row { key: "Parms", word: "", style: Style::Flat, with: "", left: LeftOut::Never },
-        Row { key: "OpsLen", word: "", style: Style::Value, with: "", left: LeftOut::Always },
         Row { key: "Ops", word: "bytecode", style: Style::Value, with: "", left: LeftOut::Never },
         Row { key: "Pad", word: "", style: Style::Value, with: "", left: LeftOut::Always },
         Row { key: "Tag", word: "tag", style: Style::Value, with: "", left: LeftOut::Never },
@@ -181,7 +180,7 @@ static ROWS_OF_ACTIONS_GATE: [&'static [Row<'static>]; 5] = [
         Row { key: "BaseTime", word: "base-time", style: Style::Value, with: "", left: LeftOut::Never },
         Row { key: "CycleTime", word: "cycle-time", style: Style::Value, with: "", left: LeftOut::Never },
         Row { key: "CycleTimeExt", word: "cycle-time-ext", style: Style::Value, with: "", left: LeftOut::Never },
-        Row { key: "Flags", word: "flags", style: Style::Value, with: "", left: LeftOut::Equal(0) },
+        Row { key: "Flags", word: "flags", style: Style::Value, with: "", left: LeftOut::Never },
         Row { key: "Clockid", word: "clockid", style: Style::Value, with: "", left: LeftOut::Never },
     ],
     &[ // 169, `struct tc_gate`
@@ -228,6 +227,7 @@ static ROWS_OF_ACTIONS_IFE: [&'static [Row<'static>]; 4] = [
         Row { key: "Skbmark", word: "mark", style: Style::Value, with: "", left: LeftOut::Never },
         Row { key: "Hashid", word: "hash", style: Style::Value, with: "", left: LeftOut::Never },
         Row { key: "Prio", word: "prio", style: Style::Value, with: "", left: LeftOut::Never },
+        Row { key: "Qmap", word: "", style: Style::Bytes, with: "", left: LeftOut::Never },
         Row { key: "Tcindex", word: "tcindex", style: Style::Value, with: "", left: LeftOut::Never },
     ],
     &[ // 195, `list action`: the rows of ife

@@ -41,7 +41,6 @@ static ROWS_OF_FILTERS_BPF: [&'static [Row<'static>]; 2] = [
         Row { key: "Act", word: "", style: Style::Actions, with: "", left: LeftOut::Never },
         Row { key: "Police", word: "police", style: Style::Actions, with: "", left: LeftOut::Never },
         Row { key: "ClassId", word: "classid", style: Style::Value, with: "", left: LeftOut::Never },
-        Row { key: "OpsLen", word: "", style: Style::Value, with: "", left: LeftOut::Always },
         Row { key: "Ops", word: "bytecode", style: Style::Value, with: "", left: LeftOut::Never },
         Row { key: "Flags", word: "", style: Style::Alone, with: "", left: LeftOut::Equal(0) },
         Row { key: "FlagsGeneric", word: "", style: Style::Hardware, with: "", left: LeftOut::Equal(0) },

@@ -16,6 +16,7 @@ use tc_brief::{LeftOut, Row, Style};
 static ROWS_OF_QDISCS_ATM: [&'static [Row<'static>]; 2] = [
     &[ // 840, `list atm`
         Row { key: "Ptr", word: "", style: Style::Bytes, with: "", left: LeftOut::Never },
+        Row { key: "Hdr", word: "", style: Style::Bytes, with: "", left: LeftOut::Never },
         Row { key: "Addr", word: "", style: Style::Bytes, with: "", left: LeftOut::Never },
     ],
     &[ // 841, `list tc`: the rows of atm
@@ -782,6 +783,7 @@ static ROWS_OF_QDISCS_NETEM: [&'static [Row<'static>]; 11] = [
     ],
     &[ // 1345, `list netem`
         Row { key: "Corr", word: "", style: Style::Flat, with: "", left: LeftOut::Never },
+        Row { key: "DelayDist", word: "", style: Style::Bytes, with: "", left: LeftOut::Never },
         Row { key: "Reorder", word: "reorder", style: Style::Flat, with: "", left: LeftOut::Never },
         Row { key: "Corrupt", word: "corrupt", style: Style::Flat, with: "", left: LeftOut::Never },
         Row { key: "Loss", word: "loss", style: Style::Flat, with: "", left: LeftOut::Never },
@@ -791,6 +793,7 @@ static ROWS_OF_QDISCS_NETEM: [&'static [Row<'static>]; 11] = [
         Row { key: "Latency64", word: "delay", style: Style::Value, with: "", left: LeftOut::Equal(0) },
         Row { key: "Jitter64", word: "jitter", style: Style::Value, with: "", left: LeftOut::Equal(0) },
         Row { key: "Slot", word: "slot", style: Style::Flat, with: "", left: LeftOut::Never },
+        Row { key: "SlotDist", word: "", style: Style::Bytes, with: "", left: LeftOut::Never },
         Row { key: "PrngSeed", word: "seed", style: Style::Value, with: "", left: LeftOut::Never },
     ],
     &[ // 1346, `struct tc_netem_corr`

@@ -19,6 +19,7 @@ static ROWS_OF_SHARED: [&'static [Row<'static>]; 4] = [
     &[],
     &[ // 1634, `list stab`
         Row { key: "Base", word: "", style: Style::Flat, with: "", left: LeftOut::Never },
+        Row { key: "Data", word: "", style: Style::Bytes, with: "", left: LeftOut::Never },
     ],
     &[ // 1635, `struct tc_sizespec`
         Row { key: "cell_log", word: "", style: Style::Value, with: "", left: LeftOut::Equal(0) },
