@@ -499,7 +499,6 @@ static ROWS_OF_ACTIONS_SKBEDIT: [&'static [Row<'static>]; 3] = [
         Row { key: "Mark", word: "mark", style: Style::Mask, with: "Mask", left: LeftOut::Never },
         Row { key: "Pad", word: "", style: Style::Value, with: "", left: LeftOut::Always },
         Row { key: "Ptype", word: "ptype", style: Style::Value, with: "", left: LeftOut::Never },
-        Row { key: "Mask", word: "", style: Style::Value, with: "", left: LeftOut::Equal(4294967295) },
         Row { key: "Flags", word: "", style: Style::Alone, with: "", left: LeftOut::Never },
     ],
     &[ // 409, `struct tc_skbedit`
