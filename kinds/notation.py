@@ -224,7 +224,7 @@ def check_word(block, x):
         fault(x.where, 'no rate with the word %s' % word[1:])
     if '@' in word and word.split('@')[1] not in [y.columns['tc'] for y in block.lines if is_rate(y)]:
         fault(x.where, 'no rate with the word %s' % word.split('@')[1])
-    if '=' in x.columns and not re.fullmatch(r'\d+', x.columns['=']):
+    if '=' in x.columns and not re.fullmatch(r'\d+|0-\d+', x.columns['=']):
         fault(x.where, 'no number: %s' % x.columns['='])
 
 def check_fixed(kind):

@@ -67,7 +67,7 @@ static ROWS_OF_ACTIONS_CSUM: [&'static [Row<'static>]; 3] = [
     ],
     &[ // 73, `struct tc_csum`
         Row { key: "generic", word: "", style: Style::Flat, with: "", left: LeftOut::Never },
-        Row { key: "update_flags", word: "", style: Style::Alone, with: "", left: LeftOut::Never },
+        Row { key: "update_flags", word: "", style: Style::Bits, with: "", left: LeftOut::Equal(0) },
     ],
     &[ // 74, `list action`: the rows of csum
         Row { key: "Options", word: "", style: Style::Flat, with: "", left: LeftOut::Never },
@@ -86,7 +86,7 @@ static ROWS_OF_ACTIONS_CT: [&'static [Row<'static>]; 3] = [
     &[ // 96, `list ct`
         Row { key: "Parms", word: "", style: Style::Flat, with: "", left: LeftOut::Never },
         Row { key: "Tm", word: "", style: Style::Statistics, with: "", left: LeftOut::Never },
-        Row { key: "Action", word: "", style: Style::Alone, with: "", left: LeftOut::Equal(0) },
+        Row { key: "Action", word: "", style: Style::Bits, with: "", left: LeftOut::Equal(0) },
         Row { key: "Zone", word: "zone", style: Style::Value, with: "", left: LeftOut::Never },
         Row { key: "Mark", word: "mark", style: Style::Mask, with: "MarkMask", left: LeftOut::Never },
         Row { key: "MarkMask", word: "", style: Style::Value, with: "", left: LeftOut::Equal(4294967295) },
@@ -145,7 +145,7 @@ static ROWS_OF_ACTIONS_GACT: [&'static [Row<'static>]; 5] = [
     &[ // 144, `list gact`
         Row { key: "Tm", word: "", style: Style::Statistics, with: "", left: LeftOut::Never },
         Row { key: "Parms", word: "", style: Style::Flat, with: "", left: LeftOut::Never },
-        Row { key: "Prob", word: "random", style: Style::Flat, with: "", left: LeftOut::Never },
+        Row { key: "Prob", word: "random", style: Style::Value, with: "", left: LeftOut::Never },
         Row { key: "Pad", word: "", style: Style::Value, with: "", left: LeftOut::Always },
     ],
     &[ // 145, `struct tc_gact`
@@ -187,7 +187,7 @@ static ROWS_OF_ACTIONS_GATE: [&'static [Row<'static>]; 5] = [
         Row { key: "generic", word: "", style: Style::Flat, with: "", left: LeftOut::Never },
     ],
     &[ // 170, `list gate_list`
-        Row { key: "OneEntry", word: "sched-entry", style: Style::Flat, with: "", left: LeftOut::Never },
+        Row { key: "OneEntry", word: "sched-entry", style: Style::Value, with: "", left: LeftOut::Never },
     ],
     &[ // 171, `list gate_entry`
         Row { key: "Index", word: "number", style: Style::Value, with: "", left: LeftOut::Never },
@@ -499,7 +499,7 @@ static ROWS_OF_ACTIONS_SKBEDIT: [&'static [Row<'static>]; 3] = [
         Row { key: "Mark", word: "mark", style: Style::Mask, with: "Mask", left: LeftOut::Never },
         Row { key: "Pad", word: "", style: Style::Value, with: "", left: LeftOut::Always },
         Row { key: "Ptype", word: "ptype", style: Style::Value, with: "", left: LeftOut::Never },
-        Row { key: "Flags", word: "", style: Style::Alone, with: "", left: LeftOut::Never },
+        Row { key: "Flags", word: "", style: Style::Bits, with: "", left: LeftOut::Never },
     ],
     &[ // 409, `struct tc_skbedit`
         Row { key: "generic", word: "", style: Style::Flat, with: "", left: LeftOut::Never },

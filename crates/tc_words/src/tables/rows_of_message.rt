@@ -11,9 +11,9 @@ static ROWS_OF_MESSAGE: [&'static [Row<'static>]; 11] = [
     &[], &[], &[],
     &[ // 819, `list tc`
         Row { key: "Stats", word: "", style: Style::Statistics, with: "", left: LeftOut::Never },
-        Row { key: "Rate", word: "estimator", style: Style::Flat, with: "", left: LeftOut::Never },
+        Row { key: "Rate", word: "estimator", style: Style::Value, with: "", left: LeftOut::Never },
         Row { key: "Stats2", word: "", style: Style::Statistics, with: "", left: LeftOut::Never },
-        Row { key: "Stab", word: "stab", style: Style::Flat, with: "", left: LeftOut::Never },
+        Row { key: "Stab", word: "stab", style: Style::Value, with: "", left: LeftOut::Never },
         Row { key: "Pad", word: "", style: Style::Value, with: "", left: LeftOut::Always },
         Row { key: "DumpInvisible", word: "invisible", style: Style::Value, with: "", left: LeftOut::Never },
         Row { key: "Chain", word: "chain", style: Style::Head, with: "", left: LeftOut::Equal(0) },
@@ -25,9 +25,9 @@ static ROWS_OF_MESSAGE: [&'static [Row<'static>]; 11] = [
     ],
     &[ // 820, `list tc`: the rows of all kinds
         Row { key: "Stats", word: "", style: Style::Statistics, with: "", left: LeftOut::Never },
-        Row { key: "Rate", word: "estimator", style: Style::Flat, with: "", left: LeftOut::Never },
+        Row { key: "Rate", word: "estimator", style: Style::Value, with: "", left: LeftOut::Never },
         Row { key: "Stats2", word: "", style: Style::Statistics, with: "", left: LeftOut::Never },
-        Row { key: "Stab", word: "stab", style: Style::Flat, with: "", left: LeftOut::Never },
+        Row { key: "Stab", word: "stab", style: Style::Value, with: "", left: LeftOut::Never },
         Row { key: "Pad", word: "", style: Style::Value, with: "", left: LeftOut::Always },
         Row { key: "DumpInvisible", word: "invisible", style: Style::Value, with: "", left: LeftOut::Never },
         Row { key: "Chain", word: "chain", style: Style::Head, with: "", left: LeftOut::Equal(0) },

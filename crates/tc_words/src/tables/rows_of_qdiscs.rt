@@ -181,7 +181,7 @@ static ROWS_OF_QDISCS_CHOKE: [&'static [Row<'static>]; 6] = [
         Row { key: "Wlog", word: "ewma", style: Style::Value, with: "", left: LeftOut::Never },
         Row { key: "Plog", word: "Plog", style: Style::Value, with: "", left: LeftOut::Never },
         Row { key: "Scell_log", word: "Scell_log", style: Style::Value, with: "", left: LeftOut::Never },
-        Row { key: "flags", word: "", style: Style::Alone, with: "", left: LeftOut::Equal(0) },
+        Row { key: "flags", word: "", style: Style::Bits, with: "", left: LeftOut::Equal(0) },
     ],
     &[ // 938, `struct tc_choke_xstats`
         Row { key: "early", word: "", style: Style::Value, with: "", left: LeftOut::Equal(0) },
@@ -299,7 +299,7 @@ static ROWS_OF_QDISCS_ETF: [&'static [Row<'static>]; 3] = [
     &[ // 1033, `struct tc_etf_qopt`
         Row { key: "delta", word: "delta", style: Style::Value, with: "", left: LeftOut::Never },
         Row { key: "clockid", word: "clockid", style: Style::Value, with: "", left: LeftOut::Never },
-        Row { key: "flags", word: "", style: Style::Alone, with: "", left: LeftOut::Never },
+        Row { key: "flags", word: "flags", style: Style::Value, with: "", left: LeftOut::Never },
     ],
     &[ // 1034, `list tc`: the rows of etf
         Row { key: "Options", word: "", style: Style::Flat, with: "", left: LeftOut::Never },
@@ -319,9 +319,9 @@ static ROWS_OF_QDISCS_ETS: [&'static [Row<'static>]; 4] = [
     &[ // 1056, `list ets`
         Row { key: "Nbands", word: "bands", style: Style::Value, with: "", left: LeftOut::Never },
         Row { key: "Nstrict", word: "strict", style: Style::Value, with: "", left: LeftOut::Never },
-        Row { key: "Quanta", word: "quanta", style: Style::Flat, with: "", left: LeftOut::Never },
+        Row { key: "Quanta", word: "quanta", style: Style::Value, with: "", left: LeftOut::Never },
         Row { key: "QuantaBand", word: "quantum", style: Style::Value, with: "", left: LeftOut::Never },
-        Row { key: "Priomap", word: "priomap", style: Style::Flat, with: "", left: LeftOut::Never },
+        Row { key: "Priomap", word: "priomap", style: Style::Value, with: "", left: LeftOut::Never },
     ],
     &[ // 1057, `list ets_quanta`
         Row { key: "QuantaBand", word: "", style: Style::Alone, with: "", left: LeftOut::Never },
@@ -377,6 +377,7 @@ static ROWS_OF_QDISCS_FQ: [&'static [Row<'static>]; 6] = [
         Row { key: "RateEnable", word: "nopacing|pacing", style: Style::Choice, with: "", left: LeftOut::Equal(1) },
         Row { key: "FlowDefaultRate", word: "defrate", style: Style::Value, with: "", left: LeftOut::Equal(0) },
         Row { key: "FlowMaxRate", word: "maxrate", style: Style::Value, with: "", left: LeftOut::Equal(4294967295) },
+        Row { key: "BucketsLog", word: "buckets", style: Style::Value, with: "", left: LeftOut::Never },
         Row { key: "FlowRefillDelay", word: "refill_delay", style: Style::Value, with: "", left: LeftOut::Never },
         Row { key: "OrphanMask", word: "orphan_mask", style: Style::Value, with: "", left: LeftOut::Never },
         Row { key: "LowRateThreshold", word: "low_rate_threshold", style: Style::Value, with: "", left: LeftOut::Equal(0) },
@@ -541,7 +542,7 @@ static ROWS_OF_QDISCS_GRED: [&'static [Row<'static>]; 6] = [
         Row { key: "DPs", word: "vqs", style: Style::Value, with: "", left: LeftOut::Never },
         Row { key: "def_DP", word: "default", style: Style::Value, with: "", left: LeftOut::Never },
         Row { key: "grio", word: "|grio", style: Style::Choice, with: "", left: LeftOut::Equal(0) },
-        Row { key: "flags", word: "", style: Style::Alone, with: "", left: LeftOut::Equal(0) },
+        Row { key: "flags", word: "", style: Style::Bits, with: "", left: LeftOut::Equal(0) },
     ],
     &[],
     &[ // 1180, `list gred_vq`
@@ -577,9 +578,9 @@ static ROWS_OF_QDISCS_HFSC: [&'static [Row<'static>]; 8] = [
         Row { key: "defcls", word: "default", style: Style::Value, with: "", left: LeftOut::Equal(0) },
     ],
     &[ // 1202, `list hfsc`
-        Row { key: "Rsc", word: "rt", style: Style::Flat, with: "", left: LeftOut::Never },
-        Row { key: "Fsc", word: "ls", style: Style::Flat, with: "", left: LeftOut::Never },
-        Row { key: "Usc", word: "ul", style: Style::Flat, with: "", left: LeftOut::Never },
+        Row { key: "Rsc", word: "rt", style: Style::Value, with: "", left: LeftOut::Never },
+        Row { key: "Fsc", word: "ls", style: Style::Value, with: "", left: LeftOut::Never },
+        Row { key: "Usc", word: "ul", style: Style::Value, with: "", left: LeftOut::Never },
     ],
     &[ // 1203, `struct tc_service_curve`
         Row { key: "m1", word: "m1", style: Style::Value, with: "", left: LeftOut::Never },
@@ -728,8 +729,8 @@ static ROWS_OF_QDISCS_MQPRIO: [&'static [Row<'static>]; 9] = [
     &[ // 1298, `list mqprio`
         Row { key: "Mode", word: "mode", style: Style::Value, with: "", left: LeftOut::Never },
         Row { key: "Shaper", word: "shaper", style: Style::Value, with: "", left: LeftOut::Never },
-        Row { key: "MinRate64", word: "min_rate", style: Style::Flat, with: "", left: LeftOut::Never },
-        Row { key: "MaxRate64", word: "max_rate", style: Style::Flat, with: "", left: LeftOut::Never },
+        Row { key: "MinRate64", word: "min_rate", style: Style::Value, with: "", left: LeftOut::Never },
+        Row { key: "MaxRate64", word: "max_rate", style: Style::Value, with: "", left: LeftOut::Never },
     ],
     &[], &[],
     &[ // 1301, `list mqprio_min_rate`
@@ -784,15 +785,15 @@ static ROWS_OF_QDISCS_NETEM: [&'static [Row<'static>]; 11] = [
     &[ // 1345, `list netem`
         Row { key: "Corr", word: "", style: Style::Flat, with: "", left: LeftOut::Never },
         Row { key: "DelayDist", word: "", style: Style::Bytes, with: "", left: LeftOut::Never },
-        Row { key: "Reorder", word: "reorder", style: Style::Flat, with: "", left: LeftOut::Never },
-        Row { key: "Corrupt", word: "corrupt", style: Style::Flat, with: "", left: LeftOut::Never },
-        Row { key: "Loss", word: "loss", style: Style::Flat, with: "", left: LeftOut::Never },
+        Row { key: "Reorder", word: "", style: Style::Flat, with: "", left: LeftOut::Never },
+        Row { key: "Corrupt", word: "", style: Style::Flat, with: "", left: LeftOut::Never },
+        Row { key: "Loss", word: "loss", style: Style::Value, with: "", left: LeftOut::Never },
         Row { key: "Rate", word: "", style: Style::Flat, with: "", left: LeftOut::Never },
         Row { key: "Ecn", word: "noecn|ecn", style: Style::Choice, with: "", left: LeftOut::Equal(0) },
         Row { key: "Pad", word: "", style: Style::Value, with: "", left: LeftOut::Always },
         Row { key: "Latency64", word: "delay", style: Style::Value, with: "", left: LeftOut::Equal(0) },
         Row { key: "Jitter64", word: "jitter", style: Style::Value, with: "", left: LeftOut::Equal(0) },
-        Row { key: "Slot", word: "slot", style: Style::Flat, with: "", left: LeftOut::Never },
+        Row { key: "Slot", word: "slot", style: Style::Value, with: "", left: LeftOut::Never },
         Row { key: "SlotDist", word: "", style: Style::Bytes, with: "", left: LeftOut::Never },
         Row { key: "PrngSeed", word: "seed", style: Style::Value, with: "", left: LeftOut::Never },
     ],
@@ -802,16 +803,16 @@ static ROWS_OF_QDISCS_NETEM: [&'static [Row<'static>]; 11] = [
         Row { key: "dup_corr", word: "", style: Style::Value, with: "", left: LeftOut::Equal(0) },
     ],
     &[ // 1347, `struct tc_netem_reorder`
-        Row { key: "probability", word: "", style: Style::Alone, with: "", left: LeftOut::Equal(0) },
+        Row { key: "probability", word: "reorder", style: Style::Value, with: "", left: LeftOut::Equal(0) },
         Row { key: "correlation", word: "", style: Style::Value, with: "", left: LeftOut::Equal(0) },
     ],
     &[ // 1348, `struct tc_netem_corrupt`
-        Row { key: "probability", word: "", style: Style::Alone, with: "", left: LeftOut::Equal(0) },
+        Row { key: "probability", word: "corrupt", style: Style::Value, with: "", left: LeftOut::Equal(0) },
         Row { key: "correlation", word: "", style: Style::Value, with: "", left: LeftOut::Equal(0) },
     ],
     &[ // 1349, `list netem_loss`
-        Row { key: "Gi", word: "state", style: Style::Flat, with: "", left: LeftOut::Never },
-        Row { key: "Ge", word: "gemodel", style: Style::Flat, with: "", left: LeftOut::Never },
+        Row { key: "Gi", word: "state", style: Style::Value, with: "", left: LeftOut::Never },
+        Row { key: "Ge", word: "gemodel", style: Style::Value, with: "", left: LeftOut::Never },
     ],
     &[ // 1350, `struct tc_netem_gimodel`
         Row { key: "p13", word: "p13", style: Style::Value, with: "", left: LeftOut::Never },
@@ -1003,7 +1004,7 @@ static ROWS_OF_QDISCS_RED: [&'static [Row<'static>]; 7] = [
         Row { key: "Wlog", word: "ewma", style: Style::Value, with: "", left: LeftOut::Never },
         Row { key: "Plog", word: "Plog", style: Style::Value, with: "", left: LeftOut::Never },
         Row { key: "Scell_log", word: "Scell_log", style: Style::Value, with: "", left: LeftOut::Never },
-        Row { key: "flags", word: "", style: Style::Alone, with: "", left: LeftOut::Equal(0) },
+        Row { key: "flags", word: "", style: Style::Bits, with: "", left: LeftOut::Equal(0) },
     ],
     &[ // 1490, `struct tca_red_flags`
         Row { key: "selector", word: "", style: Style::Value, with: "", left: LeftOut::Equal(15) },
@@ -1093,7 +1094,7 @@ static ROWS_OF_QDISCS_SFQ: [&'static [Row<'static>]; 8] = [
         Row { key: "Wlog", word: "ewma", style: Style::Value, with: "", left: LeftOut::Equal(0) },
         Row { key: "Plog", word: "", style: Style::Value, with: "", left: LeftOut::Equal(0) },
         Row { key: "Scell_log", word: "", style: Style::Value, with: "", left: LeftOut::Equal(0) },
-        Row { key: "flags", word: "", style: Style::Alone, with: "", left: LeftOut::Equal(0) },
+        Row { key: "flags", word: "", style: Style::Bits, with: "", left: LeftOut::Equal(0) },
         Row { key: "max_P", word: "probability", style: Style::Value, with: "", left: LeftOut::Equal(0) },
         Row { key: "stats", word: "", style: Style::Statistics, with: "", left: LeftOut::Never },
     ],
@@ -1168,7 +1169,7 @@ static ROWS_OF_QDISCS_TAPRIO: [&'static [Row<'static>]; 10] = [
         Row { key: "TxtimeDelay", word: "txtime-delay", style: Style::Value, with: "", left: LeftOut::Never },
     ],
     &[ // 1586, `list taprio_entry_list`
-        Row { key: "Entry", word: "sched-entry", style: Style::Flat, with: "", left: LeftOut::Never },
+        Row { key: "Entry", word: "sched-entry", style: Style::Value, with: "", left: LeftOut::Never },
     ],
     &[ // 1587, `list taprio_entry`
         Row { key: "Index", word: "index", style: Style::Value, with: "", left: LeftOut::Never },

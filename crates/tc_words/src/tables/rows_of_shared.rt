@@ -10,7 +10,7 @@ use tc_brief::{LeftOut, Row, Style};
 static ROWS_OF_SHARED: [&'static [Row<'static>]; 4] = [
     &[ // 1632, `struct tc_ratespec`
         Row { key: "cell_log", word: "", style: Style::Value, with: "", left: LeftOut::Equal(0) },
-        Row { key: "linklayer", word: "linklayer", style: Style::Value, with: "", left: LeftOut::Equal(1) },
+        Row { key: "linklayer", word: "linklayer", style: Style::Value, with: "", left: LeftOut::Below(2) },
         Row { key: "overhead", word: "overhead", style: Style::Value, with: "", left: LeftOut::Equal(0) },
         Row { key: "cell_align", word: "", style: Style::Value, with: "", left: LeftOut::Always },
         Row { key: "mpu", word: "mpu", style: Style::Value, with: "", left: LeftOut::Equal(0) },
