@@ -102,7 +102,7 @@ fn placed<A: Allocator + Copy>(
     dump: &Dump<A>,
     line: DumpLine<'_>,
 ) -> Result<Place<A>, AllocError>
-    ensures { IfOk result (λ place. seen_place place ≡ placed (dump_of dump.now) (line_view line)) }
+    ensures { IfOk result (λ place. seen_place place ≡ placed (dump_of dump.now) (line_view line.entry)) }
 {
     if line.offset == 0 {
         return match bytes_of(alloc, line.columns)? {

@@ -327,13 +327,12 @@ fn files<'a>(alloc: Global) -> Result<Arg<'a>, AllocError> {
     Arg::new(alloc, "FILE")
         .value_name("FILE")
         .action(ArgAction::Append)
-        .num_args(0..)
         .help("Files to read")
         .conflicts_with("read")
 }
 
 fn read<'a>(alloc: Global) -> Arg<'a> {
-    option(alloc, "read", Value::Texts("FILE"), INPUT, "Same as FILE").short('r')
+    option(alloc, "read", Value::Text("FILE"), INPUT, "Same as FILE").short('r')
 }
 
 fn begun<'a>(alloc: Global) -> Result<Command<'a>, AllocError> {

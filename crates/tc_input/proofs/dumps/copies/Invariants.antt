@@ -3,4 +3,4 @@ use Rattle.tc_input.specs.Dumps.{copies}
 use Rattle.tc_input.proofs.dumps.copies.Given as goal
 
 abbrev pub invariant-each : goal.invariant-each
-invariant-each l = l.all.items ≡ copies l.i l.bytes
+invariant-each g l = l.all.items ≡ copies l.i l.bytes
