@@ -32,10 +32,7 @@ pub fn run_next<A: Allocator + Copy, R: Read, W: Write>(
         → GrowsClean (W.contents (writer_inside writer.old)) (W.contents (writer_inside writer.new)) }
 {
     let mut packets = Packets::new();
-    let outcome = match show_next(printer, &mut packets, reader, writer) {
-        Ok(()) => Ok(()),
-        Err(stop) => Err(shown_end(reader, writer, stop)),
-    };
+    let outcome = show_next_to_end(printer, &mut packets, reader, writer);
     Ended {
         outcome,
         has_refused: printer.counts.has_refused(),
@@ -43,7 +40,28 @@ pub fn run_next<A: Allocator + Copy, R: Read, W: Write>(
     }
 }
 
+// Prints the messages of an input, and writes them. If that ends early, the streams show why.
+fn show_next_to_end<A: Allocator + Copy, R: Read, W: Write>(
+    printer: &mut Printer<'_, A>,
+    packets: &mut Packets,
+    reader: &mut Reader<R>,
+    writer: &mut Writer<W>,
+) -> Result<(), Stop>
+    requires { packets.old.count ≡ 0 }
+    ensures clean { printer.old.output.is_json ≡ false
+        → GrowsClean (W.contents (writer_inside writer.old)) (W.contents (writer_inside writer.new)) }
+    ensures ran { OnOk result ((things : List Thing) × AreIn (R.remaining (reader_inside reader.old)) (state_of printer.old).header things
+        × Progress things (W.contents (writer_inside writer.old)) (W.contents (writer_inside writer.new)) (state_of printer.old) (state_of printer.new)) }
+    ensures stopped { IfErr result (ShowsEnd (read_failure reader.new) (write_failure writer.new)) }
+{
+    match show_next(printer, packets, reader, writer) {
+        Ok(()) => Ok(()),
+        Err(stop) => Err(shown_end(reader, writer, stop)),
+    }
+}
+
 // Prints the messages of an input, and writes them.
+#[tactic(auto, using(tcshow_input::proofs::Clean::clean_none))]
 fn show_next<A: Allocator + Copy, R: Read, W: Write>(
     printer: &mut Printer<'_, A>,
     packets: &mut Packets,

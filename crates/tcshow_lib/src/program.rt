@@ -264,10 +264,26 @@ fn show_filtered<R: AllocGlobal + Print, I: Read, E: Write>(
     let writer = io::writer(rt);
     if arguments.in_colours {
         let mut writer = Writer::new(Coloured::new(alloc, writer));
-        return serve(alloc, alloc, &options, name, &mut reader, &mut writer, errors);
+        return serve(
+            alloc,
+            alloc,
+            &options,
+            name,
+            &mut reader,
+            &mut writer,
+            errors,
+        );
     }
     let mut writer = Writer::new(writer);
-    serve(alloc, alloc, &options, name, &mut reader, &mut writer, errors)
+    serve(
+        alloc,
+        alloc,
+        &options,
+        name,
+        &mut reader,
+        &mut writer,
+        errors,
+    )
 }
 
 // Prints the messages of several files, one after another.
