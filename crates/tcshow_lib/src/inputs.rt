@@ -14,7 +14,8 @@ use program_io::{Reader, Writer};
 use std::alloc::Allocator;
 use std::io::{Read, Write};
 use tc_input::Input;
-use tcshow_input::{Packets, Printer, Stop};
+pub use tcshow_input::Printer;
+use tcshow_input::{Packets, Stop};
 
 /// Prints the messages of the next input of a run, and no summary.
 pub fn run_next<A: Allocator + Copy, R: Read, W: Write>(
