@@ -101,7 +101,9 @@ Notes:
   Handles are such as 1:10, ffff:, root, 800::800 or 0x1.
   Times are such as 1764028801.25 or 2026-11-26T14:00:00Z, or 20:00 (UTC) on the day of the first
   packet that has a time. --since and --until also drop messages that have no time.
-  --dev takes a name only if --names lists it.
+  --dev takes a name only if --names lists it. --type tclass stands for newtclass, deltclass and
+  gettclass. Hex that is a message only has no netlink header. Without --color, outlines have
+  color on a terminal, unless NO_COLOR is set.
   Hex may contain spaces, colons, 0x prefixes and # comments. One message per line; or a dump with
   offsets (xxd, hexdump -C, tcpdump -x, Wireshark), in which offset 0 starts a new message; or lines
   of 60 digits and a shorter last one (xxd -p).
@@ -150,7 +152,7 @@ static OPTIONS: [(&str, Value, &str, &str); 19] = [
         "no-header",
         Value::Word("WHAT", &["tc", "action"]),
         INPUT,
-        "Each line of hex is a message without a netlink header",
+        "Each line of hex is a message only",
     ),
     (
         "names",
@@ -180,7 +182,7 @@ static OPTIONS: [(&str, Value, &str, &str); 19] = [
         "color",
         Value::Word("WHEN", &["auto", "always", "never"]),
         FORMS,
-        "Color the outlines; by default on a terminal, unless NO_COLOR is set",
+        "Color outlines (default: auto)",
     ),
     (
         "summary",
@@ -198,7 +200,7 @@ static OPTIONS: [(&str, Value, &str, &str); 19] = [
         "type",
         Value::Texts("TYPE"),
         FILTERS,
-        "Messages of this type: newtclass, RTM_NEWTCLASS, tclass (new, del and get), or a number",
+        "Messages of this type: newtclass, RTM_NEWTCLASS, tclass, or a number",
     ),
     (
         "dev",
