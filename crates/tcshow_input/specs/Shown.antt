@@ -75,6 +75,11 @@ abbrev pub ShowsNotice : Bool → List ℕ → Type 0
 ShowsNotice true text = (line : List ℕ) × (text ≡ ended line)
 ShowsNotice false text = IsPage text
 
+-- before the things of one of several inputs a line with its name, but in JSON nothing
+abbrev pub ShowsName : Bool → List ℕ → Type 0
+ShowsName true text = text ≡ []
+ShowsName false text = IsPage text
+
 -- a summary, if the options ask for it
 abbrev pub ShowsSummary : Bool → Bool → List ℕ → Type 0
 ShowsSummary json true text = ShowsNotice json text

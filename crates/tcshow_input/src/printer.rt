@@ -53,7 +53,7 @@ impl<'a, A: Allocator + Copy> Printer<'a, A> {
     ghost use Rattle.std.specs.Prelude.{◌≡◌, true, false, List, ℕ, [], OnOk, is_some, string_bytes};
     ghost use Rattle.tc_outline.specs.Page.{IsShown};
     ghost use Rattle.tc_outline.specs.Text.{text_on};
-    ghost use Rattle.tcshow_input.specs.Shown.{ended, IsEscaped, ShowsNotice, ShowsSummary};
+    ghost use Rattle.tcshow_input.specs.Shown.{ended, IsEscaped, ShowsName, ShowsNotice, ShowsSummary};
     ghost use Rattle.tcshow_input.specs.State.{laid_out, start, state_of, Grows, Progress};
     ghost use Rattle.tcshow_input.specs.Writing.{GrowsClean};
     ghost use Rattle.program_io.specs.Written.{GrowsByFront};
@@ -73,6 +73,30 @@ impl<'a, A: Allocator + Copy> Printer<'a, A> {
             first_lines: FirstLines::default(),
             summary: Summary::new(json),
         }
+    }
+
+    /// Begins another input: forgets the text that isn't written, and the names of interfaces in the input before.
+    pub fn restart(&mut self)
+        ensures form { self.new.output.is_json ≡ self.old.output.is_json }
+        ensures empty { state_of self.new ≡ record (state_of self.old) { text = [] } }
+    {
+        self.output.clear();
+        self.links = Links::new(self.json);
+        self.first_lines = FirstLines::default();
+        self.dump_at = 0;
+    }
+
+    /// Prints the name of an input on a line before its messages, as `head` does; nothing in JSON.
+    pub fn put_name(&mut self, name: &str) -> Result<(), AllocError>
+        ensures form { self.new.output.is_json ≡ self.old.output.is_json }
+        ensures put { OnOk result ((text : List ℕ) × ShowsName self.old.output.is_json text × Grows text false (state_of self.old) (state_of self.new)) }
+    {
+        if self.output.is_json() {
+            return Ok(());
+        }
+        self.page.restart(Layout::OneLine);
+        show_name(&mut self.page, name)?;
+        self.put_page_line()
     }
 
     /// Moves the page to the output, as a paragraph or a line.
@@ -233,6 +257,13 @@ fn is_json(form: OutputFormat) -> bool
         OutputFormat::Lines | OutputFormat::OneLine => false,
         OutputFormat::Json => true,
     }
+}
+
+// Writes the name of an input on a page.
+fn show_name<A: Allocator>(page: &mut Page<A>, name: &str) -> Result<(), AllocError> {
+    page.text("==> ")?;
+    page.text(name)?;
+    page.text(" <==")
 }
 
 // Writes a notice on a page, with its offset.
