@@ -1,6 +1,6 @@
 //! The configuration of what a request makes.
 
-use crate::config::{Config, Making, written};
+use crate::config::{CHANGED, Config, MADE, written};
 use crate::frames::{bytes_of, frames_of, type_of};
 use crate::kinds::{Change, Rule, rule_of};
 use crate::shown::Sort;
@@ -24,7 +24,7 @@ pub(crate) fn configured<A: Allocator + Copy>(
 ) -> Result<Vec<u8, A>, AllocError> {
     let rule = rule_of(sort, kind);
     if rule.change == Change::Never {
-        return plain(alloc, Making::Made, message);
+        return plain(alloc, MADE, message);
     }
     let options = options_of(alloc, sort, rule.skipped, message)?;
     let kept = match rule.change {
@@ -39,7 +39,7 @@ pub(crate) fn configured<A: Allocator + Copy>(
     written(
         alloc,
         &Config {
-            making: Making::Changed,
+            making: CHANGED,
             kept: &kept,
             fixed: &fixed,
             change: &change,
@@ -51,7 +51,7 @@ pub(crate) fn configured<A: Allocator + Copy>(
 /// The configuration of an object that no change leads to.
 pub(crate) fn plain<A: Allocator>(
     alloc: A,
-    making: Making,
+    making: u8,
     message: &[u8],
 ) -> Result<Vec<u8, A>, AllocError> {
     written(

@@ -1,4 +1,4 @@
-//! What a change of each kind takes.
+//! What a change of each kind takes: written by `kinds/changes` from the tables of `kinds/`.
 
 use crate::shown::Sort;
 
@@ -21,7 +21,7 @@ pub(crate) struct Rule {
     pub(crate) fixed: &'static [u16],
     /// Options that a change has, and that have to be the same.
     pub(crate) equal: &'static [u16],
-    /// True if options have to be there in both or in neither, but for those of `free`.
+    /// True if an option has to be in both or in neither, unless it is one of `free`.
     pub(crate) by_name: bool,
     pub(crate) free: &'static [u16],
     /// How many bytes are before the list of options.
@@ -60,24 +60,14 @@ pub(crate) fn rule_of(sort: Sort, kind: &str) -> Rule {
 
 fn of_qdisc(kind: &str) -> Rule {
     match kind {
-        "pfifo"
-        | "bfifo"
-        | "tbf"
-        | "prio"
-        | "skbprio"
-        | "cbs"
-        | "hhf"
-        | "pie"
-        | "hfsc"
-        | "fq"
-        | "cake" => WHOLE,
+        "bfifo" | "cake" | "cbs" | "fq" | "hfsc" | "hhf" | "pfifo" | "pfifo_head_drop" | "pie" | "prio" | "rr" | "skbprio" | "tbf" => WHOLE,
         "codel" => KEEPS,
-        "netem" => Rule {
-            skipped: 24,
-            ..KEEPS
-        },
         "fq_codel" => Rule {
             fixed: &[5],
+            ..KEEPS
+        },
+        "netem" => Rule {
+            skipped: 24,
             ..KEEPS
         },
         _ => NEVER,
@@ -86,7 +76,7 @@ fn of_qdisc(kind: &str) -> Rule {
 
 fn of_class(kind: &str) -> Rule {
     match kind {
-        "htb" | "drr" | "qfq" => WHOLE,
+        "drr" | "htb" | "qfq" => WHOLE,
         "hfsc" => KEEPS,
         _ => NEVER,
     }
@@ -94,46 +84,25 @@ fn of_class(kind: &str) -> Rule {
 
 fn of_filter(kind: &str) -> Rule {
     match kind {
-        "bpf" | "basic" => WHOLE,
-        "fw" | "flow" => KEEPS,
-        "u32" => Rule {
-            equal: &[2, 4, 5, 8, 10, 11],
-            ..WHOLE
-        },
+        "basic" | "bpf" => WHOLE,
+        "flow" | "fw" => KEEPS,
         "flower" => Rule {
-            equal: FLOWER_MASKS,
+            equal: &[5, 7, 11, 13, 15, 17, 28, 30, 32, 34, 35, 36, 37, 38, 39, 40, 44, 46, 48, 50, 52, 54, 56, 58, 60, 62, 64, 66, 72, 74, 76, 81, 83, 84, 85, 92, 94, 96, 98, 99, 101, 107, 109, 111],
             by_name: true,
             free: &[1, 3, 22],
+            ..WHOLE
+        },
+        "u32" => Rule {
+            equal: &[2, 4, 5, 8, 10, 11],
             ..WHOLE
         },
         _ => NEVER,
     }
 }
 
-// The masks of flower, and what has its mask within it.
-const FLOWER_MASKS: &[u16] = &[
-    5, 7, 11, 13, 15, 17, 28, 30, 32, 34, 35, 36, 37, 38, 39, 40, 44, 46, 48, 50, 52, 54, 56, 58,
-    60, 62, 64, 66, 72, 74, 76, 81, 83, 84, 85, 92, 94, 96, 98, 99, 101, 107, 109, 111,
-];
-
 fn of_action(kind: &str) -> Rule {
     match kind {
-        "mirred"
-        | "nat"
-        | "pedit"
-        | "police"
-        | "simple"
-        | "skbedit"
-        | "skbmod"
-        | "vlan"
-        | "tunnel_key"
-        | "csum"
-        | "ctinfo"
-        | "bpf"
-        | "mpls"
-        | "connmark"
-        | "ct"
-        | "ife" => WHOLE,
+        "bpf" | "connmark" | "csum" | "ct" | "ctinfo" | "ife" | "mirred" | "mpls" | "nat" | "pedit" | "police" | "simple" | "skbedit" | "skbmod" | "tunnel_key" | "vlan" => WHOLE,
         "gact" | "sample" => KEEPS,
         _ => NEVER,
     }

@@ -1,7 +1,7 @@
 //! What single dumps show.
 
 use crate::classes::classes_of;
-use crate::config::Making;
+use crate::config::{MADE, NEVER};
 use crate::configured::{configured, plain};
 use crate::dump::Dump;
 use crate::frames::emitted;
@@ -244,7 +244,7 @@ fn put_priority<A: Allocator + Copy>(
         priority: at.priority,
         classes: Vec::new(alloc),
         others: Vec::new(alloc),
-        config: plain(alloc, Making::Made, &text)?,
+        config: plain(alloc, MADE, &text)?,
     };
     readings.all.push(Reading {
         shown,
@@ -285,7 +285,7 @@ fn shown_of<A: Allocator + Copy>(
     let config = if can_make {
         configured(alloc, at.sort, kind.as_str(), &bytes)?
     } else {
-        plain(alloc, Making::Never, &bytes)?
+        plain(alloc, NEVER, &bytes)?
     };
     let others = match object {
         Object::Filter => with_shared(others, held_by(alloc, message)?)?,
@@ -396,7 +396,7 @@ fn put_action<A: Allocator + Copy>(
     let config = if can_make {
         configured(alloc, sort, kind.as_str(), &bytes)?
     } else {
-        plain(alloc, Making::Never, &bytes)?
+        plain(alloc, NEVER, &bytes)?
     };
     readings.all.push(Reading {
         shown: of_action(alloc, sort, index, config),

@@ -1,29 +1,37 @@
 //! The requests of a plan.
 
+ghost use Rattle.std.specs.Prelude.{◌≡◌, ◌++◌, map, IfOk};
+ghost use Rattle.std.specs.List.{flat_map};
+ghost use Rattle.std.specs.HashMap as hash;
+ghost use Rattle.nla_frames.specs.Value.{le_bytes};
+ghost use Rattle.tc_changes.specs.Objects.{request, same_key};
+ghost use Rattle.tc_changes.specs.declared.key.Key.{Key as KeyModel};
+ghost use Rattle.tc_objects.specs.Sent.{seen, sent, sent_by, new_type, message_by, addressed, front, header_bytes, info_bytes, chain_bytes, chain_if, deleted, action_bytes, frame_bytes, name_in};
+
 use crate::config::read;
-use crate::frames::emitted;
-use crate::state::State;
+use crate::frames::framed;
+use nla_frames::{DefaultNla, i32_bytes, u32_bytes};
 use std::alloc::{AllocError, Allocator};
 use std::collections::HashMap;
 use std::hash::{BuildHasherDefault, FoldHasher};
-use tc_action_messages::{TcActionMessage, TcActionMessageAttribute};
-use tc_actions::{TcAction, TcActionAttribute};
-use tc_changes::{Key, Object, Plan, Rules, Step, plan};
-use tc_messages::{TcAttribute, TcMessage};
-use tc_records::{TcActionMessageHeader, TcHandle, TcHeader};
-use tc_restore::{NEW_FLAGS, Request};
+use tc_changes::{Key, Step};
+use tc_restore::NEW_FLAGS;
 
-/// A plan, and the requests of its steps.
-#[derive(Drop)]
-pub struct Planned<A: Allocator> {
-    pub plan: Plan<A>,
-    /// The requests of the steps in their order, each with the number of its step; none of a step that makes a priority, which the kernel
-    /// makes with the first filter of it.
-    pub requests: Vec<(usize, Request<Vec<u8, A>>), A>,
+/// A request of a plan.
+#[derive(Drop, Debug)]
+pub struct PlanRequest<A: Allocator> {
+    /// The key of the object that it makes, changes or deletes.
+    pub key: Key,
+    /// The message type (`nlmsg_type`).
+    pub message_type: u16,
+    /// The flags (`nlmsg_flags`).
+    pub flags: u16,
+    /// The message after the netlink header.
+    pub message: Vec<u8, A>,
 }
 
-// The handles of objects as the kernel has them.
-type Handles<A> = HashMap<Key, u32, BuildHasherDefault<FoldHasher>, A>;
+/// The handles of objects as the kernel has them.
+pub type Handles<A> = HashMap<Key, u32, BuildHasherDefault<FoldHasher>, A>;
 
 /// The flags of a request that changes an object and asks for an answer: `NLM_F_REQUEST`, `NLM_F_ACK` and `NLM_F_REPLACE` of
 /// `linux/netlink.h`.
@@ -32,121 +40,136 @@ pub const CHANGE_FLAGS: u16 = 0x105;
 /// The flags of a request that deletes an object and asks for an answer: `NLM_F_REQUEST` and `NLM_F_ACK`.
 pub const DELETE_FLAGS: u16 = 0x5;
 
-/// The plan that leads from one state to another, and its requests.
-pub fn plan_between<A: Allocator + Copy, R: Rules<A>>(
+// The requests of steps: none of one that makes a priority, which the kernel makes with the first filter of it.
+pub(crate) fn requests_of<A: Allocator + Copy>(
     alloc: A,
-    rules: &R,
-    now: &State<A>,
-    want: State<A>,
-) -> Result<Planned<A>, AllocError> {
-    let plan = plan(alloc, rules, &now.objects, want.objects)?;
-    let requests = match &plan {
-        Plan::Steps(steps) => requests_of(alloc, now, steps)?,
-        Plan::Refused(_) => Vec::new(alloc),
-    };
-    Ok(Planned { plan, requests })
-}
-
-// The requests of steps.
-fn requests_of<A: Allocator + Copy>(
-    alloc: A,
-    now: &State<A>,
+    handles: &Handles<A>,
     steps: &[Step<A>],
-) -> Result<Vec<(usize, Request<Vec<u8, A>>), A>, AllocError> {
-    let handles = handles_of(alloc, now)?;
+) -> Result<Vec<PlanRequest<A>, A>, AllocError>
+    ensures { IfOk result (λ made. map seen made.items
+        ≡ flat_map (sent (hash.get same_key handles.now)) (map request steps.now)) }
+{
     let mut requests = Vec::new(alloc);
-    for (number, step) in steps.iter().enumerate() {
-        if let Some(request) = request_of(alloc, &handles, step)? {
-            requests.push((number, request))?;
+    for step in steps {
+        if let Some(request) = request_of(alloc, handles, step)? {
+            requests.push(request)?;
         }
     }
     Ok(requests)
 }
 
-fn handles_of<A: Allocator + Copy>(alloc: A, now: &State<A>) -> Result<Handles<A>, AllocError> {
-    let mut handles = HashMap::new(alloc);
-    for (object, origin) in now.objects.iter().zip(now.origins.iter()) {
-        handles.insert(object.key, origin.handle)?;
-    }
-    Ok(handles)
-}
-
-// The request of a step.
 fn request_of<A: Allocator + Copy>(
     alloc: A,
     handles: &Handles<A>,
     step: &Step<A>,
-) -> Result<Option<Request<Vec<u8, A>>>, AllocError> {
+) -> Result<Option<PlanRequest<A>>, AllocError>
+    ensures { IfOk result (λ made. map seen (option_to_list made)
+        ≡ sent (hash.get same_key handles.now) (request step.now)) }
+{
     match step {
-        Step::Delete(key) => {
-            let handle = handles.get(key).copied().unwrap_or(0);
-            deleting(alloc, *key, handle)
+        Step::Delete(key) => deleting(alloc, *key, handles.get(key).copied()),
+        Step::Make(object) => {
+            let message = read(&object.config).message;
+            sending(alloc, object.key, NEW_FLAGS, None, message)
         }
-        Step::Make(object) => making(alloc, object),
-        Step::Change(object) => changing(alloc, handles, object),
+        Step::Change(object) => {
+            let message = read(&object.config).changing();
+            let handle = handles.get(&object.key).copied();
+            sending(alloc, object.key, CHANGE_FLAGS, handle, message)
+        }
     }
 }
 
-// The type of the request that makes an object.
-fn new_type(key: Key) -> u16 {
+// The type of the request that makes an object; 0 of what no request makes.
+fn new_type(key: Key) -> u16
+    ensures { result ≡ new_type key }
+{
     match key {
-        Key::Place { .. } | Key::Block { .. } => 36,
+        Key::Place { .. } => 36,
         Key::Class { .. } => 40,
-        Key::Priority { .. } | Key::Filter { .. } => 44,
+        Key::Filter { .. } => 44,
         Key::Action { .. } => 48,
         Key::Chain { .. } => 100,
+        Key::Priority { .. } | Key::Block { .. } => 0,
     }
 }
 
-fn making<A: Allocator + Copy>(
+// The request that makes an object with this message, or changes the one with this handle.
+fn sending<A: Allocator + Copy>(
     alloc: A,
-    object: &Object<A>,
-) -> Result<Option<Request<Vec<u8, A>>>, AllocError> {
-    if let Key::Priority { .. } = object.key {
+    key: Key,
+    flags: u16,
+    handle: Option<u32>,
+    message: &[u8],
+) -> Result<Option<PlanRequest<A>>, AllocError>
+    ensures { IfOk result (λ made. map seen (option_to_list made) ≡ sent_by key flags handle message.now) }
+{
+    let message_type = new_type(key);
+    if message_type == 0 {
         return Ok(None);
     }
-    Ok(Some(Request {
-        message_type: new_type(object.key),
-        flags: NEW_FLAGS,
-        message: Vec::from_slice(alloc, read(&object.config).message)?,
-    }))
+    Ok(
+        Some(PlanRequest {
+            key,
+            message_type,
+            flags,
+            message: message_by(alloc, key, handle, message)?,
+        }),
+    )
 }
 
-fn changing<A: Allocator + Copy>(
+fn message_by<A: Allocator + Copy>(
     alloc: A,
-    handles: &Handles<A>,
-    object: &Object<A>,
-) -> Result<Option<Request<Vec<u8, A>>>, AllocError> {
-    let config = read(&object.config);
-    let message = if config.change.is_empty() {
-        config.message
-    } else {
-        config.change
-    };
-    let message = match object.key {
-        Key::Filter { .. } => with_handle(alloc, message, handles.get(&object.key).copied())?,
-        _ => Vec::from_slice(alloc, message)?,
-    };
-    Ok(Some(Request {
-        message_type: new_type(object.key),
-        flags: CHANGE_FLAGS,
-        message,
-    }))
-}
-
-// A message for the object of this handle.
-fn with_handle<A: Allocator>(
-    alloc: A,
-    message: &[u8],
+    key: Key,
     handle: Option<u32>,
-) -> Result<Vec<u8, A>, AllocError> {
-    let mut made = Vec::from_slice(alloc, message)?;
-    if let (Some(handle), [_, _, _, _, _, _, _, _, a, b, c, d, ..]) = (
-        handle,
-        made.as_mut_slice(),
-    ) {
-        [*a, *b, *c, *d] = handle.to_le_bytes();
+    message: &[u8],
+) -> Result<Vec<u8, A>, AllocError>
+    ensures { IfOk result (λ made. made.items ≡ message_by key handle message.now) }
+{
+    match key {
+        Key::Place { index, .. }
+        | Key::Class { index, .. }
+        | Key::Chain { index, .. }
+        | Key::Priority { index, .. }
+        | Key::Filter { index, .. } => addressed(alloc, index, handle, message),
+        Key::Action { .. } | Key::Block { .. } => Vec::from_slice(alloc, message),
     }
+}
+
+// A message for this interface, and for the object that has this handle there.
+fn addressed<A: Allocator + Copy>(
+    alloc: A,
+    index: i32,
+    handle: Option<u32>,
+    message: &[u8],
+) -> Result<Vec<u8, A>, AllocError>
+    ensures { IfOk result (λ made. made.items ≡ addressed index handle message.now) }
+{
+    let mut made = front(alloc, index)?;
+    match handle {
+        Some(handle) => {
+            made.extend_from_slice(&u32_bytes(handle))?;
+            made.extend_from_slice(after(message, 12))?;
+        }
+        None => made.extend_from_slice(after(message, 8))?,
+    }
+    Ok(made)
+}
+
+// The bytes after so many.
+fn after(bytes: &[u8], len: usize) -> &[u8]
+    ensures { result.now ≡ drop len bytes.now }
+{
+    let (_, rest) = bytes.split_at(usize::min(len, bytes.len()));
+    rest
+}
+
+// The first bytes of `struct tcmsg`: no family, and an interface.
+fn front<A: Allocator + Copy>(alloc: A, index: i32) -> Result<Vec<u8, A>, AllocError>
+    ensures { IfOk result (λ made. made.items ≡ front index) }
+{
+    let mut made = Vec::from_slice(alloc, &[0, 0, 0, 0])?;
+    made.extend_from_slice(&i32_bytes(index))?;
     Ok(made)
 }
 
@@ -154,129 +177,140 @@ fn with_handle<A: Allocator>(
 fn deleting<A: Allocator + Copy>(
     alloc: A,
     key: Key,
-    handle: u32,
-) -> Result<Option<Request<Vec<u8, A>>>, AllocError> {
-    match key {
-        Key::Place { index, parent } => of_header(alloc, 37, header(index, handle, parent, 0)),
-        Key::Class { index, handle } => of_header(alloc, 41, header(index, handle, 0, 0)),
+    handle: Option<u32>,
+) -> Result<Option<PlanRequest<A>>, AllocError>
+    ensures { IfOk result (λ made. map seen (option_to_list made) ≡ deleted key handle) }
+{
+    let (message_type, message) = match key {
+        Key::Place { index, parent } => {
+            let handle = handle.unwrap_or(0);
+            (37, header_bytes(alloc, index, handle, parent, 0)?)
+        }
+        Key::Class { index, handle } => (41, header_bytes(alloc, index, handle, 0, 0)?),
         Key::Chain {
             index,
             parent,
             number,
-        } => of_chain(alloc, 101, header(index, 0, parent, 0), number),
+        } => {
+            let message = header_bytes(alloc, index, 0, parent, 0)?;
+            (101, with_chain(message, number)?)
+        }
         Key::Priority {
             index,
             parent,
             number,
             priority,
-        } => of_filter(alloc, header(index, 0, parent, priority), number),
+        } => {
+            let message = header_bytes(alloc, index, 0, parent, priority)?;
+            (45, with_chain_if(message, number)?)
+        }
         Key::Filter {
             index,
             parent,
             number,
             priority,
-            ..
-        } => of_filter(alloc, header(index, handle, parent, priority), number),
-        Key::Action { kind, index } => of_action(alloc, kind, index),
-        Key::Block { .. } => Ok(None),
-    }
-}
-
-fn header(index: i32, handle: u32, parent: u32, priority: u32) -> TcHeader {
-    TcHeader {
-        index,
-        handle: TcHandle::from(handle),
-        parent: TcHandle::from(parent),
-        info: (priority % 0x1_0000) * 0x1_0000,
-        ..TcHeader::default()
-    }
-}
-
-fn of_header<A: Allocator + Copy>(
-    alloc: A,
-    message_type: u16,
-    header: TcHeader,
-) -> Result<Option<Request<Vec<u8, A>>>, AllocError> {
-    of_message(
-        alloc,
-        message_type,
-        TcMessage {
-            header,
-            attributes: Vec::new(alloc),
-        },
-    )
-}
-
-fn of_chain<A: Allocator + Copy>(
-    alloc: A,
-    message_type: u16,
-    header: TcHeader,
-    number: u32,
-) -> Result<Option<Request<Vec<u8, A>>>, AllocError> {
-    let mut attributes = Vec::new(alloc);
-    attributes.push(TcAttribute::Chain(number))?;
-    of_message(alloc, message_type, TcMessage { header, attributes })
-}
-
-fn of_filter<A: Allocator + Copy>(
-    alloc: A,
-    header: TcHeader,
-    number: u32,
-) -> Result<Option<Request<Vec<u8, A>>>, AllocError> {
-    if number == 0 {
-        of_header(alloc, 45, header)
-    } else {
-        of_chain(alloc, 45, header, number)
-    }
-}
-
-fn of_message<A: Allocator + Copy>(
-    alloc: A,
-    message_type: u16,
-    message: TcMessage<A>,
-) -> Result<Option<Request<Vec<u8, A>>>, AllocError> {
-    match emitted(alloc, &message)? {
-        Some(message) => Ok(Some(Request {
+            handle: own,
+        } => {
+            let handle = handle.unwrap_or(own);
+            let message = header_bytes(alloc, index, handle, parent, priority)?;
+            (45, with_chain_if(message, number)?)
+        }
+        Key::Action { kind, index } => (49, action_bytes(alloc, kind, index)?),
+        Key::Block { .. } => return Ok(None),
+    };
+    Ok(
+        Some(PlanRequest {
+            key,
             message_type,
             flags: DELETE_FLAGS,
             message,
-        })),
-        None => Ok(None),
+        }),
+    )
+}
+
+// `struct tcmsg` with this handle, parent and priority.
+fn header_bytes<A: Allocator + Copy>(
+    alloc: A,
+    index: i32,
+    handle: u32,
+    parent: u32,
+    priority: u32,
+) -> Result<Vec<u8, A>, AllocError>
+    ensures { IfOk result (λ made. made.items ≡ header_bytes index handle parent priority) }
+{
+    let mut made = front(alloc, index)?;
+    made.extend_from_slice(&u32_bytes(handle))?;
+    made.extend_from_slice(&u32_bytes(parent))?;
+    made.extend_from_slice(&u32_bytes(priority % 0x1_0000 * 0x1_0000))?;
+    Ok(made)
+}
+
+// A message, and the chain in it (`TCA_CHAIN`).
+fn with_chain<A: Allocator>(
+    message: Vec<u8, A>,
+    number: u32,
+) -> Result<Vec<u8, A>, AllocError>
+    ensures { IfOk result (λ made. made.items ≡ message.items ++ chain_bytes number) }
+{
+    let mut made = message;
+    made.extend_from_slice(&[8, 0, 11, 0])?;
+    made.extend_from_slice(&u32_bytes(number))?;
+    Ok(made)
+}
+
+// The same, unless it is chain 0.
+fn with_chain_if<A: Allocator>(
+    message: Vec<u8, A>,
+    number: u32,
+) -> Result<Vec<u8, A>, AllocError>
+    ensures { IfOk result (λ made. made.items ≡ message.items ++ chain_if number) }
+{
+    if number == 0 {
+        Ok(message)
+    } else {
+        with_chain(message, number)
     }
 }
 
-fn of_action<A: Allocator + Copy>(
+// `struct tcamsg`, and the kind and the index of an action.
+fn action_bytes<A: Allocator + Copy>(
     alloc: A,
     kind: [u8; 16],
     index: u32,
-) -> Result<Option<Request<Vec<u8, A>>>, AllocError> {
-    let mut attributes = Vec::new(alloc);
-    attributes.push(TcActionAttribute::Kind(name_of(alloc, &kind)?))?;
-    attributes.push(TcActionAttribute::Index(index))?;
-    let mut actions = Vec::new(alloc);
-    actions.push(TcAction { tab: 1, attributes })?;
-    let mut attributes = Vec::new(alloc);
-    attributes.push(TcActionMessageAttribute::Actions(actions))?;
-    let message = TcActionMessage {
-        header: TcActionMessageHeader::default(),
-        attributes,
-    };
-    match emitted(alloc, &message)? {
-        Some(message) => Ok(Some(Request {
-            message_type: 49,
-            flags: DELETE_FLAGS,
-            message,
-        })),
-        None => Ok(None),
-    }
+) -> Result<Vec<u8, A>, AllocError>
+    ensures { IfOk result (λ made. made.items ≡ action_bytes kind index) }
+{
+    let mut name = name_in(alloc, &kind)?;
+    name.push(0)?;
+    let number = Vec::from_slice(alloc, &u32_bytes(index))?;
+    let mut frames = Vec::new(alloc);
+    frames.push(DefaultNla::new(1, name))?;
+    frames.push(DefaultNla::new(3, number))?;
+    let action = framed(alloc, &frames)?;
+    let actions = in_frame(alloc, action)?;
+    let list = in_frame(alloc, actions)?;
+    let mut made = Vec::from_slice(alloc, &[0, 0, 0, 0])?;
+    made.extend_from_slice(&list)?;
+    Ok(made)
 }
 
-// A kind without the zeros after it.
-fn name_of<A: Allocator>(alloc: A, kind: &[u8]) -> Result<String<A>, AllocError> {
-    let mut name = String::new(alloc);
+// A frame of the type 1 with this value.
+fn in_frame<A: Allocator + Copy>(alloc: A, value: Vec<u8, A>) -> Result<Vec<u8, A>, AllocError>
+    ensures { IfOk result (λ made. made.items ≡ frame_bytes (record { word = 1; value = value.items } ∷ [])) }
+{
+    let mut frames = Vec::with_capacity(alloc, 1)?;
+    frames.push(DefaultNla::new(1, value))?;
+    framed(alloc, &frames)
+}
+
+// A kind without the zeros in it.
+fn name_in<A: Allocator>(alloc: A, kind: &[u8]) -> Result<Vec<u8, A>, AllocError>
+    ensures { IfOk result (λ made. made.items ≡ name_in kind.now) }
+{
+    let mut name = Vec::new(alloc);
     for byte in kind {
         if *byte != 0 {
-            name.push(char::from(*byte))?;
+            name.push(*byte)?;
         }
     }
     Ok(name)

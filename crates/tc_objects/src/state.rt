@@ -1,10 +1,15 @@
 //! States.
 
+ghost use Rattle.std.specs.Prelude.{◌≡◌, [], true, IfOk};
+ghost use Rattle.tc_changes.specs.Model.{ready};
+ghost use Rattle.tc_changes.specs.Objects.{things, same_key};
+
 use crate::dump::Dump;
 use crate::known::known_of;
 use crate::names::names_of;
 use crate::objects::object_of;
 use crate::reading::{Origin, Reading, readings_of};
+use crate::requests::Handles;
 use crate::shown::Shown;
 use crate::state_error::StateError;
 use std::alloc::{AllocError, Allocator};
@@ -20,6 +25,8 @@ pub struct State<A: Allocator> {
     pub objects: Vec<Object<A>, A>,
     /// Where each comes from.
     pub origins: Vec<Origin, A>,
+    /// The handles by which the kernel has them.
+    pub handles: Handles<A>,
 }
 
 // An object, and where it comes from.
@@ -33,7 +40,9 @@ struct Item<A: Allocator> {
 pub fn state_of<A: Allocator + Copy>(
     alloc: A,
     dumps: Vec<Dump<A>, A>,
-) -> Result<State<A>, StateError> {
+) -> Result<State<A>, StateError>
+    ensures ready { IfOk result (λ state. ready same_key [] (things state.objects.items) ≡ true) }
+{
     let known = known_of(alloc, &dumps)?;
     let readings = readings_of(alloc, &known, dumps)?;
     let steps = steps_of(alloc, readings)?;
@@ -43,19 +52,33 @@ pub fn state_of<A: Allocator + Copy>(
             place: step.item.origin.place,
         });
     }
-    let mut objects = Vec::with_capacity(alloc, order.sorted.len())?;
-    let mut origins = Vec::with_capacity(alloc, order.sorted.len())?;
-    for step in order.sorted {
-        let Item { object, origin } = step.item;
-        objects.push(object)?;
-        origins.push(origin)?;
-    }
-    let state = State { objects, origins };
+    let state = in_order(alloc, order.sorted)?;
     if is_ready(alloc, &state.objects)? {
         Ok(state)
     } else {
         Err(fault_of(alloc, &state)?)
     }
+}
+
+// The state of what steps make.
+fn in_order<A: Allocator + Copy>(
+    alloc: A,
+    steps: Vec<Step<Item<A>, Key, A>, A>,
+) -> Result<State<A>, AllocError> {
+    let mut objects = Vec::with_capacity(alloc, steps.len())?;
+    let mut origins = Vec::with_capacity(alloc, steps.len())?;
+    let mut handles = HashMap::new(alloc);
+    for step in steps {
+        let Item { object, origin } = step.item;
+        handles.insert(object.key, origin.handle)?;
+        objects.push(object)?;
+        origins.push(origin)?;
+    }
+    Ok(State {
+        objects,
+        origins,
+        handles,
+    })
 }
 
 // The steps that make what dumps show.
