@@ -17,10 +17,13 @@ use tc_actions::TcAction;
 use tc_changes::Key;
 use tc_messages::{TcAttribute, TcMessage};
 use tc_plan::{
-    Entry, Fate, Key as PlanKey, Named, entry_of, has_action, held_by, name_of_action, newest_first,
+    Entry, Fate, Key as PlanKey, Named, entry_of, has_action, name_of_action, newest_first,
 };
 use tc_records::{TcActionMessageHeader, TcHandle};
-use tc_restore::{Object, RestoreError, kind_of_action, request_of, request_of_actions};
+use tc_restore::{
+    Object, RestoreError, actions_of_filter, kind_of_action, request_of, request_of_actions,
+    standalone_index,
+};
 
 /// Where an object comes from.
 #[derive(Clone, Copy, PartialEq, Eq, Drop, Debug)]
@@ -288,7 +291,7 @@ fn shown_of<A: Allocator + Copy>(
         plain(alloc, NEVER, &bytes)?
     };
     let others = match object {
-        Object::Filter => with_shared(others, held_by(alloc, message)?)?,
+        Object::Filter => with_shared(others, actions_of_filter(alloc, message)?)?,
         _ => others,
     };
     Ok(Some(Shown {
@@ -331,18 +334,16 @@ fn without_counts<A: Allocator>(message: TcMessage<A>) -> TcMessage<A> {
     message
 }
 
-// Keys, and those of actions that a filter shares.
-fn with_shared<A: Allocator>(
+// Keys, and those of the actions that a filter shares.
+fn with_shared<A: Allocator + Copy>(
     keys: Vec<Key, A>,
-    held: Vec<PlanKey, A>,
+    actions: Vec<TcAction<A>, A>,
 ) -> Result<Vec<Key, A>, AllocError> {
     let mut keys = keys;
-    for key in &held {
-        if let PlanKey::Action { kind, index } = key {
-            keys.push(Key::Action {
-                kind: *kind,
-                index: *index,
-            })?;
+    for action in &actions {
+        if let (Some(_), Some(name)) = (standalone_index(action), name_of_action(action)) {
+            let Named { kind, index } = name;
+            keys.push(Key::Action { kind, index })?;
         }
     }
     Ok(keys)
