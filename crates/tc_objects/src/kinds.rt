@@ -2,7 +2,7 @@
 
 use crate::shown::Sort;
 
-/// What becomes of options that a change lacks.
+/// The fate of options that a change lacks.
 #[derive(Clone, Copy, PartialEq, Eq, Debug)]
 pub(crate) enum Change {
     /// Nothing is changed: it is deleted and made.
