@@ -2,8 +2,16 @@
 #![tactic(auto)]
 
 mod error;
+mod leaf;
+mod line;
+mod numbers;
+mod parts;
 mod row;
 mod tape;
+mod values;
+mod walk;
+mod words;
 
 pub use error::BriefError;
+pub use line::{Object, Said, lines_of};
 pub use row::{LeftOut, Row, RowOf, Style, Words};
