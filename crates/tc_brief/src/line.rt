@@ -18,6 +18,7 @@ ghost use Rattle.tc_units.specs.Names.{name_of, names_view};
 
 use crate::error::BriefError;
 use crate::leaf::{Leaf, Section, Value};
+use crate::numbers::put_signed;
 use crate::parts::{Line, Scope, is_in};
 use crate::row::{Style, Words};
 use crate::values::{number_in, put_interface, put_value};

@@ -106,8 +106,8 @@ impl Line {
         self.end()
     }
 
-    // Writes the value without a word.
-    fn alone(&mut self, leaf: &Leaf<'_>) -> Result<(), AllocError>
+    /// Writes the value without a word.
+    pub(crate) fn alone(&mut self, leaf: &Leaf<'_>) -> Result<(), AllocError>
         ensures { OnOk result (self.new.text.items ≡ self.old.text.items ++ written (value_text (leaf_view leaf.now) (value_view leaf.now.value) ∷ [])) }
     {
         self.begin();
@@ -155,7 +155,7 @@ impl Line {
         ensures { OnOk result (self.new.text.items ≡ self.old.text.items ++ written (valued (leaf_view leaf.now) (burst_text (leaves_view leaves.now) (leaf_view leaf.now)))) }
     {
         self.begin_valued(leaf)?;
-        let rate = rate_named(leaves, leaves, leaf.row.with);
+        let rate = rate_named(leaves, leaf.row.with);
         put_burst(&mut self.word, rate, number_or_zero(leaf))?;
         self.end()
     }
@@ -218,8 +218,8 @@ impl Line {
         }
     }
 
-    // Writes a number in decimal.
-    fn decimal(&mut self, n: u64) -> Result<(), AllocError>
+    /// Writes a number in decimal.
+    pub(crate) fn decimal(&mut self, n: u64) -> Result<(), AllocError>
         ensures { OnOk result (self.new.text.items ≡ self.old.text.items ++ written (decimal n ∷ [])) }
     {
         self.begin();
@@ -506,10 +506,10 @@ fn is_rate(style: Style) -> bool
 }
 
 // The rate of this word.
-fn rate_named(all: &[Leaf<'_>], leaves: &[Leaf<'_>], word: &str) -> u64
-    ensures { result ≡ rate_named (leaves_view all.now) (leaves_view leaves.now) word.now }
+fn rate_named(all: &[Leaf<'_>], word: &str) -> u64
+    ensures { result ≡ rate_named (leaves_view all.now) (leaves_view all.now) word.now }
 {
-    let mut left = leaves;
+    let mut left = all;
     'each: while let [leaf, rest @ ..] = left {
         if is_rate(leaf.row.style) && is_same(leaf.row.word, word) {
             return rate_of(all, leaf);
