@@ -209,6 +209,24 @@ def check_columns(block, x):
         if what in x.columns and x.columns[what] not in [y.name for y in block.lines if y is not x]:
             fault(x.where, 'no such line: %s' % x.columns[what])
 
+def is_rate(line):
+    """True if the line is a record with a rate, and has a word."""
+    return line.form.of == 'tc_ratespec' and line.columns.get('tc', '%')[0] not in '%-;'
+
+def check_word(block, x):
+    """That what the column `tc` refers to is there, and that `=` has a number."""
+    word = x.columns.get('tc', '')
+    names = [y.name for y in block.lines if y is not x]
+    in_file = ['', 'protocol', 'handle'] + [y.name for b in blocks.values() if b.where[0] == block.where[0] for y in b.lines if y is not x]
+    if word[:1] == '/' and word[1:] not in names or word[:1] == '-' and word[1:] not in in_file:
+        fault(x.where, 'no such line: %s' % word[1:])
+    if word[:1] == '^' and word[1:] not in [y.columns['tc'] for b in blocks.values() if b.sort == 'struct' for y in b.lines if is_rate(y)]:
+        fault(x.where, 'no rate with the word %s' % word[1:])
+    if '@' in word and word.split('@')[1] not in [y.columns['tc'] for y in block.lines if is_rate(y)]:
+        fault(x.where, 'no rate with the word %s' % word.split('@')[1])
+    if '=' in x.columns and not re.fullmatch(r'\d+|0-\d+', x.columns['=']):
+        fault(x.where, 'no number: %s' % x.columns['='])
+
 def check_fixed(kind):
     """That the options that only making a kind takes are attributes of its list."""
     options = [named(x.form) for x in kind.lines if x.name == 'options']
@@ -227,6 +245,7 @@ def check(block):
         if block.sort == 'list' and not 0 < x.number < 0x4000:
             fault(x.where, 'an attribute has no type %d' % x.number)
         check_columns(block, x)
+        check_word(block, x)
     for what in ['name'] + (['number', 'kernel'] if block.sort in ('list', 'enum', 'bits', 'names') else []):
         twice('name' if what == 'kernel' else what, block.lines, [getattr(x, what) for x in block.lines])
 
@@ -246,7 +265,7 @@ def check_all():
 
 def read_all():
     paths = sorted(os.path.relpath(os.path.join(folder, name), HERE) for folder, _, names in os.walk(HERE) for name in names)
-    for path in [p for p in paths if p not in ('generate', 'notation.py', 'prove', 'columns', 'wireshark', 'README.md')]:
+    for path in [p for p in paths if p not in ('generate', 'notation.py', 'prove', 'columns', 'words', 'wireshark', 'README.md')]:
         read(path)
     if not faults:
         check_all()
