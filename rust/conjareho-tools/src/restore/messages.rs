@@ -29,6 +29,25 @@ pub(crate) fn replaces(message: &[u8]) -> bool {
     header_of(message).is_some_and(|header| header.flags & NLM_F_REPLACE != 0)
 }
 
+/// True for the request that deletes something. Types go in fours: NEW, DEL, GET and SET.
+pub(crate) fn deletes(message: &[u8]) -> bool {
+    type_of(message) % 4 == 1
+}
+
+/// A request or a notification as if it were that of a new object.
+pub(crate) fn as_new(message: &[u8]) -> Vec<u8> {
+    let mut as_new = message.to_vec();
+    if let Some(place) = as_new.get_mut(4..6) {
+        place.copy_from_slice(&(type_of(message) / 4 * 4).to_ne_bytes());
+    }
+    as_new
+}
+
+/// True for a request of a chain without a template, which the kernel makes by itself too.
+pub(crate) fn is_plain_chain(message: &[u8]) -> bool {
+    type_of(message) == RTM_NEWCHAIN && kind_of(message).is_none()
+}
+
 /// What follows the netlink header.
 pub(crate) fn payload_of(message: &[u8]) -> &[u8] {
     message.get(HEADER..).unwrap_or_default()
