@@ -5,7 +5,7 @@ ghost use Rattle.std.specs.List.{flat_map};
 ghost use Rattle.std.specs.Option.{option_to_list};
 ghost use Rattle.std.specs.HashMap as hash;
 ghost use Rattle.tc_changes.specs.Objects.{same_key};
-ghost use Rattle.tc_objects.specs.Needs.{key_of, under, refers, major, above, owner, parent_class, class_named};
+ghost use Rattle.tc_objects.specs.Needs.{key_of, priority_of, under, refers, major, above, owner, parent_class, class_named};
 
 use crate::names::Names;
 use crate::shown::{Shown, Sort};
@@ -55,13 +55,30 @@ fn key_of<A: Allocator>(shown: &Shown<A>) -> Key
             parent,
             number: chain,
         },
-        Sort::Filter => Key::Filter {
+        Sort::Priority => priority_of(shown),
+        Sort::Filter | Sort::Table => Key::Filter {
             index,
             parent,
             number: chain,
             priority,
             handle,
         },
+        Sort::Action(kind) => Key::Action {
+            kind,
+            index: handle,
+        },
+    }
+}
+
+// The priority of a filter.
+fn priority_of<A: Allocator>(shown: &Shown<A>) -> Key
+    ensures { result ≡ priority_of shown.now }
+{
+    Key::Priority {
+        index: shown.index,
+        parent: shown.parent,
+        number: shown.chain,
+        priority: shown.priority,
     }
 }
 
@@ -114,7 +131,7 @@ fn under<A: Allocator + Copy>(
     match shown.sort {
         Sort::Class => keys.push(owner(names, shown.index, shown.handle))?,
         Sort::Qdisc | Sort::Chain => keys = with(keys, above(names, shown.index, shown.parent))?,
-        Sort::Filter => {
+        Sort::Priority | Sort::Table => {
             let chain = Key::Chain {
                 index: shown.index,
                 parent: shown.parent,
@@ -123,6 +140,8 @@ fn under<A: Allocator + Copy>(
             keys = with(keys, above(names, shown.index, shown.parent))?;
             keys = with(keys, names.get(&chain).copied())?;
         }
+        Sort::Filter => keys.push(priority_of(shown))?,
+        Sort::Action(_) => {}
     }
     Ok(keys)
 }
@@ -141,7 +160,8 @@ fn refers<A: Allocator + Copy>(
             keys.extend_from_slice(&shown.others)?;
             Ok(keys)
         }
-        Sort::Qdisc | Sort::Chain => Ok(Vec::new(alloc)),
+        Sort::Table => with(Vec::new(alloc), Some(priority_of(shown))),
+        Sort::Qdisc | Sort::Chain | Sort::Priority | Sort::Action(_) => Ok(Vec::new(alloc)),
     }
 }
 

@@ -46,6 +46,7 @@ pub(crate) fn requests(wanted: &Wanted<'_>) -> Plan {
     let asked = Asked {
         index: wanted.index.and_then(|index| i32::try_from(index).ok()),
         now: wanted.now.map(str::as_bytes),
+        plans: false,
         replaces_actions: wanted.replaces_actions,
         names: wanted.names,
     };
