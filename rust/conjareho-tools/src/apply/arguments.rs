@@ -139,7 +139,7 @@ fn ways_back() -> [Arg; 3] {
     [
         trial.help("Go back unless Enter is pressed within SECONDS, or if the terminal hangs up"),
         flag("no-rollback", "Don't go back if something fails; delete even what can't be made again"),
-        state.help(format!("Folder for what was there before, the last ten times [default: {STATE}]")),
+        state.help(format!("Folder for the last ten states before [default: {STATE}]")),
     ]
     .map(|arg| arg.help_heading("Way back"))
 }

@@ -13,7 +13,7 @@ mod trial;
 mod wanted;
 
 use arguments::{Arguments, arguments_of};
-use plan::plan;
+use plan::{Fault, plan};
 use prepare::{Prepared, prepare};
 use wanted::{Wanted, wanted_of};
 
@@ -23,7 +23,7 @@ use crate::restore::compare::Key;
 use crate::restore::prepare::Ended;
 use crate::restore::sending::Sending;
 use crate::restore::status::Status;
-use crate::restore::world::{Stop, World};
+use crate::restore::world::{Stop, World, what_of};
 use crate::restore::{Signals, hardware, open_kernel, read, same, say_all};
 use crate::shown::lines_of;
 use std::io::{self, Write as _};
@@ -98,7 +98,7 @@ fn dry_run(
 ) -> Result<Status, Ended> {
     let wanted = wanted_of(arguments, file, world, said)?;
     let dump = world.first_dump(&wanted.targets.own())?;
-    let steps = plan(&dump.messages, &wanted.messages).map_err(|said| Ended::because(Status::NothingSent, said))?;
+    let steps = prepare::planned(&dump.messages, &wanted)?;
     let text: String = outline::lines(&steps, &dump.messages, &wanted.messages, &dump.devices)
         .iter()
         .map(|line| format!("{}\n", Printable(line)))
@@ -168,10 +168,18 @@ fn carried_out<T: Transport, L: Transport>(
     sending.carry_out(&prepared.steps)?;
     // Actions belong to no interface.
     let after = same(sending, &wanted.objects, |_| true, |key, _| key.is_action())?;
+    check_after(&after, wanted)?;
     if wanted.in_hardware > 0 {
         said.extend(hardware::lost(wanted.in_hardware, hardware::count(lines_of(&after)?.text.lines())));
     }
     if prepared.steps.is_empty() { Ok(()) } else { hold() }
+}
+
+/// An error if there is still a plan to what is wanted.
+fn check_after(after: &[Vec<u8>], wanted: &Wanted) -> Result<(), Stop> {
+    let left = plan(after, &wanted.messages, |_| false).map_err(|faults| Stop::Unplanned(wanted.said_of(&faults)))?;
+    let named = || left.iter().map(|request| what_of(request)).collect();
+    if left.is_empty() { Ok(()) } else { Err(Stop::Differs(named())) }
 }
 
 // Makes again what was there before, unless nothing was sent, that isn't wanted, or others are at work.
@@ -201,13 +209,17 @@ fn ended<T: Transport, L: Transport>(
     }
 }
 
+fn unplanned(faults: Vec<Fault>) -> Stop {
+    Stop::Unplanned(faults.into_iter().map(|fault| fault.text).collect())
+}
+
 // Plans from what is there now to what was there before, and anew where something was refused.
 fn gone_back<T: Transport, L: Transport>(prepared: &Prepared, sending: &mut Sending<'_, '_, T, L>) -> Result<(), Stop> {
     sending.turn_back();
     let mut refused = None;
     for _ in 0..MOST_WAYS_BACK {
         let now = sending.world.dump(&prepared.place.indices())?.messages;
-        let steps = plan(&now, &prepared.before).map_err(Stop::Unplanned)?;
+        let steps = plan(&now, &prepared.before, |key| prepared.wanted.names(key)).map_err(unplanned)?;
         match sending.carry_out(&steps) {
             Ok(()) => break,
             Err(stop @ Stop::Refused { .. }) => drop(refused.get_or_insert(stop)),
@@ -215,7 +227,7 @@ fn gone_back<T: Transport, L: Transport>(prepared: &Prepared, sending: &mut Send
         }
     }
     // Actions that neither side names are others'.
-    let is_seen = |key: &Key| !key.is_action() || prepared.wanted.objects.contains_key(key);
+    let is_seen = |key: &Key| !key.is_action() || prepared.wanted.names(key);
     match (same(sending, &prepared.before_objects, is_seen, |_, _| false), refused) {
         (Ok(_), _) => Ok(()),
         (Err(_), Some(stop)) | (Err(stop), None) => Err(stop),

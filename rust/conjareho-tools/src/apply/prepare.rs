@@ -34,7 +34,7 @@ pub(crate) fn prepare<T: Transport, L: Transport>(
 ) -> Result<Prepared, Ended> {
     let own = wanted.targets.own();
     let dump = world.first_dump(&own)?;
-    let steps = plan(&dump.messages, &wanted.messages).map_err(nothing_sent)?;
+    let steps = planned(&dump.messages, &wanted)?;
     let kept = if steps.is_empty() {
         None
     } else {
@@ -52,6 +52,11 @@ pub(crate) fn prepare<T: Transport, L: Transport>(
     })
 }
 
+/// The plan from what there is now to what is wanted.
+pub(crate) fn planned(now: &[Vec<u8>], wanted: &Wanted) -> Result<Vec<Vec<u8>>, Ended> {
+    plan(now, &wanted.messages, |_| false).map_err(|faults| nothing_sent(wanted.said_of(&faults)))
+}
+
 fn nothing_sent(said: Vec<String>) -> Ended {
     Ended::because(Status::NothingSent, said)
 }
@@ -61,8 +66,8 @@ fn check_back(arguments: &Arguments, now: &[Vec<u8>], wanted: &Wanted) -> Result
     if arguments.restored.no_rollback {
         return Ok(());
     }
-    plan(&wanted.messages, now).map(drop).map_err(|faults| {
-        let mut said: Vec<String> = faults.iter().map(|fault| format!("what is there now: {fault}")).collect();
+    plan(&wanted.messages, now, |_| true).map(drop).map_err(|faults| {
+        let mut said: Vec<String> = faults.iter().map(|fault| format!("what is there now: {}", fault.text)).collect();
         said.push("what is there now couldn't be made again, so that it isn't changed without --no-rollback".to_string());
         nothing_sent(said)
     })

@@ -122,7 +122,7 @@ fn a_signal_brings_back_what_was_there() {
 
 #[test]
 fn without_enter_it_goes_back() {
-    let ran = run_held(&["--try", "5", "f"][..2], &saved(otherwise()), tree(2000), &Fake::new(taking()), Err("SIGHUP"));
+    let ran = run_held(&[], &saved(otherwise()), tree(2000), &Fake::new(taking()), Err("SIGHUP"));
     assert_eq!((ran.status, plain(&ran.objects)), (Status::Back, plain(&tree(2000))), "{}", ran.said);
     assert!(ran.said.starts_with("SIGHUP came"), "{}", ran.said);
     let ran = run_held(&[], &saved(tree(1000)), tree(1000), &Fake::new(taking()), Err("SIGHUP"));

@@ -1,6 +1,7 @@
 //! What new network namespaces are for: a command that makes what is wanted, and a plan that is tried.
 
 use super::arguments::Arguments;
+use super::check_after;
 use super::plan::plan;
 use super::scratch::within;
 use super::wanted::{Wanted, wanted_of};
@@ -100,8 +101,8 @@ fn made_there<T: Transport, L: Transport>(
     wanted: &Wanted,
 ) -> Result<usize, Stop> {
     let there = sending.world.first_dump(own)?.messages;
-    let steps = plan(&there, &wanted.messages).map_err(Stop::Unplanned)?;
+    let steps = plan(&there, &wanted.messages, |_| false).map_err(|faults| Stop::Unplanned(wanted.said_of(&faults)))?;
     sending.carry_out(&steps)?;
-    same(sending, &wanted.objects, |_| true, |key, _| key.is_action())?;
+    check_after(&same(sending, &wanted.objects, |_| true, |key, _| key.is_action())?, wanted)?;
     Ok(steps.len())
 }

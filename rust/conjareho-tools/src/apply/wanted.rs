@@ -1,17 +1,18 @@
 //! What is wanted: the objects of a save, for the interfaces of today.
 
 use super::arguments::Arguments;
+use super::plan::Fault;
 use crate::forms_kinds::{ACTION_MESSAGE, TC_MESSAGE, TcTables};
 use crate::netlink::message::{MAGIC_BLOCK, request, tcmsg_of};
 use crate::netlink::{Devices, Transport};
-use crate::restore::compare::{Objects, key_of, objects_of};
+use crate::restore::compare::{Key, Objects, key_of, objects_of};
 use crate::restore::hardware;
 use crate::restore::plan::{Wanted as Asked, requests};
 use crate::restore::prepare::{Ended, names_of, save_in};
 use crate::restore::status::Status;
 use crate::restore::targets::{Targets, targets_of};
 use crate::restore::world::World;
-use crate::tcmake_lib::lines::{Lines, Reading, Source, read_lines};
+use crate::tcmake_lib::lines::{Dumped, Reading, RemarkKind, Source, read_lines};
 use crate::tcmake_messages::Forms;
 use std::collections::BTreeMap;
 
@@ -21,10 +22,35 @@ pub(crate) struct Wanted {
     pub(crate) targets: Targets,
     /// The dumps of the save, with the indices of today.
     pub(crate) messages: Vec<Vec<u8>>,
+    // The numbers of their lines.
+    numbers: Vec<u64>,
+    // What the file is called.
+    file: String,
     /// What they make.
     pub(crate) objects: Objects,
     /// How many filters were in hardware.
     pub(crate) in_hardware: usize,
+}
+
+impl Wanted {
+    /// Why there is no plan to what is wanted, with the numbers of lines.
+    pub(crate) fn said_of(&self, faults: &[Fault]) -> Vec<String> {
+        faults.iter().map(|fault| self.said_of_one(fault)).collect()
+    }
+
+    fn said_of_one(&self, fault: &Fault) -> String {
+        let line = fault.place.and_then(|place| self.numbers.get(place));
+        match (fault.is_of_now, line) {
+            (true, _) => format!("what is there now: {}", fault.text),
+            (false, Some(number)) => format!("{}: line {number}: {}", self.file, fault.text),
+            (false, None) => format!("{}: {}", self.file, fault.text),
+        }
+    }
+
+    /// True for an action that the save has.
+    pub(crate) fn names(&self, key: &Key) -> bool {
+        self.objects.contains_key(key)
+    }
 }
 
 /// Reads a save, and finds its interfaces. Warnings are added to `said`.
@@ -48,31 +74,38 @@ pub(crate) fn wanted_of<T: Transport, L: Transport>(
         ..Asked::default()
     };
     let in_file = |text: &String| format!("{}: {text}", restored.file_name());
-    let made = requests(&asked);
-    if made.is_void || !made.complaints.is_empty() {
-        return Err(nothing(made.complaints.iter().map(in_file).collect()));
-    }
-    said.extend(made.notices.iter().map(in_file));
-    let dumps = messages_in(&asked).map_err(|why| nothing(vec![why]))?;
+    let in_lines = |faults: Vec<String>| nothing(faults.iter().map(in_file).collect());
+    let dumps = messages_in(&asked).map_err(in_lines)?;
     let faults = faults_in(&dumps, &targets);
     if !faults.is_empty() {
-        return Err(nothing(faults.iter().map(in_file).collect()));
+        return Err(in_lines(faults));
     }
+    // Whether there is a plan to what can't be made, the plan says.
+    let made = requests(&asked);
+    said.extend(made.notices.iter().map(in_file));
+    let (numbers, messages) = dumps.into_iter().unzip();
     Ok(Wanted {
-        messages: dumps.into_values().collect(),
+        messages,
+        numbers,
+        file: restored.file_name(),
         objects: objects_of(&made.requests),
         in_hardware: hardware::count(save.lines()),
         targets,
     })
 }
 
-// The dumps of lines, by the numbers of these.
-fn messages_in(asked: &Asked<'_>) -> Result<BTreeMap<u64, Vec<u8>>, String> {
+// The dumps of lines, by the numbers of these. The error is what is wrong with lines.
+fn messages_in(asked: &Asked<'_>) -> Result<BTreeMap<u64, Vec<u8>>, Vec<String>> {
     let forms = Forms { table: TcTables, tc: TC_MESSAGE, action: ACTION_MESSAGE };
     let index = asked.index.and_then(|index| i32::try_from(index).ok());
     let reading = Reading { source: Source::Wanted, index, names: asked.names };
-    let lines: Lines = read_lines(forms, reading, &mut asked.text.as_bytes()).map_err(|_| "out of memory".to_string())?;
-    let message = |it: &crate::tcmake_lib::lines::Dumped| {
+    let lines = read_lines(forms, reading, &mut asked.text.as_bytes()).map_err(|_| vec!["out of memory".to_string()])?;
+    let complaints = lines.remarks.iter().filter(|remark| remark.kind == RemarkKind::Complaint);
+    let faults: Vec<String> = complaints.map(|remark| format!("line {}: {}", remark.number, remark.text)).collect();
+    if lines.is_void || !faults.is_empty() {
+        return Err(faults);
+    }
+    let message = |it: &Dumped| {
         let given = &it.made.given;
         let mut message = request(given.kind.unwrap_or_default(), 0, &it.made.bytes);
         message[6..8].copy_from_slice(&given.flags.to_ne_bytes());

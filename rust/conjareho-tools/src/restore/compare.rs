@@ -134,9 +134,7 @@ pub(crate) fn objects_of(requests: &[Vec<u8>]) -> Objects {
     for request in requests {
         if type_of(request) == RTM_NEWACTION {
             let actions = actions_of(request).into_iter();
-            objects.extend(
-                actions.map(|action| (Key::Action(action.kind.clone(), action.index), Held::Request(action.change()))),
-            );
+            objects.extend(actions.map(|action| (action.key(), Held::Request(action.change()))));
         } else if let Some(header) = tcmsg_of(request) {
             put_object(request, header, of_ingress.contains(&header.index), &mut objects);
         }

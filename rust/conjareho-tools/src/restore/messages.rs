@@ -1,5 +1,6 @@
 //! Requests: what they are about, and the requests that delete or change back what they made.
 
+use super::compare::Key;
 use crate::netlink::attributes::{attribute, put};
 use crate::netlink::message::{
     HEADER, NLM_F_ACK, RTM_NEWACTION, RTM_NEWCHAIN, RTM_NEWTFILTER, TCMSG, Tcmsg, header_of, request, tc_request,
@@ -93,6 +94,11 @@ pub(crate) struct Action {
 }
 
 impl Action {
+    /// What it is.
+    pub(crate) fn key(&self) -> Key {
+        Key::Action(self.kind.clone(), self.index)
+    }
+
     /// The request that changes the parameters of the action of this kind and index to these.
     pub(crate) fn change(self) -> Vec<u8> {
         action_request(RTM_NEWACTION, NLM_F_ACK | NLM_F_CREATE | NLM_F_REPLACE, self.parts.attributes)
