@@ -21,8 +21,8 @@ use Rattle.tc_meaning.specs.Message.{Message as Meaning}
 use Rattle.tc_meaning.specs.Whole.{Words}
 use Rattle.forms_kinds.specs.Table.{tc_tables, tc_message, action_message}
 use Rattle.tcshow_json.specs.declared.message.Origin.{Origin}
-use Rattle.tcshow_json.specs.declared.json.Verdict.{Verdict}
-use Rattle.tcshow_json.specs.declared.json.Verdict.TheVariants.{Read, Refused}
+use Rattle.tcshow_json.specs.declared.serialized.Verdict.{Verdict}
+use Rattle.tcshow_json.specs.declared.serialized.Verdict.TheVariants.{Read, Refused}
 use Rattle.tcshow_json.specs.Messages.{Header, Message, Reason}
 
 -- ---- members of an object

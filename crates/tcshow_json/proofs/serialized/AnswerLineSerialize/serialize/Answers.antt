@@ -4,7 +4,7 @@ use Rattle.serde.specs.Event.{Event, Log, Logs, map_begins, map_ends}
 use Rattle.forms_values.specs.Sent.{Sent}
 use Rattle.forms_values.proofs.Sending.{sent_one, sent_then}
 use Rattle.tcshow_json.specs.Line.{object}
-use Rattle.tcshow_json.proofs.json.AnswerLineSerialize.serialize.Goals as goal
+use Rattle.tcshow_json.proofs.serialized.AnswerLineSerialize.serialize.Goals as goal
 
 -- the members of an object between its ends
 object_sent : (es : List Event) (old mid end new : Log) → Logs old mid (map_begins None) → Sent es mid end → Logs end new map_ends → Sent (object es) old new

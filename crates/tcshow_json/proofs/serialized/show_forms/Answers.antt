@@ -2,7 +2,7 @@ use Rattle.std.specs.Prelude.{codes}
 use Rattle.std.proofs.lemmas.Result.{on_ok_weaker}
 use Rattle.forms_values.proofs.Sending.{sent_then}
 use Rattle.tcshow_json.specs.Line.{bool_field}
-use Rattle.tcshow_json.proofs.json.show_forms.Goals as goal
+use Rattle.tcshow_json.proofs.serialized.show_forms.Goals as goal
 
 pub returns : goal.returns
 returns g c =
