@@ -4,7 +4,6 @@ ghost use Rattle.std.specs.Prelude.{◌≡◌};
 ghost use Rattle.tcshow_input.specs.State.{is_json, layout_of};
 
 use crate::counts::Counts;
-use crate::escaped::escaped;
 use crate::first_lines::FirstLines;
 use crate::links::Links;
 use crate::options::{Options, OutputFormat};
@@ -14,7 +13,7 @@ use crate::summary::{Summary, SummaryLine};
 use std::alloc::{AllocError, Allocator, Global};
 use std::io::Write;
 use tc_outline::{Layout, Page};
-use tcshow_json::{Message, Notice, NoticeLine, json_of, text_of};
+use tcshow_json::{Message, Notice, NoticeLine, json_of, safe_text, text_of};
 
 // The output is written once it holds this many bytes.
 const MOST_KEPT: usize = 65_536;
@@ -51,7 +50,7 @@ pub(crate) fn layout_of(form: OutputFormat) -> Layout
 }
 
 impl<'a, A: Allocator + Copy> Printer<'a, A> {
-    ghost use Rattle.std.specs.Prelude.{◌≡◌, true, false, List, ℕ, [], OnOk, is_some};
+    ghost use Rattle.std.specs.Prelude.{◌≡◌, true, false, List, ℕ, [], OnOk, is_some, string_bytes};
     ghost use Rattle.tc_outline.specs.Page.{IsShown};
     ghost use Rattle.tc_outline.specs.Text.{text_on};
     ghost use Rattle.tcshow_input.specs.Shown.{ended, IsEscaped, ShowsName, ShowsNotice, ShowsSummary};
@@ -125,13 +124,13 @@ impl<'a, A: Allocator + Copy> Printer<'a, A> {
     }
 
     /// Appends a line of JSON to the output, with control characters escaped.
-    pub(crate) fn put_json(&mut self, json: Vec<u8>) -> Result<(), AllocError>
+    pub(crate) fn put_json(&mut self, json: String) -> Result<(), AllocError>
         requires { self.old.output.is_json ≡ true }
         ensures form { self.new.output.is_json ≡ self.old.output.is_json }
-        ensures put { OnOk result ((text : List ℕ) × IsEscaped json.items text × Grows text false (state_of self.old) (state_of self.new)) }
+        ensures put { OnOk result ((text : List ℕ) × IsEscaped (string_bytes json) text × Grows text false (state_of self.old) (state_of self.new)) }
     {
-        let safe = escaped(self.json, json)?;
-        self.output.json(&safe)?;
+        let safe = safe_text(self.json, json)?;
+        self.output.json(safe.as_bytes())?;
         self.output.line_feed()
     }
 
@@ -295,6 +294,6 @@ fn summary_page<A: Allocator>(
     Ok(page)
 }
 
-fn summary_json(alloc: Global, summary: &Summary, all: &Counts) -> Result<Vec<u8>, AllocError> {
+fn summary_json(alloc: Global, summary: &Summary, all: &Counts) -> Result<String, AllocError> {
     json_of(alloc, &SummaryLine { summary, all })
 }
