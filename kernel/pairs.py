@@ -14,7 +14,7 @@ from streams import asked
 OF_A_GUEST = 12  # pairs
 LONGEST = 0.3  # seconds after which it is killed or interrupted, at most
 THERE = ["what is there is what is wanted"]
-KILLED = 128 + 9  # the status of a command that SIGKILL ends
+KILLED, INTERRUPTED = 128 + 9, 128 + 2  # the statuses of a command that SIGKILL or SIGINT ends
 LINKS = [f"link {it} 4" for it in (7, 8, 9)]
 
 
@@ -123,7 +123,7 @@ class Pair:
     def judge_interrupted(self, answers):
         status, after = answers["cut"].status, self.state(answers["after"])
         self.ends.append({0: "too late to interrupt", 5: "came back"}.get(status, "interrupted before the first request"))
-        if status not in (0, 1, 5):
+        if status not in (0, 1, 5, INTERRUPTED):
             return f"{answers['cut']}"
         return self.unlike(self.state(answers["before"] if status else answers["wanted"]), after)
 

@@ -9,7 +9,7 @@ use std::time::Duration;
 
 const ABOUT: &str = "\
 Brings interfaces from the traffic control configuration that they have to the one that FILE says,
-by as few requests as it takes";
+and leaves alone what is the same in both";
 
 const NOTES: &str = "\
 Examples:

@@ -20,16 +20,29 @@ const SIDES: [(u32, &str); 2] = [(0xffff_fff2, "ingress"), (0xffff_fff3, "egress
 
 /// The lines of a plan: a line that counts, and one for each request.
 pub(crate) fn lines(steps: &[Vec<u8>], now: &[Vec<u8>], wanted: &[Vec<u8>], devices: &Devices) -> Vec<String> {
-    let now = objects_of(&requests_of_dump(now).requests);
+    let old = objects_of(&requests_of_dump(now).requests);
     let wanted = objects_of(&requests_of_dump(wanted).requests);
-    let mut lines = vec![counted(steps, &now, &wanted)];
     let gone: Vec<Key> = steps.iter().filter(|step| deletes(step)).filter_map(|step| key_of(&as_new(step))).collect();
-    for step in steps {
-        let sign = if deletes(step) { '-' } else if replaces(step) { '~' } else { '+' };
-        let more = if sign == '-' { String::new() } else { more_of(step, sign == '~', &now, &gone) };
-        lines.push(format!("  {sign} {}{more}", name_of(step, devices)));
-    }
-    lines
+    let line = |step: &Vec<u8>| {
+        if deletes(step) {
+            return format!("  - {}", name_of(now.iter().find(|dump| is_deleted(dump, step)).unwrap_or(step), devices));
+        }
+        let sign = if replaces(step) { '~' } else { '+' };
+        format!("  {sign} {}{}", name_of(step, devices), more_of(step, sign == '~', &old, &gone))
+    };
+    [counted(steps, &old, &wanted)].into_iter().chain(steps.iter().map(line)).collect()
+}
+
+// True for the dump of what a request deletes by its own handle, or a qdisc by its place.
+fn is_deleted(dump: &[u8], step: &[u8]) -> bool {
+    let (Some(own), Some(deleted)) = (tcmsg_of(dump), tcmsg_of(step)) else { return false };
+    let are_same = match type_of(dump) {
+        RTM_NEWQDISC => own.parent == deleted.parent,
+        RTM_NEWTCLASS => own.handle == deleted.handle,
+        RTM_NEWTFILTER => (own.parent, own.info, own.handle) == (deleted.parent, deleted.info, deleted.handle),
+        _ => false,
+    };
+    are_same && type_of(dump) == type_of(&as_new(step)) && own.index == deleted.index && chain_of(dump) == chain_of(step)
 }
 
 fn counted(steps: &[Vec<u8>], now: &Objects, wanted: &Objects) -> String {
@@ -56,7 +69,7 @@ fn more_of(step: &[u8], is_change: bool, now: &Objects, gone: &[Key]) -> String 
     match (is_change, values.is_empty()) {
         (true, _) => values,
         (false, true) => "; made again with what it belongs to".to_string(),
-        (false, false) if gone.contains(&key) => format!("; made again, since this isn't changed in place:{values}"),
+        (false, false) if gone.iter().any(|it| it.is_object_of(&key)) => format!("; made again, since this isn't changed in place:{values}"),
         (false, false) => format!("; made again with what it belongs to:{values}"),
     }
 }

@@ -74,6 +74,20 @@ impl Key {
         matches!(self, Key::Order { .. })
     }
 
+    /// True for a key of the same object, whatever number the kernel gave to the table of a filter of u32, or for that of all filters of its priority.
+    pub(crate) fn is_object_of(&self, other: &Key) -> bool {
+        let filter = |key: &Key| match key {
+            Key::Object { kind: RTM_NEWTFILTER, index, parent, chain, info, handle } => {
+                Some(((*index, *parent, *chain, info >> 16), handle & 0xF_FFFF))
+            }
+            _ => None,
+        };
+        match (filter(self), filter(other)) {
+            (Some((place, own)), Some((other, handle))) => place == other && (own == 0 || own == handle),
+            _ => self == other || self.is_in_place_of(other),
+        }
+    }
+
     /// True for two qdiscs in one place, whatever their handles.
     pub(crate) fn is_in_place_of(&self, other: &Key) -> bool {
         let place = |key: &Key| match key {

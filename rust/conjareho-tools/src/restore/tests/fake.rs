@@ -194,6 +194,14 @@ impl State {
             if self.objects.len() == before {
                 return ENOENT;
             }
+        } else if header.kind == RTM_NEWCHAIN + 1 || header.kind == RTM_NEWTFILTER + 1 && tcmsg.handle == 0 {
+            // All filters of a chain, which have one here, or of a priority.
+            let goes = |it: &Vec<u8>| {
+                let own = tcmsg_of(it).unwrap_or_default();
+                let is_of_priority = header.kind == RTM_NEWCHAIN + 1 || own.info == tcmsg.info;
+                type_of(it) == RTM_NEWTFILTER && (own.index, own.parent) == (tcmsg.index, tcmsg.parent) && is_of_priority
+            };
+            self.objects.retain(|it| !goes(it));
         } else {
             let Some(at) = at else { return ENOENT };
             self.objects.remove(at);
