@@ -43,10 +43,11 @@ _conjareho() {
         ;;
     "tcmake")
         case $previous in
+            --plan) _filedir; return ;;
             --now) _filedir; return ;;
             --names) _filedir; return ;;
         esac
-        words="-h --help -V --version --no-header --pcap --stream --settle --as-given --request --in-order --index --now --replace-actions --names --verbose"
+        words="-h --help -V --version --no-header --pcap --stream --settle --as-given --request --plan --in-order --index --now --replace-actions --names --verbose"
         ;;
     "tcrewrite")
         case $previous in
