@@ -1,4 +1,4 @@
-//! Reads an input in parts: the pieces of a capture, or lines of hex, several of which can form a dump with offsets.
+//! Reads an input in parts: the pieces of a capture, or lines of hex, several of which can form a dump.
 //!
 //! Contracts are about all bytes of the input, if those of the reader are known: the result doesn't depend on the parts.
 //! Calls that take an allocator fail with `AllocError` or `Stop::Memory` if it fails.
@@ -10,7 +10,7 @@ mod lines;
 mod pieces;
 mod text;
 
-pub use dumps::{Place, place_of};
+pub use dumps::{Dump, Next, Place, place_of};
 pub use input::{Input, MOST_PIECE};
 pub use lines::{LineGap, MOST_LINE};
 pub use pieces::{Gap, next_piece, read_on};

@@ -1,6 +1,6 @@
--- Lines of a hex dump (xxd, tcpdump -x, Wireshark); each begins with an offset.
-use Rattle.std.specs.Prelude.{ℕ, suc, ◌==◌, ◌&&◌, ◌||◌, Bool, List, [], ◌∷◌}
-use Rattle.std.specs.Prelude.{take, drop, slice_index, is_some, Option, Some, None, nat_le, if◌then◌else◌}
+-- Lines of a hex dump (xxd, hexdump -C, tcpdump -x, Wireshark); each begins with an offset.
+use Rattle.std.specs.Prelude.{ℕ, suc, ◌+◌, ◌==◌, ◌&&◌, ◌||◌, Bool, List, [], ◌∷◌}
+use Rattle.std.specs.Prelude.{length, take, drop, slice_index, is_some, Option, Some, None, nat_le, if◌then◌else◌}
 use Rattle.tc_select.specs.Digits.{digit, digits_of}
 
 -- a space, a tab or a carriage return
@@ -41,9 +41,25 @@ pub record Line : Type 0 where
 abbrev pub columns_in : List ℕ → List ℕ
 columns_in text = take (columns_length text) text
 
+-- two digits and a blank
+abbrev pub begins_with_byte : List ℕ → Bool
+begins_with_byte text = front_length is_digit text == 2 && is_blank (slice_index text 2)
+
+-- `hexdump -C` writes two blanks, where others write one, after eight bytes, which are 23 characters
+abbrev pub has_gap : List ℕ → Bool
+has_gap text = columns_length text == 23 && nat_le 25 (length text) && begins_with_byte (drop 25 text)
+
+abbrev pub columns_with_gap : List ℕ → List ℕ
+columns_with_gap text = if has_gap text then take (25 + columns_length (drop 25 text)) text else columns_in text
+
+-- the columns after an offset; there is no gap in them if a colon ends the offset
+abbrev pub columns_after : List ℕ → List ℕ
+columns_after rest =
+    if slice_index rest 0 == 58 then columns_in (without_blanks (drop 2 rest)) else columns_with_gap (without_blanks (drop 2 rest))
+
 abbrev pub line_from : List ℕ → Option ℕ → Option Line
 line_from rest None = None
-line_from rest (Some offset) = Some (record { offset = offset; columns = columns_in (without_blanks (drop 2 rest)) })
+line_from rest (Some offset) = Some (record { offset = offset; columns = columns_after rest })
 
 -- the offset has four digits or more
 abbrev pub line_with : ℕ → List ℕ → Option Line
@@ -55,3 +71,22 @@ line_of_digits text = line_with (front_length is_digit text) text
 
 abbrev pub line_of : List ℕ → Option Line
 line_of line = line_of_digits (without_0x (without_blanks line))
+
+-- ---- lines without columns
+
+-- nothing but blanks
+abbrev pub is_empty : List ℕ → Bool
+is_empty text = length (without_blanks text) == 0
+
+-- an asterisk, which stands for lines with the bytes of the line before
+abbrev pub is_asterisk : List ℕ → Bool
+is_asterisk line = slice_index line 0 == 42 && is_empty (drop 1 line)
+
+-- the number of digits of a line that holds nothing else; 0 of another line
+abbrev pub digits_of_line : List ℕ → ℕ
+digits_of_line line = if is_empty (drop (front_length is_digit line) line) then front_length is_digit line else 0
+
+-- the offset on a line that holds nothing else: four digits or more
+abbrev pub end_of : List ℕ → Option ℕ
+end_of line =
+    if nat_le 4 (digits_of_line line) then digits_of 16 0xffffffffffffffff (take (digits_of_line line) line) else None

@@ -1,5 +1,5 @@
 -- Times as they are given on a command line.
-use Rattle.std.specs.Prelude.{ℕ, ◌+◌, ◌-◌, ◌*◌, ◌/◌, ◌==◌, ◌&&◌, Bool, List, [], ◌∷◌}
+use Rattle.std.specs.Prelude.{ℕ, ◌+◌, ◌-◌, ◌*◌, ◌/◌, ◌^◌, min, ◌==◌, ◌&&◌, Bool, List, [], ◌∷◌}
 use Rattle.std.specs.Prelude.{length, take, drop, slice_index, Option, Some, None, option_and_then, nat_le, nat_lt, if◌then◌else◌}
 use Rattle.std.specs.List.{position_or_len, before_first, after_first}
 use Rattle.tc_capture.specs.declared.time.Time.{Time}
@@ -87,3 +87,24 @@ time_of_date text =
 -- either of them
 abbrev pub parse_time : List ℕ → Option Time
 parse_time text = if is_date_time text then time_of_date text else time_of_seconds text
+
+-- ---- a time of day: 20:00, or 20:00:05
+
+abbrev pub is_clock : List ℕ → Bool
+is_clock text = nat_le 5 (length text) && slice_index text 2 == 58
+
+abbrev pub second_after : List ℕ → Option ℕ
+second_after text =
+    if length text == 5 then Some 0 else
+    if length text == 8 && slice_index text 5 == 58 then part 6 2 text else None
+
+abbrev pub second_in : List ℕ → Option ℕ
+second_in text = part 0 2 text >>= λ h. part 3 2 text >>= λ m. second_after text >>= λ s. second_of h m s
+
+-- the second of the day
+abbrev pub parse_clock : List ℕ → Option ℕ
+parse_clock text = if is_clock text then second_in text else None
+
+-- this second of the day in which a time is
+abbrev pub on_day : Time → ℕ → Time
+on_day day second = record { seconds = min (day.seconds / 86400 * 86400 + second) (2 ^ 64 - 1); nanoseconds = 0 }

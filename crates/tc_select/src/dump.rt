@@ -1,8 +1,8 @@
 //! Lines of a hex dump; each begins with an offset.
 
 ghost use Rattle.std.specs.Prelude.{◌≡◌, ◌≤◌, length, slice_index, option_map};
-ghost use Rattle.tc_select.specs.Dump.{is_blank, front_length, columns_length, is_digit, without_blanks};
-ghost use Rattle.tc_select.specs.Dump.{without_0x, ends_offset, columns_in, line_with, line_of_digits, line_of};
+ghost use Rattle.tc_select.specs.Dump.{is_blank, front_length, columns_length, is_digit, without_blanks, begins_with_byte, has_gap, columns_with_gap, columns_after};
+ghost use Rattle.tc_select.specs.Dump.{without_0x, ends_offset, columns_in, line_with, line_of_digits, line_of, is_empty, is_asterisk, digits_of_line, end_of};
 ghost use Rattle.tc_select.specs.DumpView.{line_view};
 
 use crate::digits::{digit, digits_of};
@@ -16,7 +16,7 @@ pub struct DumpLine<'a> {
     pub columns: &'a [u8],
 }
 
-/// Parses a line of `xxd`, of `tcpdump -x` or of a copy from Wireshark; `None` if it doesn't begin with an offset.
+/// Parses a line of `xxd`, `hexdump -C`, `tcpdump -x` or of a copy from Wireshark; `None` if it doesn't begin with an offset.
 pub fn dump_line(line: &[u8]) -> Option<DumpLine<'_>>
     ensures { option_map line_view result ≡ line_of line.now }
 {
@@ -101,14 +101,55 @@ fn line_with(count: usize, text: &[u8]) -> Option<DumpLine<'_>>
     }
     if count >= 4 && ends_offset(rest) {
         let offset = digits_of(16, u64::MAX, front)?;
-        let (_, after) = rest.split_at(2);
         Some(DumpLine {
             offset,
-            columns: columns_in(without_blanks(after)),
+            columns: columns_after(rest),
         })
     } else {
         None
     }
+}
+
+// The columns after an offset; there is no gap in them if a colon ends the offset.
+fn columns_after(rest: &[u8]) -> &[u8]
+    requires { 2 ≤ length rest.now }
+    ensures { result.now ≡ columns_after rest.now }
+{
+    let (_, after) = rest.split_at(2);
+    let text = without_blanks(after);
+    if rest[0] == b':' {
+        columns_in(text)
+    } else {
+        columns_with_gap(text)
+    }
+}
+
+// The characters of eight bytes, and of the two blanks after them.
+const HALF: usize = 25;
+
+// The columns of a line in which two blanks may follow eight bytes.
+fn columns_with_gap(text: &[u8]) -> &[u8]
+    ensures { result.now ≡ columns_with_gap text.now }
+{
+    if columns(text) != HALF - 2 {
+        return columns_in(text);
+    }
+    if text.len() < HALF {
+        return columns_in(text);
+    }
+    let (_, second) = text.split_at(HALF);
+    if begins_with_byte(second) {
+        text.split_at(HALF + columns(second)).0
+    } else {
+        columns_in(text)
+    }
+}
+
+// True if two digits and a blank come first.
+fn begins_with_byte(text: &[u8]) -> bool
+    ensures { result ≡ begins_with_byte text.now }
+{
+    text.len() > 2 && digits(text) == 2 && is_blank(text[2])
 }
 
 // The text before two blanks.
@@ -140,4 +181,41 @@ fn begins_blank(text: &[u8]) -> bool
         [c, ..] => is_blank(*c),
         [] => false,
     }
+}
+
+fn is_empty(text: &[u8]) -> bool
+    ensures { result ≡ is_empty text.now }
+{
+    without_blanks(text).is_empty()
+}
+
+/// True for a line with an asterisk, by which `hexdump` and `xxd -a` leave out lines with the bytes of the line before.
+pub fn is_asterisk(line: &[u8]) -> bool
+    ensures { result ≡ is_asterisk line.now }
+{
+    match line {
+        [c, rest @ ..] => *c == b'*' && is_empty(rest),
+        [] => false,
+    }
+}
+
+/// The number of digits of a line that holds nothing else, as of `xxd -p`; 0 for another line.
+pub fn digits_of_line(line: &[u8]) -> usize
+    ensures count { result ≡ digits_of_line line.now }
+    ensures within { result ≤ length line.now }
+{
+    let count = digits(line);
+    let (_, rest) = line.split_at(count);
+    if is_empty(rest) { count } else { 0 }
+}
+
+/// The offset on a line that holds nothing else, with which a dump of `hexdump` ends.
+pub fn end_of_dump(line: &[u8]) -> Option<u64>
+    ensures { result ≡ end_of line.now }
+{
+    let count = digits_of_line(line);
+    if count < 4 {
+        return None;
+    }
+    digits_of(16, u64::MAX, line.split_at(count).0)
 }

@@ -15,12 +15,12 @@ pub mod pasted;
 pub mod times;
 pub mod types;
 
-pub use dump::{DumpLine, dump_line};
+pub use dump::{DumpLine, digits_of_line, dump_line, end_of_dump, is_asterisk};
 pub use filter::{Filter, Message};
 pub use handles::{HANDLE_FORMS, parse_handle};
 pub use kinds::{is_filter_kind, kind_of};
 pub use links::{LINK_FORMS, NamedLink, RTM_NEWLINK, link_of_line, link_of_message};
 pub use names::names_in;
 pub use pasted::push_hex;
-pub use times::{TIME_FORMS, parse_time};
+pub use times::{TIME_FORMS, on_day, parse_clock, parse_time};
 pub use types::{TYPE_FORMS, Types, parse_types};

@@ -3,6 +3,7 @@
 ghost use Rattle.std.specs.Prelude.{◌≡◌, ◌≤◌, ◌+◌, length, take, drop, IfSome};
 ghost use Rattle.tc_select.specs.Times.{add_decimal, add_decimal_char, decimals_of, seconds_in, time_of_seconds, has_marks, is_date_time};
 ghost use Rattle.tc_select.specs.Times.{part, date_in, second_of, clock_in, nanoseconds_in, end_in, time_of_date, parse_time};
+ghost use Rattle.tc_select.specs.Times.{is_clock, second_after, second_in, parse_clock, on_day};
 
 use crate::calendar::days_of_date;
 use crate::digits::{digit, number_of};
@@ -10,7 +11,7 @@ use tc_capture::Time;
 
 /// The forms of a time, for error messages.
 pub const TIME_FORMS: &str =
-    "a time is seconds since 1970, such as 1764028801.25, or 2026-11-26T14:00:00Z";
+    "a time is seconds since 1970, such as 1764028801.25, or 2026-11-26T14:00:00Z, or 20:00";
 
 /// Parses a time: seconds since 1970 with up to nine decimals, or a date and a time in UTC.
 pub fn parse_time(text: &str) -> Option<Time>
@@ -191,5 +192,58 @@ fn nanoseconds_in(text: &[u8]) -> Option<u32>
         decimals_of(decimals)
     } else {
         None
+    }
+}
+
+/// Parses a time of day: hours, minutes and perhaps seconds, such as 20:00. Returns the second of the day.
+pub fn parse_clock(text: &str) -> Option<u64>
+    ensures { result ≡ parse_clock text.now }
+{
+    if is_clock(text.as_bytes()) {
+        second_in(text.as_bytes())
+    } else {
+        None
+    }
+}
+
+fn is_clock(text: &[u8]) -> bool
+    ensures { result ≡ is_clock text.now }
+{
+    text.len() >= 5 && text[2] == b':'
+}
+
+// The second of the day.
+fn second_in(text: &[u8]) -> Option<u64>
+    requires { 5 ≤ length text.now }
+    ensures { result ≡ second_in text.now }
+{
+    let hour = part(0, 2, text)?;
+    let minute = part(3, 2, text)?;
+    let second = second_after(text)?;
+    second_of(hour, minute, second)
+}
+
+// The seconds after hours and minutes, if there are any.
+fn second_after(text: &[u8]) -> Option<u64>
+    requires { 5 ≤ length text.now }
+    ensures { result ≡ second_after text.now }
+{
+    if text.len() == 5 {
+        return Some(0);
+    }
+    if text.len() == 8 && text[5] == b':' {
+        part(6, 2, text)
+    } else {
+        None
+    }
+}
+
+/// This second of the day in which a time is, in UTC.
+pub fn on_day(day: Time, second: u64) -> Time
+    ensures { result ≡ on_day day second }
+{
+    Time {
+        seconds: (day.seconds / 86_400 * 86_400).saturating_add(second),
+        nanoseconds: 0,
     }
 }

@@ -1,4 +1,5 @@
 pub mod Beside
+pub mod Faults
 pub mod Names
 pub mod Refused
 pub mod Said

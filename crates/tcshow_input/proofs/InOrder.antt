@@ -15,6 +15,7 @@ use Rattle.tc_input.specs.Text.{OnLine}
 use Rattle.tc_input.proofs.LongLines.{long_is_apart, long_is_said}
 use Rattle.tcshow_json.specs.Messages.{Thing, hole}
 use Rattle.tcshow_input.specs.Reading.{things_in_piece, packets_after, things_in_pieces, things_in_gap, is_passed, things_of_line, things_on_lines, is_hex_text}
+use Rattle.tc_input.specs.Dumps.{Dump, no_dump}
 use Rattle.tcshow_input.specs.Reading.{things_dumped, things_by_place, things_at, dump_by_place, dump_after}
 use Rattle.tcshow_input.specs.Reading.{things_by, things_in_file, AreIn, Begins, capture_left, text_left, GivesUpTo}
 
@@ -77,8 +78,8 @@ same_place n s t on xs before after same given = subst (λ (k : State). GivesUpT
 
 -- ---- of lines of hex
 
-module _ (header : Option MessageType) (dump line : List ℕ) where
-  pub line_gives : (next : List ℕ) (before : Option (List ℕ)) (now gone : List ℕ) (reader : Option (List ℕ))
+module _ (header : Option MessageType) (dump : Dump) (line : List ℕ) where
+  pub line_gives : (next : Dump) (before : Option (List ℕ)) (now gone : List ℕ) (reader : Option (List ℕ))
       → Gives (lines_left before) (line ∷ []) (lines_left (prepend_known gone reader)) → now ≡ gone → next ≡ dump_after dump line
       → Gives (text_left header dump before) (things_at header dump line) (text_left header next (prepend_known now reader))
   line_gives next None now gone reader h used kept = tt
@@ -86,7 +87,7 @@ module _ (header : Option MessageType) (dump line : List ℕ) where
   line_gives next (Some b) now gone (Some r) h used kept =
       ap (things_on_lines header dump) h
       ∙ ap (λ l. things_at header dump line ++ things_on_lines header (dump_after dump line) (lines_of (l ++ r))) (sym used)
-      ∙ ap (λ d. things_at header dump line ++ things_on_lines header d (lines_of (now ++ r))) (sym kept)
+      ∙ ap (λ (d : Dump). things_at header dump line ++ things_on_lines header d (lines_of (now ++ r))) (sym kept)
 
   first_gives : (before after : Option (List ℕ)) → Gives (lines_left before) (line ∷ []) (lines_left after)
       → Gives (text_left header dump before) (things_at header dump line) (text_left header (dump_after dump line) after)
@@ -96,47 +97,47 @@ module _ (header : Option MessageType) (dump line : List ℕ) where
 
   -- the last line, and the dump that ends with it
   pub last_gives : (before : Option (List ℕ)) → Gives (lines_left before) (line ∷ []) (Some [])
-      → Gives (text_left header dump before) (things_at header dump line ++ things_dumped header (dump_after dump line)) (Some [])
+      → Gives (text_left header dump before) (things_at header dump line ++ things_dumped header (dump_after dump line).bytes) (Some [])
   last_gives None h = tt
-  last_gives (Some b) h = ap (things_on_lines header dump) h ∙ sym (append-nil (things_at header dump line ++ things_dumped header (dump_after dump line)))
+  last_gives (Some b) h = ap (things_on_lines header dump) h ∙ sym (append-nil (things_at header dump line ++ things_dumped header (dump_after dump line).bytes))
 
   -- a line that is too long is no line of a dump
   module _ (long : most_line < length line) where
-    long_things : things_at header dump line ≡ things_dumped header dump ++ (hole false ∷ [])
+    long_things : things_at header dump line ≡ things_dumped header dump.bytes ++ (hole false ∷ [])
     long_things =
         ap (things_by_place header dump line) (long_is_apart line long dump)
-        ∙ ap (λ (said : OnLine). things_dumped header dump ++ things_of_line header said) (long_is_said line long)
+        ∙ ap (λ (said : OnLine). things_dumped header dump.bytes ++ things_of_line header said) (long_is_said line long)
 
-    no_dump : dump_after dump line ≡ []
-    no_dump = ap (dump_by_place dump) (long_is_apart line long dump)
+    no_dump_after : dump_after dump line ≡ no_dump
+    no_dump_after = ap (dump_by_place dump) (long_is_apart line long dump)
 
-    long_goes_on : (next : List ℕ) (before after : Option (List ℕ)) → Gives (lines_left before) (line ∷ []) (lines_left after) → next ≡ []
-        → Gives (text_left header dump before) (things_dumped header dump ++ (hole false ∷ [])) (text_left header next after)
+    long_goes_on : (next : Dump) (before after : Option (List ℕ)) → Gives (lines_left before) (line ∷ []) (lines_left after) → next ≡ no_dump
+        → Gives (text_left header dump before) (things_dumped header dump.bytes ++ (hole false ∷ [])) (text_left header next after)
     long_goes_on next before after h none =
-        subst (λ d. Gives (text_left header dump before) (things_dumped header dump ++ (hole false ∷ [])) (text_left header d after)) (no_dump ∙ sym none)
+        subst (λ (d : Dump). Gives (text_left header dump before) (things_dumped header dump.bytes ++ (hole false ∷ [])) (text_left header d after)) (no_dump_after ∙ sym none)
         (subst (λ xs. Gives (text_left header dump before) xs (text_left header (dump_after dump line) after)) long_things (first_gives before after h))
 
     long_ends : (before : Option (List ℕ)) → Gives (lines_left before) (line ∷ []) (Some [])
-        → Gives (text_left header dump before) (things_dumped header dump ++ (hole false ∷ [])) (Some [])
+        → Gives (text_left header dump before) (things_dumped header dump.bytes ++ (hole false ∷ [])) (Some [])
     long_ends before h =
-        let all : things_at header dump line ++ things_dumped header (dump_after dump line) ≡ things_dumped header dump ++ (hole false ∷ []) =
-        ap (λ d. things_at header dump line ++ things_dumped header d) no_dump ∙ append-nil (things_at header dump line) ∙ long_things in
+        let all : things_at header dump line ++ things_dumped header (dump_after dump line).bytes ≡ things_dumped header dump.bytes ++ (hole false ∷ []) =
+        ap (λ (d : Dump). things_at header dump line ++ things_dumped header d.bytes) no_dump_after ∙ append-nil (things_at header dump line) ∙ long_things in
         subst (λ xs. Gives (text_left header dump before) xs (Some [])) all (last_gives before h)
 
-pub text_kept : (header : Option MessageType) (dump : List ℕ) (before after : Option (List ℕ)) → Keeps before after
+pub text_kept : (header : Option MessageType) (dump : Dump) (before after : Option (List ℕ)) → Keeps before after
     → Gives (text_left header dump before) [] (text_left header dump after)
 text_kept header dump None after kept = tt
 text_kept header dump (Some x) None kept = absurd kept
 text_kept header dump (Some x) (Some y) kept = ap (λ l. things_on_lines header dump (lines_of l)) (sym kept)
 
-pub long_gives : (header : Option MessageType) (dump next : List ℕ) (n : ℕ) (on : Bool) (now : List ℕ) (before after : Option (List ℕ))
-    → IsLineGap (line_gap.Long n on) now before after → next ≡ []
-    → GivesUpTo on (text_left header dump before) (things_dumped header dump ++ (hole false ∷ [])) (text_left header next after)
+pub long_gives : (header : Option MessageType) (dump next : Dump) (n : ℕ) (on : Bool) (now : List ℕ) (before after : Option (List ℕ))
+    → IsLineGap (line_gap.Long n on) now before after → next ≡ no_dump
+    → GivesUpTo on (text_left header dump before) (things_dumped header dump.bytes ++ (hole false ∷ [])) (text_left header next after)
 long_gives header dump next n true now before after h none = long_goes_on header dump h.0 h.1 next before after h.2 none
 long_gives header dump next n false now before after h none = long_ends header dump h.0 h.1 before h.2
 
 -- the header of lines is unchanged
-pub same_header : (h k : Option MessageType) (d e : List ℕ) (on : Bool) (xs : List Thing) (before after : Option (List ℕ)) → h ≡ k
+pub same_header : (h k : Option MessageType) (d e : Dump) (on : Bool) (xs : List Thing) (before after : Option (List ℕ)) → h ≡ k
     → GivesUpTo on (text_left h d before) xs (text_left h e after) → GivesUpTo on (text_left k d before) xs (text_left k e after)
 same_header h k d e on xs before after same given =
     subst (λ (j : Option MessageType). GivesUpTo on (text_left j d before) xs (text_left j e after)) same given
@@ -156,13 +157,13 @@ capture_begins header first (Some bytes) s n things is none h = λ same.
     ∙ all_are (things_in_pieces n (found_in s bytes)) things h
 
 pub text_begins : (header : Option MessageType) (first : List ℕ) (file : Option (List ℕ)) (things : List Thing) → capture_at (take 4 first) ≡ None
-    → is_hex_text (take 4 first) ≡ true → Gives (text_left header [] file) things (Some []) → Begins first file header things
+    → is_hex_text (take 4 first) ≡ true → Gives (text_left header no_dump file) things (Some []) → Begins first file header things
 unfolding things_in_file
 text_begins header first None things is hex h = tt
 text_begins header first (Some bytes) things is hex h = λ same.
     ap (λ (found : Option State). things_by header found bytes) (ap capture_at (sym same) ∙ is)
-    ∙ ap (λ (t : Bool). if t then Some (things_on_lines header [] (lines_of bytes)) else None) (ap is_hex_text (sym same) ∙ hex)
-    ∙ all_are (things_on_lines header [] (lines_of bytes)) things h
+    ∙ ap (λ (t : Bool). if t then Some (things_on_lines header no_dump (lines_of bytes)) else None) (ap is_hex_text (sym same) ∙ hex)
+    ∙ all_are (things_on_lines header no_dump (lines_of bytes)) things h
 
 -- the first bytes of an input are those of the file
 pub begun_are : (header : Option MessageType) (first : List ℕ) (file left : Option (List ℕ)) (things : List Thing) → Keeps file left

@@ -56,9 +56,12 @@ progress_then xs ys a b c s m n h k = record {
 }
 
 -- appended text, of which nothing or a part is written then
+pub progress_written : (xs : List Thing) (a b c : Option (List ℕ)) (s m n : State) → Progress xs a b s m → Progress [] b c m n → Progress xs a c s n
+progress_written xs a b c s m n h k = subst (λ l. Progress l a c s n) (append-nil xs) (progress_then xs [] a b c s m n h k)
+
 pub puts_progress : (xs : List Thing) (a b : Option (List ℕ)) (s m n : State) → Puts xs s m → Progress [] a b m n → Progress xs a b s n
 puts_progress xs a b s m n p h =
-    subst (λ l. Progress l a b s n) (append-nil xs) (progress_then xs [] a a b s m n (progress_puts a xs s m p) h)
+    progress_written xs a a b s m n (progress_puts a xs s m p) h
 
 -- text appended after a write
 pub progress_more : (xs : List Thing) (a b : Option (List ℕ)) (s m n : State) → Progress [] a b s m → Puts xs m n → Progress xs a b s n

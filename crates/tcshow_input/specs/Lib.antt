@@ -2,6 +2,5 @@ pub mod Writing
 pub mod Things
 pub mod Reading
 pub mod Selection
-pub mod Escaped
 pub mod Shown
 pub mod State

@@ -9,7 +9,7 @@ use Rattle.tc_capture_laws.specs.Pieces as pieces
 use Rattle.tc_capture_laws.specs.Pieces.{What}
 use Rattle.tc_input.specs.declared.pieces.Gap.{Gap}
 use Rattle.tc_input.specs.declared.pieces.Gap.TheVariants.{More, Skipped, Broken, Cut, End}
-use Rattle.tc_input.specs.Dumps.{Place, begins, goes_on, apart, place_at}
+use Rattle.tc_input.specs.Dumps.{Dump, Place, begins, goes_on, apart, no_dump, gone_on, place_at}
 use Rattle.tc_input.specs.Left.{Gives}
 use Rattle.tc_input.specs.Lines.{lines_of, lines_left}
 use Rattle.tc_input.specs.Pieces.{found_in, pieces_left}
@@ -79,28 +79,28 @@ things_of_line header (octets bs) = things_on_line header bs
 -- the things in a dump; no things without bytes
 abbrev pub things_dumped : Option MessageType → List ℕ → List Thing
 things_dumped header [] = []
-things_dumped header (b ∷ dump) = things_on_line header (b ∷ dump)
+things_dumped header (b ∷ bytes) = things_on_line header (b ∷ bytes)
 
--- the things that end with one more line, after the bytes of a dump: none if the dump goes on
-abbrev pub things_by_place : Option MessageType → List ℕ → List ℕ → Place → List Thing
-things_by_place header dump line (begins bytes) = things_dumped header dump
-things_by_place header dump line (goes_on bytes) = []
-things_by_place header dump line apart = things_dumped header dump ++ things_of_line header (on_line line)
+-- the things that end with one more line, after those of a dump: none if the dump goes on
+abbrev pub things_by_place : Option MessageType → Dump → List ℕ → Place → List Thing
+things_by_place header dump line (begins other) = things_dumped header dump.bytes
+things_by_place header dump line (goes_on more) = []
+things_by_place header dump line apart = things_dumped header dump.bytes ++ things_of_line header (on_line line)
 
-abbrev pub things_at : Option MessageType → List ℕ → List ℕ → List Thing
+abbrev pub things_at : Option MessageType → Dump → List ℕ → List Thing
 things_at header dump line = things_by_place header dump line (place_at dump line)
 
--- the bytes of the dump after the line
-abbrev pub dump_by_place : List ℕ → Place → List ℕ
-dump_by_place dump (begins bytes) = bytes
-dump_by_place dump (goes_on bytes) = dump ++ bytes
-dump_by_place dump apart = []
+-- the dump after the line
+abbrev pub dump_by_place : Dump → Place → Dump
+dump_by_place dump (begins other) = other
+dump_by_place dump (goes_on more) = gone_on dump more
+dump_by_place dump apart = no_dump
 
-abbrev pub dump_after : List ℕ → List ℕ → List ℕ
+abbrev pub dump_after : Dump → List ℕ → Dump
 dump_after dump line = dump_by_place dump (place_at dump line)
 
-abbrev pub things_on_lines : Option MessageType → List ℕ → List (List ℕ) → List Thing
-things_on_lines header dump [] = things_dumped header dump
+abbrev pub things_on_lines : Option MessageType → Dump → List (List ℕ) → List Thing
+things_on_lines header dump [] = things_dumped header dump.bytes
 things_on_lines header dump (line ∷ lines) = things_at header dump line ++ things_on_lines header (dump_after dump line) lines
 
 abbrev pub is_hex_digit : ℕ → Bool
@@ -120,7 +120,7 @@ is_hex_text (b ∷ first) = is_hex_digit b || is_blank b
 -- the things in an input whose first four bytes announce this capture, or none
 abbrev pub things_by : Option MessageType → Option State → List ℕ → Option (List Thing)
 things_by header (Some s) file = Some (things_in_pieces 0 (found_in s file))
-things_by header None file = if is_hex_text (take 4 file) then Some (things_on_lines header [] (lines_of file)) else None
+things_by header None file = if is_hex_text (take 4 file) then Some (things_on_lines header no_dump (lines_of file)) else None
 
 -- the things in a file, if it is a capture or lines of hex
 unfoldable pub things_in_file : Option MessageType → List ℕ → Option (List Thing)
@@ -139,7 +139,7 @@ Begins first file header things = IfSome file (λ bytes. take 4 first ≡ take 4
 abbrev pub capture_left : ℕ → State → Option (List ℕ) → Option (List Thing)
 capture_left n s left = option_map (things_in_pieces n) (pieces_left s left)
 
-abbrev pub text_left : Option MessageType → List ℕ → Option (List ℕ) → Option (List Thing)
+abbrev pub text_left : Option MessageType → Dump → Option (List ℕ) → Option (List Thing)
 text_left header dump left = option_map (things_on_lines header dump) (lines_left left)
 
 -- the things come before those of the rest; or they are all, if the input ends

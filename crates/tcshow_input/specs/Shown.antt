@@ -1,5 +1,5 @@
 -- The text that is printed for things, one after the other, and whether one of them is refused or broken.
-use Rattle.std.specs.Prelude.{◌≡◌, ℕ, Bool, true, false, ◌||◌, List, [], ◌∷◌, ◌++◌, is_some, ⊤}
+use Rattle.std.specs.Prelude.{◌≡◌, ℕ, Bool, true, false, ◌||◌, List, [], ◌∷◌, ◌++◌, is_some, IsUtf8, ⊤}
 use Rattle.tc_columns.specs.Kinds.{root_place}
 use Rattle.tc_select.specs.declared.filter.Filter.{Filter}
 use Rattle.tc_outline.specs.Located.{items_of_message, message_fault}
@@ -9,16 +9,17 @@ use Rattle.tcshow_json.specs.Grammars.{is_refused, IsLineOf}
 use Rattle.tcshow_input.specs.Selection.{is_matched, is_included}
 use Rattle.tcshow_json.specs.Messages.{Header, Message, Reason, Thing, message, answer, other, hole}
 use Rattle.tcshow_json.specs.Line.{IsAnswered}
-use Rattle.tcshow_input.specs.Escaped.{IsSafeTextOf}
+use Rattle.tcshow_json.specs.Safe.{safe_text}
 use Rattle.tcshow_json.specs.Objects.{root_of}
 
 -- a line, and the line feed that ends it
 abbrev pub ended : List ℕ → List ℕ
 ended line = line ++ 10 ∷ []
 
--- a line of JSON as it is printed: with control characters escaped
-abbrev pub IsEscaped : List ℕ → List ℕ → Type 0
-IsEscaped line text = (safe : List ℕ) × IsSafeTextOf line safe × (text ≡ ended safe)
+-- a line of JSON, in UTF-8, as it is printed: with control characters escaped
+pub record IsEscaped (line text : List ℕ) : Type 0 where
+  pub utf8 : IsUtf8 line
+  pub printed : text ≡ ended (safe_text line)
 
 -- a page of printable ASCII and line feeds, and the line feed that ends it
 abbrev pub IsPage : List ℕ → Type 0
@@ -73,6 +74,11 @@ ShowsAnswer false h r m text = IsPage text
 abbrev pub ShowsNotice : Bool → List ℕ → Type 0
 ShowsNotice true text = (line : List ℕ) × (text ≡ ended line)
 ShowsNotice false text = IsPage text
+
+-- before the things of one of several inputs a line with its name, but in JSON nothing
+abbrev pub ShowsName : Bool → List ℕ → Type 0
+ShowsName true text = text ≡ []
+ShowsName false text = IsPage text
 
 -- a summary, if the options ask for it
 abbrev pub ShowsSummary : Bool → Bool → List ℕ → Type 0

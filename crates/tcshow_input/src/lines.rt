@@ -1,6 +1,7 @@
 //! Lines of hex, printed.
 
 ghost use Rattle.std.specs.Prelude.{◌≡◌, false, List, Some, [], take, length, ◌≤◌, OnOk, IfOk};
+ghost use Rattle.tc_input.specs.Dumps.{dump_of, no_dump};
 ghost use Rattle.tc_input.specs.Left.{rest_of, left_of, Gives};
 ghost use Rattle.tc_input.specs.Lines.{HasNoFeed};
 ghost use Rattle.tcshow_json.specs.Messages.{Thing};
@@ -13,7 +14,7 @@ use crate::printer::Printer;
 use crate::stop::Stop;
 use std::alloc::{AllocError, Allocator};
 use std::io::{Read, Write};
-use tc_input::{Input, LineGap, OnLine, Place, on_line, place_of};
+use tc_input::{Dump, Input, LineGap, OnLine, Place, on_line, place_of};
 use tcshow_json::{Message, NO_ORIGIN, Notice};
 
 /// True if lines of hex can begin with these bytes: with a digit, a blank, `#` or a line end.
@@ -72,9 +73,9 @@ pub fn show_lines<A: Allocator + Copy, R: Read, W: Write>(
     ensures clean { printer.old.output.is_json ≡ false → GrowsClean (W.contents writer.old) (W.contents writer.new) }
     ensures ran { OnOk result ((things : List Thing)
         × Progress things (W.contents writer.old) (W.contents writer.new) (state_of printer.old) (state_of printer.new)
-        × Gives (text_left (state_of printer.old).header [] (left_of input.old (R.remaining reader.old))) things (Some [])) }
+        × Gives (text_left (state_of printer.old).header no_dump (left_of input.old (R.remaining reader.old))) things (Some [])) }
 {
-    let mut dump = Vec::new(printer.alloc);
+    let mut dump = Dump::new(printer.alloc);
     show_lines_after(printer, &mut dump, input, reader, writer)?;
     if printer.first_lines.are_without_hex() {
         return Err(Stop::NoCapture);
@@ -85,7 +86,7 @@ pub fn show_lines<A: Allocator + Copy, R: Read, W: Write>(
 // Prints the messages of lines of hex, after the bytes of a dump that the lines may go on with.
 fn show_lines_after<A: Allocator + Copy, R: Read, W: Write>(
     printer: &mut Printer<'_, A>,
-    dump: &mut Vec<u8, A>,
+    dump: &mut Dump<A>,
     input: &mut Input<A>,
     reader: &mut R,
     writer: &mut W,
@@ -94,7 +95,7 @@ fn show_lines_after<A: Allocator + Copy, R: Read, W: Write>(
     ensures clean { printer.old.output.is_json ≡ false → GrowsClean (W.contents writer.old) (W.contents writer.new) }
     ensures ran { OnOk result ((things : List Thing)
         × Progress things (W.contents writer.old) (W.contents writer.new) (state_of printer.old) (state_of printer.new)
-        × Gives (text_left (state_of printer.old).header dump.old.items (left_of input.old (R.remaining reader.old))) things (Some [])) }
+        × Gives (text_left (state_of printer.old).header (dump_of dump.old) (left_of input.old (R.remaining reader.old))) things (Some [])) }
 {
     for _ in 0..u64::MAX {
         let goes_on = show_line(printer, dump, input, reader, writer)?;
@@ -108,7 +109,7 @@ fn show_lines_after<A: Allocator + Copy, R: Read, W: Write>(
 // Prints the next line, after the bytes of a dump, or reads more of it. Returns false at the end of the input.
 fn show_line<A: Allocator + Copy, R: Read, W: Write>(
     printer: &mut Printer<'_, A>,
-    dump: &mut Vec<u8, A>,
+    dump: &mut Dump<A>,
     input: &mut Input<A>,
     reader: &mut R,
     writer: &mut W,
@@ -117,8 +118,8 @@ fn show_line<A: Allocator + Copy, R: Read, W: Write>(
     ensures clean { printer.old.output.is_json ≡ false → GrowsClean (W.contents writer.old) (W.contents writer.new) }
     ensures ran { IfOk result (λ goes_on. (things : List Thing)
         × Progress things (W.contents writer.old) (W.contents writer.new) (state_of printer.old) (state_of printer.new)
-        × GivesUpTo goes_on (text_left (state_of printer.old).header dump.old.items (left_of input.old (R.remaining reader.old))) things
-        (text_left (state_of printer.old).header dump.new.items (left_of input.new (R.remaining reader.new)))) }
+        × GivesUpTo goes_on (text_left (state_of printer.old).header (dump_of dump.old) (left_of input.old (R.remaining reader.old))) things
+        (text_left (state_of printer.old).header (dump_of dump.new) (left_of input.new (R.remaining reader.new)))) }
 {
     match input.line_end() {
         Some(end) => {
@@ -138,7 +139,7 @@ fn show_line<A: Allocator + Copy, R: Read, W: Write>(
 #[tactic(auto, using(crate::proofs::Clean::clean_none))]
 fn more_of_line<A: Allocator + Copy, R: Read, W: Write>(
     printer: &mut Printer<'_, A>,
-    dump: &mut Vec<u8, A>,
+    dump: &mut Dump<A>,
     input: &mut Input<A>,
     reader: &mut R,
     writer: &mut W,
@@ -148,8 +149,8 @@ fn more_of_line<A: Allocator + Copy, R: Read, W: Write>(
     ensures clean { printer.old.output.is_json ≡ false → GrowsClean (W.contents writer.old) (W.contents writer.new) }
     ensures ran { IfOk result (λ goes_on. (things : List Thing)
         × Progress things (W.contents writer.old) (W.contents writer.new) (state_of printer.old) (state_of printer.new)
-        × GivesUpTo goes_on (text_left (state_of printer.old).header dump.old.items (left_of input.old (R.remaining reader.old))) things
-        (text_left (state_of printer.old).header dump.new.items (left_of input.new (R.remaining reader.new)))) }
+        × GivesUpTo goes_on (text_left (state_of printer.old).header (dump_of dump.old) (left_of input.old (R.remaining reader.old))) things
+        (text_left (state_of printer.old).header (dump_of dump.new) (left_of input.new (R.remaining reader.new)))) }
 {
     let at = input.offset();
     printer.write_lines(writer)?;
@@ -170,14 +171,14 @@ fn more_of_line<A: Allocator + Copy, R: Read, W: Write>(
 // Prints the line of `len` bytes at the front of what was read.
 fn put_front<A: Allocator + Copy>(
     printer: &mut Printer<'_, A>,
-    dump: &mut Vec<u8, A>,
+    dump: &mut Dump<A>,
     input: &Input<A>,
     len: usize,
 ) -> Result<(), AllocError>
     requires { len ≤ length (rest_of input.now) }
     ensures form { printer.new.output.is_json ≡ printer.old.output.is_json }
-    ensures dump { OnOk result (dump.new.items ≡ dump_after dump.old.items (take len (rest_of input.now))) }
-    ensures put { OnOk result (Puts (things_at (state_of printer.old).header dump.old.items (take len (rest_of input.now)))
+    ensures dump { OnOk result (dump_of dump.new ≡ dump_after (dump_of dump.old) (take len (rest_of input.now))) }
+    ensures put { OnOk result (Puts (things_at (state_of printer.old).header (dump_of dump.old) (take len (rest_of input.now)))
         (state_of printer.old) (state_of printer.new)) }
 {
     let (line, _) = input.rest().split_at(len);
@@ -187,99 +188,89 @@ fn put_front<A: Allocator + Copy>(
 impl<'a, A: Allocator + Copy> Printer<'a, A> {
     ghost use Rattle.std.specs.Prelude.{◌≡◌, ◌++◌, ◌∷◌, [], false, OnOk};
     ghost use Rattle.tc_input.specs.Text.{on_line};
-    ghost use Rattle.tc_input.specs.Dumps.{seen_place};
+    ghost use Rattle.tc_input.specs.Dumps.{dump_of, no_dump, seen_place};
     ghost use Rattle.tcshow_json.specs.Messages.{hole};
     ghost use Rattle.tcshow_input.specs.Things.{things_on_line};
     ghost use Rattle.tcshow_input.specs.Reading.{things_of_line, things_dumped, things_at, things_by_place, dump_after, dump_by_place};
     ghost use Rattle.tcshow_input.specs.State.{state_of, Puts};
 
     // Prints the last line of a text, and the dump that ends with it.
-    fn put_last(&mut self, dump: &mut Vec<u8, A>, line: &[u8], at: u64) -> Result<(), AllocError>
+    fn put_last(&mut self, dump: &mut Dump<A>, line: &[u8], at: u64) -> Result<(), AllocError>
         ensures form { self.new.output.is_json ≡ self.old.output.is_json }
-        ensures put { OnOk result (Puts (things_at (state_of self.old).header dump.old.items line.now
-            ++ things_dumped (state_of self.old).header (dump_after dump.old.items line.now)) (state_of self.old) (state_of self.new)) }
+        ensures put { OnOk result (Puts (things_at (state_of self.old).header (dump_of dump.old) line.now
+            ++ things_dumped (state_of self.old).header (dump_after (dump_of dump.old) line.now).bytes) (state_of self.old) (state_of self.new)) }
     {
         self.put_text(dump, line, at)?;
-        self.put_dump(dump.as_slice())
+        self.put_dump(dump.bytes.as_slice())
     }
 
     // Prints a line of text, after the bytes of a dump.
-    fn put_text(&mut self, dump: &mut Vec<u8, A>, line: &[u8], at: u64) -> Result<(), AllocError>
+    fn put_text(&mut self, dump: &mut Dump<A>, line: &[u8], at: u64) -> Result<(), AllocError>
         ensures form { self.new.output.is_json ≡ self.old.output.is_json }
-        ensures dump { OnOk result (dump.new.items ≡ dump_after dump.old.items line.now) }
-        ensures put { OnOk result (Puts (things_at (state_of self.old).header dump.old.items line.now) (state_of self.old) (state_of self.new)) }
+        ensures dump { OnOk result (dump_of dump.new ≡ dump_after (dump_of dump.old) line.now) }
+        ensures put { OnOk result (Puts (things_at (state_of self.old).header (dump_of dump.old) line.now) (state_of self.old) (state_of self.new)) }
     {
-        let place = place_of(self.alloc, dump.as_slice(), line)?;
+        let place = place_of(self.alloc, dump, line)?;
         self.put_place(dump, place, line, at)
     }
 
     // Prints a line of text, whose place in the dump is known.
     fn put_place(
         &mut self,
-        dump: &mut Vec<u8, A>,
+        dump: &mut Dump<A>,
         place: Place<A>,
         line: &[u8],
         at: u64,
     ) -> Result<(), AllocError>
         ensures form { self.new.output.is_json ≡ self.old.output.is_json }
-        ensures dump { OnOk result (dump.new.items ≡ dump_by_place dump.old.items (seen_place place)) }
-        ensures put { OnOk result (Puts (things_by_place (state_of self.old).header dump.old.items line.now (seen_place place))
+        ensures dump { OnOk result (dump_of dump.new ≡ dump_by_place (dump_of dump.old) (seen_place place)) }
+        ensures put { OnOk result (Puts (things_by_place (state_of self.old).header (dump_of dump.old) line.now (seen_place place))
             (state_of self.old) (state_of self.new)) }
     {
         match place {
-            Place::GoesOn(bytes) => {
+            Place::GoesOn(more) => {
                 self.first_lines.meet_hex();
-                dump.extend_from_slice(&bytes)?;
+                dump.go_on(more)?;
                 Ok(())
             }
-            Place::Begins(bytes) => self.put_begun(dump, bytes, at),
+            Place::Begins(other) => self.put_begun(dump, other, at),
             Place::Apart => self.put_separate(dump, line, at),
         }
     }
 
-    // Prints a dump that ends; another begins with these bytes, at this offset of the input.
-    fn put_begun(
-        &mut self,
-        dump: &mut Vec<u8, A>,
-        bytes: Vec<u8, A>,
-        at: u64,
-    ) -> Result<(), AllocError>
+    // Prints a dump that ends; another begins, at this offset of the input.
+    fn put_begun(&mut self, dump: &mut Dump<A>, other: Dump<A>, at: u64) -> Result<(), AllocError>
         ensures form { self.new.output.is_json ≡ self.old.output.is_json }
-        ensures dump { OnOk result (dump.new.items ≡ bytes.items) }
-        ensures put { OnOk result (Puts (things_dumped (state_of self.old).header dump.old.items) (state_of self.old) (state_of self.new)) }
+        ensures dump { OnOk result (dump_of dump.new ≡ dump_of other) }
+        ensures put { OnOk result (Puts (things_dumped (state_of self.old).header (dump_of dump.old).bytes) (state_of self.old) (state_of self.new)) }
     {
-        self.put_dump(dump.as_slice())?;
-        *dump = bytes;
+        self.put_dump(dump.bytes.as_slice())?;
+        *dump = other;
         self.dump_at = at;
         self.first_lines.meet_hex();
         Ok(())
     }
 
     // Prints a dump that ends before a line, and the line.
-    fn put_separate(
-        &mut self,
-        dump: &mut Vec<u8, A>,
-        line: &[u8],
-        at: u64,
-    ) -> Result<(), AllocError>
+    fn put_separate(&mut self, dump: &mut Dump<A>, line: &[u8], at: u64) -> Result<(), AllocError>
         ensures form { self.new.output.is_json ≡ self.old.output.is_json }
-        ensures dump { OnOk result (dump.new.items ≡ []) }
-        ensures put { OnOk result (Puts (things_dumped (state_of self.old).header dump.old.items
+        ensures dump { OnOk result (dump_of dump.new ≡ no_dump) }
+        ensures put { OnOk result (Puts (things_dumped (state_of self.old).header (dump_of dump.old).bytes
             ++ things_of_line (state_of self.old).header (on_line line.now)) (state_of self.old) (state_of self.new)) }
     {
-        self.put_dump(dump.as_slice())?;
+        self.put_dump(dump.bytes.as_slice())?;
         dump.clear();
         self.put_single(line, at)
     }
 
     // Prints a dump that ends before a line that is too long, and a notice about the line.
-    fn put_long(&mut self, dump: &mut Vec<u8, A>, length: u64, at: u64) -> Result<(), AllocError>
+    fn put_long(&mut self, dump: &mut Dump<A>, length: u64, at: u64) -> Result<(), AllocError>
         ensures form { self.new.output.is_json ≡ self.old.output.is_json }
-        ensures dump { OnOk result (dump.new.items ≡ []) }
-        ensures put { OnOk result (Puts (things_dumped (state_of self.old).header dump.old.items ++ (hole false ∷ []))
+        ensures dump { OnOk result (dump_of dump.new ≡ no_dump) }
+        ensures put { OnOk result (Puts (things_dumped (state_of self.old).header (dump_of dump.old).bytes ++ (hole false ∷ []))
             (state_of self.old) (state_of self.new)) }
     {
-        self.put_dump(dump.as_slice())?;
+        self.put_dump(dump.bytes.as_slice())?;
         dump.clear();
         self.put_hole(Notice::Skipped(length), at)
     }

@@ -45,6 +45,14 @@ impl<A: Allocator> Output<A> {
         self.bytes.len()
     }
 
+    /// Forgets the text.
+    pub(crate) fn clear(&mut self)
+        ensures form { self.new.is_json ≡ self.old.is_json }
+        ensures empty { self.new.bytes.items ≡ [] }
+    {
+        self.bytes.clear();
+    }
+
     /// Appends a line feed.
     pub(crate) fn line_feed(&mut self) -> Result<(), AllocError>
         ensures form { self.new.is_json ≡ self.old.is_json }

@@ -4,7 +4,6 @@ ghost use Rattle.std.specs.Prelude.{◌≡◌};
 ghost use Rattle.tcshow_input.specs.State.{is_json, layout_of};
 
 use crate::counts::Counts;
-use crate::escaped::escaped;
 use crate::first_lines::FirstLines;
 use crate::links::Links;
 use crate::options::{Options, OutputFormat};
@@ -14,7 +13,7 @@ use crate::summary::{Summary, SummaryLine};
 use std::alloc::{AllocError, Allocator, Global};
 use std::io::Write;
 use tc_outline::{Layout, Page};
-use tcshow_json::{Message, Notice, NoticeLine, json_of, text_of};
+use tcshow_json::{Message, Notice, NoticeLine, json_of, safe_text, text_of};
 
 // The output is written once it holds this many bytes.
 const MOST_KEPT: usize = 65_536;
@@ -51,10 +50,10 @@ pub(crate) fn layout_of(form: OutputFormat) -> Layout
 }
 
 impl<'a, A: Allocator + Copy> Printer<'a, A> {
-    ghost use Rattle.std.specs.Prelude.{◌≡◌, true, false, List, ℕ, [], OnOk, is_some};
+    ghost use Rattle.std.specs.Prelude.{◌≡◌, true, false, List, ℕ, [], OnOk, is_some, string_bytes};
     ghost use Rattle.tc_outline.specs.Page.{IsShown};
     ghost use Rattle.tc_outline.specs.Text.{text_on};
-    ghost use Rattle.tcshow_input.specs.Shown.{ended, IsEscaped, ShowsNotice, ShowsSummary};
+    ghost use Rattle.tcshow_input.specs.Shown.{ended, IsEscaped, ShowsName, ShowsNotice, ShowsSummary};
     ghost use Rattle.tcshow_input.specs.State.{laid_out, start, state_of, Grows, Progress};
     ghost use Rattle.tcshow_input.specs.Writing.{GrowsClean};
     ghost use Rattle.program_io.specs.Written.{GrowsByFront};
@@ -74,6 +73,30 @@ impl<'a, A: Allocator + Copy> Printer<'a, A> {
             first_lines: FirstLines::default(),
             summary: Summary::new(json),
         }
+    }
+
+    /// Begins another input: forgets the text that isn't written, and the names of interfaces in the input before.
+    pub fn restart(&mut self)
+        ensures form { self.new.output.is_json ≡ self.old.output.is_json }
+        ensures empty { state_of self.new ≡ record (state_of self.old) { text = [] } }
+    {
+        self.output.clear();
+        self.links = Links::new(self.json);
+        self.first_lines = FirstLines::default();
+        self.dump_at = 0;
+    }
+
+    /// Prints the name of an input on a line before its messages, as `head` does; nothing in JSON.
+    pub fn put_name(&mut self, name: &str) -> Result<(), AllocError>
+        ensures form { self.new.output.is_json ≡ self.old.output.is_json }
+        ensures put { OnOk result ((text : List ℕ) × ShowsName self.old.output.is_json text × Grows text false (state_of self.old) (state_of self.new)) }
+    {
+        if self.output.is_json() {
+            return Ok(());
+        }
+        self.page.restart(Layout::OneLine);
+        show_name(&mut self.page, name)?;
+        self.put_page_line()
     }
 
     /// Moves the page to the output, as a paragraph or a line.
@@ -101,13 +124,13 @@ impl<'a, A: Allocator + Copy> Printer<'a, A> {
     }
 
     /// Appends a line of JSON to the output, with control characters escaped.
-    pub(crate) fn put_json(&mut self, json: Vec<u8>) -> Result<(), AllocError>
+    pub(crate) fn put_json(&mut self, json: String) -> Result<(), AllocError>
         requires { self.old.output.is_json ≡ true }
         ensures form { self.new.output.is_json ≡ self.old.output.is_json }
-        ensures put { OnOk result ((text : List ℕ) × IsEscaped json.items text × Grows text false (state_of self.old) (state_of self.new)) }
+        ensures put { OnOk result ((text : List ℕ) × IsEscaped (string_bytes json) text × Grows text false (state_of self.old) (state_of self.new)) }
     {
-        let safe = escaped(self.json, json)?;
-        self.output.json(&safe)?;
+        let safe = safe_text(self.json, json)?;
+        self.output.json(safe.as_bytes())?;
         self.output.line_feed()
     }
 
@@ -236,6 +259,13 @@ fn is_json(form: OutputFormat) -> bool
     }
 }
 
+// Writes the name of an input on a page.
+fn show_name<A: Allocator>(page: &mut Page<A>, name: &str) -> Result<(), AllocError> {
+    page.text("==> ")?;
+    page.text(name)?;
+    page.text(" <==")
+}
+
 // Writes a notice on a page, with its offset.
 fn show_notice<A: Allocator>(page: &mut Page<A>, words: &str, at: u64) -> Result<(), AllocError> {
     page.text("byte ")?;
@@ -264,6 +294,6 @@ fn summary_page<A: Allocator>(
     Ok(page)
 }
 
-fn summary_json(alloc: Global, summary: &Summary, all: &Counts) -> Result<Vec<u8>, AllocError> {
+fn summary_json(alloc: Global, summary: &Summary, all: &Counts) -> Result<String, AllocError> {
     json_of(alloc, &SummaryLine { summary, all })
 }

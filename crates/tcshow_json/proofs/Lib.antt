@@ -1,3 +1,11 @@
 pub mod Grammars
 pub mod Escaped
 pub mod Answered
+mod Times
+mod SafeTexts
+mod SafeNumbers
+mod SafeStrings
+pub mod SafeTokens
+mod SafeWrites
+mod SafeChars
+pub mod SafeLines

@@ -1,5 +1,6 @@
 pub mod Messages
 pub mod Objects
+pub mod Safe
 pub mod Line
 pub mod Grammars
 pub mod Replies

@@ -1,6 +1,6 @@
 -- The JSON lines of messages and of the kernel's answers, as events sent to serde.
 use Rattle.std.specs.Fmt.{decimal}
-use Rattle.std.specs.Prelude.{◌⊎◌, ◌↔◌, ℕ, Bool, true, false, IsTrue, List, [], ◌∷◌, ◌++◌, ◌-◌, Option, Some, None, codes, ◌==◌, if◌then◌else◌}
+use Rattle.std.specs.Prelude.{◌⊎◌, ◌↔◌, ℕ, zero, suc, ◌+◌, ◌/◌, ◌%◌, Bool, true, false, IsTrue, List, [], ◌∷◌, ◌++◌, ◌-◌, Option, Some, None, codes, ◌==◌, if◌then◌else◌}
 use Rattle.std.specs.Prelude.{flat_map, option_map, unwrap_or}
 use Rattle.serde.specs.Event.{Event, boolean, unsigned, text, map_begins, map_ends, field_key}
 use Rattle.serde.specs.declared.name.Case.TheVariants.{AsIs}
@@ -12,6 +12,7 @@ use Rattle.nla_frames.specs.declared.error.DecodeError.TheVariants as fault
 use Rattle.tc_capture.specs.Errno.{errno_name}
 use Rattle.tc_capture.specs.declared.kind.MessageType.{MessageType}
 use Rattle.tc_capture.specs.declared.kind.MessageType.TheVariants.{Tc, Action}
+use Rattle.tc_capture.specs.declared.time.Time.{Time}
 use Rattle.tc_texts.specs.Escape.{escaped_byte}
 use Rattle.forms_values.specs.declared.form.Form.{Form}
 use Rattle.forms_values.specs.Sent.{events}
@@ -20,8 +21,8 @@ use Rattle.tc_meaning.specs.Message.{Message as Meaning}
 use Rattle.tc_meaning.specs.Whole.{Words}
 use Rattle.forms_kinds.specs.Table.{tc_tables, tc_message, action_message}
 use Rattle.tcshow_json.specs.declared.message.Origin.{Origin}
-use Rattle.tcshow_json.specs.declared.json.Verdict.{Verdict}
-use Rattle.tcshow_json.specs.declared.json.Verdict.TheVariants.{Read, Refused}
+use Rattle.tcshow_json.specs.declared.serialized.Verdict.{Verdict}
+use Rattle.tcshow_json.specs.declared.serialized.Verdict.TheVariants.{Read, Refused}
 use Rattle.tcshow_json.specs.Messages.{Header, Message, Reason}
 
 -- ---- members of an object
@@ -53,6 +54,20 @@ text_if name (Some t) = text_field name t
 -- an object with these members
 abbrev pub object : List Event → List Event
 object members = map_begins None ∷ (members ++ map_ends ∷ [])
+
+-- ---- the time of a packet
+
+-- the last digits of a number in decimal, as many as are asked for
+abbrev pub last_digits : ℕ → ℕ → List ℕ
+last_digits zero n = []
+last_digits (suc count) n = last_digits count (n / 10) ++ (48 + n % 10) ∷ []
+
+-- a time: its seconds, a point, and its nanoseconds in nine digits
+unfoldable pub time_text : Time → List ℕ
+time_text time = decimal time.seconds ++ 46 ∷ last_digits 9 time.nanoseconds
+
+abbrev pub time_of : Message → Option (List ℕ)
+time_of m = option_map time_text m.origin.time
 
 -- ---- the packet and the netlink header of a message
 
@@ -147,14 +162,14 @@ module _ (words : Words Meaning) (m : Message) where
   -- the line of a message that reads as this value: it fits, it is settled, its bytes are canonical
   abbrev pub IsAccepted : Meaning → List ℕ → Type 0
   IsAccepted x line =
-      (time : Option (List ℕ)) × (fits : Bool) × (settled : Bool) × (canonical : Bool)
+      (fits : Bool) × (settled : Bool) × (canonical : Bool)
       × (IsTrue fits ↔ words.Fits x) × (IsTrue settled ↔ words.Settled x) × (IsTrue canonical ↔ words.Canonical m.payload)
-      × IsTextOf (Some (line_events time m (read_events fits settled canonical))) line
+      × IsTextOf (Some (line_events (time_of m) m (read_events fits settled canonical))) line
 
 -- the line of a message that is refused for this fault
 abbrev pub IsRefused : Message → DecodeError → List ℕ → Type 0
 IsRefused m e line =
-    (time : Option (List ℕ)) × (offset : ℕ) × (path : List ℕ) × IsTextOf (Some (line_events time m (fault_events e offset path))) line
+    (offset : ℕ) × (path : List ℕ) × IsTextOf (Some (line_events (time_of m) m (fault_events e offset path))) line
 
 module _ (words : Words Meaning) (m : Message) where
   -- the line of a message: accepted with the value that its payload reads as, or refused for its first fault
@@ -217,4 +232,4 @@ told_events r path = error_events (errno_text r.error) (some_text (escaped_text 
 -- the JSON line of an answer
 unfoldable pub IsAnswered : Header → Reason → Message → List ℕ → Type 0
 IsAnswered h r m line =
-    (time : Option (List ℕ)) × (path : Option (List ℕ)) × IsTextOf (Some (answered_events time h (told_events r path) r.is_capped m)) line
+    (path : Option (List ℕ)) × IsTextOf (Some (answered_events (time_of m) h (told_events r path) r.is_capped m)) line

@@ -4,12 +4,15 @@
 //! Calls that take an allocator fail with `AllocError` if it fails.
 #![tactic(auto)]
 
-mod json;
+pub mod laws;
 mod line;
 mod message;
 mod notice;
 mod pages;
 mod reply;
+mod safe;
+mod serialized;
+mod time;
 mod verdict;
 
 pub use line::{Line, json_of, line_of};
@@ -17,4 +20,5 @@ pub use message::{Message, NO_ORIGIN, NetlinkHeader, Origin};
 pub use notice::{Notice, NoticeLine};
 pub use pages::{begin_message, show_netlink, show_word, text_of};
 pub use reply::{Reply, put_request, reply_line, show_reason};
+pub use safe::safe_text;
 pub use verdict::is_refused;

@@ -1,15 +1,16 @@
 //! The JSON line of a message.
 
-ghost use Rattle.std.specs.Prelude.{◌≡◌, IfOk, Some, None, [], is_some, option_map, true};
+ghost use Rattle.std.specs.Prelude.{◌≡◌, IfOk, Some, None, [], is_some, option_map, string_bytes, true};
 ghost use Rattle.serde.specs.Event.{Log};
 ghost use Rattle.serde_json.specs.Sent.{IsTextOf};
 ghost use Rattle.tcshow_json.specs.Grammars.{IsLineOf, is_refused, is_fault};
 ghost use Rattle.tcshow_json.specs.Messages.{message_view};
-ghost use Rattle.tcshow_json.specs.Line.{IsAccepted, IsRefused, IsLine, line_events, verdict_events};
+ghost use Rattle.tcshow_json.specs.Line.{IsAccepted, IsRefused, IsLine, line_events, time_of, verdict_events};
 
-use crate::json::{MessageLine, Verdict};
+use crate::serialized::{MessageLine, Verdict};
 use crate::message::Message;
-use crate::pages::{show_place, some_text, text_of, time_page};
+use crate::pages::{show_place, text_of};
+use crate::time::{borrowed_text, some_time_text};
 use nla_frames::DecodeError;
 use serde::Serialize;
 use std::alloc::{AllocError, Allocator, Global};
@@ -20,7 +21,7 @@ use tc_wire::{TcActionMessage, TcMessage, WholeMessage};
 /// The JSON of a message, and the name of its fault if the codec refuses it.
 #[derive(Drop)]
 pub struct Line {
-    pub json: Vec<u8>,
+    pub json: String,
     pub fault: Option<&'static str>,
 }
 
@@ -30,7 +31,7 @@ pub fn line_of<A: Allocator + Copy>(
     json: Global,
     found: &Message<'_>,
 ) -> Result<Line, AllocError>
-    ensures line { IfOk result (λ line. IsLineOf (message_view found.now) line.json.items) }
+    ensures line { IfOk result (λ line. IsLineOf (message_view found.now) (string_bytes line.json)) }
     ensures fault { IfOk result (λ line. is_some line.fault ≡ is_refused (message_view found.now)) }
 {
     match found.holds {
@@ -45,12 +46,12 @@ fn line_as<A: Allocator + Copy, M: WholeMessage<A> + Drop>(
     json: Global,
     found: &Message<'_>,
 ) -> Result<Line, AllocError>
-    ensures line { IfOk result (λ line. IsLine M.words (message_view found.now) line.json.items) }
+    ensures line { IfOk result (λ line. IsLine M.words (message_view found.now) (string_bytes line.json)) }
     ensures fault { IfOk result (λ line. is_some line.fault ≡ is_fault (M.words.read found.now.payload.now)) }
 {
     M::correspond(found.payload);
     match M::read(alloc, found.payload) {
-        Ok(message) => accepted_line(alloc, json, found, &message),
+        Ok(message) => accepted_line(json, found, &message),
         Err(DecodeError::OutOfMemory) => Err(AllocError),
         Err(error) => refused_line(alloc, json, found, &error),
     }
@@ -58,25 +59,23 @@ fn line_as<A: Allocator + Copy, M: WholeMessage<A> + Drop>(
 
 // The line of a message that the codec reads.
 fn accepted_line<A: Allocator + Copy, M: WholeMessage<A>>(
-    alloc: A,
     json: Global,
     found: &Message<'_>,
     message: &M,
 ) -> Result<Line, AllocError>
     ensures fault { IfOk result (λ line. line.fault ≡ None) }
-    ensures line { IfOk result (λ line. IsAccepted M.words (message_view found.now) (M.message message.now) line.json.items) }
+    ensures line { IfOk result (λ line. IsAccepted M.words (message_view found.now) (M.message message.now) (string_bytes line.json)) }
 {
-    let json = accepted_json(alloc, json, found, message)?;
+    let json = accepted_json(json, found, message)?;
     Ok(Line { json, fault: None })
 }
 
 fn accepted_json<A: Allocator + Copy, M: WholeMessage<A>>(
-    alloc: A,
     json: Global,
     found: &Message<'_>,
     message: &M,
-) -> Result<Vec<u8>, AllocError>
-    ensures { IfOk result (λ line. IsAccepted M.words (message_view found.now) (M.message message.now) line.items) }
+) -> Result<String, AllocError>
+    ensures { IfOk result (λ line. IsAccepted M.words (message_view found.now) (M.message message.now) (string_bytes line)) }
 {
     let fits = message.is_writable();
     let settled = message.is_settled();
@@ -86,8 +85,7 @@ fn accepted_json<A: Allocator + Copy, M: WholeMessage<A>>(
         settled,
         canonical,
     };
-    let time = time_page(alloc, &found.origin)?;
-    json_with(json, some_text(&time), found, verdict)
+    json_with(json, found, verdict)
 }
 
 // The line of a message that the codec refuses.
@@ -98,7 +96,7 @@ fn refused_line<A: Allocator + Copy>(
     error: &DecodeError,
 ) -> Result<Line, AllocError>
     ensures fault { IfOk result (λ line. is_some line.fault ≡ true) }
-    ensures line { IfOk result (λ line. IsRefused (message_view found.now) error.now line.json.items) }
+    ensures line { IfOk result (λ line. IsRefused (message_view found.now) error.now (string_bytes line.json)) }
 {
     let json = refused_json(alloc, json, found, error)?;
     Ok(Line {
@@ -112,21 +110,8 @@ fn refused_json<A: Allocator + Copy>(
     json: Global,
     found: &Message<'_>,
     error: &DecodeError,
-) -> Result<Vec<u8>, AllocError>
-    ensures { IfOk result (λ line. IsRefused (message_view found.now) error.now line.items) }
-{
-    let time = time_page(alloc, &found.origin)?;
-    refused_at(alloc, json, some_text(&time), found, error)
-}
-
-fn refused_at<A: Allocator>(
-    alloc: A,
-    json: Global,
-    time: Option<&str>,
-    found: &Message<'_>,
-    error: &DecodeError,
-) -> Result<Vec<u8>, AllocError>
-    ensures { IfOk result (λ line. IsRefused (message_view found.now) error.now line.items) }
+) -> Result<String, AllocError>
+    ensures { IfOk result (λ line. IsRefused (message_view found.now) error.now (string_bytes line)) }
 {
     let mut path = Page::new(alloc, Layout::OneLine);
     let offset = show_place(&mut path, found)? as u64;
@@ -135,17 +120,31 @@ fn refused_at<A: Allocator>(
         offset,
         path: text_of(&path),
     };
-    json_with(json, time, found, verdict)
+    json_with(json, found, verdict)
 }
 
 fn json_with(
     json: Global,
+    found: &Message<'_>,
+    verdict: Verdict<'_, '_>,
+) -> Result<String, AllocError>
+    ensures { IfOk result (λ line. IsTextOf (Some (line_events (time_of (message_view found.now)) (message_view found.now) (verdict_events verdict.entry)))
+        (string_bytes line)) }
+{
+    let text = some_time_text(&found.origin.time);
+    let time = borrowed_text(&text);
+    json_at(json, time, found, verdict)
+}
+
+// The line of a message with this time.
+fn json_at(
+    json: Global,
     time: Option<&str>,
     found: &Message<'_>,
     verdict: Verdict<'_, '_>,
-) -> Result<Vec<u8>, AllocError>
+) -> Result<String, AllocError>
     ensures { IfOk result (λ line. IsTextOf (Some (line_events (option_map (λ t. t.now) time.entry) (message_view found.now) (verdict_events verdict.entry)))
-        line.items) }
+        (string_bytes line)) }
 {
     let line = MessageLine {
         time,
@@ -157,10 +156,10 @@ fn json_with(
 }
 
 /// Serializes a value as JSON.
-pub fn json_of<T: Serialize>(alloc: Global, value: &T) -> Result<Vec<u8>, AllocError>
-    ensures { IfOk result (λ json. (log : Log) × T.writes value.now (Some []) log × IsTextOf log json.items) }
+pub fn json_of<T: Serialize>(alloc: Global, value: &T) -> Result<String, AllocError>
+    ensures { IfOk result (λ json. (log : Log) × T.writes value.now (Some []) log × IsTextOf log (string_bytes json)) }
 {
-    match serde_json::to_vec(alloc, value) {
+    match serde_json::to_string(alloc, value) {
         Ok(json) => Ok(json),
         Err(_) => Err(AllocError),
     }

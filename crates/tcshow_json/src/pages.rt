@@ -4,29 +4,15 @@ ghost use Rattle.std.specs.Prelude.{OnOk};
 ghost use Rattle.tc_outline.specs.Text.{Continues};
 
 use crate::message::{Message, NetlinkHeader, Origin};
+use crate::time::time_text;
 use std::alloc::{AllocError, Allocator};
 use std::str;
-use tc_capture::{MessageType, Time};
-use tc_outline::{Layout, Page, locate};
+use tc_capture::MessageType;
+use tc_outline::{Page, locate};
 
 /// The text on a page.
 pub fn text_of<A: Allocator>(page: &Page<A>) -> &str {
     str::from_utf8(page.bytes()).unwrap_or("")
-}
-
-// Writes a time: seconds, a point and nine digits.
-#[tactic(auto, using(tc_outline::proofs::Continued::continues_none, tc_outline::proofs::Continued::continues_then))]
-fn show_time<A: Allocator>(page: &mut Page<A>, time: &Time) -> Result<(), AllocError>
-    ensures { OnOk result (Continues page.old page.new) }
-{
-    page.number(time.seconds)?;
-    page.text(".")?;
-    let mut place = 100_000_000u32;
-    for _ in 0..9u8 {
-        page.number(u64::from(time.nanoseconds / place.max(1) % 10))?;
-        place /= 10;
-    }
-    Ok(())
 }
 
 /// Writes a blank and the word, unless it is empty.
@@ -160,25 +146,10 @@ pub fn show_time_of<A: Allocator>(page: &mut Page<A>, origin: &Origin) -> Result
     ensures { OnOk result (Continues page.old page.new) }
 {
     if let Some(time) = &origin.time {
-        show_time(page, time)?;
+        page.text(time_text(time).as_str())?;
         page.blank()?;
     }
     Ok(())
-}
-
-/// Writes the time of a packet, if it is known.
-pub fn show_some_time<A: Allocator>(page: &mut Page<A>, origin: &Origin) -> Result<(), AllocError> {
-    match &origin.time {
-        Some(time) => show_time(page, time),
-        None => Ok(()),
-    }
-}
-
-/// A page with the time of a packet; empty if it isn't known.
-pub fn time_page<A: Allocator>(alloc: A, origin: &Origin) -> Result<Page<A>, AllocError> {
-    let mut page = Page::new(alloc, Layout::OneLine);
-    show_some_time(&mut page, origin)?;
-    Ok(page)
 }
 
 /// The text on a page; `None` if it is empty.

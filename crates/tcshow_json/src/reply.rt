@@ -1,16 +1,17 @@
 //! The kernel's answers (`NLMSG_ERROR`) to traffic control requests.
 
-ghost use Rattle.std.specs.Prelude.{◌≡◌, ◌++◌, IfOk, IsAscii, OnOk, Some, flat_map, option_map};
+ghost use Rattle.std.specs.Prelude.{◌≡◌, ◌++◌, IfOk, IsAscii, OnOk, Some, flat_map, option_map, string_bytes};
 ghost use Rattle.serde_json.specs.Sent.{IsTextOf};
 ghost use Rattle.tc_capture.specs.Answer.{answer_of};
 ghost use Rattle.tc_texts.specs.Escape.{escaped_byte};
 ghost use Rattle.tcshow_json.specs.Messages.{header_view, is_silent, message_view, reason_of};
-ghost use Rattle.tcshow_json.specs.Line.{IsAnswered, answered_events, error_events, escaped_text, some_text};
+ghost use Rattle.tcshow_json.specs.Line.{IsAnswered, answered_events, error_events, escaped_text, some_text, time_of};
 
-use crate::json::{AnswerLine, Reason};
+use crate::serialized::{AnswerLine, Reason};
 use crate::line::json_of;
 use crate::message::{Message, NetlinkHeader, Origin, header_of};
-use crate::pages::{show_numbers, show_some_time, show_time_of, show_word, some_text, text_of};
+use crate::pages::{show_numbers, show_time_of, show_word, some_text, text_of};
+use crate::time::{borrowed_text, some_time_text};
 use itoa::Buffer;
 use nla_frames::strip_nul;
 use std::alloc::{AllocError, Allocator, Global};
@@ -196,59 +197,31 @@ fn show_fault_at<A: Allocator>(
     show_word(page, text_of(&path))
 }
 
-// Time and place in the JSON line of an answer.
-#[derive(Drop)]
-struct Texts<A: Allocator> {
-    time: Page<A>,
-    path: Page<A>,
-}
-
-impl<A: Allocator + Copy> Texts<A> {
-    fn new(alloc: A) -> Texts<A> {
-        Texts {
-            time: Page::new(alloc, Layout::OneLine),
-            path: Page::new(alloc, Layout::OneLine),
-        }
-    }
-
-    fn show(&mut self, reply: &Reply<'_>) -> Result<(), AllocError> {
-        show_some_time(&mut self.time, &reply.request.origin)?;
-        reply.show_path(&mut self.path)
-    }
-}
-
 /// Writes the JSON line of an answer, without a line feed.
 pub fn reply_line<A: Allocator + Copy>(
     alloc: A,
     json: Global,
     reply: &Reply<'_>,
-) -> Result<Vec<u8>, AllocError>
+) -> Result<String, AllocError>
     ensures { IfOk result (λ line. IsAnswered (header_view reply.now.header) (reason_of (answer_of reply.now.answer))
-        (message_view reply.now.request) line.items) }
+        (message_view reply.now.request) (string_bytes line)) }
 {
-    let mut texts = Texts::new(alloc);
-    texts.show(reply)?;
+    let mut path = Page::new(alloc, Layout::OneLine);
+    reply.show_path(&mut path)?;
     let text = reply.text(alloc)?;
-    line_with(
-        json,
-        reply,
-        &text,
-        some_text(&texts.time),
-        some_text(&texts.path),
-    )
+    line_with(json, reply, &text, some_text(&path))
 }
 
 fn line_with(
     json: Global,
     reply: &Reply<'_>,
     text: &[u8],
-    time: Option<&str>,
     path: Option<&str>,
-) -> Result<Vec<u8>, AllocError>
+) -> Result<String, AllocError>
     requires text { text.now ≡ escaped_text (reason_of (answer_of reply.now.answer)).text }
     requires ascii { IsAscii text.now }
     ensures { IfOk result (λ line. IsAnswered (header_view reply.now.header) (reason_of (answer_of reply.now.answer))
-        (message_view reply.now.request) line.items) }
+        (message_view reply.now.request) (string_bytes line)) }
 {
     let mut buffer = Buffer::new();
     let errno = reply.errno(&mut buffer);
@@ -260,7 +233,7 @@ fn line_with(
         offset,
         path,
     };
-    line_for(json, reply, reason, time)
+    line_for(json, reply, reason)
 }
 
 // The line of an answer with this error, text and place.
@@ -268,11 +241,26 @@ fn line_for(
     json: Global,
     reply: &Reply<'_>,
     reason: Reason<'_, '_, '_>,
+) -> Result<String, AllocError>
+    ensures { IfOk result (λ line. IsTextOf (Some (answered_events (time_of (message_view reply.now.request)) (header_view reply.now.header)
+        (error_events reason.entry.errno.now (option_map (λ t. t.now) reason.entry.text) reason.entry.offset
+        (option_map (λ t. t.now) reason.entry.path)) reply.now.answer.is_capped (message_view reply.now.request))) (string_bytes line)) }
+{
+    let text = some_time_text(&reply.request.origin.time);
+    let time = borrowed_text(&text);
+    line_at(json, reply, reason, time)
+}
+
+// The line with this time.
+fn line_at(
+    json: Global,
+    reply: &Reply<'_>,
+    reason: Reason<'_, '_, '_>,
     time: Option<&str>,
-) -> Result<Vec<u8>, AllocError>
+) -> Result<String, AllocError>
     ensures { IfOk result (λ line. IsTextOf (Some (answered_events (option_map (λ t. t.now) time.entry) (header_view reply.now.header)
         (error_events reason.entry.errno.now (option_map (λ t. t.now) reason.entry.text) reason.entry.offset
-        (option_map (λ t. t.now) reason.entry.path)) reply.now.answer.is_capped (message_view reply.now.request))) line.items) }
+        (option_map (λ t. t.now) reason.entry.path)) reply.now.answer.is_capped (message_view reply.now.request))) (string_bytes line)) }
 {
     let line = AnswerLine {
         time,

@@ -22,8 +22,8 @@ pub enum Task<'a> {
 pub struct Arguments<'a> {
     /// Operation.
     pub task: Task<'a>,
-    /// Input file; `None` for standard input.
-    pub file: Option<&'a str>,
+    /// Input files; none for standard input, which `-` names too.
+    pub files: Vec<&'a str>,
     /// File with names of interfaces (`--names`).
     pub names: Option<&'a str>,
     /// Output format.
@@ -87,7 +87,7 @@ const ABOUT: &str =
 
 FILE is a capture (pcap, pcapng), a file written by rtmon, a stream of netlink messages, or text
 with messages in hex. The format is detected. Without FILE, or if it is -, tcshow reads standard
-input.";
+input. With several, a line ==> FILE <== precedes the messages of each, except with --json.";
 
 const NOTES: &str = "Examples:
   tcshow f.pcap                                 every message, one attribute per line
@@ -99,11 +99,14 @@ const NOTES: &str = "Examples:
 Notes:
   Repeat a filter to allow several values; different filters must all match.
   Handles are such as 1:10, ffff:, root, 800::800 or 0x1.
-  Times are such as 1764028801.25 or 2026-11-26T14:00:00Z. --since and --until also drop messages
-  that have no time.
-  --dev takes a name only if --names lists it.
-  Hex may contain spaces, colons, 0x prefixes and # comments. One message per line, or a dump with
-  offsets (xxd, tcpdump -x, Wireshark), in which offset 0 starts a new message.
+  Times are such as 1764028801.25 or 2026-11-26T14:00:00Z, or 20:00 (UTC) on the day of the first
+  packet that has a time. --since and --until also drop messages that have no time.
+  --dev takes a name only if --names lists it. --type tclass stands for newtclass, deltclass and
+  gettclass. Hex that is a message only has no netlink header. Without --color, outlines have
+  color on a terminal, unless NO_COLOR is set.
+  Hex may contain spaces, colons, 0x prefixes and # comments. One message per line; or a dump with
+  offsets (xxd, hexdump -C, tcpdump -x, Wireshark), in which offset 0 starts a new message; or lines
+  of 60 digits and a shorter last one (xxd -p).
   Packets, blocks and messages larger than 1 MiB are skipped and reported.
   In outlines, ticks are packet scheduler ticks of 64 ns and clock_t units are 10 ms.
   Captures made on big-endian hosts can be opened, but their messages are reported as malformed.
@@ -149,7 +152,7 @@ static OPTIONS: [(&str, Value, &str, &str); 19] = [
         "no-header",
         Value::Word("WHAT", &["tc", "action"]),
         INPUT,
-        "Each line of hex is a message without a netlink header",
+        "Each line of hex is a message only",
     ),
     (
         "names",
@@ -179,7 +182,7 @@ static OPTIONS: [(&str, Value, &str, &str); 19] = [
         "color",
         Value::Word("WHEN", &["auto", "always", "never"]),
         FORMS,
-        "Color the outlines; by default on a terminal, unless NO_COLOR is set",
+        "Color outlines (default: auto)",
     ),
     (
         "summary",
@@ -197,7 +200,7 @@ static OPTIONS: [(&str, Value, &str, &str); 19] = [
         "type",
         Value::Texts("TYPE"),
         FILTERS,
-        "Messages of this type: newtclass, RTM_NEWTCLASS, tclass (new, del and get), or a number",
+        "Messages of this type: newtclass, RTM_NEWTCLASS, tclass, or a number",
     ),
     (
         "dev",
@@ -321,12 +324,12 @@ fn or_nothing<'a>(option: Arg<'a>) -> Arg<'a> {
     option.num_args(0..=1).default_missing_value("")
 }
 
-// The input file, which `--read` can name too.
-fn file<'a>(alloc: Global) -> Result<Arg<'a>, AllocError> {
+// The input files, which `--read` can name too.
+fn files<'a>(alloc: Global) -> Result<Arg<'a>, AllocError> {
     Arg::new(alloc, "FILE")
         .value_name("FILE")
-        .action(ArgAction::Set)
-        .help("File to read")
+        .action(ArgAction::Append)
+        .help("Files to read")
         .conflicts_with("read")
 }
 
@@ -335,12 +338,12 @@ fn read<'a>(alloc: Global) -> Arg<'a> {
 }
 
 fn begun<'a>(alloc: Global) -> Result<Command<'a>, AllocError> {
-    let file = file(alloc)?;
+    let files = files(alloc)?;
     Command::new(alloc, "tcshow")
         .version("0.3.0")
         .about(ABOUT)
         .after_help(NOTES)
-        .arg(file)
+        .arg(files)
 }
 
 // Output formats, which exclude one another.
@@ -437,10 +440,7 @@ fn put_numbers(matches: &ArgMatches<'_>, name: &str, all: &mut Vec<u32>) -> Resu
 fn base_arguments<'a>(alloc: Global, matches: &ArgMatches<'a>) -> Arguments<'a> {
     Arguments {
         task: task_of(matches),
-        file: match matches.get_str("FILE") {
-            Some(file) => Some(file),
-            None => matches.get_str("read"),
-        },
+        files: Vec::new(alloc),
         names: matches.get_str("names"),
         format: format_of(matches),
         all: matches.get_flag("all"),
@@ -461,11 +461,13 @@ fn base_arguments<'a>(alloc: Global, matches: &ArgMatches<'a>) -> Arguments<'a> 
     }
 }
 
-// Adds the values of filters.
-fn put_filter_values<'a>(
+// Adds the files, and the values of filters.
+fn put_values<'a>(
     matches: &ArgMatches<'a>,
     arguments: &mut Arguments<'a>,
 ) -> Result<(), AllocError> {
+    put_words(matches, "FILE", &mut arguments.files)?;
+    put_words(matches, "read", &mut arguments.files)?;
     put_words(matches, "kind", &mut arguments.kinds)?;
     put_words(matches, "type", &mut arguments.types)?;
     put_words(matches, "dev", &mut arguments.interfaces)?;
@@ -477,7 +479,7 @@ fn put_filter_values<'a>(
 
 fn arguments_in<'a>(alloc: Global, matches: &ArgMatches<'a>) -> Result<Arguments<'a>, Error> {
     let mut arguments = base_arguments(alloc, matches);
-    put_filter_values(matches, &mut arguments)?;
+    put_values(matches, &mut arguments)?;
     Ok(arguments)
 }
 

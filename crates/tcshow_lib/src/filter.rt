@@ -7,7 +7,8 @@ use crate::nearest::nearest_kinds;
 use std::alloc::{AllocError, Global};
 use tc_capture::Time;
 use tc_select::{
-    Filter, HANDLE_FORMS, TIME_FORMS, TYPE_FORMS, Types, parse_handle, parse_time, parse_types,
+    Filter, HANDLE_FORMS, TIME_FORMS, TYPE_FORMS, Types, on_day, parse_clock, parse_handle,
+    parse_time, parse_types,
 };
 
 /// Parsed values of the options that filter messages.
@@ -18,8 +19,16 @@ pub struct FilterValues<'r, 'a> {
     interfaces: Vec<u32>,
     handles: Vec<u32>,
     parents: Vec<u32>,
-    since: Option<Time>,
-    until: Option<Time>,
+    since: Option<Moment>,
+    until: Option<Moment>,
+}
+
+// A time, or a time of day.
+#[derive(Clone, Copy)]
+enum Moment {
+    At(Time),
+    // A second of the day.
+    OfDay(u64),
 }
 
 /// Why the values of a filter are refused.
@@ -94,7 +103,18 @@ impl<'r, 'a> FilterValues<'r, 'a> {
         Ok(())
     }
 
-    /// The filter with these values.
+    /// True if a value is a time of day.
+    pub fn need_day(&self) -> bool {
+        is_of_day(self.since) || is_of_day(self.until)
+    }
+
+    /// Puts times of day into the day (UTC) of this time.
+    pub fn set_day(&mut self, day: Time) {
+        self.since = in_day(self.since, day);
+        self.until = in_day(self.until, day);
+    }
+
+    /// The filter with these values. Without a day, a time of day is that of the first of January 1970.
     pub fn filter(&self) -> Filter<'_> {
         Filter {
             kinds: self.arguments.kinds.as_slice(),
@@ -104,8 +124,8 @@ impl<'r, 'a> FilterValues<'r, 'a> {
             parents: self.parents.as_slice(),
             chains: self.arguments.chains.as_slice(),
             priorities: self.arguments.priorities.as_slice(),
-            since: self.since,
-            until: self.until,
+            since: time_at(self.since),
+            until: time_at(self.until),
             refused: self.arguments.refused,
         }
     }
@@ -186,12 +206,40 @@ fn put_interfaces<'a>(
     Ok(())
 }
 
-fn time_in(word: Option<&str>) -> Result<Option<Time>, FilterError<'_>> {
+fn time_in(word: Option<&str>) -> Result<Option<Moment>, FilterError<'_>> {
     let Some(word) = word else {
         return Ok(None);
     };
+    if let Some(second) = parse_clock(word) {
+        return Ok(Some(Moment::OfDay(second)));
+    }
     match parse_time(word) {
-        Some(time) => Ok(Some(time)),
+        Some(time) => Ok(Some(Moment::At(time))),
         None => Err(FilterError::Word("time", word, TIME_FORMS)),
+    }
+}
+
+fn is_of_day(moment: Option<Moment>) -> bool {
+    matches!(moment, Some(Moment::OfDay(_)))
+}
+
+fn in_day(moment: Option<Moment>, day: Time) -> Option<Moment> {
+    match moment {
+        Some(Moment::OfDay(second)) => Some(Moment::At(on_day(day, second))),
+        other => other,
+    }
+}
+
+// The first day of the time scale.
+const FIRST_DAY: Time = Time {
+    seconds: 0,
+    nanoseconds: 0,
+};
+
+fn time_at(moment: Option<Moment>) -> Option<Time> {
+    match moment {
+        None => None,
+        Some(Moment::At(time)) => Some(time),
+        Some(Moment::OfDay(second)) => Some(on_day(FIRST_DAY, second)),
     }
 }

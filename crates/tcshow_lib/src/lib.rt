@@ -4,7 +4,9 @@
 #![tactic(auto)]
 
 pub mod arguments;
+mod day;
 pub mod filter;
+pub mod inputs;
 pub mod kinds;
 pub mod names;
 mod nearest;

@@ -8,7 +8,9 @@ ghost use Rattle.tcshow_input.specs.declared.options.OutputFormat.TheVariants.{J
 ghost use Rattle.tcshow_lib.specs.Streams.{ShowsEnd};
 
 use crate::arguments::{Arguments, Task, arguments_of};
+use crate::day::first_time;
 use crate::filter::{FilterError, FilterValues};
+use crate::inputs::{run_next, worse};
 use crate::kinds::{explain, is_known, put_schema_of_line, write_all_kinds};
 use crate::names::names_in;
 use crate::options::{Options, OutputFormat, options_of};
@@ -21,7 +23,7 @@ use std::io::{self, Input, Print, Read, Write};
 use std::rt::{Env, Files};
 use std::{env, fs};
 use tc_select::{Filter, LINK_FORMS};
-use tcshow_input::{Packets, Stop};
+use tcshow_input::{Packets, Printer, Stop};
 
 /// The program `tcshow`: reads its arguments, prints the messages of its input on standard output, and returns how it
 /// ended. Complaints are written to `errors`. `is_terminal` says whether standard output is a terminal.
@@ -171,49 +173,214 @@ fn show_named<R: AllocGlobal + Files + Input + Print, E: Write>(
     errors: &mut E,
 ) -> Ended {
     match FilterValues::of_arguments(rt.alloc(), arguments, names) {
-        Ok(values) => show_filtered(rt, arguments, names, values.filter(), errors),
+        Ok(values) => show_files(rt, arguments, names, values, errors),
         Err(none) => complain_of_filter(rt.alloc(), none, errors),
     }
 }
 
-fn show_filtered<R: AllocGlobal + Files + Input + Print, E: Write>(
+// Prints the messages of all files, or of standard input.
+fn show_files<R: AllocGlobal + Files + Input + Print, E: Write>(
+    rt: &R,
+    arguments: &Arguments<'_>,
+    names: &[(u32, &str)],
+    values: FilterValues<'_, '_>,
+    errors: &mut E,
+) -> Ended {
+    match arguments.files.as_slice() {
+        [] => show_reader(rt, arguments, names, values, INPUT, rt.reader(), errors),
+        [file] => show_file(rt, arguments, names, values, *file, errors),
+        files => {
+            if values.need_day() {
+                return complain(
+                    errors,
+                    "tcshow: with several files, --since and --until take a date: 2026-11-26T20:00:00Z\n",
+                    Stop::Usage,
+                );
+            }
+            show_each(rt, arguments, names, values.filter(), files, errors)
+        }
+    }
+}
+
+fn show_file<R: AllocGlobal + Files + Input + Print, E: Write>(
+    rt: &R,
+    arguments: &Arguments<'_>,
+    names: &[(u32, &str)],
+    values: FilterValues<'_, '_>,
+    file: &str,
+    errors: &mut E,
+) -> Ended {
+    if file == "-" {
+        return show_reader(rt, arguments, names, values, INPUT, rt.reader(), errors);
+    }
+    match fs::open(rt, file) {
+        Ok(reader) => show_reader(rt, arguments, names, values, file, reader, errors),
+        Err(error) => complain_of_file(rt.alloc(), file, &error, errors),
+    }
+}
+
+// Prints the messages of an input of this name. A time of day is in the day of its first packet that has a time, which is read before.
+fn show_reader<R: AllocGlobal + Print, I: Read, E: Write>(
+    rt: &R,
+    arguments: &Arguments<'_>,
+    names: &[(u32, &str)],
+    mut values: FilterValues<'_, '_>,
+    name: &str,
+    reader: I,
+    errors: &mut E,
+) -> Ended {
+    if !values.need_day() {
+        return show_filtered(rt, arguments, names, values.filter(), name, reader, errors);
+    }
+    let mut reader = Reader::new(reader);
+    match first_time(rt.alloc(), &mut reader) {
+        Ok((first, time)) => {
+            if let Some(time) = time {
+                values.set_day(time);
+            }
+            let reader = first.rest().chain(reader.into_inner());
+            show_filtered(rt, arguments, names, values.filter(), name, reader, errors)
+        }
+        Err(program_io::Stop::Read) => {
+            say_failure(rt.alloc(), errors, name, reader.failure());
+            Ended::early(Stop::Read)
+        }
+        Err(_) => fail_without_memory(errors),
+    }
+}
+
+fn show_filtered<R: AllocGlobal + Print, I: Read, E: Write>(
     rt: &R,
     arguments: &Arguments<'_>,
     names: &[(u32, &str)],
     filter: Filter<'_>,
+    name: &str,
+    reader: I,
+    errors: &mut E,
+) -> Ended {
+    let alloc = rt.alloc();
+    let options = options_of(arguments, filter, names);
+    let mut reader = Reader::new(reader);
+    let writer = io::writer(rt);
+    if arguments.in_colours {
+        let mut writer = Writer::new(Coloured::new(alloc, writer));
+        return serve(
+            alloc,
+            alloc,
+            &options,
+            name,
+            &mut reader,
+            &mut writer,
+            errors,
+        );
+    }
+    let mut writer = Writer::new(writer);
+    serve(
+        alloc,
+        alloc,
+        &options,
+        name,
+        &mut reader,
+        &mut writer,
+        errors,
+    )
+}
+
+// Prints the messages of several files, one after another.
+fn show_each<R: AllocGlobal + Files + Input + Print, E: Write>(
+    rt: &R,
+    arguments: &Arguments<'_>,
+    names: &[(u32, &str)],
+    filter: Filter<'_>,
+    files: &[&str],
     errors: &mut E,
 ) -> Ended {
     let options = options_of(arguments, filter, names);
     let writer = io::writer(rt);
     if arguments.in_colours {
         let mut writer = Writer::new(Coloured::new(rt.alloc(), writer));
-        return show_file(rt, arguments.file, &options, &mut writer, errors);
+        return show_each_on(rt, &options, files, &mut writer, errors);
     }
     let mut writer = Writer::new(writer);
-    show_file(rt, arguments.file, &options, &mut writer, errors)
+    show_each_on(rt, &options, files, &mut writer, errors)
 }
 
-// Prints the messages of a file, or of standard input.
-fn show_file<R: AllocGlobal + Files + Input, W: Write, E: Write>(
+fn show_each_on<R: AllocGlobal + Files + Input, W: Write, E: Write>(
     rt: &R,
-    file: Option<&str>,
     options: &Options<'_>,
+    files: &[&str],
     writer: &mut Writer<W>,
     errors: &mut E,
 ) -> Ended {
     let alloc = rt.alloc();
-    match file {
-        None | Some("-") => {
-            let mut reader = Reader::new(rt.reader());
-            serve(alloc, alloc, options, INPUT, &mut reader, writer, errors)
+    let mut printer = Printer::new(alloc, alloc, options);
+    let mut worst = Ended::well();
+    for file in files {
+        let ended = show_next(rt, &mut printer, *file, writer, errors);
+        worst = worse(worst, ended);
+        if ended.stops_output() {
+            return worst;
         }
-        Some(path) => match fs::open(rt, path) {
-            Ok(file) => {
-                let mut reader = Reader::new(file);
-                serve(alloc, alloc, options, path, &mut reader, writer, errors)
-            }
-            Err(error) => complain_of_file(alloc, path, &error, errors),
-        },
+    }
+    worse(worst, finish(alloc, &mut printer, writer, errors))
+}
+
+fn show_next<R: AllocGlobal + Files + Input, W: Write, E: Write>(
+    rt: &R,
+    printer: &mut Printer<'_, Global>,
+    file: &str,
+    writer: &mut Writer<W>,
+    errors: &mut E,
+) -> Ended {
+    let alloc = rt.alloc();
+    if file == "-" {
+        let mut reader = Reader::new(rt.reader());
+        return serve_next(alloc, printer, INPUT, &mut reader, writer, errors);
+    }
+    match fs::open(rt, file) {
+        Ok(reader) => {
+            let mut reader = Reader::new(reader);
+            serve_next(alloc, printer, file, &mut reader, writer, errors)
+        }
+        Err(error) => complain_of_file(alloc, file, &error, errors),
+    }
+}
+
+// Prints the name of the next of several inputs, and its messages. Why it ended early is written to `errors`.
+fn serve_next<I: Read, W: Write, E: Write>(
+    alloc: Global,
+    printer: &mut Printer<'_, Global>,
+    name: &str,
+    reader: &mut Reader<I>,
+    writer: &mut Writer<W>,
+    errors: &mut E,
+) -> Ended {
+    printer.restart();
+    if printer.put_name(name).is_err() {
+        return fail_without_memory(errors);
+    }
+    let ended = run_next(printer, reader, writer);
+    say_end(alloc, errors, name, &ended, reader, writer);
+    ended
+}
+
+// Prints the summary of several inputs, if the options ask for it.
+fn finish<W: Write, E: Write>(
+    alloc: Global,
+    printer: &mut Printer<'_, Global>,
+    writer: &mut Writer<W>,
+    errors: &mut E,
+) -> Ended {
+    printer.restart();
+    if printer.put_summary().is_err() {
+        return fail_without_memory(errors);
+    }
+    match printer.write(writer) {
+        Ok(()) | Err(Stop::Closed) => Ended::well(),
+        Err(stop) => {
+            say_failure(alloc, errors, OUTPUT, writer.failure());
+            Ended::early(stop)
+        }
     }
 }
 
@@ -236,20 +403,32 @@ pub fn serve<A: Allocator + Copy, R: Read, W: Write, E: Write>(
     ensures clean { options.now.format ≢ Json → GrowsClean (W.contents (writer_inside writer.old)) (W.contents (writer_inside writer.new)) }
 {
     let ended = run(alloc, json, options, reader, writer);
+    say_end(json, errors, name, &ended, reader, writer);
+    ended
+}
+
+// Writes why a run ended early.
+fn say_end<R, W, E: Write>(
+    alloc: Global,
+    errors: &mut E,
+    name: &str,
+    ended: &Ended,
+    reader: &Reader<R>,
+    writer: &Writer<W>,
+) {
     match ended.outcome {
         Ok(()) | Err(Stop::Usage | Stop::Closed) => {}
         Err(Stop::NoCapture) => say_of(
-            json,
+            alloc,
             errors,
             name,
             "not a capture, and its first lines are not hex",
         ),
-        Err(Stop::NoRoute) => say_no_route(json, errors, name, &ended.packets),
-        Err(Stop::Read) => say_failure(json, errors, name, reader.failure()),
-        Err(Stop::Write) => say_failure(json, errors, OUTPUT, writer.failure()),
+        Err(Stop::NoRoute) => say_no_route(alloc, errors, name, &ended.packets),
+        Err(Stop::Read) => say_failure(alloc, errors, name, reader.failure()),
+        Err(Stop::Write) => say_failure(alloc, errors, OUTPUT, writer.failure()),
         Err(Stop::NoMemory) => say_no_memory(errors),
     }
-    ended
 }
 
 const NO_MEMORY: &str = "tcshow: out of memory\n";

@@ -52,6 +52,14 @@ impl Ended {
         }
     }
 
+    /// True if nothing more can be written, or no memory is left.
+    pub fn stops_output(&self) -> bool {
+        matches!(
+            self.outcome,
+            Err(Stop::Closed | Stop::Write | Stop::NoMemory)
+        )
+    }
+
     /// The exit status.
     pub fn status(&self) -> u8
         ensures { result ≡ status_of self.now.outcome self.now.has_refused }
@@ -108,7 +116,7 @@ fn show_to_end<A: Allocator + Copy, R: Read, W: Write>(
 }
 
 // The reason for an early end, if the streams show it; otherwise memory ran out.
-fn shown_end<R, W>(reader: &Reader<R>, writer: &Writer<W>, stop: Stop) -> Stop
+pub(crate) fn shown_end<R, W>(reader: &Reader<R>, writer: &Writer<W>, stop: Stop) -> Stop
     ensures { ShowsEnd (read_failure reader.now) (write_failure writer.now) result }
 {
     match stop {
@@ -209,7 +217,7 @@ fn show_all<A: Allocator + Copy, R: Read, W: Write>(
 
 // Prints the messages of a capture, or of lines of hex.
 #[tactic(auto, using(tcshow_input::proofs::Clean::clean_none))]
-fn show_input<A: Allocator + Copy, R: Read, W: Write>(
+pub(crate) fn show_input<A: Allocator + Copy, R: Read, W: Write>(
     printer: &mut Printer<'_, A>,
     packets: &mut Packets,
     input: &mut Input<A>,

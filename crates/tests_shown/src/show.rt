@@ -11,6 +11,7 @@ mod dumps;
 mod flags;
 mod formats;
 mod holes;
+mod inputs;
 mod known;
 mod memory;
 mod random;

@@ -176,14 +176,8 @@ impl Serializer for Text {
 }
 
 /// A value as JSON.
-pub(crate) fn to_vec<T: Serialize>(value: &T) -> Result<Vec<u8>, AllocError> {
+pub(crate) fn to_string<T: Serialize>(value: &T) -> Result<String, AllocError> {
     let mut text = Text { bytes: fallible::with_capacity(1024)?, is_first: true };
     value.serialize(&mut text)?;
-    Ok(text.bytes)
-}
-
-/// True if two texts are the same JSON. It stands for that of `tcshow_input`.
-pub(crate) fn have_same_tokens(one: &str, other: &str) -> Result<bool, AllocError> {
-    let value = |text| ::serde_json::from_str::<::serde_json::Value>(text).ok();
-    Ok(value(one).is_some_and(|one| value(other) == Some(one)))
+    String::from_utf8(text.bytes).map_err(|_| AllocError)
 }

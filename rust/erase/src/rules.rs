@@ -11,7 +11,6 @@ pub(crate) const STOOD_FOR: &[(&str, &str)] = &[
     ("forms_text::repeated", ""),
     ("program_io::copied", "pub(crate) use crate::host::{copied, copied_if_any};"),
     ("tc_lines::log", ""),
-    ("tcshow_input::same", "pub(crate) use crate::jsontext::have_same_tokens;"),
 ];
 
 /// Classes of words: types of allocators, the names of their values, traits that only contracts name (one that isn't listed stays
@@ -31,6 +30,7 @@ pub(crate) const LOST_IMPORTS: &[&str] = &[
 
 /// Contracts, ghost items, and the attributes of proofs. What a `requires` asks stays before the body, for `duties.rs`.
 pub(crate) const GHOSTS: &[Rule] = &[
+    ("# [ cfg ( test ) ] mod tests ;", ""),
     ("ensures { $;c }", ""),
     ("ensures $n { $;c }", ""),
     ("requires { $;c }", "(required $;c)"),
@@ -215,7 +215,7 @@ pub(crate) const USER_RULES: &[Rule] = &[
     (". push ( $*y ) . is_err ( )", ".try_push($*y).is_err()"),
     ("Value :: try_from_str ( %v , $*x )", "fallible::text($*x).map(Value::String)"),
     (". first_key_value ( )", ".iter().next()"),
-    ("serde_json :: to_vec ( %v , ", "crate::jsontext::to_vec("),
+    ("serde_json :: to_string ( %v , ", "crate::jsontext::to_string("),
     ("# [ serde ( rename = $t ) ] $f :", "$f as $t:"),
     ("# [ derive ( $*d , Serialize ) ] $-v struct $x $-g { $;f }", "crate::jsontext::sent! { #[derive($*d)] $-v struct $x $-g {$;f} }"),
     // A serializer of lines, without the log of what it was sent, and without methods for what isn't JSON.

@@ -1,8 +1,8 @@
-//! Hex as it is pasted: the same netlink message as xxd, tcpdump 4.99 and tshark 4.0 print it, and plain.
+//! Hex as it is pasted: the same netlink message as xxd, hexdump, tcpdump 4.99 and tshark 4.0 print it, and plain.
 
 use std::alloc::Global;
-use tc_select::{dump_line, push_hex};
-use tests_data::dumps::{PLAIN, TCPDUMP, TCPDUMP_TEXT, TSHARK, XXD, XXD_SINGLE};
+use tc_select::{digits_of_line, dump_line, end_of_dump, is_asterisk, push_hex};
+use tests_data::dumps::{HEXDUMP, PLAIN, TCPDUMP, TCPDUMP_TEXT, TSHARK, XXD, XXD_SINGLE};
 
 // Its bytes.
 #[rattlefmt::skip]
@@ -50,6 +50,24 @@ fn is_no_hex(alloc: Global, text: &str) -> bool {
 }
 
 static DUMPS: [&str; 5] = [XXD, XXD_SINGLE, TCPDUMP, TCPDUMP_TEXT, TSHARK];
+
+// The lines of `hexdump -C`, and the offset after them.
+fn is_hexdump(alloc: Global, dump: &str, want: &[u8]) -> bool {
+    match dump.rsplit_once('\n') {
+        Some((lines, end)) => is_dump(alloc, lines, want)
+            && end_of_dump(end.as_bytes()) == Some(want.len() as u64),
+        None => false,
+    }
+}
+
+#[test]
+fn hexdump(rt: HostRuntime) {
+    assert!(rt; is_hexdump(rt.alloc(), HEXDUMP, &BYTES));
+    assert!(rt; is_asterisk(b"*") && is_asterisk(b"* \r"));
+    assert!(rt; !is_asterisk(b"") && !is_asterisk(b"**") && !is_asterisk(b" *"));
+    assert!(rt; digits_of_line(b"00112 ") == 5 && digits_of_line(b"0011g") == 0);
+    assert!(rt; end_of_dump(b"038").is_none() && end_of_dump(b"00000038 00").is_none());
+}
 
 #[test]
 fn dumps(rt: HostRuntime) {

@@ -1,6 +1,7 @@
 //! Times, as Python's `datetime` writes them.
 
-use tc_select::parse_time;
+use tc_capture::Time;
+use tc_select::{on_day, parse_clock, parse_time};
 
 static DATES: [(&str, u64); 24] = [
     ("1970-01-01T00:00:00Z", 0),
@@ -94,4 +95,47 @@ fn no_times(rt: HostRuntime) {
     for text in &NO_TIMES {
         assert!(rt; parse_time(text).is_none(), "{text}");
     }
+}
+
+// Times of day, and their seconds.
+static CLOCKS: [(&str, u64); 4] = [
+    ("00:00", 0),
+    ("20:00", 72_000),
+    ("23:59:59", 86_399),
+    ("07:05:09", 25_509),
+];
+
+static NO_CLOCKS: [&str; 9] = [
+    "", "20", "2000", "20:0", "24:00", "20:60", "20:00:60", "20:00Z", "20-00-00",
+];
+
+#[test]
+fn clocks(rt: HostRuntime) {
+    for (text, second) in &CLOCKS {
+        assert!(rt; parse_clock(text) == Some(*second), "{text}");
+    }
+    for text in &NO_CLOCKS {
+        assert!(rt; parse_clock(text).is_none(), "{text}");
+    }
+}
+
+#[test]
+fn days(rt: HostRuntime) {
+    // 2025-11-26T14:00:00.5Z, and 20:00 on that day.
+    let day = Time {
+        seconds: 1_764_165_600,
+        nanoseconds: 500_000_000,
+    };
+    assert!(rt;
+        on_day(day, 72_000)
+            == Time {
+                seconds: 1_764_187_200,
+                nanoseconds: 0
+            }
+    );
+    let last = Time {
+        seconds: u64::MAX,
+        nanoseconds: 0,
+    };
+    assert!(rt; on_day(last, 86_399).seconds == u64::MAX);
 }

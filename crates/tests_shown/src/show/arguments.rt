@@ -10,7 +10,7 @@ use tcshow_lib::options::OutputFormat;
 enum Part {
     Task(Task<'static>),
     Format(OutputFormat),
-    File(&'static str),
+    Files(&'static [&'static str]),
     Names(&'static str),
     WithoutHeader(MessageType),
     Kinds(&'static [&'static str]),
@@ -34,7 +34,7 @@ fn has(arguments: &Arguments<'_>, part: Part) -> bool {
     match part {
         Part::Task(task) => arguments.task == task,
         Part::Format(form) => arguments.format == form,
-        Part::File(file) => arguments.file == Some(file),
+        Part::Files(files) => arguments.files.as_slice() == files,
         Part::Names(file) => arguments.names == Some(file),
         Part::WithoutHeader(holds) => arguments.without_header == Some(holds),
         Part::Kinds(words) => arguments.kinds.as_slice() == words,
@@ -56,7 +56,7 @@ fn has(arguments: &Arguments<'_>, part: Part) -> bool {
 
 fn is_default(arguments: &Arguments<'_>) -> bool {
     arguments.format == OutputFormat::Lines
-        && arguments.file.is_none()
+        && arguments.files.is_empty()
         && arguments.names.is_none()
         && arguments.without_header.is_none()
         && !arguments.all
@@ -75,7 +75,7 @@ fn chooses_all(arguments: &Arguments<'_>) -> bool {
 }
 
 // Words, and what they say.
-static WORDS: [(&[&str], &[Part]); 13] = [
+static WORDS: [(&[&str], &[Part]); 14] = [
     (&["tcshow"], &[Part::Defaults]),
     (
         &[
@@ -83,7 +83,7 @@ static WORDS: [(&[&str], &[Part]); 13] = [
         ],
         &[
             Part::Format(OutputFormat::Json),
-            Part::File("a"),
+            Part::Files(&["a"]),
             Part::Names("b"),
             Part::Kinds(&["u32"]),
         ],
@@ -113,7 +113,7 @@ static WORDS: [(&[&str], &[Part]); 13] = [
     (
         &["tcshow", "a", "--refused", "--since", "1", "--until", "2"],
         &[
-            Part::File("a"),
+            Part::Files(&["a"]),
             Part::Refused,
             Part::Since("1"),
             Part::Until("2"),
@@ -137,6 +137,7 @@ static WORDS: [(&[&str], &[Part]); 13] = [
         &["tcshow", "--explain", "htb"],
         &[Part::Task(Task::Explain(Some("htb")))],
     ),
+    (&["tcshow", "a", "-", "b"], &[Part::Files(&["a", "-", "b"])]),
     (&["tcshow", "--all"], &[Part::Paddings]),
     (
         &["tcshow", "--color", "auto"],
@@ -177,10 +178,9 @@ fn each_option(rt: HostRuntime) {
 }
 
 // Words that aren't taken, and the status.
-static OTHERS: [(&[&str], i32); 9] = [
+static OTHERS: [(&[&str], i32); 8] = [
     (&["tcshow", "--help"], 0),
     (&["tcshow", "--version"], 0),
-    (&["tcshow", "a", "b"], 2),
     (&["tcshow", "a", "--read", "a"], 2),
     (&["tcshow", "--pref", "65536"], 2),
     (&["tcshow", "--schema", "--explain"], 2),

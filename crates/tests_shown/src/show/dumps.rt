@@ -1,9 +1,14 @@
-//! Dumps with offsets: a netlink message as xxd, tcpdump 4.99 and tshark 4.0 print it, and plain.
+//! Dumps: netlink messages as xxd, hexdump, tcpdump 4.99 and tshark 4.0 print them, and plain.
 
-use crate::show::runs::{Written, all_in, gives, writes};
+use crate::show::runs::{Written, all_in, gives, shown, writes};
 use std::alloc::{AllocError, Global};
+use std::str;
+use std::test::Fail;
 use tcshow_lib::options::OutputFormat;
-use tests_data::dumps::{PLAIN, TCPDUMP, TCPDUMP_TEXT, TSHARK, XXD, XXD_SINGLE};
+use tests_data::dumps::{
+    HEXDUMP, PLAIN, TCPDUMP, TCPDUMP_TEXT, TSHARK, XXD, XXD_PLAIN, XXD_SINGLE, ZEROS,
+    ZEROS_HEXDUMP, ZEROS_HEXDUMP_ALL, ZEROS_XXD, ZEROS_XXD_PLAIN,
+};
 
 // The same with the cooked header of nlmon: tcpdump -xx, tshark -x, and plain.
 const TCPDUMP_FRAME: &str = "\t0x0000:  0004 0338 0000 0000 0000 0000 0000 0000
@@ -55,10 +60,12 @@ fn are_shown(alloc: Global, texts: &[&str], status: u8, written: Written<'_>) ->
         )
 }
 
-static DUMPS: [&str; 9] = [
+static DUMPS: [&str; 11] = [
     PLAIN,
     XXD,
     XXD_SINGLE,
+    XXD_PLAIN,
+    HEXDUMP,
     TCPDUMP,
     TCPDUMP_TEXT,
     TSHARK,
@@ -67,7 +74,10 @@ static DUMPS: [&str; 9] = [
     PLAIN_FRAME,
 ];
 
-static ALL: [&str; 8] = [XXD, TCPDUMP, PLAIN, "", TSHARK, "# text", XXD_SINGLE, PLAIN];
+static ALL: [&str; 12] = [
+    XXD, TCPDUMP, PLAIN, "", TSHARK, HEXDUMP, XXD_PLAIN, "# text", XXD_PLAIN, HEXDUMP, XXD_SINGLE,
+    PLAIN,
+];
 
 #[test]
 fn dumps(rt: HostRuntime) {
@@ -78,7 +88,7 @@ fn dumps(rt: HostRuntime) {
             "{text}"
         );
     }
-    assert!(rt; are_shown(alloc, &ALL, 0, Written::Is(&[ONE; 6])));
+    assert!(rt; are_shown(alloc, &ALL, 0, Written::Is(&[ONE; 10])));
     assert!(rt; are_shown(alloc, &[PASTED], 1, Written::Ends(ONE)));
 }
 
@@ -93,4 +103,68 @@ static GAP_SHOWN: &str =
 #[test]
 fn gaps(rt: HostRuntime) {
     assert!(rt; writes(rt.alloc(), &all_in(OutputFormat::Json), GAP, 1, GAP_SHOWN));
+}
+
+// A message with many zeros, of which dumps leave out lines.
+static ZERO_DUMPS: [&str; 4] = [ZEROS_HEXDUMP, ZEROS_HEXDUMP_ALL, ZEROS_XXD, ZEROS_XXD_PLAIN];
+
+#[test]
+fn lines_left_out(rt: HostRuntime) {
+    let alloc = rt.alloc();
+    let plain = shown(alloc, &all_in(OutputFormat::Json), ZEROS.as_bytes());
+    assert!(rt; plain.status == 0);
+    let Ok(line) = str::from_utf8(&plain.written) else {
+        assert!(rt; false);
+        return;
+    };
+    for dump in &ZERO_DUMPS {
+        assert!(rt;
+            are_shown(alloc, &[*dump], 0, Written::Is(&[line])),
+            "{dump}"
+        );
+        assert!(rt;
+            are_shown(
+                alloc,
+                &[*dump, PLAIN, *dump],
+                0,
+                Written::Is(&[line, ONE, line])
+            ),
+            "{dump}"
+        );
+    }
+}
+
+// Edits of a dump after which it isn't of the whole message: no asterisk, an offset that lines as the one before don't reach, one that is
+// too large, and an end at another offset.
+static EDITS: [(&str, &str); 5] = [
+    ("*\n", ""),
+    ("*\n", "**\n"),
+    ("\n00000070", "\n00000071"),
+    ("\n00000070", "\n00100010"),
+    ("\n00000078", "\n00000079"),
+];
+
+// A text with its first `old` replaced.
+fn edited(alloc: Global, text: &str, old: &str, new: &str) -> Result<String, AllocError> {
+    let mut all = String::new(alloc);
+    if let Some((front, rest)) = text.split_once(old) {
+        all.push_str(front)?;
+        all.push_str(new)?;
+        all.push_str(rest)?;
+    }
+    Ok(all)
+}
+
+#[test]
+fn other_lines(rt: HostRuntime) -> Result<(), Fail> {
+    for (old, new) in &EDITS {
+        let text = edited(rt.alloc(), ZEROS_HEXDUMP, *old, *new)?;
+        let outcome = shown(
+            rt.alloc(),
+            &all_in(OutputFormat::Json),
+            text.as_str().as_bytes(),
+        );
+        assert!(rt; outcome.status == 1, "{text}");
+    }
+    Ok(())
 }

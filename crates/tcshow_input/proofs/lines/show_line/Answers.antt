@@ -1,4 +1,5 @@
 use Rattle.std.proofs.Common.{◌+◌, drop, take}
+use Rattle.tc_input.specs.Dumps.{dump_of}
 use Rattle.tc_input.specs.Left.{left_of, rest_of}
 use Rattle.tcshow_input.specs.Reading.{things_at}
 use Rattle.tcshow_input.specs.State.{state_of}
@@ -12,9 +13,9 @@ returns-in_ok-write_much-in-Some-clause-ran g c =
     let reader = g.R.Read.remaining c.args.reader.now in
     let rest = rest_of c.line_end.new.self in
     let line = take c.in-Some.end rest in (
-      things_at header c.args.dump.now.items line,
-      puts_progress (things_at header c.args.dump.now.items line) _ _ _ _ _ c.in_ok-put_front-in-Some.ensures.put c.in_ok-write_much-in-Some.ensures.ran,
-      line_gives header c.args.dump.now.items line c.put_front.new.dump.items (left_of c.args.input.now reader)
+      things_at header (dump_of c.args.dump.now) line,
+      puts_progress (things_at header (dump_of c.args.dump.now) line) _ _ _ _ _ c.in_ok-put_front-in-Some.ensures.put c.in_ok-write_much-in-Some.ensures.ran,
+      line_gives header (dump_of c.args.dump.now) line (dump_of c.put_front.new.dump) (left_of c.args.input.now reader)
           (rest_of c.use_line.new.self) (drop (c.in-Some.end + 1) rest) reader
           (c.in-Some.ensures.line reader) c.use_line.ensures c.in_ok-put_front-in-Some.ensures.dump,
     )

@@ -1,4 +1,5 @@
-use Rattle.std.proofs.Common.{List, ℕ, [], Some, subst}
+use Rattle.std.proofs.Common.{[], Some, subst}
+use Rattle.tc_input.specs.Dumps.{Dump}
 use Rattle.tc_input.specs.Left.{left_of, Gives}
 use Rattle.tcshow_input.specs.Reading.{text_left}
 use Rattle.tcshow_input.specs.State.{state_of}
@@ -9,4 +10,4 @@ returns-clause-ran g c =
     let header = (state_of c.args.printer.now).header in
     let left = left_of c.args.input.now (g.R.Read.remaining c.args.reader.now) in
     let x = c.in_ok-show_lines_after.ensures.ran in
-    (x.0, x.1, subst (λ (d : List ℕ). Gives (text_left header d left) x.0 (Some [])) c.new-dump.ensures.items x.2)
+    (x.0, x.1, subst (λ (d : Dump). Gives (text_left header d left) x.0 (Some [])) c.new-dump.ensures x.2)

@@ -1,4 +1,5 @@
 use Rattle.std.proofs.Common.{◌∙◌, ◌++◌, [], Some, true, false, refl, sym}
+use Rattle.tc_input.specs.Dumps.{dump_of}
 use Rattle.tc_input.specs.Left.{left_of}
 use Rattle.tcshow_input.specs.Reading.{text_left}
 use Rattle.tcshow_input.specs.State.{state_of}
@@ -17,10 +18,10 @@ loop-preserved g c =
     let header = (state_of c.args.printer.now).header in
     let left = left_of c.loop.input (g.R.Read.remaining c.loop.reader) in
     let after = left_of c.show_line.new.input (g.R.Read.remaining c.show_line.new.reader) in
-    let a = text_left header c.loop.dump.items left in
-    let b = text_left header c.show_line.new.dump.items after in
+    let a = text_left header (dump_of c.loop.dump) left in
+    let b = text_left header (dump_of c.show_line.new.dump) after in
     let given =
-    same_header (state_of c.loop.printer).header header c.loop.dump.items c.show_line.new.dump.items c.in_ok-goes_on.goes_on next.0 left after
+    same_header (state_of c.loop.printer).header header (dump_of c.loop.dump) (dump_of c.show_line.new.dump) c.in_ok-goes_on.goes_on next.0 left after
     before.1.header next.2 in
     record {
       form = c.show_line.ensures.form ∙ c.loop.invariant.form;
@@ -42,10 +43,10 @@ returns-then-not-goes_on-clause-ran g c =
     let header = (state_of c.args.printer.now).header in
     let left = left_of c.loop.input (g.R.Read.remaining c.loop.reader) in
     let after = left_of c.show_line.new.input (g.R.Read.remaining c.show_line.new.reader) in
-    let a = text_left header c.loop.dump.items left in
-    let b = text_left header c.show_line.new.dump.items after in
+    let a = text_left header (dump_of c.loop.dump) left in
+    let b = text_left header (dump_of c.show_line.new.dump) after in
     let given =
-    same_header (state_of c.loop.printer).header header c.loop.dump.items c.show_line.new.dump.items c.in_ok-goes_on.goes_on next.0 left after
+    same_header (state_of c.loop.printer).header header (dump_of c.loop.dump) (dump_of c.show_line.new.dump) c.in_ok-goes_on.goes_on next.0 left after
     before.1.header next.2 in (
       before.0 ++ next.0,
       progress_then before.0 next.0 _ _ _ _ _ _ before.1 next.1,

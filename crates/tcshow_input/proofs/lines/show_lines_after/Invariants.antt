@@ -1,4 +1,5 @@
 use Rattle.std.proofs.Common.{◌≡◌, false, List}
+use Rattle.tc_input.specs.Dumps.{dump_of}
 use Rattle.tc_input.specs.Left.{left_of, Gives}
 use Rattle.tcshow_json.specs.Messages.{Thing}
 use Rattle.tcshow_input.specs.Reading.{text_left}
@@ -12,6 +13,6 @@ invariant-loop g l = record {
   form : l.printer.output.is_json ≡ l.fn.printer.output.is_json;
   clean : l.fn.printer.output.is_json ≡ false → GrowsClean (g.W.Write.contents l.fn.writer) (g.W.Write.contents l.writer);
   ran : (things : List Thing) × Progress things (g.W.Write.contents l.fn.writer) (g.W.Write.contents l.writer) (state_of l.fn.printer) (state_of l.printer)
-      × Gives (text_left (state_of l.fn.printer).header l.fn.dump.items (left_of l.fn.input (g.R.Read.remaining l.fn.reader))) things
-      (text_left (state_of l.fn.printer).header l.dump.items (left_of l.input (g.R.Read.remaining l.reader)));
+      × Gives (text_left (state_of l.fn.printer).header (dump_of l.fn.dump) (left_of l.fn.input (g.R.Read.remaining l.fn.reader))) things
+      (text_left (state_of l.fn.printer).header (dump_of l.dump) (left_of l.input (g.R.Read.remaining l.reader)));
 }

@@ -10,7 +10,7 @@ use Rattle.tcshow_input.proofs.printer.Printer.put_long.Goals as goal
 pub returns-clause-put : goal.returns-clause-put
 returns-clause-put g c =
     let header = (state_of c.args.self.now).header in
-    let dump = c.args.dump.now.items in
+    let dump = c.args.dump.now.bytes.items in
     let first = dumped_after header header _ dump _ _ refl c.as_slice.ensures.value c.in_ok-put_dump.ensures.put in
     on_ok_weaker c.put_hole.result
     (λ p. puts_then (things_dumped header dump) (hole false ∷ []) _ _ _ first p)

@@ -1,5 +1,6 @@
 use Rattle.std.proofs.Common.{◌∙◌, refl, sym}
 use Rattle.std.proofs.lemmas.Result.{on_ok_weaker}
+use Rattle.std.specs.Prelude.{string_bytes}
 use Rattle.tc_outline.specs.Text.{text_on}
 use Rattle.tcshow_input.specs.Shown.{ended}
 use Rattle.tcshow_input.specs.State.{state_of}
@@ -12,7 +13,7 @@ returns-then-is_json-clause-put g c =
     let n = state_of c.put_json.new.self in
     on_ok_weaker c.put_json.result
     (λ put. asked_summary s.json s.summary s n c.if-not-self.false
-    (notice_line s.json c.in_ok-line.line.items s n (sym c.is_json.ensures ∙ c.if-is_json.true) put))
+    (notice_line s.json (string_bytes c.in_ok-line.line) s n (sym c.is_json.ensures ∙ c.if-is_json.true) put))
     c.put_json.ensures.put
 
 pub returns-clause-put : goal.returns-clause-put

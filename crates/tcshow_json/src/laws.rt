@@ -1,0 +1,20 @@
+//! Laws of the lines that are printed. The functions do nothing: their contracts are the laws.
+
+ghost use Rattle.std.specs.Prelude.{◌≡◌, false, chars, IsUtf8};
+ghost use Rattle.std.specs.List.{list_any};
+ghost use Rattle.serde.specs.Event.{Log};
+ghost use Rattle.serde_json.specs.Sent.{IsTextOf};
+ghost use Rattle.json.specs.Lex.{tokens};
+ghost use Rattle.tc_outline.specs.Page.{IsPrintable};
+ghost use Rattle.tcshow_json.specs.Safe.{is_hidden, safe_text};
+
+/// For every line of JSON that is written: as it is printed it has the same tokens, and none of the characters that a terminal may
+/// obey. A line of printable ASCII is printed as it is.
+#[tactic(auto, using(crate::proofs::SafeTokens::same_tokens, crate::proofs::SafeLines::none_hidden, crate::proofs::SafeLines::safe_utf8,
+    crate::proofs::SafeWrites::printable_kept))]
+pub fn safe_lines(line: &str)
+    ensures same { (log : Log) → IsTextOf log line.now → tokens (safe_text line.now) ≡ tokens line.now }
+    ensures none { list_any is_hidden (chars (safe_text line.now)) ≡ false }
+    ensures utf8 { IsUtf8 (safe_text line.now) }
+    ensures kept { IsPrintable line.now → safe_text line.now ≡ line.now }
+{}

@@ -1,0 +1,23 @@
+use Rattle.tc_input.specs.Left.{left_of, rest_of}
+use Rattle.tcshow_input.specs.State.{state_of}
+use Rattle.tcshow_input.proofs.Clean.{clean_step}
+use Rattle.tcshow_input.proofs.InOrder.{begun_are}
+use Rattle.tcshow_input.proofs.Progress.{progress_written}
+use Rattle.tcshow_lib.proofs.inputs.show_next.Goals as goal
+
+pub returns-clause-ran : goal.returns-clause-ran
+returns-clause-ran g c =
+    let input = c.in_ok-input.input in
+    let left = left_of input (g.R.Read.remaining c.begin.new.reader) in
+    let found = c.in_ok-show_input.ensures.ran in (
+      found.0,
+      begun_are (state_of c.args.printer.now).header (rest_of input) (g.R.Read.remaining c.args.reader.now) left found.0 c.in_ok-input.ensures.kept
+          c.in_ok-input.ensures.first found.1,
+      progress_written found.0 _ _ _ _ _ _ found.2 c.in_ok-write.ensures.ran,
+    )
+
+pub returns-clause-clean : goal.returns-clause-clean
+returns-clause-clean g c = clean_step _ _ _ _ _ c.show_input.ensures.clean c.show_input.ensures.form c.write.ensures.clean
+
+pub returns-then-are_foreign-clause-clean : goal.returns-then-are_foreign-clause-clean
+returns-then-are_foreign-clause-clean g c = clean_step _ _ _ _ _ c.show_input.ensures.clean c.show_input.ensures.form c.write.ensures.clean
