@@ -32,12 +32,11 @@ major handle = handle / 0x10000 * 0x10000
 abbrev pub owner : (Key → Option Key) → ℤ → ℕ → Key
 owner find index handle = unwrap_or (find (key.Class index (major handle))) (key.Class index (major handle))
 
--- what a qdisc, a chain or a filter is under, by its parent: the block, if its interface is -1; nothing, if it is the root qdisc
--- (ffff:ffff), or ingress or clsact (ffff:fff1); or the class or qdisc of this handle, else the qdisc of this class
+-- what a qdisc, a chain or a filter is under, by its parent: nothing, if it is in a block that interfaces share (its interface is -1), if it is the
+-- root qdisc (ffff:ffff), or ingress or clsact (ffff:fff1); or the class or qdisc of this handle, else the qdisc of this class
 abbrev pub above : (Key → Option Key) → ℤ → ℕ → List Key
 above find index parent =
-    if int_eq index (negsuc 0) then key.Block parent ∷ []
-    else if (parent == 0xffffffff) || (parent == 0xfffffff1) then []
+    if int_eq index (negsuc 0) || ((parent == 0xffffffff) || (parent == 0xfffffff1)) then []
     else unwrap_or (find (key.Class index parent)) (owner find index parent) ∷ []
 
 -- the class that is a class's parent, if that isn't its qdisc
@@ -66,13 +65,13 @@ abbrev pub under : {A : Type 0} → (Key → Option Key) → Shown A → List Ke
 under find s = under_by find s.sort s
 
 -- what can't be deleted before an object: the parent of a class; the classes that a filter names, the actions that it shares, its
--- hash tables; the priority of a hash table
+-- hash tables; the priority of a hash table; the qdiscs of a block, of what is in it
 abbrev pub refers_by : {A : Type 0} → (Key → Option Key) → Sort → Shown A → List Key
 refers_by find Qdisc s = []
 refers_by find Class s = parent_class s.index s.parent
-refers_by find Chain s = []
-refers_by find Priority s = []
-refers_by find Table s = priority_of s ∷ []
+refers_by find Chain s = s.others.items
+refers_by find Priority s = s.others.items
+refers_by find Table s = s.others.items ++ priority_of s ∷ []
 refers_by find (Action kind) s = []
 refers_by find Filter s = flat_map (class_named find s.index) s.classes.items ++ s.others.items
 

@@ -2,7 +2,7 @@
 
 use crate::shown::Sort;
 
-/// What becomes of options that a change lacks.
+/// The fate of options that a change lacks.
 #[derive(Clone, Copy, PartialEq, Eq, Debug)]
 pub(crate) enum Change {
     /// Nothing is changed: it is deleted and made.
@@ -60,7 +60,19 @@ pub(crate) fn rule_of(sort: Sort, kind: &str) -> Rule {
 
 fn of_qdisc(kind: &str) -> Rule {
     match kind {
-        "bfifo" | "cake" | "cbs" | "fq" | "hfsc" | "hhf" | "pfifo" | "pfifo_head_drop" | "pie" | "prio" | "rr" | "skbprio" | "tbf" => WHOLE,
+        "bfifo"
+        | "cake"
+        | "cbs"
+        | "fq"
+        | "hfsc"
+        | "hhf"
+        | "pfifo"
+        | "pfifo_head_drop"
+        | "pie"
+        | "prio"
+        | "rr"
+        | "skbprio"
+        | "tbf" => WHOLE,
         "codel" => KEEPS,
         "fq_codel" => Rule {
             fixed: &[5],
@@ -87,7 +99,11 @@ fn of_filter(kind: &str) -> Rule {
         "basic" | "bpf" => WHOLE,
         "flow" | "fw" => KEEPS,
         "flower" => Rule {
-            equal: &[5, 7, 11, 13, 15, 17, 28, 30, 32, 34, 35, 36, 37, 38, 39, 40, 44, 46, 48, 50, 52, 54, 56, 58, 60, 62, 64, 66, 72, 74, 76, 81, 83, 84, 85, 92, 94, 96, 98, 99, 101, 107, 109, 111],
+            equal: &[
+                5, 7, 11, 13, 15, 17, 28, 30, 32, 34, 35, 36, 37, 38, 39, 40, 44, 46, 48, 50, 52,
+                54, 56, 58, 60, 62, 64, 66, 72, 74, 76, 81, 83, 84, 85, 92, 94, 96, 98, 99, 101,
+                107, 109, 111,
+            ],
             by_name: true,
             free: &[1, 3, 22],
             ..WHOLE
@@ -102,7 +118,22 @@ fn of_filter(kind: &str) -> Rule {
 
 fn of_action(kind: &str) -> Rule {
     match kind {
-        "bpf" | "connmark" | "csum" | "ct" | "ctinfo" | "ife" | "mirred" | "mpls" | "nat" | "pedit" | "police" | "simple" | "skbedit" | "skbmod" | "tunnel_key" | "vlan" => WHOLE,
+        "bpf"
+        | "connmark"
+        | "csum"
+        | "ct"
+        | "ctinfo"
+        | "ife"
+        | "mirred"
+        | "mpls"
+        | "nat"
+        | "pedit"
+        | "police"
+        | "simple"
+        | "skbedit"
+        | "skbmod"
+        | "tunnel_key"
+        | "vlan" => WHOLE,
         "gact" | "sample" => KEEPS,
         _ => NEVER,
     }

@@ -28,6 +28,8 @@ pub(crate) struct Known<A: Allocator> {
     pub(crate) filled: HashSet<PlanKey, BuildHasherDefault<FoldHasher>, A>,
     /// The actions that only their filters can make.
     pub(crate) by_filters: Vec<PlanKey, A>,
+    /// The blocks of qdiscs, by their numbers, and the places of these qdiscs.
+    pub(crate) blocks: Vec<(u32, Key), A>,
 }
 
 /// What these dumps show.
@@ -48,6 +50,7 @@ pub(crate) fn known_of<A: Allocator + Copy>(
         }
     }
     let by_filters = by_filters_of(alloc, dumps)?;
+    let blocks = blocks_of(alloc, dumps)?;
     let mut tables = HashMap::new(alloc);
     let mut filled = HashSet::new(alloc);
     for dump in dumps {
@@ -71,6 +74,7 @@ pub(crate) fn known_of<A: Allocator + Copy>(
         tables,
         filled,
         by_filters,
+        blocks,
     })
 }
 
@@ -97,6 +101,29 @@ fn table_of<A: Allocator>(message: &TcMessage<A>, entry: &Entry<A>) -> Option<Ke
         }),
         _ => None,
     }
+}
+
+// The blocks that qdiscs name.
+fn blocks_of<A: Allocator + Copy>(
+    alloc: A,
+    dumps: &[Dump<A>],
+) -> Result<Vec<(u32, Key), A>, AllocError> {
+    let mut blocks = Vec::new(alloc);
+    for dump in dumps {
+        if let Dump::Of(Object::Qdisc, message) = dump {
+            let place = Key::Place {
+                index: message.header.index,
+                parent: u32::from(message.header.parent),
+            };
+            let entry = entry_of(alloc, 0, Fate::Request, Object::Qdisc, &[], message)?;
+            for key in &entry.provides {
+                if let PlanKey::Block { number } = key {
+                    blocks.push((*number, place))?;
+                }
+            }
+        }
+    }
+    Ok(blocks)
 }
 
 // The actions that only their filters can make.

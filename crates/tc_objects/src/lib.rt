@@ -28,7 +28,7 @@ pub use reading::Origin;
 pub use requests::{CHANGE_FLAGS, DELETE_FLAGS, PlanRequest};
 pub use rules::KindRules;
 pub use shown::{Shown, Sort};
-pub use state::{State, state_of};
+pub use state::{State, state_after, state_of};
 pub use state_error::StateError;
 
 #[cfg(test)]

@@ -7,6 +7,7 @@ use crate::dump::Dump;
 use crate::frames::emitted;
 use crate::known::Known;
 use crate::normal::normal;
+use crate::objects::key_of;
 use crate::shown::{Shown, Sort};
 use crate::state_error::StateError;
 use std::alloc::{AllocError, Allocator};
@@ -17,10 +18,13 @@ use tc_actions::TcAction;
 use tc_changes::Key;
 use tc_messages::{TcAttribute, TcMessage};
 use tc_plan::{
-    Entry, Fate, Key as PlanKey, Named, entry_of, has_action, held_by, name_of_action, newest_first,
+    Entry, Fate, Key as PlanKey, Named, entry_of, has_action, name_of_action, newest_first,
 };
 use tc_records::{TcActionMessageHeader, TcHandle};
-use tc_restore::{Object, RestoreError, kind_of_action, request_of, request_of_actions};
+use tc_restore::{
+    Object, RestoreError, actions_of_filter, kind_of_action, request_of, request_of_actions,
+    standalone_index,
+};
 
 /// Where an object comes from.
 #[derive(Clone, Copy, PartialEq, Eq, Drop, Debug)]
@@ -44,8 +48,8 @@ pub(crate) struct Reading<A: Allocator> {
 #[derive(Drop)]
 pub(crate) struct Readings<A: Allocator> {
     pub(crate) all: Vec<Reading<A>, A>,
-    /// The priorities among them.
-    pub(crate) priorities: HashSet<Key, BuildHasherDefault<FoldHasher>, A>,
+    /// The priorities among them, and what is in blocks that interfaces share, which each of these dumps.
+    pub(crate) seen: HashSet<Key, BuildHasherDefault<FoldHasher>, A>,
 }
 
 /// What these dumps show.
@@ -56,7 +60,7 @@ pub(crate) fn readings_of<A: Allocator + Copy>(
 ) -> Result<Vec<Reading<A>, A>, StateError> {
     let mut readings = Readings {
         all: Vec::new(alloc),
-        priorities: HashSet::new(alloc),
+        seen: HashSet::new(alloc),
     };
     let mut place = 0;
     for dump in dumps {
@@ -159,21 +163,67 @@ fn put_object<A: Allocator + Copy>(
         handle: u32::from(message.header.handle),
     };
     if object == Object::Filter {
-        put_priority(alloc, place, at, &message, readings)?;
+        put_priority(alloc, known, place, at, &message, readings)?;
     }
     if is_implied(known, at, &entry) {
         return Ok(());
     }
     let group = newest_first(object, &known.ingress, &message);
-    let others = tables_of(alloc, known, &entry)?;
+    let others = match at.sort {
+        Sort::Table | Sort::Chain => with_places(Vec::new(alloc), known, at)?,
+        _ => tables_of(alloc, known, &entry)?,
+    };
     if let Some(shown) = shown_of(alloc, known, place, object, at, others, message)? {
-        readings.all.push(Reading {
-            shown,
-            origin,
-            group,
-        })?;
+        if is_first(&shown, readings)? {
+            readings.all.push(Reading {
+                shown,
+                origin,
+                group,
+            })?;
+        }
     }
     Ok(())
+}
+
+// True unless it is in a block that interfaces share, and another one of these dumps it too.
+fn is_first<A: Allocator + Copy>(
+    shown: &Shown<A>,
+    readings: &mut Readings<A>,
+) -> Result<bool, AllocError> {
+    if shown.index != SHARED {
+        return Ok(true);
+    }
+    let key = key_of(shown);
+    if readings.seen.contains(&key) {
+        return Ok(false);
+    }
+    readings.seen.insert(key)?;
+    Ok(true)
+}
+
+// The interface of what is in a block that interfaces share: `TCM_IFINDEX_MAGIC_BLOCK`.
+const SHARED: i32 = -1;
+
+// Keys, and those of the qdiscs of a shared block; the key of the block itself, which no object has, if it isn't any qdisc's.
+fn with_places<A: Allocator>(
+    keys: Vec<Key, A>,
+    known: &Known<A>,
+    at: Whereabouts,
+) -> Result<Vec<Key, A>, AllocError> {
+    let mut keys = keys;
+    if at.index == SHARED {
+        let mut is_known = false;
+        for (number, place) in &known.blocks {
+            if *number == at.parent {
+                keys.push(*place)?;
+                is_known = true;
+            }
+        }
+        if !is_known {
+            keys.push(Key::Block { number: at.parent })?;
+        }
+    }
+    Ok(keys)
 }
 
 // True for chain 0 without a template, and for another one without a template that has a filter: the kernel makes it with the filter.
@@ -217,6 +267,7 @@ fn tables_of<A: Allocator + Copy>(
 // Puts the priority of a filter, if it is the first of it.
 fn put_priority<A: Allocator + Copy>(
     alloc: A,
+    known: &Known<A>,
     place: usize,
     at: Whereabouts,
     message: &TcMessage<A>,
@@ -228,10 +279,10 @@ fn put_priority<A: Allocator + Copy>(
         number: at.chain,
         priority: at.priority,
     };
-    if readings.priorities.contains(&key) {
+    if readings.seen.contains(&key) {
         return Ok(());
     }
-    readings.priorities.insert(key)?;
+    readings.seen.insert(key)?;
     let protocol = message.header.info % 0x1_0000;
     let mut text = Vec::from_slice(alloc, &protocol.to_le_bytes())?;
     text.extend_from_slice(kind_of(message).as_bytes())?;
@@ -243,7 +294,7 @@ fn put_priority<A: Allocator + Copy>(
         chain: at.chain,
         priority: at.priority,
         classes: Vec::new(alloc),
-        others: Vec::new(alloc),
+        others: with_places(Vec::new(alloc), known, at)?,
         config: plain(alloc, MADE, &text)?,
     };
     readings.all.push(Reading {
@@ -288,7 +339,7 @@ fn shown_of<A: Allocator + Copy>(
         plain(alloc, NEVER, &bytes)?
     };
     let others = match object {
-        Object::Filter => with_shared(others, held_by(alloc, message)?)?,
+        Object::Filter => with_shared(others, actions_of_filter(alloc, message)?)?,
         _ => others,
     };
     Ok(Some(Shown {
@@ -331,18 +382,16 @@ fn without_counts<A: Allocator>(message: TcMessage<A>) -> TcMessage<A> {
     message
 }
 
-// Keys, and those of actions that a filter shares.
-fn with_shared<A: Allocator>(
+// Keys, and those of the actions that a filter shares.
+fn with_shared<A: Allocator + Copy>(
     keys: Vec<Key, A>,
-    held: Vec<PlanKey, A>,
+    actions: Vec<TcAction<A>, A>,
 ) -> Result<Vec<Key, A>, AllocError> {
     let mut keys = keys;
-    for key in &held {
-        if let PlanKey::Action { kind, index } = key {
-            keys.push(Key::Action {
-                kind: *kind,
-                index: *index,
-            })?;
+    for action in &actions {
+        if let (Some(_), Some(name)) = (standalone_index(action), name_of_action(action)) {
+            let Named { kind, index } = name;
+            keys.push(Key::Action { kind, index })?;
         }
     }
     Ok(keys)

@@ -108,14 +108,12 @@ fn sending<A: Allocator + Copy>(
     if message_type == 0 {
         return Ok(None);
     }
-    Ok(
-        Some(PlanRequest {
-            key,
-            message_type,
-            flags,
-            message: message_by(alloc, key, handle, message)?,
-        }),
-    )
+    Ok(Some(PlanRequest {
+        key,
+        message_type,
+        flags,
+        message: message_by(alloc, key, handle, message)?,
+    }))
 }
 
 fn message_by<A: Allocator + Copy>(
@@ -218,14 +216,12 @@ fn deleting<A: Allocator + Copy>(
         Key::Action { kind, index } => (49, action_bytes(alloc, kind, index)?),
         Key::Block { .. } => return Ok(None),
     };
-    Ok(
-        Some(PlanRequest {
-            key,
-            message_type,
-            flags: DELETE_FLAGS,
-            message,
-        }),
-    )
+    Ok(Some(PlanRequest {
+        key,
+        message_type,
+        flags: DELETE_FLAGS,
+        message,
+    }))
 }
 
 // `struct tcmsg` with this handle, parent and priority.
@@ -246,10 +242,7 @@ fn header_bytes<A: Allocator + Copy>(
 }
 
 // A message, and the chain in it (`TCA_CHAIN`).
-fn with_chain<A: Allocator>(
-    message: Vec<u8, A>,
-    number: u32,
-) -> Result<Vec<u8, A>, AllocError>
+fn with_chain<A: Allocator>(message: Vec<u8, A>, number: u32) -> Result<Vec<u8, A>, AllocError>
     ensures { IfOk result (λ made. made.items ≡ message.items ++ chain_bytes number) }
 {
     let mut made = message;
@@ -259,10 +252,7 @@ fn with_chain<A: Allocator>(
 }
 
 // The same, unless it is chain 0.
-fn with_chain_if<A: Allocator>(
-    message: Vec<u8, A>,
-    number: u32,
-) -> Result<Vec<u8, A>, AllocError>
+fn with_chain_if<A: Allocator>(message: Vec<u8, A>, number: u32) -> Result<Vec<u8, A>, AllocError>
     ensures { IfOk result (λ made. made.items ≡ message.items ++ chain_if number) }
 {
     if number == 0 {

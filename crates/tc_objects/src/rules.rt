@@ -44,7 +44,8 @@ fn are_among(bytes: &[u8], among: &[u8]) -> bool
 fn shares(keys: &[Key], among: &[Key]) -> bool
     ensures { result ≡ shares keys.now among.now }
 {
-    keys.iter().all(|key| !is_action(key) || is_among(among, *key))
+    keys.iter()
+        .all(|key| !is_action(key) || is_among(among, *key))
 }
 
 fn is_among(keys: &[Key], key: Key) -> bool

@@ -38,7 +38,8 @@ pub struct Shown<A: Allocator> {
     pub priority: u32,
     /// Handles of the classes that a filter names.
     pub classes: Vec<u32, A>,
-    /// What else a filter refers to: actions that it shares, hash tables of u32.
+    /// What else it refers to: a filter to actions that it shares and to hash tables of u32; what is in a block that interfaces share, to the
+    /// qdiscs that have it.
     pub others: Vec<Key, A>,
     /// The bytes of its configuration.
     pub config: Vec<u8, A>,

@@ -43,9 +43,32 @@ pub fn state_of<A: Allocator + Copy>(
 ) -> Result<State<A>, StateError>
     ensures ready { IfOk result (λ state. ready same_key [] (things state.objects.items) ≡ true) }
 {
+    state_by(alloc, dumps, None)
+}
+
+/// The same of what is wanted instead of a state: filters that are there come before new ones, since some kinds refuse a filter with the
+/// values that another one still has.
+pub fn state_after<A: Allocator + Copy>(
+    alloc: A,
+    dumps: Vec<Dump<A>, A>,
+    now: &State<A>,
+) -> Result<State<A>, StateError>
+    ensures ready { IfOk result (λ state. ready same_key [] (things state.objects.items) ≡ true) }
+{
+    state_by(alloc, dumps, Some(&now.handles))
+}
+
+fn state_by<A: Allocator + Copy>(
+    alloc: A,
+    dumps: Vec<Dump<A>, A>,
+    there: Option<&Handles<A>>,
+) -> Result<State<A>, StateError>
+    ensures ready { IfOk result (λ state. ready same_key [] (things state.objects.items) ≡ true) }
+{
     let known = known_of(alloc, &dumps)?;
     let readings = readings_of(alloc, &known, dumps)?;
     let steps = steps_of(alloc, readings)?;
+    let steps = new_last(alloc, there, steps)?;
     let order = ordered(alloc, steps)?;
     if let Some(step) = order.unordered.first() {
         return Err(StateError::Circle {
@@ -53,10 +76,39 @@ pub fn state_of<A: Allocator + Copy>(
         });
     }
     let state = in_order(alloc, order.sorted)?;
-    if is_ready(alloc, &state.objects)? {
+    let is = is_ready(alloc, &state.objects)?;
+    if is {
         Ok(state)
     } else {
-        Err(fault_of(alloc, &state)?)
+        let fault = fault_of(alloc, &state)?;
+        Err(fault)
+    }
+}
+
+// These steps, those of filters last that aren't there.
+fn new_last<A: Allocator + Copy>(
+    alloc: A,
+    there: Option<&Handles<A>>,
+    steps: Vec<Step<Item<A>, Key, A>, A>,
+) -> Result<Vec<Step<Item<A>, Key, A>, A>, AllocError> {
+    let mut first = Vec::with_capacity(alloc, steps.len())?;
+    let mut last = Vec::new(alloc);
+    for step in steps {
+        if is_new(there, step.item.object.key) {
+            last.push(step)?;
+        } else {
+            first.push(step)?;
+        }
+    }
+    first.append(&mut last)?;
+    Ok(first)
+}
+
+// True for a filter that isn't there.
+fn is_new<A: Allocator>(there: Option<&Handles<A>>, key: Key) -> bool {
+    match (there, key) {
+        (Some(there), Key::Filter { .. }) => !there.contains_key(&key),
+        _ => false,
     }
 }
 

@@ -14,7 +14,8 @@ use tc_capture::{MessageType, Time};
 use tc_changes::{Key, Plan};
 use tc_messages::TcMessage;
 use tc_objects::{
-    DELETE_FLAGS, Dump as Shown, KindRules, PlanRequest, Planned, State, StateError, plan_between, state_of,
+    DELETE_FLAGS, Dump as Shown, KindRules, PlanRequest, Planned, State, StateError, plan_between, state_after,
+    state_of,
 };
 use tc_restore::RTM_NEWACTION;
 use tcmake_lines::{NetlinkHeader, packet_at};
@@ -64,12 +65,16 @@ fn lines_of(alloc: Global, dumps: Vec<(NetlinkHeader, Vec<u8>)>) -> Result<Lines
 /// The requests that lead from the lines of now to those that are wanted.
 pub(crate) fn plan_by(alloc: Global, now: Lines, want: Lines) -> Result<Restored, Stop> {
     let mut remarks = Lines::new(alloc);
-    let now = state_in(alloc, Source::Now, now, &mut remarks)?;
-    let want = state_in(alloc, Source::Wanted, want, &mut remarks)?;
-    let requests = match (now, want) {
+    let now = state_in(alloc, Source::Now, None, now, &mut remarks)?;
+    let there = match &now {
+        Some((now, _)) => Some(now),
+        None => None,
+    };
+    let want = state_in(alloc, Source::Wanted, there, want, &mut remarks)?;
+    let requests = match (&now, want) {
         (Some((now, was)), Some((want, is))) => {
-            let plan = plan_between(alloc, &KindRules, &now, want)?;
-            line_requests(alloc, plan, &was, &is, &mut remarks)?
+            let plan = plan_between(alloc, &KindRules, now, want)?;
+            line_requests(alloc, plan, was, &is, &mut remarks)?
         }
         _ => Vec::new(alloc),
     };
@@ -87,6 +92,7 @@ pub(crate) fn plan_by(alloc: Global, now: Lines, want: Lines) -> Result<Restored
 fn state_in(
     alloc: Global,
     source: Source,
+    there: Option<&State<Global>>,
     lines: Lines,
     remarks: &mut Lines,
 ) -> Result<Option<(State<Global>, Numbers)>, AllocError> {
@@ -114,7 +120,11 @@ fn state_in(
         }
     }
     let Parsed { dumps, numbers } = parsed;
-    match state_of(alloc, dumps) {
+    let state = match there {
+        Some(now) => state_after(alloc, dumps, now),
+        None => state_of(alloc, dumps),
+    };
+    match state {
         Ok(state) => {
             let numbers = numbers_of(alloc, &state, &numbers)?;
             Ok(Some((state, numbers)))
