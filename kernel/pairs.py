@@ -42,7 +42,8 @@ class Pair:
         save, state = f"{self.file}.json", f"{self.file}.state"
         apply, plan = f"run {programs.apply(save, state)}", f"run {programs.command(f'$TCAPPLY -n {save}')}"
         timed = f"run {programs.timed(programs.apply(save, state), f'{self.file}.time')}"
-        cut = lambda signal, part: f"run {programs.apply(save, state, limit=f'--preserve-status -s {signal} $(awk {{print\\ $1*{part}}} {self.file}.time)')}"
+        moment = lambda part: f"$(awk '{{ print $1 * {part} }}' {self.file}.time)"
+        cut = lambda signal, part: f"run {programs.apply(save, state, limit=f'--preserve-status -s {signal} {moment(part)}')}"
         self.first = [
             ("make_wanted", self.made("wanted")),
             ("wanted", "dump 7"),
