@@ -14,7 +14,7 @@ mod wanted;
 
 use arguments::{Arguments, arguments_of};
 use plan::{Fault, plan};
-use prepare::{Prepared, prepare};
+use prepare::{Planned, Prepared, planned, prepare, without};
 use wanted::{Wanted, wanted_of};
 
 use crate::netlink::fault::Printable;
@@ -96,10 +96,9 @@ fn dry_run(
     world: &mut World<'_, Socket, Socket>,
     said: &mut Vec<String>,
 ) -> Result<Status, Ended> {
-    let wanted = wanted_of(arguments, file, world, said)?;
-    let dump = world.first_dump(&wanted.targets.own())?;
-    let steps = prepare::planned(&dump.messages, &wanted)?;
-    let text: String = outline::lines(&steps, &dump.messages, &wanted.messages, &dump.devices)
+    let mut wanted = wanted_of(arguments, file, world, said)?;
+    let Planned { dump, before, steps, .. } = planned(world, &mut wanted)?;
+    let text: String = outline::lines(&steps, &before, &wanted.messages, &dump.devices)
         .iter()
         .map(|line| format!("{}\n", Printable(line)))
         .collect();
@@ -168,7 +167,7 @@ fn carried_out<T: Transport, L: Transport>(
     sending.carry_out(&prepared.steps)?;
     // Actions belong to no interface.
     let after = same(sending, &wanted.objects, |_| true, |key, _| key.is_action())?;
-    check_after(&after, wanted)?;
+    check_after(&without(&after, &prepared.others), wanted)?;
     if wanted.in_hardware > 0 {
         said.extend(hardware::lost(wanted.in_hardware, hardware::count(lines_of(&after)?.text.lines())));
     }
@@ -218,7 +217,7 @@ fn gone_back<T: Transport, L: Transport>(prepared: &Prepared, sending: &mut Send
     sending.turn_back();
     let mut refused = None;
     for _ in 0..MOST_WAYS_BACK {
-        let now = sending.world.dump(&prepared.place.indices())?.messages;
+        let now = without(&sending.world.dump(&prepared.place.indices())?.messages, &prepared.others);
         let steps = plan(&now, &prepared.before, |key| prepared.wanted.names(key)).map_err(unplanned)?;
         match sending.carry_out(&steps) {
             Ok(()) => break,

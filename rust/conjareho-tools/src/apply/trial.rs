@@ -3,6 +3,7 @@
 use super::arguments::Arguments;
 use super::check_after;
 use super::plan::plan;
+use super::prepare::{Planned, planned};
 use super::scratch::within;
 use super::wanted::{Wanted, wanted_of};
 use crate::netlink::{Device, Devices, Fault, Transport, state_of};
@@ -67,9 +68,10 @@ pub(crate) fn check<T: Transport, L: Transport>(
     world: &mut World<'_, T, L>,
     said: &mut Vec<String>,
 ) -> Result<Status, Ended> {
-    let wanted = wanted_of(arguments, file, world, said)?;
-    let dump = world.first_dump(&wanted.targets.own())?;
-    let now = requests_of_dump(&dump.messages);
+    let mut wanted = wanted_of(arguments, file, world, said)?;
+    let Planned { dump, before, others, .. } = planned(world, &mut wanted)?;
+    wanted.objects.retain(|key, _| key.block().is_none_or(|block| !others.contains_key(&block)));
+    let now = requests_of_dump(&before);
     if now.is_void || !now.complaints.is_empty() {
         return Err(Ended::because(
             Status::NothingSent,

@@ -24,6 +24,8 @@ pub(crate) struct Wanted {
     pub(crate) messages: Vec<Vec<u8>>,
     // The numbers of their lines.
     numbers: Vec<u64>,
+    /// The requests that make them.
+    pub(crate) requests: Vec<Vec<u8>>,
     // What the file is called.
     file: String,
     /// What they make.
@@ -33,6 +35,12 @@ pub(crate) struct Wanted {
 }
 
 impl Wanted {
+    /// Leaves out dumps, which aren't these interfaces' to change.
+    pub(crate) fn leave_out(&mut self, is_left: impl Fn(&[u8]) -> bool) {
+        let dumps = std::mem::take(&mut self.messages).into_iter().zip(std::mem::take(&mut self.numbers));
+        (self.messages, self.numbers) = dumps.filter(|(message, _)| !is_left(message)).unzip();
+    }
+
     /// Why there is no plan to what is wanted, with the numbers of lines.
     pub(crate) fn said_of(&self, faults: &[Fault]) -> Vec<String> {
         faults.iter().map(|fault| self.said_of_one(fault)).collect()
@@ -89,6 +97,7 @@ pub(crate) fn wanted_of<T: Transport, L: Transport>(
         numbers,
         file: restored.file_name(),
         objects: objects_of(&made.requests),
+        requests: made.requests,
         in_hardware: hardware::count(save.lines()),
         targets,
     })
