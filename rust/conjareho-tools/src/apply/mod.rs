@@ -28,6 +28,7 @@ use crate::restore::{Signals, hardware, open_kernel, read, same, say_all};
 use crate::shown::lines_of;
 use std::io::{self, Write as _};
 use std::process::ExitCode;
+use std::thread;
 
 /// How often it is planned anew, if another program changes something before the first request.
 const MOST_PLANS: u32 = 3;
@@ -83,7 +84,9 @@ fn opened(arguments: &Arguments, said: &mut Vec<String>) -> Result<Status, Ended
     let mut hold = || {
         let Some(time) = arguments.trial else { return Ok(()) };
         let seconds = time.as_secs();
-        say_all("tcapply", &[format!("it is as it was wanted; press Enter within {seconds} seconds, or it goes back")]);
+        let asked = format!("it is as it was wanted; press Enter within {seconds} seconds, or it goes back");
+        // A terminal that nobody reads mustn't hold up the way back.
+        thread::spawn(move || say_all("tcapply", &[asked]));
         hold::hold(&mut io::stdin().lock(), time, &signal)
     };
     Ok(apply(arguments, file, &mut world, &mut hold, said))
