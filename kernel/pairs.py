@@ -8,7 +8,7 @@ from generate import interfaces
 from guests import HERE, Guest, Said, fail
 from interfaces import FLUSH
 from messages import Names
-from states import State
+from states import State, as_used
 from streams import asked
 
 OF_A_GUEST = 12  # pairs
@@ -82,7 +82,7 @@ class Pair:
         return [f"{way.__name__[6:]}: {wrong}" for way, it in zip(ways, tries) for wrong in [way(it)] if wrong]
 
     def state(self, answer):
-        return State(self.names, answer.got)
+        return State(self.names, list(map(as_used, answer.got)))
 
     def unlike(self, wanted, after):
         """How a state differs from another, but for actions that nobody wants and that no filter holds."""
