@@ -14,6 +14,7 @@ from streams import asked
 OF_A_GUEST = 12  # pairs
 THERE = ["what is there is what is wanted"]
 KILLED, INTERRUPTED = 128 + 9, 128 + 2  # the statuses of a command that SIGKILL or SIGINT ends
+HELD = "a block that other interfaces hold too has something else"  # d8 holds those of d7 too
 LINKS = [f"link {it} 4" for it in (7, 8, 9)]
 
 
@@ -93,7 +94,7 @@ class Pair:
         """What is wrong if nothing was sent, since something can't be made again."""
         before, said = self.state(answers["before"]), answers["apply"]
         unmade = self.state(answers["wanted"]).cannot_be_made() | before.cannot_be_made()
-        named = [why for why in unmade if any(why in it for it in said.lines)]
+        named = [why for why in [*unmade, HELD] if any(why in it for it in said.lines)]
         if said.status != 1 or not named:
             return f"status {said.status}: {said.lines[:4]}"
         self.refused = True

@@ -58,9 +58,8 @@ fn unmade(dump: &[u8]) -> Option<String> {
 pub(crate) fn plan(now: &[Vec<u8>], wanted: &[Vec<u8>], may_go: impl Fn(&Key) -> bool) -> Plan {
     let mut all = wanted.to_vec();
     all.extend(others(now, wanted, may_go));
-    requests(now, &all).unwrap_or_else(|_| {
-        Err(vec![Fault { is_of_now: true, place: None, text: "out of memory".to_string() }])
-    })
+    requests(now, &all)
+        .unwrap_or_else(|_| Err(vec![Fault { is_of_now: true, place: None, text: "out of memory".to_string() }]))
 }
 
 fn requests(now: &[Vec<u8>], wanted: &[Vec<u8>]) -> Result<Plan, Stop> {
@@ -75,7 +74,9 @@ fn requests(now: &[Vec<u8>], wanted: &[Vec<u8>]) -> Result<Plan, Stop> {
 
 // The actions of now that stay although nobody wants them.
 fn others(now: &[Vec<u8>], wanted: &[Vec<u8>], may_go: impl Fn(&Key) -> bool) -> Vec<Vec<u8>> {
-    let own = |messages: &[Vec<u8>]| messages.iter().filter(|it| is_action(type_of(it))).flat_map(|it| actions_of(it)).collect::<Vec<_>>();
+    let own = |messages: &[Vec<u8>]| {
+        messages.iter().filter(|it| is_action(type_of(it))).flat_map(|it| actions_of(it)).collect::<Vec<_>>()
+    };
     let named: BTreeSet<Key> = own(wanted).iter().map(|action| action.key()).collect();
     let stay = own(now).into_iter().filter(|action| !named.contains(&action.key()) && !may_go(&action.key()));
     stay.map(|action| action.change()).collect()

@@ -98,7 +98,9 @@ fn check_back(arguments: &Arguments, now: &[Vec<u8>], wanted: &Wanted) -> Result
     }
     plan(&wanted.messages, now, |_| true).map(drop).map_err(|faults| {
         let mut said: Vec<String> = faults.iter().map(|fault| format!("what is there now: {}", fault.text)).collect();
-        said.push("what is there now couldn't be made again, so that it isn't changed without --no-rollback".to_string());
+        said.push(
+            "what is there now couldn't be made again, so that it isn't changed without --no-rollback".to_string(),
+        );
         nothing_sent(said)
     })
 }

@@ -108,7 +108,8 @@ fn messages_in(asked: &Asked<'_>) -> Result<BTreeMap<u64, Vec<u8>>, Vec<String>>
     let forms = Forms { table: TcTables, tc: TC_MESSAGE, action: ACTION_MESSAGE };
     let index = asked.index.and_then(|index| i32::try_from(index).ok());
     let reading = Reading { source: Source::Wanted, index, names: asked.names };
-    let lines = read_lines(forms, reading, &mut asked.text.as_bytes()).map_err(|_| vec!["out of memory".to_string()])?;
+    let lines =
+        read_lines(forms, reading, &mut asked.text.as_bytes()).map_err(|_| vec!["out of memory".to_string()])?;
     let complaints = lines.remarks.iter().filter(|remark| remark.kind == RemarkKind::Complaint);
     let faults: Vec<String> = complaints.map(|remark| format!("line {}: {}", remark.number, remark.text)).collect();
     if lines.is_void || !faults.is_empty() {

@@ -72,7 +72,9 @@ impl Key {
     /// The number of the shared block that it is in.
     pub(crate) fn block(&self) -> Option<u32> {
         match self {
-            Key::Object { index: MAGIC_BLOCK, parent, .. } | Key::Order { index: MAGIC_BLOCK, parent, .. } => Some(*parent),
+            Key::Object { index: MAGIC_BLOCK, parent, .. } | Key::Order { index: MAGIC_BLOCK, parent, .. } => {
+                Some(*parent)
+            }
             _ => None,
         }
     }

@@ -199,7 +199,9 @@ impl State {
             let goes = |it: &Vec<u8>| {
                 let own = tcmsg_of(it).unwrap_or_default();
                 let is_of_priority = header.kind == RTM_NEWCHAIN + 1 || own.info >> 16 == tcmsg.info >> 16;
-                type_of(it) == RTM_NEWTFILTER && (own.index, own.parent) == (tcmsg.index, tcmsg.parent) && is_of_priority
+                type_of(it) == RTM_NEWTFILTER
+                    && (own.index, own.parent) == (tcmsg.index, tcmsg.parent)
+                    && is_of_priority
             };
             self.objects.retain(|it| !goes(it));
         } else {
