@@ -56,17 +56,15 @@ include!(concat!(env!("OUT_DIR"), "/programs.rs"));
 #[cfg(target_os = "linux")]
 pub use {apply::tcapply, restore::tcrestore, tcnl::tcnl, tcsave::tcsave};
 
-use forms_kinds::{ACTION_MESSAGE, TC_MESSAGE, TcTables};
 use host::HostRuntime;
 use std::io::IsTerminal as _;
 use std::process::ExitCode;
+use forms_kinds::{ACTION_MESSAGE, TC_MESSAGE, TcTables};
 use tcmake_messages::Forms;
 
 /// Shows the traffic control messages of a capture, or of lines of hex.
 pub fn tcshow() -> ExitCode {
-    ExitCode::from(
-        tcshow_lib::program::tcshow(&HostRuntime, std::io::stdout().is_terminal(), &mut HostRuntime.stderr()).status(),
-    )
+    ExitCode::from(tcshow_lib::program::tcshow(&HostRuntime, std::io::stdout().is_terminal(), &mut HostRuntime.stderr()).status())
 }
 
 /// Makes traffic control messages of JSON.
