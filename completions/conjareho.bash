@@ -1,4 +1,4 @@
-# Completion for bash of tcshow, tcmake, tcrewrite, tcsave, tcrestore and tcnl. Written by man/generate.
+# Completion for bash of tcshow, tcmake, tcrewrite, tcsave, tcrestore, tcapply and tcnl. Written by man/generate.
 
 _conjareho_kinds="atm basic bfifo blackhole bpf cake cbq cbs cgroup choke clsact codel connmark csum ct ctinfo drr dsmark etf ets flow flower fq fq_codel fq_pie fw gact gate gred hfsc hhf htb ife ingress ipt matchall mirred mpls mq mqprio multiq nat netem noop noqueue pedit pfifo pfifo_fast pfifo_head_drop pie plug police prio qfq red route rr rsvp rsvp6 sample sfb sfq simple skbedit skbmod skbprio taprio tbf tcindex teql0 tunnel_key u32 vlan xt"
 _conjareho_types="qdisc tclass tfilter chain action newqdisc delqdisc getqdisc newtclass deltclass gettclass newtfilter deltfilter gettfilter newchain delchain getchain newaction delaction getaction"
@@ -43,10 +43,11 @@ _conjareho() {
         ;;
     "tcmake")
         case $previous in
+            --plan) _filedir; return ;;
             --now) _filedir; return ;;
             --names) _filedir; return ;;
         esac
-        words="-h --help -V --version --no-header --pcap --stream --settle --as-given --request --in-order --index --now --replace-actions --names --verbose"
+        words="-h --help -V --version --no-header --pcap --stream --settle --as-given --request --plan --in-order --index --now --replace-actions --names --verbose"
         ;;
     "tcrewrite")
         case $previous in
@@ -64,6 +65,13 @@ _conjareho() {
             --state) _filedir -d; return ;;
         esac
         words="--dev --map --clear --partial --replace-actions --no-rollback --state -h --help -V --version"
+        ;;
+    "tcapply")
+        case $previous in
+            --dev) _conjareho_devices; return ;;
+            --state) _filedir -d; return ;;
+        esac
+        words="-h --help -V --version -n --dry-run --check --dev --map --try --no-rollback --state"
         ;;
     "tcnl")
         case $previous in
@@ -96,7 +104,7 @@ _conjareho() {
         return
     fi
     case $of in
-    tcshow|tcrestore) _filedir ;;
+    tcshow|tcrestore|tcapply) _filedir ;;
     tcsave) _conjareho_devices ;;
     tcrewrite) _conjareho_words tc action ;;
     tcnl) _conjareho_words dump monitor send clear ;;
@@ -120,4 +128,4 @@ declare -F _filedir >/dev/null || _filedir() {
     COMPREPLY=($(compgen "-${1:+d}${1:-f}" -- "$current"))
 }
 
-complete -F _conjareho tcshow tcmake tcrewrite tcsave tcrestore tcnl
+complete -F _conjareho tcshow tcmake tcrewrite tcsave tcrestore tcapply tcnl

@@ -118,7 +118,7 @@ CLASSES = {
     "qfq": ["weight 2 maxpkt 1600", "weight 5 maxpkt 1500", "weight 1 maxpkt 512"],
 }
 
-# What can't be made again: docs/KERNEL.md says why. The place of a qdisc and of its options is filled in.
+# What can't be made again: requests.md says why. The place of a qdisc and of its options is filled in.
 UNMADE_QDISCS = ["red limit 100kb avpkt 1000 bandwidth 10mbit", "choke limit 100 bandwidth 10mbit ecn", "gred setup DPs 3 default 2 grio"]
 STAB, ESTIMATOR = "stab mtu 1500 overhead 10 linklayer atm", "estimator 250ms 1s"
 

@@ -9,7 +9,7 @@ import time
 
 from guests import OUT, TOP, lacks
 
-PROVED, SOCKETS = ("tcshow", "tcmake"), ("tcnl", "tcsave", "tcrestore")
+PROVED, SOCKETS = ("tcshow", "tcmake"), ("tcnl", "tcsave", "tcrestore", "tcapply")
 
 
 def built(name, folder):
@@ -72,6 +72,10 @@ class Programs:
     def restore(self, file, state, options=""):
         """Restores a save. What was there before is kept in the folder `state`."""
         return self.command(f"timeout 60 $TCRESTORE --state {state} {options} {file}")
+
+    def apply(self, file, state, options="", limit="60"):
+        """Applies a save, with a limit of `timeout`. What was there before is kept in the folder `state`."""
+        return self.command(f"timeout {limit} $TCAPPLY --state {state} {options} {file}")
 
     def clear(self, dev="d7"):
         return self.command(f"$TCNL clear dev {dev}")

@@ -218,7 +218,7 @@ class State:
         return "; ".join(f"{it} {a.get(it, 'none')} → {b.get(it, 'none')}" for it in changed[:5]) or "changed"
 
     def cannot_be_made(self):
-        """What docs/KERNEL.md lists as not restored, by what tcmake says of it."""
+        """What kernel/requests.md lists as not made, by what tcmake says of it."""
         out = set()
         for it in self.objects:
             if it.type == QDISC and it.kind in ("red", "choke", "gred"):

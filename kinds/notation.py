@@ -47,10 +47,10 @@ class Line:
 
 class Block:
     """A block: its sort (struct, list, qdisc ..), its names and its lines, the layers and the width at which it is used, and its parts by layer; of a kind
-    what a change takes, and the options that only making it takes."""
+    what changes of it and of its classes take, and the options with which it is otherwise."""
     def __init__(self, where, sort, words):
         self.where, self.sort, self.words, self.name, self.lines, self.layers, self.bits, self.parts = where, sort, words, words[0], [], [], 32, {}
-        self.change, self.fixed = None, []
+        self.change, self.classes, self.fixed, self.equal, self.free = None, None, [], [], []
 
 def number(where, text):
     if re.fullmatch(r'0x[0-9a-f]+', text):
@@ -109,8 +109,10 @@ def read_change(block, where, words):
     """What a change of a kind takes; true if the words say that."""
     if words[0] == 'change' and len(words) == 2 and words[1] in CHANGES and not block.change:
         block.change = words[1]
-    elif words[0] == 'fixed' and len(words) > 1:
-        block.fixed += words[1:]
+    elif words[0] == 'class' and len(words) == 2 and words[1] in CHANGES and not block.classes:
+        block.classes = words[1]
+    elif words[0] in ('fixed', 'equal', 'free') and len(words) > 1:
+        getattr(block, words[0]).extend(words[1:])
     else:
         return False
     return True
@@ -209,10 +211,28 @@ def check_columns(block, x):
         if what in x.columns and x.columns[what] not in [y.name for y in block.lines if y is not x]:
             fault(x.where, 'no such line: %s' % x.columns[what])
 
+def is_rate(line):
+    """True if the line is a record with a rate, and has a word."""
+    return line.form.of == 'tc_ratespec' and line.columns.get('tc', '%')[0] not in '%-;'
+
+def check_word(block, x):
+    """That what the column `tc` refers to is there, and that `=` has a number."""
+    word = x.columns.get('tc', '')
+    names = [y.name for y in block.lines if y is not x]
+    in_file = ['', 'protocol', 'handle'] + [y.name for b in blocks.values() if b.where[0] == block.where[0] for y in b.lines if y is not x]
+    if word[:1] == '/' and word[1:] not in names or word[:1] == '-' and word[1:] not in in_file:
+        fault(x.where, 'no such line: %s' % word[1:])
+    if word[:1] == '^' and word[1:] not in [y.columns['tc'] for b in blocks.values() if b.sort == 'struct' for y in b.lines if is_rate(y)]:
+        fault(x.where, 'no rate with the word %s' % word[1:])
+    if '@' in word and word.split('@')[1] not in [y.columns['tc'] for y in block.lines if is_rate(y)]:
+        fault(x.where, 'no rate with the word %s' % word.split('@')[1])
+    if '=' in x.columns and not re.fullmatch(r'\d+|0-\d+', x.columns['=']):
+        fault(x.where, 'no number: %s' % x.columns['='])
+
 def check_fixed(kind):
-    """That the options that only making a kind takes are attributes of its list."""
+    """That the options of which lines about a change tell are attributes of the kind's list."""
     options = [named(x.form) for x in kind.lines if x.name == 'options']
-    for name in kind.fixed:
+    for name in kind.fixed + kind.equal + kind.free:
         if name not in [x.name for block in options if block for x in block.lines]:
             fault(kind.where, 'no such option: %s' % name)
 
@@ -227,6 +247,7 @@ def check(block):
         if block.sort == 'list' and not 0 < x.number < 0x4000:
             fault(x.where, 'an attribute has no type %d' % x.number)
         check_columns(block, x)
+        check_word(block, x)
     for what in ['name'] + (['number', 'kernel'] if block.sort in ('list', 'enum', 'bits', 'names') else []):
         twice('name' if what == 'kernel' else what, block.lines, [getattr(x, what) for x in block.lines])
 
@@ -246,7 +267,7 @@ def check_all():
 
 def read_all():
     paths = sorted(os.path.relpath(os.path.join(folder, name), HERE) for folder, _, names in os.walk(HERE) for name in names)
-    for path in [p for p in paths if p not in ('generate', 'notation.py', 'prove', 'columns', 'wireshark', 'README.md')]:
+    for path in [p for p in paths if p not in ('generate', 'notation.py', 'prove', 'columns', 'words', 'changes', 'wireshark', 'README.md')]:
         read(path)
     if not faults:
         check_all()

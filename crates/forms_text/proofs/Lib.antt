@@ -1,9 +1,9 @@
-mod Readable
+pub mod Readable
 mod Written
 mod WrittenJson
-mod ReadJson
+pub mod ReadJson
 mod ReadableValues
-mod ShownReadable
+pub mod ShownReadable
 mod Texts
 mod Unread
 mod Floats

@@ -29,6 +29,8 @@ pub struct Arguments<'a> {
     pub request: Request,
     /// The file with what the kernel has now.
     pub now: Option<&'a str>,
+    /// True if requests lead from that to what is wanted.
+    pub plans: bool,
     /// True if actions are changed that filters of other interfaces hold too.
     pub replaces_actions: bool,
     /// The file with the names of the interfaces of now.
@@ -44,6 +46,7 @@ const NOTES: &str = "Examples:
   tcshow --json a.pcap | tcmake --pcap > b.pcap             copy the messages of a capture
   tcshow --json a.pcap | sed 's/\"Limit\":10240/\"Limit\":500/' | tcmake --pcap > b.pcap
   tcshow --json dump.pcap | tcmake --request --stream > r   requests that restore a dump
+  tcmake --plan now.json --stream < wanted.json > r         requests that lead from one dump to another
 
 Checks:
   By default the bytes must match what the line says about them (fits, settled and canonical, or
@@ -53,6 +56,8 @@ Checks:
   restored, and whatever depends on it, is reported and left out. A save, which begins with
   {\"save\":1, must be whole: its last line, {\"end\":N}, says how many lines are between them
   ({\"end\":true} if they were edited).
+  --plan needs whole dumps of the same interfaces, and makes no request at all if a line is wrong,
+  or if something can't be made that isn't there as it is wanted. What is the same isn't touched.
 
 Exit status:
   0  every line was built
@@ -75,17 +80,18 @@ const OUTPUT: &str = "Output (at most one; default: lines of hex)";
 
 const BUILD: &str = "What to build (at most one; default: exactly the bytes shown, checked)";
 
-const REQUESTS: &str = "With --request";
+const REQUESTS: &str = "With --request (the interface and its names also with --plan)";
 
 // The options: name, value, heading and text of the help.
 #[rattlefmt::skip]
-static OPTIONS: [(&str, Value, &str, &str); 12] = [
+static OPTIONS: [(&str, Value, &str, &str); 13] = [
     ("no-header", Value::Nothing, OUTPUT, "Print hex without the netlink header"),
     ("pcap", Value::Nothing, OUTPUT, "Write a pcap capture (link type 253, LINKTYPE_NETLINK)"),
     ("stream", Value::Nothing, OUTPUT, "Write binary netlink messages, one after another"),
     ("settle", Value::Nothing, BUILD, "Build the canonical message instead, and report each change"),
     ("as-given", Value::Nothing, BUILD, "Build the bytes shown, without checking them"),
     ("request", Value::Nothing, BUILD, "Build the requests that restore a dump, in an order that works"),
+    ("plan", Value::File, BUILD, "Build the requests that lead from FILE (tcshow --json of today's dump) to what is read: deletes, changes and what is new"),
     ("in-order", Value::Nothing, REQUESTS, "Keep the order of the input, and don't compare lines with each other"),
     ("index", Value::Index, REQUESTS, "Address the requests to the interface with index N"),
     ("now", Value::File, REQUESTS, "Leave actions that FILE (tcshow --json of today's dump) has as they are, and change those that differ"),
@@ -111,7 +117,8 @@ fn option<'a>(
 // conflicts with what is there. An order needs all lines, and an interface has its index or its name.
 fn alone<'a>(name: &str, option: Arg<'a>) -> Result<Arg<'a>, AllocError> {
     match name {
-        "settle" | "as-given" => option.conflicts_with("requests"),
+        "settle" | "as-given" => option.conflicts_with("requests")?.conflicts_with("addresses"),
+        "plan" => option.conflicts_with("requests"),
         "now" => option.conflicts_with("in-order"),
         "replace-actions" => option.requires_arg("now"),
         "names" => option.conflicts_with("in-order")?.conflicts_with("index"),
@@ -157,20 +164,35 @@ fn making_group<'a>(alloc: Global) -> Result<ArgGroup<'a>, AllocError> {
     ArgGroup::new(alloc, "making")
         .arg("settle")?
         .arg("as-given")?
-        .arg("request")
+        .arg("request")?
+        .arg("plan")
 }
 
-// The options of requests.
+// The options of requests that restore.
 fn request_group<'a>(alloc: Global) -> Result<ArgGroup<'a>, AllocError> {
     ArgGroup::new(alloc, "requests")
         .arg("in-order")?
-        .arg("index")?
         .arg("now")?
         .arg("replace-actions")?
+        .multiple(true)
+        .requires_arg("request")
+}
+
+// The options of all requests.
+fn address_group<'a>(alloc: Global) -> Result<ArgGroup<'a>, AllocError> {
+    ArgGroup::new(alloc, "addresses")
+        .arg("index")?
         .arg("names")?
         .arg("verbose")?
         .multiple(true)
-        .requires_arg("request")
+        .requires_arg("asking")
+}
+
+// What makes requests.
+fn asking_group<'a>(alloc: Global) -> Result<ArgGroup<'a>, AllocError> {
+    ArgGroup::new(alloc, "asking")
+        .arg("request")?
+        .arg("plan")
 }
 
 fn with_output<'a>(alloc: Global) -> Result<Command<'a>, AllocError> {
@@ -183,9 +205,19 @@ fn with_making<'a>(alloc: Global) -> Result<Command<'a>, AllocError> {
     with_output(alloc)?.group(making)
 }
 
-fn with_groups<'a>(alloc: Global) -> Result<Command<'a>, AllocError> {
+fn with_requests<'a>(alloc: Global) -> Result<Command<'a>, AllocError> {
     let requests = request_group(alloc)?;
     with_making(alloc)?.group(requests)
+}
+
+fn with_asking<'a>(alloc: Global) -> Result<Command<'a>, AllocError> {
+    let asking = asking_group(alloc)?;
+    with_requests(alloc)?.group(asking)
+}
+
+fn with_groups<'a>(alloc: Global) -> Result<Command<'a>, AllocError> {
+    let addresses = address_group(alloc)?;
+    with_asking(alloc)?.group(addresses)
 }
 
 fn command<'a>(alloc: Global) -> Result<Command<'a>, AllocError> {
@@ -215,7 +247,7 @@ fn making_of(matches: &ArgMatches<'_>) -> Making {
         Making::Settled
     } else if matches.get_flag("as-given") {
         Making::AsGiven
-    } else if matches.get_flag("request") {
+    } else if matches.get_flag("request") || matches.get_str("plan").is_some() {
         Making::Restored
     } else {
         Making::Checked
@@ -239,7 +271,8 @@ pub fn arguments_of<'a, S: AsStr>(alloc: Global, words: &'a [S]) -> Result<Argum
     let matches = command(alloc)?.try_get_matches_from(words)?;
     Ok(Arguments {
         request: request_in(&matches),
-        now: matches.get_str("now"),
+        now: matches.get_str("plan").or(matches.get_str("now")),
+        plans: matches.get_str("plan").is_some(),
         replaces_actions: matches.get_flag("replace-actions"),
         names: matches.get_str("names"),
     })

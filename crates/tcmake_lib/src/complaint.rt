@@ -4,6 +4,7 @@ use crate::save::SaveFault;
 use nla_frames::DecodeError;
 use std::alloc::{AllocError, AllocFailed};
 use std::fmt;
+use tc_objects::StateError;
 use tc_restore::RestoreError;
 use tcmake_messages::{LineError, Place};
 
@@ -24,6 +25,10 @@ pub(crate) enum Complaint {
     NoInterface(String),
     /// Interfaces are asked for by names, and the input has none.
     NoNames,
+    /// It can't be part of a state.
+    State(StateError),
+    /// It can't be made, and isn't there as it is wanted.
+    Unmade,
     /// With `--in-order` it can't be checked that a save is whole.
     LineByLine,
 }
@@ -94,6 +99,10 @@ impl fmt::Display for Complaint {
             }
             Complaint::NoNames => f.write_str(
                 "no names of interfaces: the first line of a save, with /names, is missing",
+            ),
+            Complaint::State(error) => write!(f, "{error}"),
+            Complaint::Unmade => f.write_str(
+                "it can't be made from a dump, and isn't there as it is wanted, or has to be made again",
             ),
             Complaint::LineByLine => f.write_str(
                 "a save can't be checked with --in-order, which reads a line at a time",

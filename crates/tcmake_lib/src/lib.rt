@@ -14,6 +14,7 @@ pub mod lines;
 mod names;
 mod now;
 pub mod order;
+pub mod plans;
 pub mod program;
 mod restore;
 pub mod run;

@@ -4,6 +4,7 @@ use crate::arguments::Request;
 use crate::complaint::Complaint;
 use crate::lines::{Dumped, Lines, Reading, Remark, RemarkKind, Source, read_lines};
 use crate::now::{Counts, Single, now_of, singles_of, unlisted_in};
+use crate::plans::plan_by;
 use crate::restore::{Dump, dump_of, restored};
 use forms_json::Tables;
 use nla_frames::ParseableBytes;
@@ -29,6 +30,8 @@ pub struct Asked<'a> {
     pub index: Option<i32>,
     /// What the kernel has now, as lines of JSON.
     pub now: Option<&'a [u8]>,
+    /// True if requests lead from that to what is wanted, and delete and change what has to be.
+    pub plans: bool,
     /// True if actions are changed that filters of other interfaces hold too.
     pub replaces_actions: bool,
     /// The interfaces that there are now, by index and name: the indices of a save become these.
@@ -315,6 +318,9 @@ pub fn requests_of<T: Tables, R: BufRead>(
         None => requests_by(alloc, lines, None, false),
         Some(text) => {
             let mut there = lines_of_now(alloc, forms, text)?;
+            if asked.plans {
+                return plan_by(alloc, there, lines);
+            }
             let now = now_of(alloc, &mut there)?;
             let lines = with_remarks(lines, there)?;
             requests_by(alloc, lines, Some(&now), asked.replaces_actions)
@@ -668,7 +674,7 @@ pub(crate) fn restore_in_order<T: Tables, R: BufRead, W: Write, E: Write>(
             *has_refused = true;
         }
         if remark.kind != RemarkKind::Made || request.verbose {
-            write_remark(alloc, remark, errors)?;
+            write_remark(alloc, remark, asked.plans, errors)?;
         }
     }
     if restored.is_void {
@@ -687,10 +693,12 @@ pub(crate) fn restore_in_order<T: Tables, R: BufRead, W: Write, E: Write>(
 fn write_remark<E: Write>(
     alloc: Global,
     remark: &Remark,
+    plans: bool,
     errors: &mut E,
 ) -> Result<(), AllocError> {
     let place = match remark.source {
         Source::Wanted => "line",
+        Source::Now if plans => "--plan, line",
         Source::Now => "--now, line",
     };
     let (number, said) = (remark.number, remark.text.as_str());

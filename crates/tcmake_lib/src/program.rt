@@ -131,6 +131,7 @@ fn with_names<T: Tables, R: AllocGlobal + Files + Input + Print, E: Write>(
     let asked = Asked {
         index: arguments.request.index,
         now,
+        plans: arguments.plans,
         replaces_actions: arguments.replaces_actions,
         names: None,
     };
@@ -165,6 +166,7 @@ fn with_names_in<T: Tables, R: AllocGlobal + Input + Print, E: Write>(
             let asked = Asked {
                 index: asked.index,
                 now: asked.now,
+                plans: asked.plans,
                 replaces_actions: asked.replaces_actions,
                 names: Some(names.as_slice()),
             };
@@ -247,6 +249,7 @@ pub fn serve<T: Tables, R: Read, W: Write, E: Write>(
     let asked = Asked {
         index: request.index,
         now: None,
+        plans: false,
         replaces_actions: false,
         names: None,
     };

@@ -11,5 +11,5 @@ use Rattle.tcmake_messages.specs.declared.verdict.Said.TheVariants as said
 -- a line that isn't about a refused message says nothing, if its `canonical` isn't true or false
 pub no_canonical : (json : Data) → get (codes "refused") json ≡ None → ((b : Option Bool) → ¬ IsBoolIf (codes "canonical") json b)
     → (said : Said) → ¬ Says json said
-no_canonical json read wrong (said.Refused e) says = let no = rw read at says.0 in cc
+no_canonical json read wrong (said.Refused e) says = let no = rw read at says.1 in cc
 no_canonical json read wrong (said.Read fits settled canonical) says = wrong canonical says.3

@@ -6,7 +6,7 @@ use Rattle.forms_text.specs.Read.{HasNamesOnce}
 use Rattle.forms_values.specs.declared.form.Form.{Form}
 use Rattle.forms_values.specs.Tables.{Table}
 use Rattle.tcmake_messages.specs.declared.making.Making.{Making}
-use Rattle.tcmake_messages.specs.Line.{HasUnknown, IsGiven, IsOfKernel, IsOfRefused, IsOfSave, IsRemark, message_in}
+use Rattle.tcmake_messages.specs.Line.{HasUnknown, IsGiven, IsOfKernel, IsOfSave, IsRemark, message_in}
 use Rattle.tcmake_messages.specs.Made.{IsMade, IsUnmade, form_of}
 use Rattle.tcmake_lines.specs.declared.netlink.NetlinkHeader.{NetlinkHeader}
 
@@ -22,11 +22,11 @@ module _ (table : Table) (tc action : Form) where
     pub says : IsGiven json given
     pub made : IsMade table (form_of tc action given.holds) making given.holds json (message_in json) bytes
 
-  -- no message is made of a line of JSON: it is a remark or about a refused message, has a member that lines don't have, a member isn't what it has to
-  -- be, or no bytes are made of its message
+  -- no message is made of a line of JSON: it has none, it has a member that lines don't have, a member isn't what it has to be, or no bytes are made
+  -- of its message
   abbrev pub IsWrong : Making → Data → Type 0
   IsWrong making json =
-      IsOfRefused json ⊎ IsRemark json ⊎ HasUnknown json
+      IsRemark json ⊎ HasUnknown json
       ⊎ ((given : NetlinkHeader) → ¬ IsGiven json given)
       ⊎ ((given : NetlinkHeader) × IsGiven json given × IsUnmade table (form_of tc action given.holds) making given.holds json (message_in json))
 

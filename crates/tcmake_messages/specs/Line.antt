@@ -120,16 +120,26 @@ members =
     codes "time" ∷ codes "packet" ∷ codes "packet_type" ∷ codes "type" ∷ codes "flags" ∷ codes "seq" ∷ codes "portid" ∷ codes "fits" ∷ codes "settled"
     ∷ codes "canonical" ∷ codes "message" ∷ []
 
--- a member that such a line doesn't have
-abbrev pub HasUnknown : Data → Type 0
-HasUnknown json = (name : List ℕ) × IsTrue (is_some (get name json)) × (¬ IsOneOf name members)
+-- the members that the line of a message has beside these if the codec refuses it: the fault, its numbers and its place
+abbrev pub fault_members : List (List ℕ)
+fault_members =
+    codes "refused" ∷ codes "len" ∷ codes "needed" ∷ codes "length" ∷ codes "left" ∷ codes "expected" ∷ codes "got" ∷ codes "offset" ∷ codes "path" ∷ []
 
 -- a line about a message that was refused
-abbrev pub IsOfRefused : Data → Type 0
-IsOfRefused json = IsTrue (is_some (get (codes "refused") json))
+abbrev pub is_of_refused : Data → Bool
+is_of_refused json = is_some (get (codes "refused") json)
 
--- a summary, or a note on a place of a capture
+-- a member that such a line doesn't have
+pub record IsUnknown (json : Data) (name : List ℕ) : Type 0 where
+  pub held : IsTrue (is_some (get name json))
+  pub not_member : ¬ IsOneOf name members
+  pub not_of_fault : IsTrue (is_of_refused json) → ¬ IsOneOf name fault_members
+
+abbrev pub HasUnknown : Data → Type 0
+HasUnknown json = (name : List ℕ) × IsUnknown json name
+
+-- a line without a message: about one that was refused, a summary, or a note on a place of a capture
 abbrev pub IsRemark : Data → Type 0
 IsRemark json =
     (get (codes "message") json ≡ None)
-    × (IsTrue (is_some (get (codes "summary") json)) ⊎ IsTrue (is_some (get (codes "note") json)))
+    × (IsTrue (is_of_refused json) ⊎ IsTrue (is_some (get (codes "summary") json)) ⊎ IsTrue (is_some (get (codes "note") json)))

@@ -1,6 +1,7 @@
 -- The message that is made of a line.
-use Rattle.std.specs.Prelude.{◌≡◌, ◌⊎◌, ⊤, ℕ, List, Some, None, codes}
+use Rattle.std.specs.Prelude.{◌≡◌, ◌⊎◌, ℕ, List, Some, None, IsTrue, codes}
 use Rattle.nla_frames.specs.Value.{IsBytes}
+use Rattle.nla_frames.specs.declared.error.DecodeError.{DecodeError}
 use Rattle.serde_json.specs.Data.{Data}
 use Rattle.serde_json.specs.Find.{get}
 use Rattle.tc_capture.specs.declared.kind.MessageType.{MessageType}
@@ -9,12 +10,13 @@ use Rattle.forms_values.specs.declared.form.Form.{Form}
 use Rattle.forms_json.specs.Made.{made_of}
 use Rattle.forms_text.specs.Strict.{json_of}
 use Rattle.forms_values.specs.Tables.{Table}
+use Rattle.tc_meaning.specs.Message.{Message}
 use Rattle.tc_wire.specs.Rewriting.{SettlesTc, SettlesAct}
 use Rattle.tcmake_messages.specs.declared.making.Making.{Making}
 use Rattle.tcmake_messages.specs.declared.making.Making.TheVariants.{Checked, Settled, AsGiven, Restored}
 use Rattle.tcmake_messages.specs.declared.verdict.Said.{Said}
 use Rattle.tcmake_messages.specs.declared.verdict.Verdict.{Verdict}
-use Rattle.tcmake_messages.specs.Line.{message_in, beside}
+use Rattle.tcmake_messages.specs.Line.{is_of_refused}
 use Rattle.tcmake_messages.specs.Verdict.{words_of, IsVerdictOn, Says, Agrees}
 
 -- the form of the one message or the other
@@ -41,6 +43,14 @@ IsDenied holds line bytes =
     ((said : Said) → ¬ Says line said)
     ⊎ ((said : Said) × Says line said × (verdict : Verdict) × IsVerdictOn (words_of holds) bytes verdict × (¬ Agrees said verdict))
 
+-- the codec refuses the bytes
+abbrev pub IsUnread : MessageType → List ℕ → Type 0
+IsUnread holds bytes = (e : DecodeError) × (words_of holds).Fault bytes e
+
+-- or it reads them as a message that can't be written
+abbrev pub IsUnsettled : MessageType → List ℕ → Type 0
+IsUnsettled holds bytes = IsUnread holds bytes ⊎ ((m : Message) × (words_of holds).Reads bytes m × (¬ (words_of holds).Fits m))
+
 -- the bytes that are made of a message, and of what the line beside it says
 module _ (table : Table) (form : Form) where
   abbrev pub IsMade : Making → MessageType → Data → Data → List ℕ → Type 0
@@ -50,11 +60,17 @@ module _ (table : Table) (form : Form) where
   IsMade AsGiven holds line message bytes = StandsFor table form message bytes
   IsMade Restored holds line message bytes = StandsFor table form message bytes
 
-  -- no bytes are made of a message: it stands for none, or the line says what isn't so. Whatever is settled may be refused, and so may dumps
+  -- a message stands for no bytes
+  abbrev pub StandsForNone : Data → Type 0
+  StandsForNone message = (bytes : List ℕ) → IsBytes bytes → ¬ StandsFor table form message bytes
+
+  -- no bytes are made of a message: it stands for none; the line says of its bytes what isn't so; what is to be settled was refused, or can't be
+  -- read or written; what is to be restored can't be read
   abbrev pub IsUnmade : Making → MessageType → Data → Data → Type 0
-  IsUnmade Settled holds line message = ⊤
-  IsUnmade Restored holds line message = ⊤
-  IsUnmade AsGiven holds line message = (bytes : List ℕ) → IsBytes bytes → ¬ StandsFor table form message bytes
+  IsUnmade AsGiven holds line message = StandsForNone message
   IsUnmade Checked holds line message =
-      ((bytes : List ℕ) → IsBytes bytes → ¬ StandsFor table form message bytes)
-      ⊎ ((bytes : List ℕ) × StandsFor table form message bytes × IsDenied holds line bytes)
+      StandsForNone message ⊎ ((bytes : List ℕ) × StandsFor table form message bytes × IsDenied holds line bytes)
+  IsUnmade Settled holds line message =
+      IsTrue (is_of_refused line) ⊎ StandsForNone message ⊎ ((bytes : List ℕ) × StandsFor table form message bytes × IsUnsettled holds bytes)
+  IsUnmade Restored holds line message =
+      StandsForNone message ⊎ ((bytes : List ℕ) × StandsFor table form message bytes × IsUnread holds bytes)

@@ -1,5 +1,5 @@
 -- What the codec finds of bytes, and what a line says of it.
-use Rattle.std.specs.Prelude.{◌≡◌, ◌↔◌, ℕ, Bool, true, IsTrue, List, Option, Some, None, IfSome, codes}
+use Rattle.std.specs.Prelude.{◌≡◌, ◌≢◌, ◌↔◌, ℕ, Bool, true, IsTrue, List, Option, Some, None, IfSome, codes}
 use Rattle.nla_frames.specs.Fault.{name_of}
 use Rattle.nla_frames.specs.declared.error.DecodeError.{DecodeError}
 use Rattle.nla_frames.specs.declared.error.DecodeError.TheVariants as fault
@@ -42,9 +42,9 @@ HasNumbers json (fault.SelectorShort len needed) = Has json (codes "len") len ×
 HasNumbers json (fault.XstatsShort len) = Has json (codes "len") len
 HasNumbers json e = Unit {0}
 
--- the line says that the message is refused for this fault, or what holds of it, where it says so
+-- the line says that the message is refused for this fault, which isn't memory, or what it says of one that is read
 abbrev pub Says : Data → Said → Type 0
-Says json (said.Refused e) = (text_in (codes "refused") json ≡ Some (name_of e)) × HasNumbers json e
+Says json (said.Refused e) = (e ≢ fault.OutOfMemory) × (text_in (codes "refused") json ≡ Some (name_of e)) × HasNumbers json e
 Says json (said.Read fits settled canonical) =
     (get (codes "refused") json ≡ None) × IsBoolIf (codes "fits") json fits × IsBoolIf (codes "settled") json settled
     × IsBoolIf (codes "canonical") json canonical

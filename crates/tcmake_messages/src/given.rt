@@ -8,7 +8,24 @@ ghost use Rattle.serde_json.specs.View.{view};
 ghost use Rattle.tc_capture.specs.Kind.{rtm_at};
 ghost use Rattle.tc_capture.specs.declared.kind.MessageType.{MessageType as MessageTypeOf};
 ghost use Rattle.tc_capture.specs.declared.time.Time.{Time as TimeType};
-ghost use Rattle.tcmake_messages.specs.Line.{HasUnknown, IsBeside, IsDigits, IsGiven, IsOfKernel, IsOfRefused, IsOneOf, IsPacket, IsRemark, IsTime, IsTimeText, IsTyped, holds_by_header, members, point};
+ghost use Rattle.tcmake_messages.specs.Line.{
+  HasUnknown,
+  IsBeside,
+  IsDigits,
+  IsGiven,
+  IsOfKernel,
+  IsOneOf,
+  IsPacket,
+  IsRemark,
+  IsTime,
+  IsTimeText,
+  IsTyped,
+  fault_members,
+  holds_by_header,
+  is_of_refused,
+  members,
+  point,
+};
 ghost use Rattle.tcmake_messages.specs.declared.error.LineError.TheVariants.{NoMemory};
 ghost use Rattle.tcmake_lines.specs.declared.netlink.NetlinkHeader.{NetlinkHeader as HeaderType};
 ghost use Rattle.tcmake_lines.specs.declared.netlink.PacketOf.{PacketOf as PacketType};
@@ -28,7 +45,7 @@ const NO_TIME: Time = Time {
 /// What a line says of its message.
 pub(crate) fn given_of(alloc: Global, json: &Value) -> Result<NetlinkHeader, LineError>
     ensures given { IfOk result (IsGiven (view json.now)) }
-    ensures wrong { IfErr result (λ e. (e ≡ NoMemory) ⊎ IsOfRefused (view json.now) ⊎ IsRemark (view json.now) ⊎ HasUnknown (view json.now)
+    ensures wrong { IfErr result (λ e. (e ≡ NoMemory) ⊎ IsRemark (view json.now) ⊎ HasUnknown (view json.now)
         ⊎ ((given : HeaderType) → ¬ IsGiven (view json.now) given)) }
 {
     match json.get("message") {
@@ -74,7 +91,7 @@ pub fn is_answer(json: &Value) -> bool
 // What a line is that `tcshow` writes and that holds no message.
 fn without_message(json: &Value) -> Option<LineError>
     requires { get (codes "message") (view json.now) ≡ None }
-    ensures { OnSome result (IsOfRefused (view json.now) ⊎ IsRemark (view json.now)) }
+    ensures { OnSome result (IsRemark (view json.now)) }
 {
     if json.get("refused").is_some() {
         Some(LineError::Refused)
@@ -108,20 +125,37 @@ fn is_member(name: &str) -> bool
 }
 
 // The members of a line of a refused message.
-fn is_of_refused(name: &str) -> bool {
+fn is_of_fault(name: &str) -> bool
+    ensures { result ≡ false → ¬ IsOneOf name.now fault_members }
+{
     matches!(
         name,
         "refused" | "len" | "needed" | "length" | "left" | "expected" | "got" | "offset" | "path"
     )
 }
 
+// True if a line has such a member.
+fn is_known(is_refused: bool, name: &str) -> bool
+    ensures member { result ≡ false → ¬ IsOneOf name.now members }
+    ensures fault { result ≡ false → IsTrue is_refused → ¬ IsOneOf name.now fault_members }
+{
+    is_member(name) || is_refused && is_of_fault(name)
+}
+
+// True if the line is about a message that was refused.
+fn is_about_refused(json: &Value) -> bool
+    ensures { result ≡ is_of_refused (view json.now) }
+{
+    json.get("refused").is_some()
+}
+
 // The first member that a line doesn't have.
 fn unknown_in(json: &Value) -> Option<&str>
     ensures { OnSome result (HasUnknown (view json.now)) }
 {
-    let is_refused = json.get("refused").is_some();
+    let is_refused = is_about_refused(json);
     for (name, _) in json.as_object()? {
-        if !is_member(name.as_str()) && !(is_refused && is_of_refused(name.as_str())) {
+        if !is_known(is_refused, name.as_str()) {
             return Some(name.as_str());
         }
     }

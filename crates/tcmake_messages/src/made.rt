@@ -4,7 +4,7 @@ ghost use Rattle.std.specs.Prelude.{◌≡◌, ◌⊎◌, IfErr, IfOk, MatchOpti
 ghost use Rattle.forms_text.specs.declared.error.ReadError.TheVariants.{OutOfMemory};
 ghost use Rattle.serde_json.specs.View.{view};
 ghost use Rattle.tcmake_messages.specs.Answer.{IsAnswer, IsMessage, IsRefused, IsWrong};
-ghost use Rattle.tcmake_messages.specs.Line.{IsGiven, IsOfRefused, message_in};
+ghost use Rattle.tcmake_messages.specs.Line.{IsGiven, message_in};
 ghost use Rattle.tcmake_messages.specs.Made.{IsMade, IsUnmade, form_of};
 ghost use Rattle.tcmake_messages.specs.declared.error.LineError.TheVariants.{NoMemory};
 
@@ -82,7 +82,7 @@ fn message_in<T: Tables>(
 ) -> Result<Message, LineError>
     ensures made { IfOk result (λ m. IsMade (T.parts_of forms.table) (form_of forms.tc forms.action holds) making holds
         (view json.now) (message_in (view json.now)) m.bytes.items) }
-    ensures unmade { IfErr result (λ e. (e ≡ NoMemory) ⊎ IsOfRefused (view json.now)
+    ensures unmade { IfErr result (λ e. (e ≡ NoMemory)
         ⊎ IsUnmade (T.parts_of forms.table) (form_of forms.tc forms.action holds) making holds (view json.now) (message_in (view json.now))) }
 {
     match json.get("message") {

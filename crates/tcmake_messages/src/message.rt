@@ -1,11 +1,11 @@
 //! The bytes of a message.
 
 ghost use Rattle.std.specs.Prelude.{◌≡◌, ◌⊎◌, ℕ, List, None, IfErr, IfOk, IsOk, OnOk, codes};
-ghost use Rattle.nla_frames.specs.Value.{IsBytes};
 ghost use Rattle.serde_json.specs.Find.{get};
 ghost use Rattle.serde_json.specs.View.{view};
-ghost use Rattle.tcmake_messages.specs.Line.{IsOfRefused};
-ghost use Rattle.tcmake_messages.specs.Made.{IsAsSaid, IsDenied, IsMade, IsUnmade, Settles, StandsFor, form_of};
+ghost use Rattle.tcmake_messages.specs.Made.{IsAsSaid, IsDenied, IsMade, IsUnmade, IsUnread, IsUnsettled, Settles, StandsFor, StandsForNone, form_of};
+ghost use Rattle.tcmake_messages.specs.Verdict.{words_of};
+ghost use Rattle.tc_wire.specs.Rewriting.{Refused};
 ghost use Rattle.tcmake_messages.specs.declared.error.LineError.TheVariants.{NoMemory};
 
 use crate::error::{Found, LineError};
@@ -63,41 +63,35 @@ pub(crate) fn message_of<T: Tables>(
     json: &Value,
 ) -> Result<Message, LineError>
     ensures made { IfOk result (λ m. IsMade (T.parts_of forms.table) (form_of forms.tc forms.action holds) making holds (view line.now) (view json.now) m.bytes.items) }
-    ensures unmade { IfErr result (λ e. (e ≡ NoMemory) ⊎ IsOfRefused (view line.now)
+    ensures unmade { IfErr result (λ e. (e ≡ NoMemory)
         ⊎ IsUnmade (T.parts_of forms.table) (form_of forms.tc forms.action holds) making holds (view line.now) (view json.now)) }
 {
     if making == Making::Settled && line.get("refused").is_some() {
         return Err(LineError::Refused);
     }
-    let bytes = bytes_of(alloc, forms.table, forms.of(holds), json)?;
+    let form = forms.of(holds);
+    let bytes = bytes_of(alloc, forms.table, form, json)?;
     match making {
-        Making::Settled => settled_message(
-            alloc,
-            forms.table,
-            forms.of(holds),
-            holds,
-            json,
-            &bytes,
-        ),
+        Making::Settled => settled_message(alloc, forms.table, form, holds, json, &bytes),
         Making::Checked => {
-            check(
-                alloc,
-                forms.table,
-                forms.of(holds),
-                holds,
-                line,
-                json,
-                &bytes,
-            )?;
+            check(alloc, forms.table, form, holds, line, json, &bytes)?;
             unchanged(alloc, bytes)
         }
         Making::Restored => {
-            if let Verdict::Refused(error) = verdict_on(alloc, holds, &bytes)? {
-                return Err(unreadable(alloc, holds, &bytes, error));
-            }
+            read_whole(alloc, holds, &bytes)?;
             unchanged(alloc, bytes)
         }
         Making::AsGiven => unchanged(alloc, bytes),
+    }
+}
+
+// Fails unless the codec reads the bytes.
+fn read_whole(alloc: Global, holds: MessageType, bytes: &[u8]) -> Result<(), LineError>
+    ensures { IfErr result (λ e. (e ≡ NoMemory) ⊎ IsUnread holds bytes.now) }
+{
+    match verdict_on(alloc, holds, bytes)? {
+        Verdict::Refused(error) => Err(unreadable(alloc, holds, bytes, error)),
+        Verdict::Read { .. } => Ok(()),
     }
 }
 
@@ -119,7 +113,7 @@ fn bytes_of<T: Tables>(
     json: &Value,
 ) -> Result<Vec<u8>, LineError>
     ensures stands { IfOk result (λ bytes. StandsFor (T.parts_of table) form (view json.now) bytes.items) }
-    ensures none { IfErr result (λ e. (e ≡ NoMemory) ⊎ ((bytes : List ℕ) → IsBytes bytes → ¬ StandsFor (T.parts_of table) form (view json.now) bytes)) }
+    ensures none { IfErr result (λ e. (e ≡ NoMemory) ⊎ StandsForNone (T.parts_of table) form (view json.now)) }
 {
     match made_strictly(alloc, table, form, json) {
         Ok(bytes) => Ok(bytes),
@@ -138,7 +132,7 @@ fn check<T: Tables>(
     bytes: &[u8],
 ) -> Result<(), LineError>
     ensures so { OnOk result (IsAsSaid holds (view line.now) bytes.now) }
-    ensures denied { IfErr result (λ e. (e ≡ NoMemory) ⊎ IsOfRefused (view line.now) ⊎ IsDenied holds (view line.now) bytes.now) }
+    ensures denied { IfErr result (λ e. (e ≡ NoMemory) ⊎ IsDenied holds (view line.now) bytes.now) }
 {
     let said = said_in(alloc, line)?;
     let verdict = verdict_on(alloc, holds, bytes)?;
@@ -203,7 +197,8 @@ fn settled_message<T: Tables>(
     json: &Value,
     bytes: &[u8],
 ) -> Result<Message, LineError>
-    ensures { IfOk result (λ m. (count : ℕ) × Settles holds bytes.now m.bytes.items count) }
+    ensures settles { IfOk result (λ m. (count : ℕ) × Settles holds bytes.now m.bytes.items count) }
+    ensures unsettled { IfErr result (λ e. (e ≡ NoMemory) ⊎ IsUnsettled holds bytes.now) }
 {
     let settled = settled_bytes(alloc, holds, bytes)?;
     let shown = shown_json(alloc, table, form, &settled)?;
@@ -216,7 +211,8 @@ fn settled_message<T: Tables>(
 
 // The bytes to which settling leads.
 fn settled_bytes(alloc: Global, holds: MessageType, bytes: &[u8]) -> Result<Vec<u8>, LineError>
-    ensures { IfOk result (λ settled. (count : ℕ) × Settles holds bytes.now settled.items count) }
+    ensures settles { IfOk result (λ settled. (count : ℕ) × Settles holds bytes.now settled.items count) }
+    ensures unsettled { IfErr result (λ e. (e ≡ NoMemory) ⊎ IsUnsettled holds bytes.now) }
 {
     match settle(alloc, holds, bytes) {
         Ok((settled, _)) => Ok(settled),
@@ -228,7 +224,8 @@ fn settled_bytes(alloc: Global, holds: MessageType, bytes: &[u8]) -> Result<Vec<
 
 // The same, and after how many rewrites.
 fn settle(alloc: Global, holds: MessageType, bytes: &[u8]) -> Result<(Vec<u8>, usize), RewriteError>
-    ensures { IfOk result (λ settled. Settles holds bytes.now settled.0.items settled.1) }
+    ensures settles { IfOk result (λ settled. Settles holds bytes.now settled.0.items settled.1) }
+    ensures refused { IfErr result (Refused (words_of holds) bytes.now) }
 {
     match holds {
         MessageType::Tc => settle_tc(alloc, bytes),

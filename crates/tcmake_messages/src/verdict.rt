@@ -1,10 +1,12 @@
 //! What the codec finds of bytes, and what a line says of it.
 
-ghost use Rattle.std.specs.Prelude.{◌≡◌, ◌⊎◌, Some, IfOk, IfSome, OnErr, OnOk};
+ghost use Rattle.std.specs.Prelude.{◌≡◌, ◌≢◌, ℕ, Some, IfOk, IfSome, OnErr, OnOk};
 ghost use Rattle.nla_frames.specs.Fault.{name_of};
 ghost use Rattle.serde_json.specs.View.{view};
 ghost use Rattle.tc_meaning.specs.Whole.{action_words, tc_words};
-ghost use Rattle.tcmake_messages.specs.Line.{IsOfRefused, number_in};
+ghost use Rattle.nla_frames.specs.declared.error.DecodeError.{DecodeError as DecodeErrorType};
+ghost use Rattle.nla_frames.specs.declared.error.DecodeError.TheVariants.{OutOfMemory};
+ghost use Rattle.tcmake_messages.specs.Line.{number_in};
 ghost use Rattle.tcmake_messages.specs.declared.verdict.Said.{Said as SaidType};
 ghost use Rattle.tcmake_messages.specs.Verdict.{Agrees, HasNumbers, IsVerdictOn, Says, words_of};
 
@@ -98,7 +100,7 @@ fn verdict_on_action(alloc: Global, bytes: &[u8]) -> Result<Verdict, AllocError>
 /// What a line says of it.
 pub(crate) fn said_in(alloc: Global, json: &Value) -> Result<Said, LineError>
     ensures says { IfOk result (Says (view json.now)) }
-    ensures wrong { OnErr result (IsOfRefused (view json.now) ⊎ ((said : SaidType) → ¬ Says (view json.now) said)) }
+    ensures wrong { OnErr result ((said : SaidType) → ¬ Says (view json.now) said) }
 {
     match json.get("refused") {
         Some(name) => match name.as_str() {
@@ -118,7 +120,8 @@ const FAULTS: &str =
 
 // The fault that a line names, with its numbers.
 fn fault_of(alloc: Global, json: &Value, held: &Value, name: &str) -> Result<DecodeError, LineError>
-    ensures { IfOk result (λ e. (name.now ≡ name_of e) × HasNumbers (view json.now) e) }
+    ensures named { IfOk result (λ e. (e ≢ OutOfMemory) × (name.now ≡ name_of e) × HasNumbers (view json.now) e) }
+    ensures wrong { OnErr result ((e : DecodeErrorType) → e ≢ OutOfMemory → name.now ≡ name_of e → ¬ HasNumbers (view json.now) e) }
 {
     match name {
         "BufferTooSmall" => Ok(DecodeError::BufferTooSmall {
@@ -155,7 +158,8 @@ fn fault_of(alloc: Global, json: &Value, held: &Value, name: &str) -> Result<Dec
 
 // A number of a fault, in bytes.
 fn count(alloc: Global, json: &Value, name: &'static str) -> Result<usize, LineError>
-    ensures { IfOk result (λ n. number_in name.now (view json.now) ≡ Some n) }
+    ensures number { IfOk result (λ n. number_in name.now (view json.now) ≡ Some n) }
+    ensures wrong { OnErr result ((n : ℕ) → number_in name.now (view json.now) ≢ Some n) }
 {
     match json.get(name) {
         None => Err(missing(name, COUNT)),

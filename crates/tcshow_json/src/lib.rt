@@ -4,7 +4,6 @@
 //! Calls that take an allocator fail with `AllocError` if it fails.
 #![tactic(auto)]
 
-mod json;
 pub mod laws;
 mod line;
 mod message;
@@ -12,6 +11,7 @@ mod notice;
 mod pages;
 mod reply;
 mod safe;
+mod serialized;
 mod time;
 mod verdict;
 

@@ -1,15 +1,15 @@
 //! The JSON line of a message.
 
-ghost use Rattle.std.specs.Prelude.{◌≡◌, IfOk, Some, None, [], is_some, string_bytes, true};
+ghost use Rattle.std.specs.Prelude.{◌≡◌, IfOk, Some, None, [], is_some, option_map, string_bytes, true};
 ghost use Rattle.serde.specs.Event.{Log};
 ghost use Rattle.serde_json.specs.Sent.{IsTextOf};
 ghost use Rattle.tcshow_json.specs.Grammars.{IsLineOf, is_refused, is_fault};
 ghost use Rattle.tcshow_json.specs.Messages.{message_view};
 ghost use Rattle.tcshow_json.specs.Line.{IsAccepted, IsRefused, IsLine, line_events, time_of, verdict_events};
 
-use crate::json::{MessageLine, Verdict};
 use crate::message::Message;
 use crate::pages::{show_place, text_of};
+use crate::serialized::{MessageLine, Verdict};
 use crate::time::{borrowed_text, some_time_text};
 use nla_frames::DecodeError;
 use serde::Serialize;
@@ -133,6 +133,19 @@ fn json_with(
 {
     let text = some_time_text(&found.origin.time);
     let time = borrowed_text(&text);
+    json_at(json, time, found, verdict)
+}
+
+// The line of a message with this time.
+fn json_at(
+    json: Global,
+    time: Option<&str>,
+    found: &Message<'_>,
+    verdict: Verdict<'_, '_>,
+) -> Result<String, AllocError>
+    ensures { IfOk result (λ line. IsTextOf (Some (line_events (option_map (λ t. t.now) time.entry) (message_view found.now) (verdict_events verdict.entry)))
+        (string_bytes line)) }
+{
     let line = MessageLine {
         time,
         found: *found,

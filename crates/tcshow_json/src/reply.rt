@@ -7,10 +7,10 @@ ghost use Rattle.tc_texts.specs.Escape.{escaped_byte};
 ghost use Rattle.tcshow_json.specs.Messages.{header_view, is_silent, message_view, reason_of};
 ghost use Rattle.tcshow_json.specs.Line.{IsAnswered, answered_events, error_events, escaped_text, some_text, time_of};
 
-use crate::json::{AnswerLine, Reason};
 use crate::line::json_of;
 use crate::message::{Message, NetlinkHeader, Origin, header_of};
 use crate::pages::{show_numbers, show_time_of, show_word, some_text, text_of};
+use crate::serialized::{AnswerLine, Reason};
 use crate::time::{borrowed_text, some_time_text};
 use itoa::Buffer;
 use nla_frames::strip_nul;
@@ -248,6 +248,20 @@ fn line_for(
 {
     let text = some_time_text(&reply.request.origin.time);
     let time = borrowed_text(&text);
+    line_at(json, reply, reason, time)
+}
+
+// The line with this time.
+fn line_at(
+    json: Global,
+    reply: &Reply<'_>,
+    reason: Reason<'_, '_, '_>,
+    time: Option<&str>,
+) -> Result<String, AllocError>
+    ensures { IfOk result (λ line. IsTextOf (Some (answered_events (option_map (λ t. t.now) time.entry) (header_view reply.now.header)
+        (error_events reason.entry.errno.now (option_map (λ t. t.now) reason.entry.text) reason.entry.offset
+        (option_map (λ t. t.now) reason.entry.path)) reply.now.answer.is_capped (message_view reply.now.request))) (string_bytes line)) }
+{
     let line = AnswerLine {
         time,
         header: reply.header,

@@ -41,10 +41,10 @@ fn put_safe(safe: &mut String, c: char) -> Result<(), AllocError>
     ensures { OnOk result (string_bytes safe.new ≡ string_bytes safe.old ++ safe_char c) }
 {
     if is_hidden(c) {
-        put_escape(safe, c as u32)
-    } else {
-        safe.push(c)
+        return put_escape(safe, c as u32);
     }
+    safe.push(c)?;
+    Ok(())
 }
 
 // True for `DEL`, the control characters of ISO 6429's C1 set, and the controls of Unicode's bidirectional algorithm.
@@ -78,5 +78,6 @@ fn put_digit(safe: &mut String, digit: u8) -> Result<(), AllocError>
     requires { digit < 16 }
     ensures { OnOk result (string_bytes safe.new ≡ string_bytes safe.old ++ digit_char digit ∷ []) }
 {
-    safe.push(char::from(hex_digit(digit)))
+    safe.push(char::from(hex_digit(digit)))?;
+    Ok(())
 }

@@ -3,6 +3,7 @@
 mod complaints;
 mod dumps;
 mod packets;
+mod plans;
 mod rows;
 mod runs;
 mod saves;

@@ -3,6 +3,8 @@
 
 extern crate alloc;
 
+#[cfg(target_os = "linux")]
+mod apply;
 #[path = "../../erase/shims/bitflags.rs"]
 #[allow(dead_code)] // what the codec exports besides
 mod bitflags;
@@ -52,7 +54,7 @@ use user::memchr;
 include!(concat!(env!("OUT_DIR"), "/programs.rs"));
 
 #[cfg(target_os = "linux")]
-pub use {restore::tcrestore, tcnl::tcnl, tcsave::tcsave};
+pub use {apply::tcapply, restore::tcrestore, tcnl::tcnl, tcsave::tcsave};
 
 use host::HostRuntime;
 use std::io::IsTerminal as _;

@@ -30,6 +30,7 @@ pub(crate) const LOST_IMPORTS: &[&str] = &[
 
 /// Contracts, ghost items, and the attributes of proofs. What a `requires` asks stays before the body, for `duties.rs`.
 pub(crate) const GHOSTS: &[Rule] = &[
+    ("# [ cfg ( test ) ] mod tests ;", ""),
     ("ensures { $;c }", ""),
     ("ensures $n { $;c }", ""),
     ("requires { $;c }", "(required $;c)"),

@@ -97,7 +97,7 @@ pub(crate) const LEAVES: &[&str] = &["kind", "handle", "flag", "bool", "text", "
 pub(crate) const KINDS: &[&str] = &["qdisc", "filter", "action"];
 const BLOCKS: &[&str] = &["struct", "list", "enum", "bits", "names", "choice"];
 /// Words behind a form, each with a name behind it.
-const COLUMNS: &[&str] = &["names", "mask", "end", "as"];
+const COLUMNS: &[&str] = &["names", "mask", "end", "as", "tc", "normal", "when"];
 
 /// The words of a line that are left.
 struct Words<'a>(&'a [&'a str]);
@@ -232,7 +232,7 @@ impl Tables {
         Ok(Some(line))
     }
 
-    /// The unit behind a form and the columns behind that, of which `names` is used.
+    /// The unit behind a form and the columns behind that, of which `names` is used; `=N` is one word.
     fn read_columns(&self, words: &mut Words<'_>, line: &mut Line) {
         let mut is_first = true;
         while let Ok(word) = words.next() {
@@ -241,7 +241,7 @@ impl Tables {
                 if word == "names" {
                     line.names = name.to_string();
                 }
-            } else if is_first {
+            } else if is_first && !word.starts_with('=') {
                 line.unit = word.to_string();
             }
             is_first = false;

@@ -102,6 +102,7 @@ const HEX: Request = Request {
 const ALONE: Asked<'static> = Asked {
     index: None,
     now: None,
+    plans: false,
     replaces_actions: false,
     names: None,
 };
@@ -111,6 +112,7 @@ fn now(lines: &str, replaces_actions: bool) -> Asked<'_> {
     Asked {
         index: None,
         now: Some(lines.as_bytes()),
+        plans: false,
         replaces_actions,
         names: None,
     }
@@ -121,6 +123,7 @@ fn named<'a>(names: &'a [(u32, &'a str)]) -> Asked<'a> {
     Asked {
         index: None,
         now: None,
+        plans: false,
         replaces_actions: false,
         names: Some(names),
     }

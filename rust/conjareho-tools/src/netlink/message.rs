@@ -32,6 +32,7 @@ pub const RTM_GETTCLASS: u16 = 42;
 pub const RTM_NEWTFILTER: u16 = 44;
 pub const RTM_GETTFILTER: u16 = 46;
 pub const RTM_NEWACTION: u16 = 48;
+pub const RTM_DELACTION: u16 = 49;
 pub const RTM_GETACTION: u16 = 50;
 pub const RTM_NEWCHAIN: u16 = 100;
 pub const RTM_GETCHAIN: u16 = 102;

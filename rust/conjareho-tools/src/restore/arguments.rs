@@ -7,7 +7,7 @@ use std::ffi::OsString;
 use std::path::PathBuf;
 
 /// Where the states before are kept.
-const STATE: &str = "/var/lib/conjareho";
+pub(crate) const STATE: &str = "/var/lib/conjareho";
 
 const ABOUT: &str =
     "Restores the traffic control configuration that tcsave saved: qdiscs, classes, filters, chains and actions";
@@ -116,8 +116,8 @@ fn command() -> Command {
         )
 }
 
-// Two names with a sign of equality between them.
-fn pair_of(text: &str) -> Result<(String, String), String> {
+/// Two names with a sign of equality between them.
+pub(crate) fn pair_of(text: &str) -> Result<(String, String), String> {
     match text.split_once('=') {
         Some((left, right)) if !left.is_empty() && !right.is_empty() => Ok((left.to_string(), right.to_string())),
         _ => Err("two names are wanted, such as ids=ids0".to_string()),

@@ -68,6 +68,34 @@ impl Key {
     pub(crate) fn is_action(&self) -> bool {
         matches!(self, Key::Action(..))
     }
+
+    /// True for the order of filters, which isn't one object.
+    pub(crate) fn is_order(&self) -> bool {
+        matches!(self, Key::Order { .. })
+    }
+
+    /// True for a key of the same object, whatever number the kernel gave to the table of a filter of u32, or for that of all filters of its priority.
+    pub(crate) fn is_object_of(&self, other: &Key) -> bool {
+        let filter = |key: &Key| match key {
+            Key::Object { kind: RTM_NEWTFILTER, index, parent, chain, info, handle } => {
+                Some(((*index, *parent, *chain, info >> 16), handle & 0xF_FFFF))
+            }
+            _ => None,
+        };
+        match (filter(self), filter(other)) {
+            (Some((place, own)), Some((other, handle))) => place == other && (own == 0 || own == handle),
+            _ => self == other || self.is_in_place_of(other),
+        }
+    }
+
+    /// True for two qdiscs in one place, whatever their handles.
+    pub(crate) fn is_in_place_of(&self, other: &Key) -> bool {
+        let place = |key: &Key| match key {
+            Key::Object { kind: RTM_NEWQDISC, index, parent, .. } => Some((*index, *parent)),
+            _ => None,
+        };
+        place(self).is_some() && place(self) == place(other)
+    }
 }
 
 /// What there is of an object.
@@ -80,8 +108,8 @@ pub(crate) enum Held {
 }
 
 impl Held {
-    // The same without what isn't configuration.
-    fn normal(&self) -> Value {
+    /// The same without what isn't configuration.
+    pub(crate) fn normal(&self) -> Value {
         let request = match self {
             Held::Request(request) => request,
             Held::Handles(handles) => return json!(handles),
@@ -120,9 +148,7 @@ pub(crate) fn objects_of(requests: &[Vec<u8>]) -> Objects {
     for request in requests {
         if type_of(request) == RTM_NEWACTION {
             let actions = actions_of(request).into_iter();
-            objects.extend(
-                actions.map(|action| (Key::Action(action.kind.clone(), action.index), Held::Request(action.change()))),
-            );
+            objects.extend(actions.map(|action| (action.key(), Held::Request(action.change()))));
         } else if let Some(header) = tcmsg_of(request) {
             put_object(request, header, of_ingress.contains(&header.index), &mut objects);
         }
@@ -149,7 +175,7 @@ fn put_object(request: &[u8], header: Tcmsg, is_ingress: bool, objects: &mut Obj
 
 /// What a request or a notification is about.
 pub(crate) fn key_of(message: &[u8]) -> Option<Key> {
-    objects_of(&[message.to_vec()]).into_keys().find(|key| !matches!(key, Key::Order { .. }))
+    objects_of(&[message.to_vec()]).into_keys().find(|key| !key.is_order())
 }
 
 /// How an object differs from what is wanted.

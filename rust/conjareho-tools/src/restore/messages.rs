@@ -1,5 +1,6 @@
 //! Requests: what they are about, and the requests that delete or change back what they made.
 
+use super::compare::Key;
 use crate::netlink::attributes::{attribute, put};
 use crate::netlink::message::{
     HEADER, NLM_F_ACK, RTM_NEWACTION, RTM_NEWCHAIN, RTM_NEWTFILTER, TCMSG, Tcmsg, header_of, request, tc_request,
@@ -27,6 +28,25 @@ pub(crate) fn type_of(message: &[u8]) -> u16 {
 /// True for the request of an action that is there with other parameters.
 pub(crate) fn replaces(message: &[u8]) -> bool {
     header_of(message).is_some_and(|header| header.flags & NLM_F_REPLACE != 0)
+}
+
+/// True for the request that deletes something. Types go in fours: NEW, DEL, GET and SET.
+pub(crate) fn deletes(message: &[u8]) -> bool {
+    type_of(message) % 4 == 1
+}
+
+/// A request or a notification as if it were that of a new object.
+pub(crate) fn as_new(message: &[u8]) -> Vec<u8> {
+    let mut as_new = message.to_vec();
+    if let Some(place) = as_new.get_mut(4..6) {
+        place.copy_from_slice(&(type_of(message) / 4 * 4).to_ne_bytes());
+    }
+    as_new
+}
+
+/// True for a request of a chain without a template, which the kernel makes by itself too.
+pub(crate) fn is_plain_chain(message: &[u8]) -> bool {
+    type_of(message) == RTM_NEWCHAIN && kind_of(message).is_none()
 }
 
 /// What follows the netlink header.
@@ -74,6 +94,11 @@ pub(crate) struct Action {
 }
 
 impl Action {
+    /// What it is.
+    pub(crate) fn key(&self) -> Key {
+        Key::Action(self.kind.clone(), self.index)
+    }
+
     /// The request that changes the parameters of the action of this kind and index to these.
     pub(crate) fn change(self) -> Vec<u8> {
         action_request(RTM_NEWACTION, NLM_F_ACK | NLM_F_CREATE | NLM_F_REPLACE, self.parts.attributes)

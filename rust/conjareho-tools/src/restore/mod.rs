@@ -1,20 +1,20 @@
 //! The program tcrestore: makes again what tcsave saved.
 
-mod arguments;
-mod compare;
-mod file;
-mod hardware;
-mod messages;
-mod plan;
-mod prepare;
-mod sending;
-mod state;
-mod status;
+pub(crate) mod arguments;
+pub(crate) mod compare;
+pub(crate) mod file;
+pub(crate) mod hardware;
+pub(crate) mod messages;
+pub(crate) mod plan;
+pub(crate) mod prepare;
+pub(crate) mod sending;
+pub(crate) mod state;
+pub(crate) mod status;
 mod staying;
-mod targets;
+pub(crate) mod targets;
 #[cfg(test)]
-mod tests;
-mod world;
+pub(crate) mod tests;
+pub(crate) mod world;
 
 use arguments::{Arguments, arguments_of};
 use compare::{Held, Key, Objects, differences, objects_of};
@@ -55,13 +55,8 @@ pub fn tcrestore() -> ExitCode {
 fn obey(arguments: &Arguments) -> Status {
     let mut said = Vec::new();
     let status = match open(arguments) {
-        Ok((file, kernel, listeners, caught)) => {
-            let signal = || {
-                SIGNALS
-                    .iter()
-                    .find(|(number, _)| *number as usize == caught.load(Ordering::Relaxed))
-                    .map(|(_, name)| *name)
-            };
+        Ok((file, kernel, listeners, signals)) => {
+            let signal = || signals.caught();
             let [dumps, watch] = listeners;
             restore(arguments, file, &mut World::new(kernel, dumps, watch, &signal), &mut said)
         }
@@ -70,28 +65,52 @@ fn obey(arguments: &Arguments) -> Status {
             Status::Failed
         }
     };
-    // A terminal that nobody reads would hold up what is sent, so nothing is written before the end.
-    let text: String = said.iter().map(|line| format!("tcrestore: {}\n", Printable(line))).collect();
-    let _ = io::stderr().write_all(text.as_bytes());
+    say_all("tcrestore", &said);
     status
 }
 
-type Opened = (Vec<u8>, Kernel, [Listener; 2], Arc<AtomicUsize>);
+/// Says what is to be said. A terminal that nobody reads would hold up what is sent, so nothing is written before the end.
+pub(crate) fn say_all(program: &str, said: &[String]) {
+    let text: String = said.iter().map(|line| format!("{program}: {}\n", Printable(line))).collect();
+    let _ = io::stderr().write_all(text.as_bytes());
+}
+
+type Opened = (Vec<u8>, Kernel, [Listener; 2], Signals);
 
 fn open(arguments: &Arguments) -> Result<Opened, String> {
     let file = read(arguments).map_err(|error| format!("{}: {error}", arguments.file_name()))?;
-    let said = |fault: Fault| fault.to_string();
-    let kernel = Kernel::open().map_err(said)?;
-    let listeners = [Listener::open().map_err(said)?, Listener::open().map_err(said)?];
-    let caught = Arc::new(AtomicUsize::new(0));
-    for (number, name) in SIGNALS {
-        signal_hook::flag::register_usize(number, Arc::clone(&caught), number as usize)
-            .map_err(|error| format!("{name}: {error}"))?;
-    }
-    Ok((file, kernel, listeners, caught))
+    let (kernel, listeners) = open_kernel()?;
+    Ok((file, kernel, listeners, Signals::catch()?))
 }
 
-fn read(arguments: &Arguments) -> io::Result<Vec<u8>> {
+/// The kernel of this network namespace, and two that hear what changes in it.
+pub(crate) fn open_kernel() -> Result<(Kernel, [Listener; 2]), String> {
+    let said = |fault: Fault| fault.to_string();
+    Ok((Kernel::open().map_err(said)?, [Listener::open().map_err(said)?, Listener::open().map_err(said)?]))
+}
+
+/// The signals that end a program, kept instead of ending it.
+pub(crate) struct Signals(Arc<AtomicUsize>);
+
+impl Signals {
+    pub(crate) fn catch() -> Result<Signals, String> {
+        let caught = Arc::new(AtomicUsize::new(0));
+        for (number, name) in SIGNALS {
+            signal_hook::flag::register_usize(number, Arc::clone(&caught), number as usize)
+                .map_err(|error| format!("{name}: {error}"))?;
+        }
+        Ok(Signals(caught))
+    }
+
+    /// The last one that came, if one did.
+    pub(crate) fn caught(&self) -> Option<&'static str> {
+        let number = self.0.load(Ordering::Relaxed);
+        SIGNALS.iter().find(|(own, _)| *own as usize == number).map(|(_, name)| *name)
+    }
+}
+
+/// Reads the file that is named, or standard input.
+pub(crate) fn read(arguments: &Arguments) -> io::Result<Vec<u8>> {
     match &arguments.file {
         Some(path) => fs::read(path),
         None => {
@@ -127,7 +146,7 @@ fn restore<T: Transport, L: Transport>(
     }
     let mut sending = Sending::new(world, &prepared.place);
     match carried_out(arguments, &prepared, &mut sending, said) {
-        Ok(()) if prepared.is_partial => Status::Partial,
+        Ok(()) if prepared.is_partial => Status::Otherwise,
         Ok(()) => Status::Restored,
         Err(stop) => {
             said.push(stop.to_string());
@@ -157,8 +176,8 @@ fn carried_out<T: Transport, L: Transport>(
     Ok(())
 }
 
-// What is there, as it is dumped; an error if it isn't what is wanted, among the keys that are looked at. What was deleted may live on for a time.
-fn same<T: Transport, L: Transport>(
+/// What is there, as it is dumped; an error if it isn't what is wanted, among the keys that are looked at. What was deleted may live on for a time.
+pub(crate) fn same<T: Transport, L: Transport>(
     sending: &mut Sending<'_, '_, T, L>,
     wanted: &Objects,
     is_seen: impl Fn(&Key) -> bool,
@@ -184,7 +203,7 @@ fn same<T: Transport, L: Transport>(
     }
 }
 
-fn named(all: &[compare::Difference]) -> Vec<String> {
+pub(crate) fn named(all: &[compare::Difference]) -> Vec<String> {
     let mut named: Vec<String> = all.iter().take(MOST_NAMED).map(ToString::to_string).collect();
     if all.len() > MOST_NAMED {
         named.push(format!("and {} more", all.len() - MOST_NAMED));

@@ -46,6 +46,7 @@ pub(crate) fn requests(wanted: &Wanted<'_>) -> Plan {
     let asked = Asked {
         index: wanted.index.and_then(|index| i32::try_from(index).ok()),
         now: wanted.now.map(str::as_bytes),
+        plans: false,
         replaces_actions: wanted.replaces_actions,
         names: wanted.names,
     };
@@ -55,10 +56,14 @@ pub(crate) fn requests(wanted: &Wanted<'_>) -> Plan {
 
 /// The requests that make what was dumped: those of its lines in a save, whose numbers complaints have.
 pub(crate) fn requests_of_dump(messages: &[Vec<u8>]) -> Plan {
-    let dumps = messages.iter().filter_map(|message| Some((given_of(message)?, payload_of(message).to_vec())));
-    requests_of_dumps(dumps.collect())
+    requests_of_dumps(dumps_of(messages))
         .and_then(|restored| planned(restored, LINES_BEFORE))
         .unwrap_or_else(|_| no_memory())
+}
+
+/// Messages, each as its netlink header and what follows it.
+pub(crate) fn dumps_of(messages: &[Vec<u8>]) -> Vec<(NetlinkHeader, Vec<u8>)> {
+    messages.iter().filter_map(|message| Some((given_of(message)?, payload_of(message).to_vec()))).collect()
 }
 
 // What the netlink header of a dumped message has.

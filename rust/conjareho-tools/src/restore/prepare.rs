@@ -26,7 +26,7 @@ pub(crate) struct Ended {
 }
 
 impl Ended {
-    fn because(status: Status, said: Vec<String>) -> Ended {
+    pub(crate) fn because(status: Status, said: Vec<String>) -> Ended {
         Ended { status, said }
     }
 }
@@ -108,7 +108,8 @@ pub(crate) fn prepare<T: Transport, L: Transport>(
     })
 }
 
-fn save_in(arguments: &Arguments, file: Vec<u8>) -> Result<Save, Ended> {
+/// The save of a file.
+pub(crate) fn save_in(arguments: &Arguments, file: Vec<u8>) -> Result<Save, Ended> {
     let refused = |why: String| Ended::because(Status::NothingSent, vec![format!("{}: {why}", arguments.file_name())]);
     let save = read_save(file).map_err(|error| refused(error.to_string()))?;
     if arguments.clear && save.head.is_none() {
@@ -117,8 +118,8 @@ fn save_in(arguments: &Arguments, file: Vec<u8>) -> Result<Save, Ended> {
     Ok(save)
 }
 
-// The names of the save, and the interfaces that have them today.
-fn names_of<'a>(save: &'a Save, targets: &Targets) -> Vec<(u32, &'a str)> {
+/// The names of the save, and the interfaces that have them today.
+pub(crate) fn names_of<'a>(save: &'a Save, targets: &Targets) -> Vec<(u32, &'a str)> {
     let names = save.head.iter().flat_map(|head| &head.names);
     names.filter_map(|(index, name)| Some((*targets.indices.get(index)?, name.as_str()))).collect()
 }

@@ -1,6 +1,6 @@
 //! Requests as they are sent, one after the other, and the way back.
 
-use super::messages::{Action, actions_of, deletions_of, replaces, type_of};
+use super::messages::{Action, actions_of, deletes, deletions_of, is_plain_chain, replaces, type_of};
 use super::world::{Place, Stop, World, what_of};
 use crate::netlink::clear::clear;
 use crate::netlink::message::RTM_NEWACTION;
@@ -27,13 +27,17 @@ pub(crate) struct Sending<'w, 's, T, L> {
     pub(crate) place: &'w Place,
     made: Vec<Made>,
     has_cleared: bool,
+    // What is sent is a plan, which deletes too.
+    is_plan: bool,
+    // A request of it may have been taken.
+    has_sent: bool,
     // The way back goes on whatever signals come.
     minds_signals: bool,
 }
 
 impl<'w, 's, T: Transport, L: Transport> Sending<'w, 's, T, L> {
     pub(crate) fn new(world: &'w mut World<'s, T, L>, place: &'w Place) -> Self {
-        Sending { world, place, made: Vec::new(), has_cleared: false, minds_signals: true }
+        Sending { world, place, made: Vec::new(), has_cleared: false, is_plan: false, has_sent: false, minds_signals: true }
     }
 
     /// Deletes the root, ingress and clsact qdiscs of the interfaces.
@@ -62,6 +66,29 @@ impl<'w, 's, T: Transport, L: Transport> Sending<'w, 's, T, L> {
             }
         }
         Ok(())
+    }
+
+    /// Sends the requests of a plan. What is to be deleted and isn't there is deleted; the kernel makes chains by itself.
+    pub(crate) fn carry_out(&mut self, steps: &[Vec<u8>]) -> Result<(), Stop> {
+        self.is_plan = true;
+        for step in steps {
+            if deletes(step) {
+                self.delete(step)?;
+            } else {
+                self.make(step)?;
+            }
+        }
+        Ok(())
+    }
+
+    /// True if a request of a plan may have been taken.
+    pub(crate) fn has_sent(&self) -> bool {
+        self.has_sent
+    }
+
+    /// From here on no signal ends it.
+    pub(crate) fn turn_back(&mut self) {
+        self.minds_signals = false;
     }
 
     /// Makes again what was there before: `back` are the requests that make it where nothing is, `before` those of all of its actions. What the
@@ -107,14 +134,29 @@ impl<'w, 's, T: Transport, L: Transport> Sending<'w, 's, T, L> {
         self.world.look(self.place, request)
     }
 
+    // Sends a request that makes or changes something.
+    fn make(&mut self, request: &[u8]) -> Result<(), Stop> {
+        match self.send(request) {
+            Err(Stop::Refused { refusal, .. }) if is_plain_chain(request) && refusal.is(Errno::EEXIST) => {}
+            answer => answer?,
+        }
+        self.look(Some(request)).map(drop)
+    }
+
     // Sends a request; again for a time, if what was deleted lives on.
     fn send(&mut self, request: &[u8]) -> Result<(), Stop> {
         let until = Instant::now() + PATIENCE;
         loop {
             let refusal = match self.world.kernel.request(request) {
-                Ok(_) => return Ok(()),
+                Ok(_) => {
+                    self.has_sent = true;
+                    return Ok(());
+                }
                 Err(Fault::Refused(refusal)) => refusal,
-                Err(fault) => return Err(Stop::Fault(fault)),
+                Err(fault) => {
+                    self.has_sent = true;
+                    return Err(Stop::Fault(fault));
+                }
             };
             let passes = [Errno::EEXIST, Errno::EPERM, Errno::EBUSY].iter().any(|errno| refusal.is(*errno));
             if !(passes && self.may_wait() && Instant::now() < until) {
@@ -125,9 +167,9 @@ impl<'w, 's, T: Transport, L: Transport> Sending<'w, 's, T, L> {
         }
     }
 
-    // Something was deleted before.
+    // Something may have been deleted shortly before.
     fn may_wait(&self) -> bool {
-        self.has_cleared || !self.minds_signals
+        self.has_cleared || self.is_plan || !self.minds_signals
     }
 
     // What isn't there can't be deleted, and is no error.

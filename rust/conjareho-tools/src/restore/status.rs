@@ -11,8 +11,8 @@ pub(crate) enum Status {
     Usage = 2,
     /// A socket or a file failed, before anything was sent.
     Failed = 3,
-    /// What is there is what the file says, except for what can't be made, and was named.
-    Partial = 4,
+    /// What is there is what the file says, except for what can't be made, and was named; of a plan that is only printed: it differs.
+    Otherwise = 4,
     /// It ended before its end, and what was there before is there again.
     Back = 5,
     /// It ended before its end, and what was there before isn't there.

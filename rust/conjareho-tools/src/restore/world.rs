@@ -1,7 +1,7 @@
 //! The kernel, what is heard of others' changes, and signals.
 
 use super::compare::key_of;
-use super::messages::type_of;
+use super::messages::{as_new, deletes, type_of};
 use crate::netlink::message::{NLM_F_DUMP, RTM_GETQDISC, Tcmsg, tc_request};
 use crate::netlink::{Device, Devices, Dump, Fault, Kernel, Listener, Notice, Refusal, Transport, state_of};
 use crate::save::save_of;
@@ -26,6 +26,10 @@ pub(crate) enum Stop {
     Moved(String),
     /// What is there isn't what is wanted.
     Differs(Vec<String>),
+    /// There is no plan, since these can't be made.
+    Unplanned(Vec<String>),
+    /// Nobody said that it is to stay.
+    Unconfirmed(String),
 }
 
 impl From<Fault> for Stop {
@@ -43,7 +47,8 @@ impl fmt::Display for Stop {
             Stop::Other { port, what } => {
                 write!(f, "another program (netlink port {port}) changed it meanwhile: {what}")
             }
-            Stop::Moved(how) => f.write_str(how),
+            Stop::Moved(how) | Stop::Unconfirmed(how) => f.write_str(how),
+            Stop::Unplanned(why) => f.write_str(&why.join("; ")),
             Stop::Differs(how) => write!(f, "what is there isn't what was wanted: {}", how.join("; ")),
         }
     }
@@ -172,15 +177,9 @@ pub(crate) fn text_of(dump: &Dump, interfaces: &[u32]) -> Result<(String, bool),
 
 /// What a request or a notification is about.
 pub(crate) fn what_of(message: &[u8]) -> String {
-    let number = type_of(message);
-    // Types go in fours: NEW, DEL, GET and SET.
-    let (kind, verb) = (number / 4 * 4, if number % 4 == 1 { "deleting " } else { "" });
-    let mut as_new = message.to_vec();
-    if let Some(place) = as_new.get_mut(4..6) {
-        place.copy_from_slice(&kind.to_ne_bytes());
-    }
-    match key_of(&as_new) {
+    let verb = if deletes(message) { "deleting " } else { "" };
+    match key_of(&as_new(message)) {
         Some(key) => format!("{verb}{key}"),
-        None => format!("a message of type {number}"),
+        None => format!("a message of type {}", type_of(message)),
     }
 }

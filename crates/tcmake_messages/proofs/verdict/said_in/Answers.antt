@@ -1,4 +1,4 @@
-use Rattle.std.proofs.Common.{◌≡◌, None, inr}
+use Rattle.std.proofs.Common.{◌≡◌, None}
 use Rattle.std.proofs.lemmas.Result.{MatchResult-from_err}
 use Rattle.std.specs.Prelude.{codes}
 use Rattle.serde_json.specs.Find.{get}
@@ -10,4 +10,4 @@ pub returns-in_err-bool_of-in-None-3-clause-wrong : goal.returns-in_err-bool_of-
 returns-in_err-bool_of-in-None-3-clause-wrong c =
     let none : get (codes "refused") (view c.args.json.now) ≡ None = cc c.in-None.ensures in
     MatchResult-from_err _ _ _ c.from_residual-in_err-bool_of-in-None-3.ensures.0
-    (λ e. inr (no_canonical (view c.args.json.now) none c.in_err-bool_of-in-None-3.ensures.wrong))
+    (λ e. no_canonical (view c.args.json.now) none c.in_err-bool_of-in-None-3.ensures.wrong)

@@ -1,6 +1,6 @@
 //! A kernel for tests: it keeps what requests make as they make it, dumps it, and notifies listeners of it.
 
-use super::super::messages::type_of;
+use super::super::messages::{NLM_F_REPLACE, type_of};
 use crate::netlink::attributes::put;
 use crate::netlink::message::*;
 use crate::netlink::{Kernel, Listener, Transport};
@@ -11,33 +11,34 @@ use std::rc::Rc;
 use std::time::Duration;
 
 /// Port ids: of requests, of another program.
-pub(super) const OURS: u32 = 100;
-pub(super) const OTHER: u32 = 4242;
+pub(crate) const OURS: u32 = 100;
+pub(crate) const OTHER: u32 = 4242;
 
-pub(super) const ENOENT: i32 = 2;
-pub(super) const EEXIST: i32 = 17;
-pub(super) const EBUSY: i32 = 16;
+pub(crate) const ENOENT: i32 = 2;
+pub(crate) const EEXIST: i32 = 17;
+pub(crate) const EBUSY: i32 = 16;
 
 const NLM_F_EXCL: u16 = 0x200;
+const NLM_F_CREATE: u16 = 0x400;
 const TC_H_ROOT: u32 = 0xFFFF_FFFF;
 
 /// What a test does before the kernel answers a request that changes something: the number of the request, from 1, and the request. The
 /// kernel answers with an error instead, if there is one; 0 keeps silent.
-pub(super) type Hook = Box<dyn FnMut(&mut State, usize, &[u8]) -> Option<i32>>;
+pub(crate) type Hook = Box<dyn FnMut(&mut State, usize, &[u8]) -> Option<i32>>;
 
-pub(super) type LinksHook = Box<dyn FnMut(&mut State, usize)>;
+pub(crate) type LinksHook = Box<dyn FnMut(&mut State, usize)>;
 
 #[derive(Default)]
-pub(super) struct State {
+pub(crate) struct State {
     /// Index, name and MAC.
-    pub(super) devices: Vec<(u32, String, [u8; 6])>,
+    pub(crate) devices: Vec<(u32, String, [u8; 6])>,
     /// What there is, each as the message that dumps it.
-    pub(super) objects: Vec<Vec<u8>>,
+    pub(crate) objects: Vec<Vec<u8>>,
     /// The requests that changed something, or were refused.
-    pub(super) sent: Vec<Vec<u8>>,
-    pub(super) signal: Option<&'static str>,
+    pub(crate) sent: Vec<Vec<u8>>,
+    pub(crate) signal: Option<&'static str>,
     /// What is called when interfaces are asked for, with the number of the call.
-    pub(super) on_links: Option<LinksHook>,
+    pub(crate) on_links: Option<LinksHook>,
     links_asked: usize,
     answers: VecDeque<Vec<u8>>,
     heard: [VecDeque<Vec<u8>>; 2],
@@ -45,19 +46,19 @@ pub(super) struct State {
 
 /// A kernel, to which its ends share the way.
 #[derive(Clone)]
-pub(super) struct Fake {
-    pub(super) state: Rc<RefCell<State>>,
+pub(crate) struct Fake {
+    pub(crate) state: Rc<RefCell<State>>,
     hook: Rc<RefCell<Hook>>,
 }
 
 /// An end of the way to it: 0 for requests, others for what is heard.
-pub(super) struct End {
+pub(crate) struct End {
     fake: Fake,
     role: usize,
 }
 
 /// A message about a qdisc, a class, a filter or a chain, as it is dumped.
-pub(super) fn object(kind: u16, header: Tcmsg, name: &str, options: &[(u16, u32)]) -> Vec<u8> {
+pub(crate) fn object(kind: u16, header: Tcmsg, name: &str, options: &[(u16, u32)]) -> Vec<u8> {
     let mut body = tc_request(0, 0, header)[HEADER..].to_vec();
     put(&mut body, 1, &[name.as_bytes(), &[0]].concat());
     let mut list = Vec::new();
@@ -71,7 +72,7 @@ pub(super) fn object(kind: u16, header: Tcmsg, name: &str, options: &[(u16, u32)
 }
 
 impl Fake {
-    pub(super) fn new(hook: Hook) -> Fake {
+    pub(crate) fn new(hook: Hook) -> Fake {
         let state = State {
             devices: vec![(7, "wan".to_string(), [2, 0, 0, 0, 0, 7]), (8, "ids".to_string(), [2, 0, 0, 0, 0, 8])],
             ..State::default()
@@ -79,11 +80,11 @@ impl Fake {
         Fake { state: Rc::new(RefCell::new(state)), hook: Rc::new(RefCell::new(hook)) }
     }
 
-    pub(super) fn kernel(&self) -> Kernel<End> {
+    pub(crate) fn kernel(&self) -> Kernel<End> {
         Kernel::over(End { fake: self.clone(), role: 0 })
     }
 
-    pub(super) fn listener(&self, number: usize) -> Listener<End> {
+    pub(crate) fn listener(&self, number: usize) -> Listener<End> {
         Listener::over(End { fake: self.clone(), role: number })
     }
 
@@ -126,7 +127,7 @@ impl Fake {
 
 impl State {
     /// Notifies listeners of a change by this port.
-    pub(super) fn tell(&mut self, message: &[u8], port: u32) {
+    pub(crate) fn tell(&mut self, message: &[u8], port: u32) {
         let mut notice = message.to_vec();
         notice[12..16].copy_from_slice(&port.to_ne_bytes());
         self.heard.iter_mut().for_each(|heard| heard.push_back(notice.clone()));
@@ -177,9 +178,15 @@ impl State {
             if at.is_some() && header.flags & NLM_F_EXCL != 0 {
                 return EEXIST;
             }
+            if at.is_none() && header.flags & NLM_F_CREATE == 0 {
+                return ENOENT;
+            }
             let mut made = message.to_vec();
             made[6..8].copy_from_slice(&2u16.to_ne_bytes());
-            self.objects.push(made);
+            match at.filter(|_| header.flags & NLM_F_REPLACE != 0) {
+                Some(at) => self.objects[at] = made,
+                None => self.objects.push(made),
+            }
         } else if header.kind == RTM_DELQDISC {
             let before = self.objects.len();
             let is_root = tcmsg.parent == TC_H_ROOT;
@@ -187,6 +194,14 @@ impl State {
             if self.objects.len() == before {
                 return ENOENT;
             }
+        } else if header.kind == RTM_NEWCHAIN + 1 || header.kind == RTM_NEWTFILTER + 1 && tcmsg.handle == 0 {
+            // All filters of a chain, which have one here, or of a priority.
+            let goes = |it: &Vec<u8>| {
+                let own = tcmsg_of(it).unwrap_or_default();
+                let is_of_priority = header.kind == RTM_NEWCHAIN + 1 || own.info == tcmsg.info;
+                type_of(it) == RTM_NEWTFILTER && (own.index, own.parent) == (tcmsg.index, tcmsg.parent) && is_of_priority
+            };
+            self.objects.retain(|it| !goes(it));
         } else {
             let Some(at) = at else { return ENOENT };
             self.objects.remove(at);

@@ -1,0 +1,61 @@
+//! What a kernel changes in place, by the kinds of objects.
+
+ghost use Rattle.std.specs.Prelude.{◌≡◌};
+ghost use Rattle.tc_objects.specs.Config.{takes, can_make, shares, is_action};
+
+use crate::config::{CHANGED, MADE, read};
+use std::alloc::Allocator;
+use tc_changes::{Key, Object, Rules};
+
+/// What a kernel changes in place and what it makes, by the kinds of objects.
+#[derive(Clone, Copy, Drop, Debug)]
+pub struct KindRules;
+
+impl<A: Allocator> Rules<A> for KindRules {
+    ghost takes = { λ self old new. takes old new };
+
+    ghost can_make = { λ self object. can_make object };
+
+    fn takes(&self, old: &Object<A>, new: &Object<A>) -> bool {
+        let (was, is) = (read(&old.config), read(&new.config));
+        was.making == CHANGED
+            && (is.making == CHANGED
+                && (was.fixed == is.fixed
+                    && (are_among(was.kept, is.kept)
+                        && (old.under.as_slice() == new.under.as_slice()
+                            && (shares(&old.refers, &new.refers)
+                                && shares(&new.refers, &old.refers))))))
+    }
+
+    fn can_make(&self, object: &Object<A>) -> bool {
+        let making = read(&object.config).making;
+        making == MADE || making == CHANGED
+    }
+}
+
+// True if each of these bytes is among those.
+fn are_among(bytes: &[u8], among: &[u8]) -> bool
+    ensures { result ≡ list_all (λ t. list_any (nat_eq t) among.now) bytes.now }
+{
+    bytes.iter().all(|byte| among.contains(byte))
+}
+
+// True if each action among these keys is among those.
+fn shares(keys: &[Key], among: &[Key]) -> bool
+    ensures { result ≡ shares keys.now among.now }
+{
+    keys.iter()
+        .all(|key| !is_action(key) || is_among(among, *key))
+}
+
+fn is_among(keys: &[Key], key: Key) -> bool
+    ensures { result ≡ list_any (same_key key) keys.now }
+{
+    keys.iter().any(|known| key == *known)
+}
+
+fn is_action(key: &Key) -> bool
+    ensures { result ≡ is_action key.now }
+{
+    matches!(key, Key::Action { .. })
+}

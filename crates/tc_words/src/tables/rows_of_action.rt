@@ -1,0 +1,64 @@
+//! The rows of `kinds/action`. Written by `kinds/words`.
+
+ghost use Rattle.std.specs.Prelude.{map, ◌≡◌};
+ghost use Rattle.tc_words.specs.Arrays.{rows_of_action};
+ghost use Rattle.tc_brief.specs.Rows.{rows_view};
+
+use tc_brief::{LeftOut, Row, Style};
+
+#[rattlefmt::skip]
+static ROWS_OF_ACTION: [&'static [Row<'static>]; 9] = [
+    &[ // 0, `list action`
+        Row { key: "Index", word: "index", style: Style::Value, with: "", left: LeftOut::Never },
+        Row { key: "Stats", word: "", style: Style::Statistics, with: "", left: LeftOut::Never },
+        Row { key: "Pad", word: "", style: Style::Value, with: "", left: LeftOut::Always },
+        Row { key: "Cookie", word: "cookie", style: Style::Control, with: "", left: LeftOut::Never },
+        Row { key: "Flags", word: "", style: Style::Flat, with: "", left: LeftOut::Never },
+        Row { key: "HwStats", word: "hw_stats", style: Style::Value, with: "", left: LeftOut::Never },
+        Row { key: "UsedHwStats", word: "", style: Style::Statistics, with: "", left: LeftOut::Never },
+        Row { key: "InHwCount", word: "", style: Style::Statistics, with: "", left: LeftOut::Never },
+        Row { key: "Options", word: "", style: Style::Flat, with: "", left: LeftOut::Never },
+    ],
+    &[ // 1, `list action`: the rows of all kinds
+        Row { key: "Index", word: "index", style: Style::Value, with: "", left: LeftOut::Never },
+        Row { key: "Stats", word: "", style: Style::Statistics, with: "", left: LeftOut::Never },
+        Row { key: "Pad", word: "", style: Style::Value, with: "", left: LeftOut::Always },
+        Row { key: "Cookie", word: "cookie", style: Style::Control, with: "", left: LeftOut::Never },
+        Row { key: "Flags", word: "", style: Style::Flat, with: "", left: LeftOut::Never },
+        Row { key: "HwStats", word: "hw_stats", style: Style::Value, with: "", left: LeftOut::Never },
+        Row { key: "UsedHwStats", word: "", style: Style::Statistics, with: "", left: LeftOut::Never },
+        Row { key: "InHwCount", word: "", style: Style::Statistics, with: "", left: LeftOut::Never },
+    ],
+    &[ // 2, `list action`: the rows of other kinds
+        Row { key: "Options", word: "", style: Style::Flat, with: "", left: LeftOut::Never },
+    ],
+    &[ // 3, `struct tca_act_flags`
+        Row { key: "value", word: "", style: Style::Bits, with: "", left: LeftOut::Equal(0) },
+    ],
+    &[ // 4, `struct tca_act_hw_stats`
+        Row { key: "value", word: "used_hw_stats", style: Style::Value, with: "", left: LeftOut::Never },
+        Row { key: "selector", word: "", style: Style::Value, with: "", left: LeftOut::Equal(3) },
+    ],
+    &[],
+    &[ // 6, `struct tc_gen`
+        Row { key: "index", word: "index", style: Style::Control, with: "", left: LeftOut::Never },
+        Row { key: "capab", word: "", style: Style::Value, with: "", left: LeftOut::Equal(0) },
+        Row { key: "action", word: "", style: Style::Control, with: "", left: LeftOut::Never },
+        Row { key: "refcnt", word: "ref", style: Style::Statistics, with: "", left: LeftOut::Never },
+        Row { key: "bindcnt", word: "bind", style: Style::Statistics, with: "", left: LeftOut::Never },
+    ],
+    &[],
+    &[ // 8, `struct tcf_t`
+        Row { key: "install", word: "installed", style: Style::Value, with: "", left: LeftOut::Equal(0) },
+        Row { key: "lastuse", word: "used", style: Style::Value, with: "", left: LeftOut::Equal(0) },
+        Row { key: "expires", word: "expires", style: Style::Value, with: "", left: LeftOut::Equal(0) },
+        Row { key: "firstuse", word: "firstused", style: Style::Value, with: "", left: LeftOut::Equal(0) },
+    ],
+];
+
+#[tactic(auto, unfolding(crate::specs::Arrays::rows_of_action))]
+pub(crate) fn rows_of_action() -> &'static [&'static [Row<'static>]]
+    ensures { map (λ x. rows_view x.now) result.now ≡ rows_of_action }
+{
+    &ROWS_OF_ACTION
+}

@@ -1,0 +1,38 @@
+//! The rows of messages and their headers. Written by `kinds/words`.
+
+ghost use Rattle.std.specs.Prelude.{map, ◌≡◌};
+ghost use Rattle.tc_words.specs.Arrays.{rows_of_roots_250};
+ghost use Rattle.tc_brief.specs.Rows.{rows_view};
+
+use tc_brief::{LeftOut, Row, Style};
+
+#[rattlefmt::skip]
+static ROWS_OF_ROOTS_250: [&'static [Row<'static>]; 23] = [
+    &[], &[], &[], &[], &[], &[], &[], &[], &[], &[], &[], &[], &[], &[], &[], &[], &[], &[], &[], &[],
+    &[ // 6020, of the answer to a flush
+        Row { key: "Actions", word: "", style: Style::Actions, with: "", left: LeftOut::Never },
+        Row { key: "RootCount", word: "acts", style: Style::Value, with: "", left: LeftOut::Never },
+        Row { key: "RootTimeDelta", word: "since", style: Style::Value, with: "", left: LeftOut::Never },
+    ],
+    &[ // 6021, of the answer to a flush
+        Row { key: "tab", word: "", style: Style::Value, with: "", left: LeftOut::Always },
+    ],
+    &[ // 6022, of the answer to a flush
+        Row { key: "Index", word: "index", style: Style::Value, with: "", left: LeftOut::Never },
+        Row { key: "Stats", word: "", style: Style::Statistics, with: "", left: LeftOut::Never },
+        Row { key: "Pad", word: "", style: Style::Value, with: "", left: LeftOut::Always },
+        Row { key: "Cookie", word: "count", style: Style::Value, with: "", left: LeftOut::Never },
+        Row { key: "Flags", word: "", style: Style::Flat, with: "", left: LeftOut::Never },
+        Row { key: "HwStats", word: "hw_stats", style: Style::Value, with: "", left: LeftOut::Never },
+        Row { key: "UsedHwStats", word: "", style: Style::Statistics, with: "", left: LeftOut::Never },
+        Row { key: "InHwCount", word: "", style: Style::Statistics, with: "", left: LeftOut::Never },
+        Row { key: "Options", word: "", style: Style::Flat, with: "", left: LeftOut::Never },
+    ],
+];
+
+#[tactic(auto, unfolding(crate::specs::Arrays::rows_of_roots_250))]
+pub(crate) fn rows_of_roots_250() -> &'static [&'static [Row<'static>]]
+    ensures { map (λ x. rows_view x.now) result.now ≡ rows_of_roots_250 }
+{
+    &ROWS_OF_ROOTS_250
+}

@@ -1,0 +1,59 @@
+//! The rows of `kinds/statistics`. Written by `kinds/words`.
+
+ghost use Rattle.std.specs.Prelude.{map, ◌≡◌};
+ghost use Rattle.tc_words.specs.Arrays.{rows_of_statistics};
+ghost use Rattle.tc_brief.specs.Rows.{rows_view};
+
+use tc_brief::{LeftOut, Row, Style};
+
+#[rattlefmt::skip]
+static ROWS_OF_STATISTICS: [&'static [Row<'static>]; 8] = [
+    &[ // 1656, `struct tc_stats`
+        Row { key: "bytes", word: "sent", style: Style::Count, with: "", left: LeftOut::Never },
+        Row { key: "packets", word: "", style: Style::Count, with: "", left: LeftOut::Never },
+        Row { key: "drops", word: "dropped", style: Style::Count, with: "", left: LeftOut::Never },
+        Row { key: "overlimits", word: "overlimits", style: Style::Count, with: "", left: LeftOut::Never },
+        Row { key: "bps", word: "rate", style: Style::Value, with: "", left: LeftOut::Equal(0) },
+        Row { key: "pps", word: "", style: Style::Alone, with: "", left: LeftOut::Equal(0) },
+        Row { key: "qlen", word: "", style: Style::Count, with: "", left: LeftOut::Never },
+        Row { key: "backlog", word: "backlog", style: Style::Count, with: "", left: LeftOut::Never },
+    ],
+    &[ // 1657, `list stats`
+        Row { key: "Pad", word: "", style: Style::Value, with: "", left: LeftOut::Always },
+        Row { key: "Pkt64", word: "", style: Style::Value, with: "", left: LeftOut::Equal(0) },
+        Row { key: "App", word: "", style: Style::Statistics, with: "", left: LeftOut::Never },
+    ],
+    &[ // 1658, `list stats`: the rows of all kinds
+        Row { key: "Pad", word: "", style: Style::Value, with: "", left: LeftOut::Always },
+        Row { key: "Pkt64", word: "", style: Style::Value, with: "", left: LeftOut::Equal(0) },
+    ],
+    &[ // 1659, `list stats`: the rows of other kinds
+        Row { key: "App", word: "", style: Style::Statistics, with: "", left: LeftOut::Never },
+    ],
+    &[ // 1660, `struct gnet_stats_basic`
+        Row { key: "bytes", word: "sent", style: Style::Count, with: "", left: LeftOut::Never },
+        Row { key: "packets", word: "", style: Style::Count, with: "", left: LeftOut::Never },
+    ],
+    &[ // 1661, `struct gnet_stats_queue`
+        Row { key: "qlen", word: "", style: Style::Count, with: "", left: LeftOut::Never },
+        Row { key: "backlog", word: "backlog", style: Style::Count, with: "", left: LeftOut::Never },
+        Row { key: "drops", word: "dropped", style: Style::Count, with: "", left: LeftOut::Never },
+        Row { key: "requeues", word: "requeues", style: Style::Value, with: "", left: LeftOut::Equal(0) },
+        Row { key: "overlimits", word: "overlimits", style: Style::Count, with: "", left: LeftOut::Never },
+    ],
+    &[ // 1662, `struct gnet_stats_rate_est`
+        Row { key: "bps", word: "rate", style: Style::Value, with: "", left: LeftOut::Equal(0) },
+        Row { key: "pps", word: "", style: Style::Alone, with: "", left: LeftOut::Equal(0) },
+    ],
+    &[ // 1663, `struct gnet_stats_rate_est64`
+        Row { key: "bps", word: "rate", style: Style::Value, with: "", left: LeftOut::Equal(0) },
+        Row { key: "pps", word: "", style: Style::Alone, with: "", left: LeftOut::Equal(0) },
+    ],
+];
+
+#[tactic(auto, unfolding(crate::specs::Arrays::rows_of_statistics))]
+pub(crate) fn rows_of_statistics() -> &'static [&'static [Row<'static>]]
+    ensures { map (λ x. rows_view x.now) result.now ≡ rows_of_statistics }
+{
+    &ROWS_OF_STATISTICS
+}

@@ -1,0 +1,230 @@
+//! The requests that lead from what there is now to what is wanted.
+
+use crate::complaint::Complaint;
+use crate::lines::{Lines, RemarkKind, Source};
+use crate::order::{LineRequest, Restored};
+use crate::restore::{Dump, dump_of};
+use nla_frames::ParseableBytes;
+use program_io::Stop;
+use std::alloc::{AllocError, Global};
+use std::collections::HashMap;
+use std::hash::{BuildHasherDefault, FoldHasher};
+use tc_action_messages::TcActionMessage;
+use tc_capture::{MessageType, Time};
+use tc_changes::{Key, Plan};
+use tc_messages::TcMessage;
+use tc_objects::{
+    DELETE_FLAGS, Dump as Shown, KindRules, PlanRequest, Planned, State, StateError, plan_between, state_after,
+    state_of,
+};
+use tc_restore::RTM_NEWACTION;
+use tcmake_lines::{NetlinkHeader, packet_at};
+use tcmake_messages::Made;
+
+// The number of the line of each object.
+type Numbers = HashMap<Key, u64, BuildHasherDefault<FoldHasher>, Global>;
+
+// The dumps of lines, and the numbers of these lines.
+#[derive(Drop)]
+struct Parsed {
+    dumps: Vec<Shown<Global>>,
+    numbers: Vec<u64>,
+}
+
+/// The requests that lead from the dumps of what there is now to those of what is wanted, each dump with its netlink header; the numbers of
+/// lines are from 1. There are none if something is wrong with a dump, or if something can't be made.
+pub fn plan_of_dumps(
+    alloc: Global,
+    now: Vec<(NetlinkHeader, Vec<u8>)>,
+    want: Vec<(NetlinkHeader, Vec<u8>)>,
+) -> Result<Restored, Stop> {
+    let now = lines_of(alloc, now)?;
+    let want = lines_of(alloc, want)?;
+    plan_by(alloc, now, want)
+}
+
+// Dumps as lines.
+fn lines_of(alloc: Global, dumps: Vec<(NetlinkHeader, Vec<u8>)>) -> Result<Lines, AllocError> {
+    let mut lines = Lines::new(alloc);
+    let mut number = 0;
+    for (given, bytes) in dumps {
+        number = u64::wrapping_add(number, 1);
+        let settled = Vec::new(alloc);
+        lines.keep(
+            number,
+            Made {
+                given,
+                bytes,
+                settled,
+            },
+        )?;
+    }
+    Ok(lines)
+}
+
+/// The requests that lead from the lines of now to those that are wanted.
+pub(crate) fn plan_by(alloc: Global, now: Lines, want: Lines) -> Result<Restored, Stop> {
+    let mut remarks = Lines::new(alloc);
+    let now = state_in(alloc, Source::Now, None, now, &mut remarks)?;
+    let there = match &now {
+        Some((now, _)) => Some(now),
+        None => None,
+    };
+    let want = state_in(alloc, Source::Wanted, there, want, &mut remarks)?;
+    let requests = match (&now, want) {
+        (Some((now, was)), Some((want, is))) => {
+            let plan = plan_between(alloc, &KindRules, now, want)?;
+            line_requests(alloc, plan, was, &is, &mut remarks)?
+        }
+        _ => Vec::new(alloc),
+    };
+    let Lines {
+        remarks, is_void, ..
+    } = remarks;
+    Ok(Restored {
+        requests,
+        remarks,
+        is_void,
+    })
+}
+
+// The state that lines show, and the numbers of their lines; what is wrong with them is kept.
+fn state_in(
+    alloc: Global,
+    source: Source,
+    there: Option<&State<Global>>,
+    lines: Lines,
+    remarks: &mut Lines,
+) -> Result<Option<(State<Global>, Numbers)>, AllocError> {
+    let Lines {
+        dumps,
+        remarks: said,
+        is_void,
+    } = lines;
+    remarks.is_void = remarks.is_void || is_void;
+    for remark in said {
+        remarks.is_void = remarks.is_void || remark.kind == RemarkKind::Complaint;
+        remarks.remarks.push(remark)?;
+    }
+    let mut parsed = Parsed {
+        dumps: Vec::new(alloc),
+        numbers: Vec::new(alloc),
+    };
+    for dump in &dumps {
+        match parsed_dump(alloc, &dump.made) {
+            Ok(shown) => {
+                parsed.dumps.push(shown)?;
+                parsed.numbers.push(dump.number)?;
+            }
+            Err(complaint) => fail_all(alloc, source, dump.number, &complaint, remarks)?,
+        }
+    }
+    let Parsed { dumps, numbers } = parsed;
+    let state = match there {
+        Some(now) => state_after(alloc, dumps, now),
+        None => state_of(alloc, dumps),
+    };
+    match state {
+        Ok(state) => {
+            let numbers = numbers_of(alloc, &state, &numbers)?;
+            Ok(Some((state, numbers)))
+        }
+        Err(StateError::OutOfMemory) => Err(AllocError),
+        Err(error) => {
+            let number = number_at(&numbers, error.place());
+            fail_all(alloc, source, number, &Complaint::State(error), remarks)?;
+            Ok(None)
+        }
+    }
+}
+
+fn parsed_dump(alloc: Global, made: &Made) -> Result<Shown<Global>, Complaint> {
+    match dump_of(made.given.kind)? {
+        Dump::Of(object) => Ok(Shown::Of(object, TcMessage::parse(alloc, &made.bytes)?)),
+        Dump::Actions => Ok(Shown::Actions(TcActionMessage::parse(alloc, &made.bytes)?)),
+    }
+}
+
+// Keeps what is wrong with a line; then there are no requests.
+fn fail_all(
+    alloc: Global,
+    source: Source,
+    number: u64,
+    complaint: &Complaint,
+    remarks: &mut Lines,
+) -> Result<(), AllocError> {
+    remarks.is_void = true;
+    remarks.fail_with(alloc, source, number, complaint)
+}
+
+fn number_at(numbers: &[u64], place: Option<usize>) -> u64 {
+    match place {
+        Some(place) => numbers.get(place).copied().unwrap_or(0),
+        None => 0,
+    }
+}
+
+fn numbers_of(
+    alloc: Global,
+    state: &State<Global>,
+    numbers: &[u64],
+) -> Result<Numbers, AllocError> {
+    let mut found = HashMap::new(alloc);
+    for (object, origin) in state.objects.iter().zip(state.origins.iter()) {
+        found.insert(object.key, number_at(numbers, Some(origin.place)))?;
+    }
+    Ok(found)
+}
+
+// The requests of a plan, with the numbers of lines; or what can't be made.
+fn line_requests(
+    alloc: Global,
+    planned: Planned<Global>,
+    was: &Numbers,
+    is: &Numbers,
+    remarks: &mut Lines,
+) -> Result<Vec<LineRequest>, AllocError> {
+    let Planned { plan, requests } = planned;
+    let mut made = Vec::new(alloc);
+    match plan {
+        Plan::Steps(_) => {
+            for request in requests {
+                made.push(line_request(was, is, request))?;
+            }
+        }
+        Plan::Refused(keys) => {
+            for key in keys {
+                let number = is.get(&key).copied().unwrap_or(0);
+                fail_all(alloc, Source::Wanted, number, &Complaint::Unmade, remarks)?;
+            }
+        }
+    }
+    Ok(made)
+}
+
+// `RTM_DELACTION` of `linux/rtnetlink.h`.
+const RTM_DELACTION: u16 = 49;
+
+// A request, with the number of the line of now that it deletes, or of the line that is wanted.
+fn line_request(was: &Numbers, is: &Numbers, request: PlanRequest<Global>) -> LineRequest {
+    let numbers = if request.flags == DELETE_FLAGS { was } else { is };
+    let holds = match request.message_type {
+        RTM_NEWACTION | RTM_DELACTION => MessageType::Action,
+        _ => MessageType::Tc,
+    };
+    LineRequest {
+        number: numbers.get(&request.key).copied().unwrap_or(0),
+        given: NetlinkHeader {
+            holds,
+            kind: Some(request.message_type),
+            flags: request.flags,
+            sequence: 0,
+            port: 0,
+            packet: packet_at(Time {
+                seconds: 0,
+                nanoseconds: 0,
+            }),
+        },
+        bytes: request.message,
+    }
+}

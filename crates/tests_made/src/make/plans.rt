@@ -1,0 +1,146 @@
+//! Plans, by the argument `--plan`. What is wanted of a request is what `tc` sends: `tc qdisc change dev lo root handle 1: cake bandwidth 20mbit`,
+//! `tc class delete dev lo classid 1:10`, `tc qdisc delete dev lo root handle 1:`, `tc qdisc add dev lo root handle 1: htb default 30`,
+//! `tc chain delete dev lo ingress chain 7` and `tc actions delete action gact index 5`, each with the sequence number 0.
+
+use crate::make::runs::{FORMS, Outcome};
+use program_io::{Reader, Writer};
+use std::alloc::Global;
+use std::io::BufReader;
+use std::test::Fail;
+use tcmake_lib::arguments::{Request, arguments_of};
+use tcmake_lib::order::Asked;
+use tcmake_lib::program::serve_asked;
+
+const CAKE_10: &str = r#"{"type":"RTM_NEWQDISC","flags":0,"message":{"header":{"family":"Unspec","index":1,"handle":"1:","parent":"root","info":2},"attributes":[{"Kind":"cake"},{"Options":[{"Cake":{"BaseRate64":1250000}},{"Cake":{"Autorate":0}}]}]}}
+"#;
+
+const CAKE_20: &str = r#"{"type":"RTM_NEWQDISC","flags":0,"message":{"header":{"family":"Unspec","index":1,"handle":"1:","parent":"root","info":2},"attributes":[{"Kind":"cake"},{"Options":[{"Cake":{"BaseRate64":2500000}},{"Cake":{"Autorate":0}}]}]}}
+"#;
+
+const HTB: &str = r#"{"type":"RTM_NEWQDISC","flags":0,"message":{"header":{"family":"Unspec","index":1,"handle":"1:","parent":"root","info":2},"attributes":[{"Kind":"htb"},{"Options":[{"Htb":{"Init":{"version":196625,"rate2quantum":10,"defcls":48,"debug":0,"direct_pkts":7}}}]}]}}
+"#;
+
+const CLASS: &str = r#"{"type":"RTM_NEWTCLASS","flags":0,"message":{"header":{"family":"Unspec","index":1,"handle":"1:10","parent":"1:","info":0},"attributes":[{"Kind":"htb"},{"Options":[{"Htb":{"DirectQlen":1000}}]}]}}
+"#;
+
+const CLSACT: &str = r#"{"type":"RTM_NEWQDISC","flags":0,"message":{"header":{"family":"Unspec","index":1,"handle":"ffff:","parent":"ffff:fff1","info":1},"attributes":[{"Kind":"clsact"},{"Options":[]}]}}
+"#;
+
+const CHAIN: &str = r#"{"type":"RTM_NEWCHAIN","flags":0,"message":{"header":{"family":"Unspec","index":1,"handle":"0:0","parent":"ffff:fff2","info":0},"attributes":[{"Chain":7}]}}
+"#;
+
+const ACTION: &str = r#"{"type":"RTM_NEWACTION","flags":0,"message":{"header":{"family":"Unspec"},"attributes":[{"Actions":[{"tab":1,"attributes":[{"Kind":"gact"},{"Options":[{"Gact":{"Parms":{"generic":{"index":5,"capab":0,"action":"Shot","refcnt":1,"bindcnt":0}}}}]}]}]}]}}
+"#;
+
+const RED: &str = r#"{"type":"RTM_NEWQDISC","flags":0,"message":{"header":{"family":"Unspec","index":1,"handle":"1:","parent":"root","info":2},"attributes":[{"Kind":"red"},{"Options":[{"Red":{"MaxP":5}}]}]}}
+"#;
+
+const CHANGE_CAKE: &str = "\
+480000002400050100000000000000000000000001000000000001\
+00ffffffff000000000900010063616b6500000000180002000c000200a0252600000000000800090000000000
+";
+
+const DELETE_CLASS: &str =
+    "240000002900050000000000000000000000000001000000100001000000000000000000\n";
+
+const DELETE_QDISC: &str =
+    "24000000250005000000000000000000000000000100000000000100ffffffff00000000\n";
+
+const DELETE_CHAIN: &str =
+    "2c000000650005000000000000000000000000000100000000000000f2ffffff0000000008000b0007000000\n";
+
+const DELETE_ACTION: &str =
+    "30000000310005000000000000000000000000001c000100180001000900010067616374000000000800030005000000\n";
+
+const ADD_HTB: &str = "\
+48000000240005060000000000000000000000000100000000000100ffffffff0000000008000100687462001c00020018000200030000000a00000030000000\
+0000000000000000
+";
+
+// What becomes of these lines if those are there now.
+fn planned(alloc: Global, now: &str, want: &str) -> Result<Outcome, Fail> {
+    let words = ["tcmake", "--plan", "now.json"];
+    let arguments = arguments_of(alloc, &words)?;
+    let request: Request = arguments.request;
+    let asked = Asked {
+        index: None,
+        now: Some(now.as_bytes()),
+        plans: arguments.plans,
+        replaces_actions: false,
+        names: None,
+    };
+    let mut reader = BufReader::new(alloc, Reader::new(want.as_bytes()))?;
+    let mut writer = Writer::new(Vec::new(alloc));
+    let mut errors = Vec::new(alloc);
+    let ended = serve_asked(
+        alloc,
+        FORMS,
+        &request,
+        &asked,
+        &mut reader,
+        &mut writer,
+        &mut errors,
+    );
+    Ok(Outcome {
+        status: ended.status(),
+        written: writer.into_inner(),
+        errors,
+    })
+}
+
+// True if these lines are written of what is there and what is wanted, and nothing is said.
+fn leads(alloc: Global, now: &str, want: &str, written: &str) -> Result<bool, Fail> {
+    let run = planned(alloc, now, want)?;
+    Ok(
+        run.status == 0
+            && run.written.as_slice() == written.as_bytes()
+            && run.errors.is_empty(),
+    )
+}
+
+#[test]
+fn a_rate_is_one_request(rt: HostRuntime) -> Result<(), Fail> {
+    assert!(rt; leads(rt.alloc(), CAKE_10, CAKE_20, CHANGE_CAKE)?);
+    Ok(())
+}
+
+#[test]
+fn nothing_differs(rt: HostRuntime) -> Result<(), Fail> {
+    assert!(rt; leads(rt.alloc(), CAKE_20, CAKE_20, "")?);
+    assert!(rt; leads(rt.alloc(), "", "", "")?);
+    Ok(())
+}
+
+#[test]
+fn deletes_and_makes(rt: HostRuntime) -> Result<(), Fail> {
+    let alloc = rt.alloc();
+    assert!(rt; leads(alloc, HTB, "", DELETE_QDISC)?);
+    assert!(rt; leads(alloc, "", HTB, ADD_HTB)?);
+    assert!(rt; leads(alloc, ACTION, "", DELETE_ACTION)?);
+    let with_class = format!(in alloc; "{HTB}{CLASS}")?;
+    assert!(rt; leads(alloc, with_class.as_str(), HTB, DELETE_CLASS)?);
+    // the class goes with its qdisc
+    assert!(rt; leads(alloc, with_class.as_str(), "", DELETE_QDISC)?);
+    let with_chain = format!(in alloc; "{CHAIN}{CLSACT}")?;
+    assert!(rt; leads(alloc, with_chain.as_str(), CLSACT, DELETE_CHAIN)?);
+    let again = format!(in alloc; "{DELETE_QDISC}{ADD_HTB}")?;
+    assert!(rt; leads(alloc, CAKE_10, HTB, again.as_str())?);
+    Ok(())
+}
+
+#[test]
+fn refusals(rt: HostRuntime) -> Result<(), Fail> {
+    let alloc = rt.alloc();
+    // its table isn't dumped; but if it is there, it stays
+    let run = planned(alloc, HTB, RED)?;
+    assert!(rt; run.status == 1 && run.written.is_empty() && !run.errors.is_empty());
+    assert!(rt; leads(alloc, RED, RED, "")?);
+    // a class without its qdisc, and a second dump
+    let run = planned(alloc, "", CLASS)?;
+    assert!(rt; run.status == 1 && run.written.is_empty());
+    let twice = format!(in alloc; "{HTB}{HTB}")?;
+    let run = planned(alloc, "", twice.as_str())?;
+    assert!(rt; run.status == 1 && run.written.is_empty());
+    assert!(rt; run.errors.as_slice() == b"tcmake: line 2: a second dump of this\n");
+    Ok(())
+}

@@ -1,0 +1,190 @@
+//! The arguments of tcapply.
+
+use crate::restore::arguments::{Arguments as Restored, STATE, pair_of};
+use ::clap::builder::NonEmptyStringValueParser;
+use ::clap::error::ErrorKind;
+use ::clap::{Arg, ArgAction, ArgMatches, Command, Error, value_parser};
+use std::ffi::OsString;
+use std::time::Duration;
+
+const ABOUT: &str = "\
+Brings interfaces from the traffic control configuration that they have to the one that FILE says,
+and leaves alone what is the same in both";
+
+const NOTES: &str = "\
+Examples:
+  tcapply -n wan.json                  the plan: - deletes, + makes, ~ changes
+  tcapply wan.json                     what tcsave saved, or what was edited in it
+  tcapply --try 30 wan.json            back again unless Enter is pressed within 30 seconds
+  tcapply --dev wan -- ./shaper.sh     what a script of tc commands makes where nothing is
+
+What is the same isn't touched: its counters go on. If a request is refused, or a signal comes, what
+was there before is made again, by a plan from what is there then. If another program changes the
+interface meanwhile, tcapply stops. At the end it compares what there is with FILE. It takes
+CAP_NET_ADMIN.
+
+It is no transaction: packets pass between its requests. eBPF programs can't be made again, and what
+is attached by tcx isn't seen.
+
+Exit status:
+  0  what is there is what FILE says; if it was before, nothing was sent
+  1  nothing was sent: FILE is cut, an interface is missing, something can't be made, the COMMAND or
+     --check failed, another program is changing the interface, or a signal came
+  2  usage error
+  3  a socket or a file failed, and nothing was sent
+  4  --dry-run: what is there isn't what FILE says
+  5  the kernel refused a request, a signal came, Enter wasn't pressed, or the result differs from
+     FILE; what was there before is there again, which was compared
+  6  the same, or another program changed the interface meanwhile; what was there before isn't there
+     again, and the message names the file that has it";
+
+/// What the arguments say.
+#[derive(Debug)]
+pub(crate) struct Arguments {
+    /// Those that are tcrestore's too.
+    pub(crate) restored: Restored,
+    /// What makes the configuration that is wanted; none if a file has it.
+    pub(crate) command: Option<Vec<OsString>>,
+    pub(crate) dry_run: bool,
+    pub(crate) check: bool,
+    /// How long Enter is waited for.
+    pub(crate) trial: Option<Duration>,
+}
+
+/// What these words say, the program's name first. The error is a mistake in them, or the help or the version that they ask for.
+pub(crate) fn arguments_of(words: impl IntoIterator<Item = OsString>) -> Result<Arguments, Error> {
+    let mut matches = command().try_get_matches_from(words)?;
+    let arguments = Arguments {
+        restored: restored_in(&mut matches),
+        command: matches.remove_many("command").map(Iterator::collect),
+        dry_run: matches.get_flag("dry-run"),
+        check: matches.get_flag("check"),
+        trial: matches.get_one::<u64>("try").map(|seconds| Duration::from_secs(*seconds)),
+    };
+    if arguments.trial.is_some() && arguments.command.is_none() && arguments.restored.file.is_none() {
+        return Err(command().error(ErrorKind::ArgumentConflict, "--try waits at standard input, which FILE can't be"));
+    }
+    Ok(arguments)
+}
+
+fn restored_in(matches: &mut ArgMatches) -> Restored {
+    let file = matches.remove_one::<OsString>("file").filter(|path| path != "-");
+    let map = matches.remove_many::<(String, String)>("map").into_iter().flatten().collect();
+    Restored {
+        file: file.map(Into::into),
+        dev: matches.remove_one("dev"),
+        map,
+        clear: false,
+        partial: false,
+        replace_actions: false,
+        no_rollback: matches.get_flag("no-rollback"),
+        state: matches.remove_one::<OsString>("state").unwrap_or_else(|| STATE.into()).into(),
+    }
+}
+
+fn command() -> Command {
+    Command::new("tcapply")
+        .version(env!("CARGO_PKG_VERSION"))
+        .about(ABOUT)
+        .after_help(NOTES)
+        .override_usage("tcapply [OPTIONS] <FILE>\n       tcapply [OPTIONS] --dev <DEV> -- <COMMAND>...")
+        .arg(
+            Arg::new("file")
+                .value_name("FILE")
+                .required_unless_present("command")
+                .value_parser(value_parser!(OsString))
+                .help("Save of what is wanted; - for standard input"),
+        )
+        .arg(
+            Arg::new("command")
+                .value_name("COMMAND")
+                .last(true)
+                .num_args(1..)
+                .conflicts_with("file")
+                .requires("dev")
+                .value_parser(value_parser!(OsString))
+                .help("Program that makes what is wanted of DEV, in a network namespace of its own"),
+        )
+        .args(plans())
+        .args(interfaces())
+        .args(ways_back())
+}
+
+fn flag(name: &'static str, help: &'static str) -> Arg {
+    Arg::new(name).long(name).action(ArgAction::SetTrue).help(help)
+}
+
+fn plans() -> [Arg; 2] {
+    [
+        flag("dry-run", "Print the plan, and send nothing").short('n').conflicts_with_all(["check", "try"]),
+        flag("check", "Carry the plan out in a new network namespace, and send nothing here").conflicts_with("try"),
+    ]
+    .map(|arg| arg.help_heading("Plan"))
+}
+
+fn interfaces() -> [Arg; 2] {
+    let dev = Arg::new("dev").long("dev").value_name("DEV").value_parser(NonEmptyStringValueParser::new());
+    let map = Arg::new("map").long("map").value_name("NAME=NAME").action(ArgAction::Append).value_parser(pair_of);
+    [
+        dev.help("Apply the only interface of FILE to DEV; or the one that COMMAND sets up"),
+        map.help("Interface of FILE, and its name now; can be repeated"),
+    ]
+    .map(|arg| arg.help_heading("Interfaces"))
+}
+
+fn ways_back() -> [Arg; 3] {
+    let seconds = value_parser!(u64).range(1..=86_400);
+    let trial = Arg::new("try").long("try").value_name("SECONDS").value_parser(seconds);
+    let state = Arg::new("state").long("state").value_name("DIR").value_parser(value_parser!(OsString));
+    [
+        trial.help("Go back unless Enter is pressed within SECONDS, or if the terminal hangs up"),
+        flag("no-rollback", "Don't go back if something fails; delete even what can't be made again"),
+        state.help(format!("Folder for the last ten states before [default: {STATE}]")),
+    ]
+    .map(|arg| arg.help_heading("Way back"))
+}
+
+#[cfg(test)]
+mod tests {
+    use super::*;
+    use std::path::PathBuf;
+
+    fn of(words: &[&str]) -> Result<Arguments, ErrorKind> {
+        let words = ["tcapply"].iter().chain(words).map(OsString::from);
+        arguments_of(words).map_err(|error| error.kind())
+    }
+
+    #[test]
+    fn reads_words() {
+        let all = of(&["--dev", "eth1", "--map", "ids=ids0", "--try", "30", "--state", "/tmp/x", "f"]).expect("read");
+        assert_eq!(all.restored.dev.as_deref(), Some("eth1"));
+        assert_eq!(all.restored.map["ids"], "ids0");
+        assert_eq!(all.trial, Some(Duration::from_secs(30)));
+        assert_eq!((all.restored.file, all.command), (Some(PathBuf::from("f")), None));
+        assert_eq!(of(&["-"]).expect("read").restored.file, None);
+        assert_eq!(of(&["-n", "f"]).expect("read").restored.state, PathBuf::from(STATE));
+    }
+
+    #[test]
+    fn reads_a_command() {
+        let all = of(&["--dev", "wan", "-n", "--", "./shaper.sh", "--fast", "-n"]).expect("read");
+        assert_eq!(all.command, Some(["./shaper.sh", "--fast", "-n"].map(OsString::from).to_vec()));
+        assert!(all.dry_run && all.restored.file.is_none());
+        assert!(of(&["--", "./shaper.sh"]).is_err(), "of which interface");
+        assert!(of(&["--dev", "wan", "f", "--", "./shaper.sh"]).is_err());
+    }
+
+    #[test]
+    fn refuses_what_makes_no_sense() {
+        for words in [&["--try", "5", "-"][..], &["-n", "--try", "5", "f"], &["-n", "--check", "f"], &["--try", "0", "f"], &[]] {
+            assert!(of(words).is_err(), "{words:?}");
+        }
+        assert_eq!(of(&["--help"]).expect_err("help"), ErrorKind::DisplayHelp);
+    }
+
+    #[test]
+    fn help_fits_a_screen_of_100_columns() {
+        let text = command().render_help().to_string();
+        assert_eq!(text.lines().filter(|line| line.len() > 100).collect::<Vec<_>>(), Vec::<&str>::new());
+    }
+}

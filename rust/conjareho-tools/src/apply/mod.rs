@@ -1,0 +1,235 @@
+//! The program tcapply: from what interfaces have to what a file says.
+
+mod arguments;
+mod hold;
+mod lock;
+mod outline;
+mod plan;
+mod prepare;
+mod scratch;
+#[cfg(test)]
+mod tests;
+mod trial;
+mod wanted;
+
+use arguments::{Arguments, arguments_of};
+use plan::{Fault, plan};
+use prepare::{Prepared, prepare};
+use wanted::{Wanted, wanted_of};
+
+use crate::netlink::fault::Printable;
+use crate::netlink::{Socket, Transport};
+use crate::restore::compare::Key;
+use crate::restore::prepare::Ended;
+use crate::restore::sending::Sending;
+use crate::restore::status::Status;
+use crate::restore::world::{Stop, World, what_of};
+use crate::restore::{Signals, hardware, open_kernel, read, same, say_all};
+use crate::shown::lines_of;
+use std::io::{self, Write as _};
+use std::process::ExitCode;
+
+/// How often it is planned anew, if another program changes something before the first request.
+const MOST_PLANS: u32 = 3;
+/// How often it is planned on the way back, where the kernel refuses something.
+const MOST_WAYS_BACK: u32 = 3;
+
+/// Waits for somebody to say that what is there now is to stay. The error is why it isn't.
+type Hold<'h> = &'h mut dyn FnMut() -> Result<(), Stop>;
+
+/// The whole program.
+pub fn tcapply() -> ExitCode {
+    match arguments_of(std::env::args_os()) {
+        Ok(arguments) => obey(&arguments).into(),
+        Err(error) => {
+            let _ = error.print();
+            ExitCode::from(if error.use_stderr() { Status::Usage as u8 } else { 0 })
+        }
+    }
+}
+
+fn obey(arguments: &Arguments) -> Status {
+    let mut said = Vec::new();
+    let status = opened(arguments, &mut said).unwrap_or_else(|ended| {
+        said.extend(ended.said);
+        ended.status
+    });
+    say_all("tcapply", &said);
+    status
+}
+
+fn failed(why: String) -> Ended {
+    Ended::because(Status::Failed, vec![why])
+}
+
+// Reads the file, or runs the command, and does what is asked for.
+fn opened(arguments: &Arguments, said: &mut Vec<String>) -> Result<Status, Ended> {
+    let restored = &arguments.restored;
+    let signals = Signals::catch().map_err(failed)?;
+    let signal = || signals.caught();
+    let (kernel, [dumps, watch]) = open_kernel().map_err(failed)?;
+    let mut world = World::new(kernel, dumps, watch, &signal);
+    let file = match (&arguments.command, &restored.dev) {
+        (Some(command), Some(dev)) => trial::made_by(command, dev, &mut world)?,
+        _ => read(restored).map_err(|error| failed(format!("{}: {error}", restored.file_name())))?,
+    };
+    if arguments.dry_run {
+        return dry_run(arguments, file, &mut world, said);
+    }
+    if arguments.check {
+        return trial::check(arguments, file, &mut world, said);
+    }
+    let _lock = lock::lock(&restored.state, &signal)?;
+    let mut hold = || {
+        let Some(time) = arguments.trial else { return Ok(()) };
+        let seconds = time.as_secs();
+        say_all("tcapply", &[format!("it is as it was wanted; press Enter within {seconds} seconds, or it goes back")]);
+        hold::hold(&mut io::stdin().lock(), time, &signal)
+    };
+    Ok(apply(arguments, file, &mut world, &mut hold, said))
+}
+
+// Prints the plan.
+fn dry_run(
+    arguments: &Arguments,
+    file: Vec<u8>,
+    world: &mut World<'_, Socket, Socket>,
+    said: &mut Vec<String>,
+) -> Result<Status, Ended> {
+    let wanted = wanted_of(arguments, file, world, said)?;
+    let dump = world.first_dump(&wanted.targets.own())?;
+    let steps = prepare::planned(&dump.messages, &wanted)?;
+    let text: String = outline::lines(&steps, &dump.messages, &wanted.messages, &dump.devices)
+        .iter()
+        .map(|line| format!("{}\n", Printable(line)))
+        .collect();
+    let written = io::stdout().lock().write_all(text.as_bytes());
+    written.map_err(|error| failed(format!("standard output: {error}")))?;
+    Ok(if steps.is_empty() { Status::Restored } else { Status::Otherwise })
+}
+
+/// Brings interfaces to what a file says. What is to be said is added to `said`.
+fn apply<T: Transport, L: Transport>(
+    arguments: &Arguments,
+    file: Vec<u8>,
+    world: &mut World<'_, T, L>,
+    hold: Hold<'_>,
+    said: &mut Vec<String>,
+) -> Status {
+    let begun = wanted_of(arguments, file, world, said).and_then(|wanted| begun(arguments, wanted, world));
+    let prepared = match begun {
+        Ok(prepared) => prepared,
+        Err(ended) => {
+            said.extend(ended.said);
+            said.push("nothing is sent".to_string());
+            return ended.status;
+        }
+    };
+    let mut sending = Sending::new(world, &prepared.place);
+    match carried_out(&prepared, &mut sending, hold, said) {
+        Ok(()) => Status::Restored,
+        Err(stop) => {
+            said.push(stop.to_string());
+            ended(arguments, &prepared, &mut sending, &stop, said)
+        }
+    }
+}
+
+// Plans, and anew if another program changed something meanwhile.
+fn begun<T: Transport, L: Transport>(
+    arguments: &Arguments,
+    wanted: Wanted,
+    world: &mut World<'_, T, L>,
+) -> Result<Prepared, Ended> {
+    let mut wanted = wanted;
+    for left in (0..MOST_PLANS).rev() {
+        let prepared = prepare(arguments, wanted, world)?;
+        let looked = world
+            .check_signal()
+            .and_then(|()| world.check_devices(&prepared.place))
+            .and_then(|()| world.look(&prepared.place, None));
+        match looked {
+            Ok(_) => return Ok(prepared),
+            Err(Stop::Other { .. }) if left > 0 => wanted = prepared.wanted,
+            Err(stop) => return Err(Ended::because(Status::NothingSent, vec![stop.to_string()])),
+        }
+    }
+    Err(Ended::because(Status::NothingSent, Vec::new()))
+}
+
+// Sends all, compares, and waits.
+fn carried_out<T: Transport, L: Transport>(
+    prepared: &Prepared,
+    sending: &mut Sending<'_, '_, T, L>,
+    hold: Hold<'_>,
+    said: &mut Vec<String>,
+) -> Result<(), Stop> {
+    let wanted = &prepared.wanted;
+    sending.carry_out(&prepared.steps)?;
+    // Actions belong to no interface.
+    let after = same(sending, &wanted.objects, |_| true, |key, _| key.is_action())?;
+    check_after(&after, wanted)?;
+    if wanted.in_hardware > 0 {
+        said.extend(hardware::lost(wanted.in_hardware, hardware::count(lines_of(&after)?.text.lines())));
+    }
+    if prepared.steps.is_empty() { Ok(()) } else { hold() }
+}
+
+/// An error if there is still a plan to what is wanted.
+fn check_after(after: &[Vec<u8>], wanted: &Wanted) -> Result<(), Stop> {
+    let left = plan(after, &wanted.messages, |_| false).map_err(|faults| Stop::Unplanned(wanted.said_of(&faults)))?;
+    let named = || left.iter().map(|request| what_of(request)).collect();
+    if left.is_empty() { Ok(()) } else { Err(Stop::Differs(named())) }
+}
+
+// Makes again what was there before, unless nothing was sent, that isn't wanted, or others are at work.
+fn ended<T: Transport, L: Transport>(
+    arguments: &Arguments,
+    prepared: &Prepared,
+    sending: &mut Sending<'_, '_, T, L>,
+    stop: &Stop,
+    said: &mut Vec<String>,
+) -> Status {
+    let Some(kept) = prepared.kept.as_ref().filter(|_| sending.has_sent()) else {
+        said.push("nothing was sent".to_string());
+        return Status::NothingSent;
+    };
+    let is_left = arguments.restored.no_rollback || matches!(stop, Stop::Other { .. } | Stop::Moved(_));
+    let back = if is_left { Err(None) } else { gone_back(prepared, sending).map_err(Some) };
+    match back {
+        Ok(()) => {
+            said.push(format!("what was there before is there again, and in {kept}"));
+            Status::Back
+        }
+        Err(why) => {
+            said.extend(why.map(|why| format!("on the way back: {why}")));
+            said.push(format!("what was there before isn't there again; it is in {kept}"));
+            Status::Lost
+        }
+    }
+}
+
+fn unplanned(faults: Vec<Fault>) -> Stop {
+    Stop::Unplanned(faults.into_iter().map(|fault| fault.text).collect())
+}
+
+// Plans from what is there now to what was there before, and anew where something was refused.
+fn gone_back<T: Transport, L: Transport>(prepared: &Prepared, sending: &mut Sending<'_, '_, T, L>) -> Result<(), Stop> {
+    sending.turn_back();
+    let mut refused = None;
+    for _ in 0..MOST_WAYS_BACK {
+        let now = sending.world.dump(&prepared.place.indices())?.messages;
+        let steps = plan(&now, &prepared.before, |key| prepared.wanted.names(key)).map_err(unplanned)?;
+        match sending.carry_out(&steps) {
+            Ok(()) => break,
+            Err(stop @ Stop::Refused { .. }) => drop(refused.get_or_insert(stop)),
+            Err(stop) => return Err(stop),
+        }
+    }
+    // Actions that neither side names are others'.
+    let is_seen = |key: &Key| !key.is_action() || prepared.wanted.names(key);
+    match (same(sending, &prepared.before_objects, is_seen, |_, _| false), refused) {
+        (Ok(_), _) => Ok(()),
+        (Err(_), Some(stop)) | (Err(stop), None) => Err(stop),
+    }
+}

@@ -1,0 +1,62 @@
+//! Plans: the requests that bring what there is to what is wanted, by the proved plan.
+
+use crate::netlink::message::is_action;
+use crate::program_io::Stop;
+use crate::restore::compare::{Key, key_of};
+use crate::restore::messages::{actions_of, type_of};
+use crate::restore::plan::dumps_of;
+use crate::tcmake_lib::lines::{Remark, RemarkKind, Source};
+use crate::tcmake_lib::plans::plan_of_dumps;
+use std::collections::BTreeSet;
+
+/// The requests of a plan in their order, or why there is none.
+pub(crate) type Plan = Result<Vec<Vec<u8>>, Vec<Fault>>;
+
+/// Why there is no plan.
+#[derive(Clone, PartialEq, Eq, Debug)]
+pub(crate) struct Fault {
+    /// True if it is about what there is now.
+    pub(crate) is_of_now: bool,
+    /// The number of the dump, from 0.
+    pub(crate) place: Option<usize>,
+    /// What the dump is of, and what is wrong with it.
+    pub(crate) text: String,
+}
+
+impl Fault {
+    fn of(remark: &Remark, now: &[Vec<u8>], wanted: &[Vec<u8>]) -> Fault {
+        let is_of_now = remark.source == Source::Now;
+        let place = usize::try_from(remark.number).ok().and_then(|number| number.checked_sub(1));
+        let dump = place.and_then(|place| if is_of_now { now } else { wanted }.get(place));
+        let name = dump.and_then(|dump| key_of(dump)).map(|key| format!("{key}: ")).unwrap_or_default();
+        Fault { is_of_now, place, text: format!("{name}{}", remark.text) }
+    }
+}
+
+/// The plan from what is there to what is wanted, both as dumps. Of actions, which belong to no interface, those that are wanted are made or
+/// changed; of others only those for which `may_go` is true are deleted.
+pub(crate) fn plan(now: &[Vec<u8>], wanted: &[Vec<u8>], may_go: impl Fn(&Key) -> bool) -> Plan {
+    let mut all = wanted.to_vec();
+    all.extend(others(now, wanted, may_go));
+    requests(now, &all).unwrap_or_else(|_| {
+        Err(vec![Fault { is_of_now: true, place: None, text: "out of memory".to_string() }])
+    })
+}
+
+fn requests(now: &[Vec<u8>], wanted: &[Vec<u8>]) -> Result<Plan, Stop> {
+    let planned = plan_of_dumps(dumps_of(now), dumps_of(wanted))?;
+    let complaints = planned.remarks.iter().filter(|remark| remark.kind == RemarkKind::Complaint);
+    let faults: Vec<Fault> = complaints.map(|remark| Fault::of(remark, now, wanted)).collect();
+    if planned.is_void || !faults.is_empty() {
+        return Ok(Err(faults));
+    }
+    planned.requests.iter().map(|request| request.netlink()).collect::<Result<Vec<_>, _>>().map(Ok)
+}
+
+// The actions of now that stay although nobody wants them.
+fn others(now: &[Vec<u8>], wanted: &[Vec<u8>], may_go: impl Fn(&Key) -> bool) -> Vec<Vec<u8>> {
+    let own = |messages: &[Vec<u8>]| messages.iter().filter(|it| is_action(type_of(it))).flat_map(|it| actions_of(it)).collect::<Vec<_>>();
+    let named: BTreeSet<Key> = own(wanted).iter().map(|action| action.key()).collect();
+    let stay = own(now).into_iter().filter(|action| !named.contains(&action.key()) && !may_go(&action.key()));
+    stay.map(|action| action.change()).collect()
+}

@@ -1,0 +1,216 @@
+//! Runs over a kernel that refuses and that notifies of changes by others, with signals in the middle, and with nobody who presses Enter.
+
+use super::apply;
+use super::arguments::{Arguments, arguments_of};
+use crate::netlink::message::*;
+use crate::restore::messages::replaces;
+use crate::restore::status::Status;
+use crate::restore::tests::fake::{EBUSY, Fake, Hook, OTHER, State};
+use crate::restore::tests::{of, plain, saved, taking, tree, types};
+use crate::restore::world::{Stop, World};
+use std::ffi::OsString;
+use std::sync::atomic::{AtomicUsize, Ordering};
+
+struct Ran {
+    status: Status,
+    said: String,
+    objects: Vec<Vec<u8>>,
+    sent: Vec<Vec<u8>>,
+    /// How many states before were kept.
+    kept: usize,
+}
+
+fn arguments(words: &[&str]) -> Arguments {
+    static COUNT: AtomicUsize = AtomicUsize::new(0);
+    let number = COUNT.fetch_add(1, Ordering::Relaxed);
+    let folder = std::env::temp_dir().join(format!("conjareho-apply-{}-{number}", std::process::id()));
+    let words = ["tcapply", "--state", &folder.display().to_string(), "-"].iter().chain(words).map(OsString::from).collect::<Vec<_>>();
+    arguments_of(words).expect("arguments")
+}
+
+// Applies a file where these objects are; `held` says how the trial ends.
+fn run_held(words: &[&str], file: &str, objects: Vec<Vec<u8>>, fake: &Fake, held: Result<(), &'static str>) -> Ran {
+    fake.state.borrow_mut().objects = objects;
+    let signal = || fake.state.borrow().signal;
+    let mut world = World::new(fake.kernel(), fake.listener(1), fake.listener(2), &signal);
+    let arguments = arguments(words);
+    let mut said = Vec::new();
+    let mut hold = || held.map_err(Stop::Signal);
+    let status = apply(&arguments, file.as_bytes().to_vec(), &mut world, &mut hold, &mut said);
+    let kept = std::fs::read_dir(&arguments.restored.state).map_or(0, Iterator::count);
+    let _ = std::fs::remove_dir_all(&arguments.restored.state);
+    let state = fake.state.borrow();
+    Ran { status, said: said.join("\n"), objects: state.objects.clone(), sent: state.sent.clone(), kept }
+}
+
+fn run(file: &str, objects: Vec<Vec<u8>>, fake: &Fake) -> Ran {
+    run_held(&[], file, objects, fake, Ok(()))
+}
+
+// The tree with another filter.
+fn otherwise() -> Vec<Vec<u8>> {
+    let mut all = tree(1000);
+    all.pop();
+    all.push(of(RTM_NEWTFILTER, 1, 0xFFFF_FFF3, "matchall", &[(1, 0x1_0020)]));
+    all
+}
+
+#[test]
+fn what_is_there_already_takes_no_request() {
+    let ran = run(&saved(tree(1000)), tree(1000), &Fake::new(taking()));
+    assert_eq!((ran.status, ran.said.as_str(), ran.sent.len(), ran.kept), (Status::Restored, "", 0, 0));
+}
+
+#[test]
+fn a_changed_class_takes_one_request() {
+    let mut wanted = tree(1000);
+    wanted[1] = of(RTM_NEWTCLASS, 0x1_0010, 0x1_0000, "drr", &[(1, 77)]);
+    let ran = run(&saved(wanted.clone()), tree(1000), &Fake::new(taking()));
+    assert_eq!((ran.status, ran.said.as_str(), types(&ran.sent)), (Status::Restored, "", vec![40]));
+    assert!(replaces(&ran.sent[0]));
+    assert_eq!(plain(&ran.objects), plain(&wanted));
+    assert_eq!(ran.kept, 1);
+}
+
+#[test]
+fn what_isnt_wanted_is_deleted() {
+    let ran = run(&saved(Vec::new()), tree(1), &Fake::new(taking()));
+    assert_eq!((ran.status, ran.objects.len()), (Status::Restored, 0), "{}", ran.said);
+    let ran = run(&saved(tree(1)), Vec::new(), &Fake::new(taking()));
+    assert_eq!((ran.status, plain(&ran.objects)), (Status::Restored, plain(&tree(1))), "{}", ran.said);
+}
+
+// Each request refused in turn.
+#[test]
+fn a_refusal_brings_back_what_was_there() {
+    let (file, before) = (saved(otherwise()), tree(2000));
+    let count = run(&file, before.clone(), &Fake::new(taking())).sent.len();
+    assert!(count > 1);
+    for at in 1..=count {
+        let refusing: Hook = Box::new(move |_, number, _| (number == at).then_some(22));
+        let ran = run(&file, before.clone(), &Fake::new(refusing));
+        if ran.status != Status::NothingSent {
+            assert_eq!(ran.status, Status::Back, "request {at}: {}", ran.said);
+            assert!(ran.said.contains("before-"), "{}", ran.said);
+        }
+        assert_eq!(plain(&ran.objects), plain(&before), "request {at}: {}", ran.said);
+    }
+    let refusing: Hook = Box::new(move |_, number, _| (number == count).then_some(22));
+    let ran = run_held(&["--no-rollback"], &file, before.clone(), &Fake::new(refusing), Ok(()));
+    assert_eq!(ran.status, Status::Lost, "{}", ran.said);
+    assert!(ran.said.contains("before-") && ran.sent.len() == count, "{}", ran.said);
+}
+
+#[test]
+fn a_signal_brings_back_what_was_there() {
+    for at in 1..=2 {
+        let signalling: Hook = Box::new(move |state, number, _| {
+            if number >= at {
+                state.signal = Some("SIGINT");
+            }
+            None
+        });
+        let ran = run(&saved(otherwise()), tree(2000), &Fake::new(signalling));
+        assert_eq!((ran.status, plain(&ran.objects)), (Status::Back, plain(&tree(2000))), "request {at}: {}", ran.said);
+        assert!(ran.said.starts_with("SIGINT came"), "{}", ran.said);
+    }
+    let fake = Fake::new(taking());
+    fake.state.borrow_mut().signal = Some("SIGTERM");
+    let ran = run(&saved(otherwise()), tree(2000), &fake);
+    assert_eq!((ran.status, ran.sent.len()), (Status::NothingSent, 0));
+}
+
+#[test]
+fn without_enter_it_goes_back() {
+    let ran = run_held(&[], &saved(otherwise()), tree(2000), &Fake::new(taking()), Err("SIGHUP"));
+    assert_eq!((ran.status, plain(&ran.objects)), (Status::Back, plain(&tree(2000))), "{}", ran.said);
+    assert!(ran.said.starts_with("SIGHUP came"), "{}", ran.said);
+    let ran = run_held(&[], &saved(tree(1000)), tree(1000), &Fake::new(taking()), Err("SIGHUP"));
+    assert_eq!((ran.status, ran.sent.len()), (Status::Restored, 0), "nothing to try");
+}
+
+#[test]
+fn what_others_make_is_left() {
+    let theirs = || of(RTM_NEWTFILTER, 9, 0xFFFF_FFF3, "matchall", &[(1, 0x1_0010)]);
+    let other: Hook = Box::new(move |state, number, _| {
+        if number == 2 {
+            state.objects.push(theirs());
+            state.tell(&theirs(), OTHER);
+        }
+        None
+    });
+    let ran = run(&saved(otherwise()), tree(2000), &Fake::new(other));
+    assert_eq!((ran.status, ran.sent.len()), (Status::Lost, 2), "{}", ran.said);
+    assert!(ran.said.contains("netlink port 4242") && ran.said.contains("before-"), "{}", ran.said);
+    assert!(plain(&ran.objects).contains(&plain(&[theirs()])[0]));
+}
+
+// Of another program's change before the first request there is a new plan, three times at most.
+#[test]
+fn others_before_the_first_request() {
+    for (times, status) in [(1, Status::Restored), (2, Status::Restored), (99, Status::NothingSent)] {
+        let fake = Fake::new(taking());
+        let mut left = times;
+        // The last look at the interfaces before the first request is the fourth, the seventh and the tenth.
+        let hook = move |state: &mut State, number: usize| {
+            if number >= 4 && number % 3 == 1 && left > 0 {
+                left -= 1;
+                let quantum = 3000 + number as u32;
+                state.objects[1] = of(RTM_NEWTCLASS, 0x1_0010, 0x1_0000, "drr", &[(1, quantum)]);
+                state.tell(&state.objects[1].clone(), OTHER);
+            }
+        };
+        fake.state.borrow_mut().on_links = Some(Box::new(hook));
+        let ran = run(&saved(tree(1000)), tree(2000), &fake);
+        assert_eq!(ran.status, status, "{times}: {}", ran.said);
+        if status == Status::NothingSent {
+            assert!(ran.said.contains("netlink port 4242") && ran.sent.is_empty(), "{}", ran.said);
+        } else {
+            assert_eq!(plain(&ran.objects), plain(&tree(1000)));
+        }
+    }
+}
+
+#[test]
+fn what_lives_on_is_tried_again() {
+    let mut left = 3;
+    let busy: Hook = Box::new(move |_, number, _| {
+        if number < 2 || left == 0 {
+            return None;
+        }
+        left -= 1;
+        Some(EBUSY)
+    });
+    let ran = run(&saved(otherwise()), tree(2000), &Fake::new(busy));
+    assert_eq!((ran.status, plain(&ran.objects)), (Status::Restored, plain(&otherwise())), "{}", ran.said);
+}
+
+#[test]
+fn a_silent_kernel_is_a_refusal() {
+    let silent: Hook = Box::new(|_, number, _| (number == 2).then_some(0));
+    let ran = run(&saved(otherwise()), tree(2000), &Fake::new(silent));
+    assert_eq!((ran.status, plain(&ran.objects)), (Status::Back, plain(&tree(2000))), "{}", ran.said);
+}
+
+// Of a file that is wrong nothing is sent, and the line is named.
+#[test]
+fn wrong_files() {
+    let whole = saved(tree(1000));
+    let lines: Vec<&str> = whole.lines().collect();
+    let edited = |text: String| text.lines().map(|it| if it.starts_with("{\"end\"") { "{\"end\":true}\n".to_string() } else { format!("{it}\n") }).collect::<String>();
+    let class = lines.iter().position(|it| it.contains("RTM_NEWTCLASS")).expect("a class");
+    let of_ids = lines[class].replace("\"index\":7", "\"index\":8");
+    assert_ne!(of_ids, lines[class]);
+    let cases = [
+        (lines[..4].join("\n"), "cut".to_string()),
+        (whole.replace("{\"index\":7,", "{\"index\":9,").replace("wan", "gone"), "there is no interface gone".to_string()),
+        (edited(whole.replace(lines[class], &format!("{0}\n{0}", lines[class]))), format!("line {}", class + 2)),
+        (edited(whole.replace("\"7\":\"wan\"", "\"7\":\"wan\",\"8\":\"ids\"").replace(lines[class], &of_ids)), format!("line {}", class + 1)),
+        (edited(lines[class..].join("\n").replacen("", &format!("{}\n", lines[0]), 1)), "line 2".to_string()),
+    ];
+    for (file, said) in cases {
+        let ran = run(&file, tree(2000), &Fake::new(taking()));
+        assert_eq!((ran.status, ran.sent.len(), ran.kept), (Status::NothingSent, 0, 0), "{said}: {}", ran.said);
+        assert!(ran.said.contains(&said), "{said}: {}", ran.said);
+    }
+}

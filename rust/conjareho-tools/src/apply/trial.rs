@@ -1,0 +1,108 @@
+//! What new network namespaces are for: a command that makes what is wanted, and a plan that is tried.
+
+use super::arguments::Arguments;
+use super::check_after;
+use super::plan::plan;
+use super::scratch::within;
+use super::wanted::{Wanted, wanted_of};
+use crate::netlink::{Device, Devices, Fault, Transport, state_of};
+use crate::restore::messages::blocks_of;
+use crate::restore::plan::requests_of_dump;
+use crate::restore::prepare::Ended;
+use crate::restore::sending::Sending;
+use crate::restore::status::Status;
+use crate::restore::world::{Place, Stop, World, text_of};
+use crate::restore::{open_kernel, same};
+use std::ffi::OsString;
+use std::process::Command;
+
+fn nothing_sent(why: String) -> Ended {
+    Ended::because(Status::NothingSent, vec![why])
+}
+
+// ---- A command
+
+/// The save of what a command makes of an interface.
+pub(crate) fn made_by<T: Transport, L: Transport>(
+    command: &[OsString],
+    dev: &str,
+    world: &mut World<'_, T, L>,
+) -> Result<Vec<u8>, Ended> {
+    let devices = Devices::of(&mut world.kernel)?;
+    let device = devices.find(dev).ok_or_else(|| nothing_sent(format!("there is no interface {dev}")))?;
+    let made = within(&devices, || {
+        run(command)?;
+        saved(&device.name)
+    });
+    Ok(made.map_err(nothing_sent)?.into_bytes())
+}
+
+fn run(command: &[OsString]) -> Result<(), String> {
+    let [program, words @ ..] = command else { return Ok(()) };
+    let name = program.to_string_lossy();
+    let status = Command::new(program).args(words).status().map_err(|error| format!("{name}: {error}"))?;
+    if status.success() { Ok(()) } else { Err(format!("{name} ended with {status}")) }
+}
+
+// The save of an interface of this namespace.
+fn saved(name: &str) -> Result<String, String> {
+    let (mut kernel, [mut listener, _]) = open_kernel()?;
+    let said = |fault: Fault| fault.to_string();
+    let devices = Devices::of(&mut kernel).map_err(said)?;
+    let device = devices.iter().find(|device| device.name == name);
+    let index = device.ok_or_else(|| format!("the command renamed or deleted {name}"))?.index;
+    let dump = state_of(&mut kernel, &mut listener, &[index]).map_err(said)?;
+    match text_of(&dump, &[index]).map_err(said)? {
+        (text, false) => Ok(text),
+        _ => Err("the command made something that the codec refuses".to_string()),
+    }
+}
+
+// ---- A trial
+
+/// Makes what is there now in a new network namespace, and carries the plan out there.
+pub(crate) fn check<T: Transport, L: Transport>(
+    arguments: &Arguments,
+    file: Vec<u8>,
+    world: &mut World<'_, T, L>,
+    said: &mut Vec<String>,
+) -> Result<Status, Ended> {
+    let wanted = wanted_of(arguments, file, world, said)?;
+    let dump = world.first_dump(&wanted.targets.own())?;
+    let now = requests_of_dump(&dump.messages);
+    if now.is_void || !now.complaints.is_empty() {
+        return Err(Ended::because(
+            Status::NothingSent,
+            now.complaints.iter().map(|it| format!("what is there now can't be made there: {it}")).collect(),
+        ));
+    }
+    let count = within(&dump.devices, || tried(&now.requests, &wanted)).map_err(nothing_sent)?;
+    said.push(format!("in a new network namespace {count} requests made what is wanted; nothing is sent here"));
+    Ok(Status::Restored)
+}
+
+// Makes what there was elsewhere, and then what is wanted. Returns how many requests the latter took.
+fn tried(now: &[Vec<u8>], wanted: &Wanted) -> Result<usize, String> {
+    let (mut kernel, [dumps, watch]) = open_kernel()?;
+    let own = wanted.targets.own();
+    let devices = Devices::of(&mut kernel).map_err(|fault| fault.to_string())?;
+    let devices: Vec<Device> = own.iter().filter_map(|index| devices.at(*index).cloned()).collect();
+    let mut world = World::new(kernel, dumps, watch, &|| None);
+    let blocks = now.iter().chain(&wanted.messages).flat_map(|it| blocks_of(it)).collect();
+    let place = Place { devices, blocks };
+    let mut sending = Sending::new(&mut world, &place);
+    sending.carry_out(now).map_err(|stop| format!("what is there now can't be made in a new network namespace: {stop}"))?;
+    made_there(&mut sending, &own, wanted).map_err(|stop| format!("in a new network namespace: {stop}"))
+}
+
+fn made_there<T: Transport, L: Transport>(
+    sending: &mut Sending<'_, '_, T, L>,
+    own: &[u32],
+    wanted: &Wanted,
+) -> Result<usize, Stop> {
+    let there = sending.world.first_dump(own)?.messages;
+    let steps = plan(&there, &wanted.messages, |_| false).map_err(|faults| Stop::Unplanned(wanted.said_of(&faults)))?;
+    sending.carry_out(&steps)?;
+    check_after(&same(sending, &wanted.objects, |_| true, |key, _| key.is_action())?, wanted)?;
+    Ok(steps.len())
+}
