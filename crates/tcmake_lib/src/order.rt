@@ -260,13 +260,12 @@ fn fate_by_now(known: Known<'_>, name: Option<Named>, made: Made) -> (Fate, Opti
     }
 }
 
-// The fate of an action that a request would make: it is refused if only its filters can make it.
+// The fate of an action that a request would make or change, or that is there: it is refused if only its filters can make it. One that is
+// there has the offload flag of the filter that has it, and Linux refuses the filters without that flag.
 fn fate_by_filters(known: Known<'_>, name: Option<Named>, fate: Fate) -> Fate {
-    match (name, fate) {
-        (Some(name), Fate::Request) if has_action(known.by_filters, name) => {
-            Fate::Refused(Reason::Offload(name))
-        }
-        (_, fate) => fate,
+    match name {
+        Some(name) if has_action(known.by_filters, name) => Fate::Refused(Reason::Offload(name)),
+        _ => fate,
     }
 }
 
