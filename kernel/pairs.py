@@ -8,18 +8,18 @@ from generate import interfaces
 from guests import HERE, Guest, Said, fail
 from interfaces import FLUSH
 from messages import Names
-from states import State
+from states import State, as_used
 from streams import asked
 
 OF_A_GUEST = 12  # pairs
-LONGEST = 0.3  # seconds after which it is killed or interrupted, at most
 THERE = ["what is there is what is wanted"]
 KILLED, INTERRUPTED = 128 + 9, 128 + 2  # the statuses of a command that SIGKILL or SIGINT ends
+HELD = "a block that other interfaces hold too has something else"  # d8 holds those of d7 too
 LINKS = [f"link {it} 4" for it in (7, 8, 9)]
 
 
 def pairs(seed, count):
-    """The commands of what there is and of what is wanted, and two moments: each second time the wanted ones are most of those that there are, and
+    """The commands of what there is and of what is wanted, and two moments, as parts of the time that it takes: each second time the wanted ones are most of those that there are, and
     some others."""
     chance = random.Random(seed)
     own = interfaces(seed, 2 * count)
@@ -27,7 +27,7 @@ def pairs(seed, count):
         before, wanted = own[2 * number], own[2 * number + 1]
         if number % 2:
             wanted = [it for it in before if chance.random() < 0.8] + [it for it in wanted if chance.random() < 0.2]
-        yield before, wanted, [f"{chance.uniform(0.005, LONGEST):.3f}" for _ in range(2)]
+        yield before, wanted, [f"{chance.uniform(0.2, 1):.3f}" for _ in range(2)]
 
 
 class Pair:
@@ -42,7 +42,9 @@ class Pair:
                 file.writelines(f"{it}\n" for it in own)
         save, state = f"{self.file}.json", f"{self.file}.state"
         apply, plan = f"run {programs.apply(save, state)}", f"run {programs.command(f'$TCAPPLY -n {save}')}"
-        cut = lambda signal, limit: f"run {programs.apply(save, state, limit=f'--preserve-status -s {signal} {limit}')}"
+        timed = f"run {programs.timed(programs.apply(save, state), f'{self.file}.time')}"
+        moment = lambda part: f"$(awk '{{ print $1 * {part} }}' {self.file}.time)"
+        cut = lambda signal, part: f"run {programs.apply(save, state, limit=f'--preserve-status -s {signal} {moment(part)}')}"
         self.first = [
             ("make_wanted", self.made("wanted")),
             ("wanted", "dump 7"),
@@ -51,9 +53,9 @@ class Pair:
             ("make_before", self.made("before")),
             ("before", "dump 7"),
         ]
-        last = [("apply", apply), ("", "unwatch"), ("after", "dump 7"), ("plan", plan)]
-        self.add([("", f"watch {self.file}.sent"), *last])
-        self.add([("cut", cut("KILL", limits[0])), *last])
+        last = [("after", "dump 7"), ("plan", plan)]
+        self.add([("", f"watch {self.file}.sent"), ("apply", timed), ("", "unwatch"), *last])
+        self.add([("cut", cut("KILL", limits[0])), ("apply", apply), *last])
         self.add([("cut", cut("INT", limits[1])), ("after", "dump 7")])
 
     def made(self, name):
@@ -81,7 +83,7 @@ class Pair:
         return [f"{way.__name__[6:]}: {wrong}" for way, it in zip(ways, tries) for wrong in [way(it)] if wrong]
 
     def state(self, answer):
-        return State(self.names, answer.got)
+        return State(self.names, list(map(as_used, answer.got)))
 
     def unlike(self, wanted, after):
         """How a state differs from another, but for actions that nobody wants and that no filter holds."""
@@ -92,7 +94,7 @@ class Pair:
         """What is wrong if nothing was sent, since something can't be made again."""
         before, said = self.state(answers["before"]), answers["apply"]
         unmade = self.state(answers["wanted"]).cannot_be_made() | before.cannot_be_made()
-        named = [why for why in unmade if any(why in it for it in said.lines)]
+        named = [why for why in [*unmade, HELD] if any(why in it for it in said.lines)]
         if said.status != 1 or not named:
             return f"status {said.status}: {said.lines[:4]}"
         self.refused = True
@@ -104,7 +106,7 @@ class Pair:
         if answers["apply"].status:
             return self.ended_without(answers)
         with open(f"{self.file}.sent", "rb") as file:
-            self.sent = sum(it[0] % 4 < 2 for it in asked(file.read()))
+            self.sent = sum(it[0] % 4 < 2 for it in asked(file.read()))  # NEW and DEL
         return self.is_wanted(answers)
 
     def is_wanted(self, answers):

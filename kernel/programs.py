@@ -77,6 +77,11 @@ class Programs:
         """Applies a save, with a limit of `timeout`. What was there before is kept in the folder `state`."""
         return self.command(f"timeout {limit} $TCAPPLY --state {state} {options} {file}")
 
+    def timed(self, command, file):
+        """The same command, and a file with the seconds that it took."""
+        now = "$(date +%s%N)"
+        return f'began={now}; {command}; status=$?; echo "$(({now} - began))e-9" > {file}; (exit $status)'
+
     def clear(self, dev="d7"):
         return self.command(f"$TCNL clear dev {dev}")
 

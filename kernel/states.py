@@ -157,6 +157,16 @@ def renumbered(objects):
 FLAGS = {"flower": 22, "u32": 11, "matchall": 3, "bpf": 9}
 
 
+def as_used(message):
+    """A dump in which a class of htb with children has no quantum and no priority: the kernel uses neither, and a change doesn't set them."""
+    type_, data = message
+    if type_ == CLASS and text(dict(attributes(data[20:])).get(1, b"")) == "htb":
+        parms = dict(attributes(dict(attributes(data[20:])).get(2, b""))).get(1, b"")
+        if parms[36:40] != bytes(4):
+            return type_, data.replace(parms, parms[:32] + bytes(4) + parms[36:40] + bytes(4) + parms[44:])
+    return message
+
+
 def has_offload_flag(filter):
     """True for a filter with skip_hw (1) or skip_sw (2)."""
     word = dict(filter.options).get(FLAGS.get(filter.kind), b"")

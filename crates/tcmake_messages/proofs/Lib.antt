@@ -1,5 +1,4 @@
 pub mod Beside
-pub mod Faults
 pub mod Names
 pub mod Refused
 pub mod Said

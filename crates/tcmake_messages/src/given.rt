@@ -8,8 +8,24 @@ ghost use Rattle.serde_json.specs.View.{view};
 ghost use Rattle.tc_capture.specs.Kind.{rtm_at};
 ghost use Rattle.tc_capture.specs.declared.kind.MessageType.{MessageType as MessageTypeOf};
 ghost use Rattle.tc_capture.specs.declared.time.Time.{Time as TimeType};
-ghost use Rattle.tcmake_messages.specs.Line.{HasUnknown, IsBeside, IsDigits, IsGiven, IsOfKernel, IsOneOf, IsPacket, IsRemark, IsTime, IsTimeText, IsTyped, fault_members, holds_by_header,
-    is_of_refused, members, point};
+ghost use Rattle.tcmake_messages.specs.Line.{
+  HasUnknown,
+  IsBeside,
+  IsDigits,
+  IsGiven,
+  IsOfKernel,
+  IsOneOf,
+  IsPacket,
+  IsRemark,
+  IsTime,
+  IsTimeText,
+  IsTyped,
+  fault_members,
+  holds_by_header,
+  is_of_refused,
+  members,
+  point,
+};
 ghost use Rattle.tcmake_messages.specs.declared.error.LineError.TheVariants.{NoMemory};
 ghost use Rattle.tcmake_lines.specs.declared.netlink.NetlinkHeader.{NetlinkHeader as HeaderType};
 ghost use Rattle.tcmake_lines.specs.declared.netlink.PacketOf.{PacketOf as PacketType};

@@ -1,6 +1,5 @@
 -- The line of an answer, with the parts of its bytes.
-use Rattle.std.proofs.Common.{◌≡◌, ℕ, Bool, List, Option, Some, subst}
-use Rattle.serde.specs.Event.{Event}
+use Rattle.std.proofs.Common.{◌≡◌, ℕ, List, Option, Some, subst}
 use Rattle.serde_json.specs.Sent.{IsTextOf}
 use Rattle.tcshow_json.specs.Line.{IsAnswered, answered_events, error_events, errno_text, escaped_text, offset_in_message, some_text, time_of}
 use Rattle.tcshow_json.specs.Messages.{Header, Message, Reason}
@@ -15,8 +14,3 @@ answered h r m path said errno offset line e s o text = (
       (subst (λ (x : Option (List ℕ)). IsTextOf (Some (answered_events (time_of m) h (error_events (errno_text r.error) x offset path) r.is_capped m)) line) s
       (subst (λ (x : List ℕ). IsTextOf (Some (answered_events (time_of m) h (error_events x said offset path) r.is_capped m)) line) e text)),
 )
-
--- the same line with the same time
-pub answered_at : (time other : Option (List ℕ)) (h : Header) (error : List Event) (capped : Bool) (m : Message) (line : List ℕ) → time ≡ other
-    → IsTextOf (Some (answered_events time h error capped m)) line → IsTextOf (Some (answered_events other h error capped m)) line
-answered_at time other h error capped m line same text = subst (λ (t : Option (List ℕ)). IsTextOf (Some (answered_events t h error capped m)) line) same text

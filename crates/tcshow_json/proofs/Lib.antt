@@ -5,7 +5,7 @@ mod Times
 mod SafeTexts
 mod SafeNumbers
 mod SafeStrings
-pub mod SafeTokens
+mod SafeTokens
 mod SafeWrites
 mod SafeChars
-pub mod SafeLines
+pub mod Printed

@@ -1,6 +1,6 @@
 -- The JSON lines of messages and of the kernel's answers, as events sent to serde.
 use Rattle.std.specs.Fmt.{decimal}
-use Rattle.std.specs.Prelude.{◌⊎◌, ◌↔◌, ℕ, zero, suc, ◌+◌, ◌/◌, ◌%◌, Bool, true, false, IsTrue, List, [], ◌∷◌, ◌++◌, ◌-◌, Option, Some, None, codes, ◌==◌, if◌then◌else◌}
+use Rattle.std.specs.Prelude.{◌⊎◌, ◌↔◌, ℕ, zero, suc, ◌+◌, ◌<◌, ◌^◌, ◌/◌, ◌%◌, Bool, true, false, IsTrue, List, [], ◌∷◌, ◌++◌, ◌-◌, Option, Some, None, codes, ◌==◌, if◌then◌else◌}
 use Rattle.std.specs.Prelude.{flat_map, option_map, unwrap_or}
 use Rattle.serde.specs.Event.{Event, boolean, unsigned, text, map_begins, map_ends, field_key}
 use Rattle.serde.specs.declared.name.Case.TheVariants.{AsIs}
@@ -166,10 +166,10 @@ module _ (words : Words Meaning) (m : Message) where
       × (IsTrue fits ↔ words.Fits x) × (IsTrue settled ↔ words.Settled x) × (IsTrue canonical ↔ words.Canonical m.payload)
       × IsTextOf (Some (line_events (time_of m) m (read_events fits settled canonical))) line
 
--- the line of a message that is refused for this fault
+-- the line of a message that is refused for this fault, with an offset of 64 bits
 abbrev pub IsRefused : Message → DecodeError → List ℕ → Type 0
 IsRefused m e line =
-    (offset : ℕ) × (path : List ℕ) × IsTextOf (Some (line_events (time_of m) m (fault_events e offset path))) line
+    (offset : ℕ) × (offset < 2 ^ 64) × (path : List ℕ) × IsTextOf (Some (line_events (time_of m) m (fault_events e offset path))) line
 
 module _ (words : Words Meaning) (m : Message) where
   -- the line of a message: accepted with the value that its payload reads as, or refused for its first fault

@@ -10,8 +10,7 @@ ghost use Rattle.tcshow_json.specs.Safe.{is_hidden, safe_text};
 
 /// For every line of JSON that is written: as it is printed it has the same tokens, and none of the characters that a terminal may
 /// obey. A line of printable ASCII is printed as it is.
-#[tactic(auto, using(crate::proofs::SafeTokens::same_tokens, crate::proofs::SafeLines::none_hidden, crate::proofs::SafeLines::safe_utf8,
-    crate::proofs::SafeWrites::printable_kept))]
+#[tactic(auto, using(crate::proofs::Printed::none, crate::proofs::Printed::utf8, crate::proofs::Printed::same, crate::proofs::Printed::kept))]
 pub fn safe_lines(line: &str)
     ensures same { (log : Log) → IsTextOf log line.now → tokens (safe_text line.now) ≡ tokens line.now }
     ensures none { list_any is_hidden (chars (safe_text line.now)) ≡ false }

@@ -7,9 +7,9 @@ ghost use Rattle.tcshow_json.specs.Grammars.{IsLineOf, is_refused, is_fault};
 ghost use Rattle.tcshow_json.specs.Messages.{message_view};
 ghost use Rattle.tcshow_json.specs.Line.{IsAccepted, IsRefused, IsLine, line_events, time_of, verdict_events};
 
-use crate::serialized::{MessageLine, Verdict};
 use crate::message::Message;
 use crate::pages::{show_place, text_of};
+use crate::serialized::{MessageLine, Verdict};
 use crate::time::{borrowed_text, some_time_text};
 use nla_frames::DecodeError;
 use serde::Serialize;

@@ -176,7 +176,9 @@ mod tests {
 
     #[test]
     fn refuses_what_makes_no_sense() {
-        for words in [&["--try", "5", "-"][..], &["-n", "--try", "5", "f"], &["-n", "--check", "f"], &["--try", "0", "f"], &[]] {
+        for words in
+            [&["--try", "5", "-"][..], &["-n", "--try", "5", "f"], &["-n", "--check", "f"], &["--try", "0", "f"], &[]]
+        {
             assert!(of(words).is_err(), "{words:?}");
         }
         assert_eq!(of(&["--help"]).expect_err("help"), ErrorKind::DisplayHelp);

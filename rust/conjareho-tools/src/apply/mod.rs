@@ -14,7 +14,7 @@ mod wanted;
 
 use arguments::{Arguments, arguments_of};
 use plan::{Fault, plan};
-use prepare::{Prepared, prepare};
+use prepare::{Planned, Prepared, planned, prepare, without};
 use wanted::{Wanted, wanted_of};
 
 use crate::netlink::fault::Printable;
@@ -28,6 +28,7 @@ use crate::restore::{Signals, hardware, open_kernel, read, same, say_all};
 use crate::shown::lines_of;
 use std::io::{self, Write as _};
 use std::process::ExitCode;
+use std::thread;
 
 /// How often it is planned anew, if another program changes something before the first request.
 const MOST_PLANS: u32 = 3;
@@ -83,7 +84,9 @@ fn opened(arguments: &Arguments, said: &mut Vec<String>) -> Result<Status, Ended
     let mut hold = || {
         let Some(time) = arguments.trial else { return Ok(()) };
         let seconds = time.as_secs();
-        say_all("tcapply", &[format!("it is as it was wanted; press Enter within {seconds} seconds, or it goes back")]);
+        let asked = format!("it is as it was wanted; press Enter within {seconds} seconds, or it goes back");
+        // A terminal that nobody reads mustn't hold up the way back.
+        thread::spawn(move || say_all("tcapply", &[asked]));
         hold::hold(&mut io::stdin().lock(), time, &signal)
     };
     Ok(apply(arguments, file, &mut world, &mut hold, said))
@@ -96,10 +99,9 @@ fn dry_run(
     world: &mut World<'_, Socket, Socket>,
     said: &mut Vec<String>,
 ) -> Result<Status, Ended> {
-    let wanted = wanted_of(arguments, file, world, said)?;
-    let dump = world.first_dump(&wanted.targets.own())?;
-    let steps = prepare::planned(&dump.messages, &wanted)?;
-    let text: String = outline::lines(&steps, &dump.messages, &wanted.messages, &dump.devices)
+    let mut wanted = wanted_of(arguments, file, world, said)?;
+    let Planned { dump, before, steps, .. } = planned(world, &mut wanted)?;
+    let text: String = outline::lines(&steps, &before, &wanted.messages, &dump.devices)
         .iter()
         .map(|line| format!("{}\n", Printable(line)))
         .collect();
@@ -168,7 +170,7 @@ fn carried_out<T: Transport, L: Transport>(
     sending.carry_out(&prepared.steps)?;
     // Actions belong to no interface.
     let after = same(sending, &wanted.objects, |_| true, |key, _| key.is_action())?;
-    check_after(&after, wanted)?;
+    check_after(&without(&after, &prepared.others), wanted)?;
     if wanted.in_hardware > 0 {
         said.extend(hardware::lost(wanted.in_hardware, hardware::count(lines_of(&after)?.text.lines())));
     }
@@ -218,7 +220,7 @@ fn gone_back<T: Transport, L: Transport>(prepared: &Prepared, sending: &mut Send
     sending.turn_back();
     let mut refused = None;
     for _ in 0..MOST_WAYS_BACK {
-        let now = sending.world.dump(&prepared.place.indices())?.messages;
+        let now = without(&sending.world.dump(&prepared.place.indices())?.messages, &prepared.others);
         let steps = plan(&now, &prepared.before, |key| prepared.wanted.names(key)).map_err(unplanned)?;
         match sending.carry_out(&steps) {
             Ok(()) => break,

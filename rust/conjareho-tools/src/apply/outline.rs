@@ -2,7 +2,8 @@
 
 use crate::netlink::Devices;
 use crate::netlink::message::{
-    MAGIC_BLOCK, RTM_DELACTION, RTM_NEWACTION, RTM_NEWCHAIN, RTM_NEWQDISC, RTM_NEWTCLASS, RTM_NEWTFILTER, Tcmsg, tcmsg_of,
+    MAGIC_BLOCK, RTM_DELACTION, RTM_NEWACTION, RTM_NEWCHAIN, RTM_NEWQDISC, RTM_NEWTCLASS, RTM_NEWTFILTER, Tcmsg,
+    tcmsg_of,
 };
 use crate::restore::compare::{Held, Key, Objects, key_of, objects_of};
 use crate::restore::messages::{as_new, chain_of, deletes, kind_of, replaces, type_of};
@@ -42,7 +43,10 @@ fn is_deleted(dump: &[u8], step: &[u8]) -> bool {
         RTM_NEWTFILTER => (own.parent, own.info, own.handle) == (deleted.parent, deleted.info, deleted.handle),
         _ => false,
     };
-    are_same && type_of(dump) == type_of(&as_new(step)) && own.index == deleted.index && chain_of(dump) == chain_of(step)
+    are_same
+        && type_of(dump) == type_of(&as_new(step))
+        && own.index == deleted.index
+        && chain_of(dump) == chain_of(step)
 }
 
 fn counted(steps: &[Vec<u8>], now: &Objects, wanted: &Objects) -> String {
@@ -52,7 +56,8 @@ fn counted(steps: &[Vec<u8>], now: &Objects, wanted: &Objects) -> String {
     let deleted = steps.iter().filter(|step| deletes(step)).count();
     let changed = steps.iter().filter(|step| replaces(step)).count();
     let touched: Vec<Key> = steps.iter().filter(|step| !deletes(step)).filter_map(|step| key_of(step)).collect();
-    let stays = |(key, held): &(&Key, &Held)| !touched.contains(key) && now.get(*key).is_some_and(|it| it.is_same(held));
+    let stays =
+        |(key, held): &(&Key, &Held)| !touched.contains(key) && now.get(*key).is_some_and(|it| it.is_same(held));
     let stay = wanted.iter().filter(stays).count();
     let requests = if steps.len() == 1 { "1 request".to_string() } else { format!("{} requests", steps.len()) };
     let made = steps.len() - deleted - changed;
@@ -69,7 +74,9 @@ fn more_of(step: &[u8], is_change: bool, now: &Objects, gone: &[Key]) -> String 
     match (is_change, values.is_empty()) {
         (true, _) => values,
         (false, true) => "; made again with what it belongs to".to_string(),
-        (false, false) if gone.iter().any(|it| it.is_object_of(&key)) => format!("; made again, since this isn't changed in place:{values}"),
+        (false, false) if gone.iter().any(|it| it.is_object_of(&key)) => {
+            format!("; made again, since this isn't changed in place:{values}")
+        }
         (false, false) => format!("; made again with what it belongs to:{values}"),
     }
 }
@@ -89,13 +96,15 @@ fn name_of(step: &[u8], devices: &Devices) -> String {
     let Some(header) = tcmsg_of(step) else { return "a request".to_string() };
     let kind = kind_of(step).map(|kind| format!(" {}", String::from_utf8_lossy(kind))).unwrap_or_default();
     let place = place_of(header, devices);
-    let handle = |name: &str| if header.handle == 0 { String::new() } else { format!(" {name} {}", handle_of(header.handle)) };
+    let handle =
+        |name: &str| if header.handle == 0 { String::new() } else { format!(" {name} {}", handle_of(header.handle)) };
     match type_of(&as_new(step)) {
         RTM_NEWQDISC => format!("qdisc {place}{}{kind}", handle("handle")),
         RTM_NEWTCLASS => format!("class {place}{}{kind}", handle("classid")),
         RTM_NEWCHAIN => format!("chain {place} chain {}{kind}", chain_of(step)),
         RTM_NEWTFILTER => {
-            let chain = Some(chain_of(step)).filter(|chain| *chain != 0).map(|it| format!(" chain {it}")).unwrap_or_default();
+            let chain =
+                Some(chain_of(step)).filter(|chain| *chain != 0).map(|it| format!(" chain {it}")).unwrap_or_default();
             let pref = header.info >> 16;
             let own = Some(header.handle).filter(|own| *own != 0).map(|it| format!(" handle {}", number_of(step, it)));
             format!("filter {place}{chain} pref {pref}{kind}{}", own.unwrap_or_default())
@@ -141,7 +150,8 @@ fn differing(old: &Value, new: &Value) -> String {
     flatten(new, "", &mut after);
     let places = before.keys().chain(after.keys().filter(|place| !before.contains_key(*place)));
     let differing: Vec<&String> = places.filter(|place| before.get(*place) != after.get(*place)).collect();
-    let shown = |values: &BTreeMap<String, String>, place: &String| values.get(place).map_or("none", |it| it).to_string();
+    let shown =
+        |values: &BTreeMap<String, String>, place: &String| values.get(place).map_or("none", |it| it).to_string();
     let mut text: Vec<String> = differing
         .iter()
         .take(MOST_VALUES)
@@ -207,7 +217,13 @@ mod tests {
         assert_eq!(named(RTM_NEWQDISC, 0x1_0000, TC_H_ROOT, 0, "htb"), "qdisc dev 7 root handle 1: htb");
         assert_eq!(named(RTM_NEWQDISC + 1, 0, TC_H_CLSACT, 0, "clsact"), "qdisc dev 7 clsact");
         assert_eq!(named(RTM_NEWTCLASS, 0x1_0010, 0x1_0001, 0, "htb"), "class dev 7 parent 1:1 classid 1:10 htb");
-        assert_eq!(named(RTM_NEWTFILTER, 0x8000_0800, 0x1_0000, 0x2_0008, "u32"), "filter dev 7 parent 1: pref 2 u32 handle 800::800");
-        assert_eq!(named(RTM_NEWTFILTER + 1, 1, 0xffff_fff3, 0x2_0008, "flower"), "filter dev 7 egress pref 2 flower handle 0x1");
+        assert_eq!(
+            named(RTM_NEWTFILTER, 0x8000_0800, 0x1_0000, 0x2_0008, "u32"),
+            "filter dev 7 parent 1: pref 2 u32 handle 800::800"
+        );
+        assert_eq!(
+            named(RTM_NEWTFILTER + 1, 1, 0xffff_fff3, 0x2_0008, "flower"),
+            "filter dev 7 egress pref 2 flower handle 0x1"
+        );
     }
 }

@@ -1,10 +1,14 @@
 //! Plans: the requests that bring what there is to what is wanted, by the proved plan.
 
-use crate::netlink::message::is_action;
+use crate::netlink::message::{RTM_NEWCHAIN, RTM_NEWQDISC, RTM_NEWTCLASS, RTM_NEWTFILTER, is_action};
+use crate::nla_frames::ParseableBytes as _;
 use crate::program_io::Stop;
 use crate::restore::compare::{Key, key_of};
-use crate::restore::messages::{actions_of, type_of};
+use crate::restore::messages::{actions_of, payload_of, type_of};
 use crate::restore::plan::dumps_of;
+use crate::tc_action_messages::TcActionMessage;
+use crate::tc_messages::TcMessage;
+use crate::tc_restore::{Object, request_of, request_of_actions};
 use crate::tcmake_lib::lines::{Remark, RemarkKind, Source};
 use crate::tcmake_lib::plans::plan_of_dumps;
 use std::collections::BTreeSet;
@@ -29,8 +33,24 @@ impl Fault {
         let place = usize::try_from(remark.number).ok().and_then(|number| number.checked_sub(1));
         let dump = place.and_then(|place| if is_of_now { now } else { wanted }.get(place));
         let name = dump.and_then(|dump| key_of(dump)).map(|key| format!("{key}: ")).unwrap_or_default();
-        Fault { is_of_now, place, text: format!("{name}{}", remark.text) }
+        let why = dump.and_then(|dump| unmade(dump)).map(|why| format!(": {why}")).unwrap_or_default();
+        Fault { is_of_now, place, text: format!("{name}{}{why}", remark.text) }
     }
+}
+
+// Why no request makes what was dumped, if that is so.
+fn unmade(dump: &[u8]) -> Option<String> {
+    let object = match type_of(dump) {
+        RTM_NEWQDISC => Object::Qdisc,
+        RTM_NEWTCLASS => Object::Class,
+        RTM_NEWTFILTER => Object::Filter,
+        RTM_NEWCHAIN => Object::Chain,
+        _ => {
+            let message = TcActionMessage::parse(payload_of(dump)).ok()?;
+            return request_of_actions(message).err().map(|error| error.to_string());
+        }
+    };
+    request_of(&[], object, TcMessage::parse(payload_of(dump)).ok()?).err().map(|error| error.to_string())
 }
 
 /// The plan from what is there to what is wanted, both as dumps. Of actions, which belong to no interface, those that are wanted are made or
@@ -38,9 +58,8 @@ impl Fault {
 pub(crate) fn plan(now: &[Vec<u8>], wanted: &[Vec<u8>], may_go: impl Fn(&Key) -> bool) -> Plan {
     let mut all = wanted.to_vec();
     all.extend(others(now, wanted, may_go));
-    requests(now, &all).unwrap_or_else(|_| {
-        Err(vec![Fault { is_of_now: true, place: None, text: "out of memory".to_string() }])
-    })
+    requests(now, &all)
+        .unwrap_or_else(|_| Err(vec![Fault { is_of_now: true, place: None, text: "out of memory".to_string() }]))
 }
 
 fn requests(now: &[Vec<u8>], wanted: &[Vec<u8>]) -> Result<Plan, Stop> {
@@ -55,7 +74,9 @@ fn requests(now: &[Vec<u8>], wanted: &[Vec<u8>]) -> Result<Plan, Stop> {
 
 // The actions of now that stay although nobody wants them.
 fn others(now: &[Vec<u8>], wanted: &[Vec<u8>], may_go: impl Fn(&Key) -> bool) -> Vec<Vec<u8>> {
-    let own = |messages: &[Vec<u8>]| messages.iter().filter(|it| is_action(type_of(it))).flat_map(|it| actions_of(it)).collect::<Vec<_>>();
+    let own = |messages: &[Vec<u8>]| {
+        messages.iter().filter(|it| is_action(type_of(it))).flat_map(|it| actions_of(it)).collect::<Vec<_>>()
+    };
     let named: BTreeSet<Key> = own(wanted).iter().map(|action| action.key()).collect();
     let stay = own(now).into_iter().filter(|action| !named.contains(&action.key()) && !may_go(&action.key()));
     stay.map(|action| action.change()).collect()

@@ -3,14 +3,15 @@
 use super::arguments::Arguments;
 use super::plan::plan;
 use super::wanted::Wanted;
-use crate::netlink::Transport;
+use crate::netlink::{Dump, Transport};
 use crate::restore::compare::{Objects, objects_of};
 use crate::restore::messages::blocks_of;
 use crate::restore::plan::requests_of_dump;
-use crate::restore::prepare::Ended;
+use crate::restore::prepare::{Ended, blocks_of_others, check_blocks, is_in_block};
 use crate::restore::state;
 use crate::restore::status::Status;
 use crate::restore::world::{Place, World, text_of};
+use std::collections::BTreeMap;
 
 /// All that is known before the first request.
 #[derive(Debug)]
@@ -19,11 +20,45 @@ pub(crate) struct Prepared {
     pub(crate) wanted: Wanted,
     /// The requests.
     pub(crate) steps: Vec<Vec<u8>>,
-    /// What there is now, as it is dumped, and what it is.
+    /// What there is now, as it is dumped, without what is in blocks of others, and what all of it is.
     pub(crate) before: Vec<Vec<u8>>,
     pub(crate) before_objects: Objects,
+    pub(crate) others: Others,
     /// The file that has the save of it; none if nothing is to be sent.
     pub(crate) kept: Option<String>,
+}
+
+/// The blocks of other interfaces too, each with one of these.
+pub(crate) type Others = BTreeMap<u32, u32>;
+
+/// What there is, and the requests that lead to what is wanted.
+#[derive(Debug)]
+pub(crate) struct Planned {
+    /// All of it.
+    pub(crate) dump: Dump,
+    /// Without what is in blocks of others.
+    pub(crate) before: Vec<Vec<u8>>,
+    pub(crate) others: Others,
+    pub(crate) steps: Vec<Vec<u8>>,
+}
+
+/// Dumps what there is, and plans. What is in blocks of others has to be as it is wanted, and is left out.
+pub(crate) fn planned<T: Transport, L: Transport>(
+    world: &mut World<'_, T, L>,
+    wanted: &mut Wanted,
+) -> Result<Planned, Ended> {
+    let others = blocks_of_others(world, &wanted.targets)?;
+    check_blocks(world, &others, &wanted.requests)?;
+    let dump = world.first_dump(&wanted.targets.own())?;
+    let before = without(&dump.messages, &others);
+    wanted.leave_out(|message| is_in_block(message, &others));
+    let steps = plan(&before, &wanted.messages, |_| false).map_err(|faults| nothing_sent(wanted.said_of(&faults)))?;
+    Ok(Planned { dump, before, others, steps })
+}
+
+/// Dumps without what is in these blocks.
+pub(crate) fn without(dumps: &[Vec<u8>], others: &Others) -> Vec<Vec<u8>> {
+    dumps.iter().filter(|dump| !is_in_block(dump, others)).cloned().collect()
 }
 
 /// Plans, and asks whether what is planned may be sent.
@@ -32,29 +67,24 @@ pub(crate) fn prepare<T: Transport, L: Transport>(
     wanted: Wanted,
     world: &mut World<'_, T, L>,
 ) -> Result<Prepared, Ended> {
-    let own = wanted.targets.own();
-    let dump = world.first_dump(&own)?;
-    let steps = planned(&dump.messages, &wanted)?;
+    let mut wanted = wanted;
+    let Planned { dump, before, others, steps } = planned(world, &mut wanted)?;
     let kept = if steps.is_empty() {
         None
     } else {
-        check_back(arguments, &dump.messages, &wanted)?;
-        Some(keep(arguments, &wanted, &text_of(&dump, &own)?.0)?)
+        check_back(arguments, &before, &wanted)?;
+        Some(keep(arguments, &wanted, &text_of(&dump, &wanted.targets.own())?.0)?)
     };
     let blocks = wanted.messages.iter().flat_map(|it| blocks_of(it)).chain(dump.blocks).collect();
     Ok(Prepared {
         place: Place { devices: wanted.targets.devices.clone(), blocks },
         steps,
         before_objects: objects_of(&requests_of_dump(&dump.messages).requests),
-        before: dump.messages,
+        before,
+        others,
         kept,
         wanted,
     })
-}
-
-/// The plan from what there is now to what is wanted.
-pub(crate) fn planned(now: &[Vec<u8>], wanted: &Wanted) -> Result<Vec<Vec<u8>>, Ended> {
-    plan(now, &wanted.messages, |_| false).map_err(|faults| nothing_sent(wanted.said_of(&faults)))
 }
 
 fn nothing_sent(said: Vec<String>) -> Ended {
@@ -68,7 +98,9 @@ fn check_back(arguments: &Arguments, now: &[Vec<u8>], wanted: &Wanted) -> Result
     }
     plan(&wanted.messages, now, |_| true).map(drop).map_err(|faults| {
         let mut said: Vec<String> = faults.iter().map(|fault| format!("what is there now: {}", fault.text)).collect();
-        said.push("what is there now couldn't be made again, so that it isn't changed without --no-rollback".to_string());
+        said.push(
+            "what is there now couldn't be made again, so that it isn't changed without --no-rollback".to_string(),
+        );
         nothing_sent(said)
     })
 }

@@ -55,8 +55,9 @@ fn make_all(devices: &Devices) -> Result<(), String> {
     let mut kernel = Kernel::open().map_err(|fault| fault.to_string())?;
     let last = devices.indices().into_iter().max().unwrap_or_default();
     for device in devices.iter().filter(|device| device.index != LOOPBACK) {
-        make(&mut kernel, device, last + device.index)
-            .map_err(|fault| format!("an interface like {} can't be made in a new network namespace: {fault}", device.name))?;
+        make(&mut kernel, device, last + device.index).map_err(|fault| {
+            format!("an interface like {} can't be made in a new network namespace: {fault}", device.name)
+        })?;
     }
     Ok(())
 }

@@ -24,7 +24,11 @@ fn arguments(words: &[&str]) -> Arguments {
     static COUNT: AtomicUsize = AtomicUsize::new(0);
     let number = COUNT.fetch_add(1, Ordering::Relaxed);
     let folder = std::env::temp_dir().join(format!("conjareho-apply-{}-{number}", std::process::id()));
-    let words = ["tcapply", "--state", &folder.display().to_string(), "-"].iter().chain(words).map(OsString::from).collect::<Vec<_>>();
+    let words = ["tcapply", "--state", &folder.display().to_string(), "-"]
+        .iter()
+        .chain(words)
+        .map(OsString::from)
+        .collect::<Vec<_>>();
     arguments_of(words).expect("arguments")
 }
 
@@ -197,15 +201,25 @@ fn a_silent_kernel_is_a_refusal() {
 fn wrong_files() {
     let whole = saved(tree(1000));
     let lines: Vec<&str> = whole.lines().collect();
-    let edited = |text: String| text.lines().map(|it| if it.starts_with("{\"end\"") { "{\"end\":true}\n".to_string() } else { format!("{it}\n") }).collect::<String>();
+    let edited = |text: String| {
+        text.lines()
+            .map(|it| if it.starts_with("{\"end\"") { "{\"end\":true}\n".to_string() } else { format!("{it}\n") })
+            .collect::<String>()
+    };
     let class = lines.iter().position(|it| it.contains("RTM_NEWTCLASS")).expect("a class");
     let of_ids = lines[class].replace("\"index\":7", "\"index\":8");
     assert_ne!(of_ids, lines[class]);
     let cases = [
         (lines[..4].join("\n"), "cut".to_string()),
-        (whole.replace("{\"index\":7,", "{\"index\":9,").replace("wan", "gone"), "there is no interface gone".to_string()),
+        (
+            whole.replace("{\"index\":7,", "{\"index\":9,").replace("wan", "gone"),
+            "there is no interface gone".to_string(),
+        ),
         (edited(whole.replace(lines[class], &format!("{0}\n{0}", lines[class]))), format!("line {}", class + 2)),
-        (edited(whole.replace("\"7\":\"wan\"", "\"7\":\"wan\",\"8\":\"ids\"").replace(lines[class], &of_ids)), format!("line {}", class + 1)),
+        (
+            edited(whole.replace("\"7\":\"wan\"", "\"7\":\"wan\",\"8\":\"ids\"").replace(lines[class], &of_ids)),
+            format!("line {}", class + 1),
+        ),
         (edited(lines[class..].join("\n").replacen("", &format!("{}\n", lines[0]), 1)), "line 2".to_string()),
     ];
     for (file, said) in cases {

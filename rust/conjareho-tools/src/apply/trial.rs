@@ -3,6 +3,7 @@
 use super::arguments::Arguments;
 use super::check_after;
 use super::plan::plan;
+use super::prepare::{Planned, planned};
 use super::scratch::within;
 use super::wanted::{Wanted, wanted_of};
 use crate::netlink::{Device, Devices, Fault, Transport, state_of};
@@ -67,9 +68,10 @@ pub(crate) fn check<T: Transport, L: Transport>(
     world: &mut World<'_, T, L>,
     said: &mut Vec<String>,
 ) -> Result<Status, Ended> {
-    let wanted = wanted_of(arguments, file, world, said)?;
-    let dump = world.first_dump(&wanted.targets.own())?;
-    let now = requests_of_dump(&dump.messages);
+    let mut wanted = wanted_of(arguments, file, world, said)?;
+    let Planned { dump, before, others, .. } = planned(world, &mut wanted)?;
+    wanted.objects.retain(|key, _| key.block().is_none_or(|block| !others.contains_key(&block)));
+    let now = requests_of_dump(&before);
     if now.is_void || !now.complaints.is_empty() {
         return Err(Ended::because(
             Status::NothingSent,
@@ -91,7 +93,9 @@ fn tried(now: &[Vec<u8>], wanted: &Wanted) -> Result<usize, String> {
     let blocks = now.iter().chain(&wanted.messages).flat_map(|it| blocks_of(it)).collect();
     let place = Place { devices, blocks };
     let mut sending = Sending::new(&mut world, &place);
-    sending.carry_out(now).map_err(|stop| format!("what is there now can't be made in a new network namespace: {stop}"))?;
+    sending
+        .carry_out(now)
+        .map_err(|stop| format!("what is there now can't be made in a new network namespace: {stop}"))?;
     made_there(&mut sending, &own, wanted).map_err(|stop| format!("in a new network namespace: {stop}"))
 }
 

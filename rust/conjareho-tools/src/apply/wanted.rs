@@ -24,6 +24,8 @@ pub(crate) struct Wanted {
     pub(crate) messages: Vec<Vec<u8>>,
     // The numbers of their lines.
     numbers: Vec<u64>,
+    /// The requests that make them.
+    pub(crate) requests: Vec<Vec<u8>>,
     // What the file is called.
     file: String,
     /// What they make.
@@ -33,6 +35,12 @@ pub(crate) struct Wanted {
 }
 
 impl Wanted {
+    /// Leaves out dumps, which aren't these interfaces' to change.
+    pub(crate) fn leave_out(&mut self, is_left: impl Fn(&[u8]) -> bool) {
+        let dumps = std::mem::take(&mut self.messages).into_iter().zip(std::mem::take(&mut self.numbers));
+        (self.messages, self.numbers) = dumps.filter(|(message, _)| !is_left(message)).unzip();
+    }
+
     /// Why there is no plan to what is wanted, with the numbers of lines.
     pub(crate) fn said_of(&self, faults: &[Fault]) -> Vec<String> {
         faults.iter().map(|fault| self.said_of_one(fault)).collect()
@@ -89,6 +97,7 @@ pub(crate) fn wanted_of<T: Transport, L: Transport>(
         numbers,
         file: restored.file_name(),
         objects: objects_of(&made.requests),
+        requests: made.requests,
         in_hardware: hardware::count(save.lines()),
         targets,
     })
@@ -99,7 +108,8 @@ fn messages_in(asked: &Asked<'_>) -> Result<BTreeMap<u64, Vec<u8>>, Vec<String>>
     let forms = Forms { table: TcTables, tc: TC_MESSAGE, action: ACTION_MESSAGE };
     let index = asked.index.and_then(|index| i32::try_from(index).ok());
     let reading = Reading { source: Source::Wanted, index, names: asked.names };
-    let lines = read_lines(forms, reading, &mut asked.text.as_bytes()).map_err(|_| vec!["out of memory".to_string()])?;
+    let lines =
+        read_lines(forms, reading, &mut asked.text.as_bytes()).map_err(|_| vec!["out of memory".to_string()])?;
     let complaints = lines.remarks.iter().filter(|remark| remark.kind == RemarkKind::Complaint);
     let faults: Vec<String> = complaints.map(|remark| format!("line {}: {}", remark.number, remark.text)).collect();
     if lines.is_void || !faults.is_empty() {

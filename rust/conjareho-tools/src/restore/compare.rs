@@ -7,7 +7,7 @@ use super::messages::{actions_of, chain_of, kind_of, payload_of, type_of};
 use crate::forms_json::Shown;
 use crate::forms_kinds::{ACTION_MESSAGE, TC_MESSAGE, TcTables};
 use crate::netlink::message::{
-    RTM_NEWACTION, RTM_NEWCHAIN, RTM_NEWQDISC, RTM_NEWTCLASS, RTM_NEWTFILTER, Tcmsg, tcmsg_of,
+    MAGIC_BLOCK, RTM_NEWACTION, RTM_NEWCHAIN, RTM_NEWQDISC, RTM_NEWTCLASS, RTM_NEWTFILTER, Tcmsg, tcmsg_of,
 };
 use crate::tc_texts::handle_text;
 use ::serde_json::{Value, json};
@@ -67,6 +67,16 @@ impl Key {
     /// True for an action, which belongs to no interface.
     pub(crate) fn is_action(&self) -> bool {
         matches!(self, Key::Action(..))
+    }
+
+    /// The number of the shared block that it is in.
+    pub(crate) fn block(&self) -> Option<u32> {
+        match self {
+            Key::Object { index: MAGIC_BLOCK, parent, .. } | Key::Order { index: MAGIC_BLOCK, parent, .. } => {
+                Some(*parent)
+            }
+            _ => None,
+        }
     }
 
     /// True for the order of filters, which isn't one object.

@@ -6,9 +6,9 @@ use crate::netlink::message::{Header, RTM_NEWACTION, RTM_NEWTFILTER, header_of, 
 use crate::program_io::Stop;
 use crate::tc_capture::{MessageType, Time};
 use crate::tcmake_lib::lines::{RemarkKind, Source};
-use crate::tcmake_messages::Forms;
 use crate::tcmake_lib::order::{Asked, Restored, requests_of, requests_of_dumps};
 use crate::tcmake_lines::{NetlinkHeader, packet_at};
+use crate::tcmake_messages::Forms;
 
 /// The head of a save.
 const LINES_BEFORE: u64 = 1;

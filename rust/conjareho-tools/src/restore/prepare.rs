@@ -201,8 +201,8 @@ fn check_back(arguments: &Arguments, back: &Plan) -> Result<(), Ended> {
     Err(Ended::because(Status::NothingSent, said))
 }
 
-// The blocks that interfaces hold which aren't restored, each with one of these.
-fn blocks_of_others<T: Transport, L: Transport>(
+/// The blocks that interfaces hold which aren't restored, each with one of these.
+pub(crate) fn blocks_of_others<T: Transport, L: Transport>(
     world: &mut World<'_, T, L>,
     targets: &Targets,
 ) -> Result<BTreeMap<u32, u32>, Ended> {
@@ -217,13 +217,13 @@ fn blocks_of_others<T: Transport, L: Transport>(
     Ok(others)
 }
 
-// True for what is in one of these blocks.
-fn is_in_block(request: &[u8], blocks: &BTreeMap<u32, u32>) -> bool {
+/// True for what is in one of these blocks.
+pub(crate) fn is_in_block(request: &[u8], blocks: &BTreeMap<u32, u32>) -> bool {
     tcmsg_of(request).is_some_and(|header| header.index == MAGIC_BLOCK && blocks.contains_key(&header.parent))
 }
 
-// What is in a block of others has to be there as it is wanted.
-fn check_blocks<T: Transport, L: Transport>(
+/// An error if what is in a block of others isn't there as it is wanted.
+pub(crate) fn check_blocks<T: Transport, L: Transport>(
     world: &mut World<'_, T, L>,
     others: &BTreeMap<u32, u32>,
     wanted: &[Vec<u8>],

@@ -37,7 +37,15 @@ pub(crate) struct Sending<'w, 's, T, L> {
 
 impl<'w, 's, T: Transport, L: Transport> Sending<'w, 's, T, L> {
     pub(crate) fn new(world: &'w mut World<'s, T, L>, place: &'w Place) -> Self {
-        Sending { world, place, made: Vec::new(), has_cleared: false, is_plan: false, has_sent: false, minds_signals: true }
+        Sending {
+            world,
+            place,
+            made: Vec::new(),
+            has_cleared: false,
+            is_plan: false,
+            has_sent: false,
+            minds_signals: true,
+        }
     }
 
     /// Deletes the root, ingress and clsact qdiscs of the interfaces.

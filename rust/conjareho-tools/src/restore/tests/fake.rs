@@ -198,8 +198,10 @@ impl State {
             // All filters of a chain, which have one here, or of a priority.
             let goes = |it: &Vec<u8>| {
                 let own = tcmsg_of(it).unwrap_or_default();
-                let is_of_priority = header.kind == RTM_NEWCHAIN + 1 || own.info == tcmsg.info;
-                type_of(it) == RTM_NEWTFILTER && (own.index, own.parent) == (tcmsg.index, tcmsg.parent) && is_of_priority
+                let is_of_priority = header.kind == RTM_NEWCHAIN + 1 || own.info >> 16 == tcmsg.info >> 16;
+                type_of(it) == RTM_NEWTFILTER
+                    && (own.index, own.parent) == (tcmsg.index, tcmsg.parent)
+                    && is_of_priority
             };
             self.objects.retain(|it| !goes(it));
         } else {
@@ -221,8 +223,9 @@ fn is_same(message: &[u8], kind: u16, wanted: Tcmsg) -> bool {
     let own = header_of(message).map_or(0, |header| header.kind);
     let found = tcmsg_of(message).unwrap_or_default();
     own == kind
-        && (found.index, found.handle, found.parent) == (wanted.index, wanted.handle, wanted.parent)
-        && (own != RTM_NEWTFILTER || found.info == wanted.info)
+        && (found.index, found.handle) == (wanted.index, wanted.handle)
+        && (own == RTM_NEWTCLASS || found.parent == wanted.parent)
+        && (own != RTM_NEWTFILTER || found.info >> 16 == wanted.info >> 16)
 }
 
 fn answered(header: Header, kind: u16, body: &[u8]) -> Vec<u8> {
