@@ -1,5 +1,6 @@
 -- Requests that are only about the objects of two states.
-use Rattle.std.specs.Prelude.{◌≡◌, ⊤, ℕ, ℤ, Bool, true, List, [], ◌∷◌, take, drop, nat_eq, cast_unsigned, w32}
+use Rattle.std.specs.Prelude.{◌≡◌, ⊤, ℕ, ℤ, Bool, true, List, [], ◌∷◌, take, drop, nat_eq}
+use Rattle.std.specs.Int.{cast_unsigned, w32}
 use Rattle.std.specs.List.{list_any, list_all, AllByRecursion}
 use Rattle.nla_frames.specs.Value.{le_bytes}
 use Rattle.tc_changes.specs.Objects.{KernelThing}

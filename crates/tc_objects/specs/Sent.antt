@@ -1,5 +1,6 @@
 -- The requests of a plan, as bytes.
-use Rattle.std.specs.Prelude.{ℕ, ℤ, ◌+◌, ◌*◌, ◌%◌, ◌==◌, Bool, not, List, [], ◌∷◌, ◌++◌, drop, Option, Some, None, if◌then◌else◌, unwrap_or, cast_unsigned, w32}
+use Rattle.std.specs.Prelude.{ℕ, ℤ, ◌+◌, ◌*◌, ◌%◌, ◌==◌, Bool, not, List, [], ◌∷◌, ◌++◌, drop, Option, Some, None, if◌then◌else◌, unwrap_or}
+use Rattle.std.specs.Int.{cast_unsigned, w32}
 use Rattle.std.specs.List.{filter}
 use Rattle.nla_frames.specs.DefaultNla.{kept_codec}
 use Rattle.nla_frames.specs.Emission.{list_bytes}

@@ -1,7 +1,7 @@
 //! The configuration of an object: what a change can't alter, and the messages of the requests that make it and that change another
 //! one into it.
 
-ghost use Rattle.std.specs.Prelude.{◌≡◌, ◌==◌};
+ghost use Rattle.std.specs.Prelude.{◌≡◌, ◌==◌, length, if◌then◌else◌};
 ghost use Rattle.tc_objects.specs.Config.{part_in, after_part, making_in, kept_in, fixed_in, change_in, message_in, changing_in};
 
 use nla_frames::u32_bytes;
@@ -31,17 +31,11 @@ pub(crate) const MADE: u8 = 1;
 /// A request makes it, and one changes it.
 pub(crate) const CHANGED: u8 = 2;
 
-impl<'a> Config<'a> {
-    /// The message of the request that changes another one into it.
-    pub(crate) fn changing(self) -> &'a [u8]
-        ensures { result.now ≡ (if length self.change.now == 0 then self.message.now else self.change.now) }
-    {
-        if self.change.is_empty() {
-            self.message
-        } else {
-            self.change
-        }
-    }
+/// The message of the request that changes another object into one: that which makes it, if there is no other.
+pub(crate) fn changing<'a>(change: &'a [u8], message: &'a [u8]) -> &'a [u8]
+    ensures { result.now ≡ (if length change.now == 0 then message.now else change.now) }
+{
+    if change.is_empty() { message } else { change }
 }
 
 /// The bytes of a configuration: what a kernel does, then each part after its length, and the message.

@@ -14,6 +14,7 @@ mod normal;
 pub mod objects;
 pub mod plans;
 pub mod reading;
+mod renamed;
 pub mod requests;
 pub mod rules;
 pub mod shown;

@@ -1,14 +1,14 @@
 //! The requests of a plan.
 
-ghost use Rattle.std.specs.Prelude.{◌≡◌, ◌++◌, map, IfOk};
+ghost use Rattle.std.specs.Prelude.{◌≡◌, ◌++◌, ◌∷◌, [], map, drop, IfOk, option_to_list};
 ghost use Rattle.std.specs.List.{flat_map};
 ghost use Rattle.std.specs.HashMap as hash;
 ghost use Rattle.nla_frames.specs.Value.{le_bytes};
 ghost use Rattle.tc_changes.specs.Objects.{request, same_key};
 ghost use Rattle.tc_changes.specs.declared.key.Key.{Key as KeyModel};
-ghost use Rattle.tc_objects.specs.Sent.{seen, sent, sent_by, new_type, message_by, addressed, front, header_bytes, info_bytes, chain_bytes, chain_if, deleted, action_bytes, frame_bytes, name_in};
+ghost use Rattle.tc_objects.specs.Sent.{seen, sent, sent_by, new_type, message_by, addressed, front, header_bytes, chain_bytes, chain_if, deleted, action_bytes, frame_bytes, name_in};
 
-use crate::config::read;
+use crate::config::{changing, read};
 use crate::frames::framed;
 use nla_frames::{DefaultNla, i32_bytes, u32_bytes};
 use std::alloc::{AllocError, Allocator};
@@ -73,7 +73,8 @@ fn request_of<A: Allocator + Copy>(
             sending(alloc, object.key, NEW_FLAGS, None, message)
         }
         Step::Change(object) => {
-            let message = read(&object.config).changing();
+            let config = read(&object.config);
+            let message = changing(config.change, config.message);
             let handle = handles.get(&object.key).copied();
             sending(alloc, object.key, CHANGE_FLAGS, handle, message)
         }

@@ -1,6 +1,8 @@
 //! What a kernel changes in place, by the kinds of objects.
 
-ghost use Rattle.std.specs.Prelude.{◌≡◌};
+ghost use Rattle.std.specs.Prelude.{◌≡◌, nat_eq};
+ghost use Rattle.std.specs.List.{list_all, list_any};
+ghost use Rattle.tc_changes.specs.Objects.{same_key};
 ghost use Rattle.tc_objects.specs.Config.{takes, can_make, shares, is_action};
 
 use crate::config::{CHANGED, MADE, read};

@@ -9,6 +9,7 @@ use crate::known::known_of;
 use crate::names::names_of;
 use crate::objects::object_of;
 use crate::reading::{Origin, Reading, readings_of};
+use crate::renamed::renamed;
 use crate::requests::Handles;
 use crate::shown::Shown;
 use crate::state_error::StateError;
@@ -43,11 +44,12 @@ pub fn state_of<A: Allocator + Copy>(
 ) -> Result<State<A>, StateError>
     ensures ready { IfOk result (λ state. ready same_key [] (things state.objects.items) ≡ true) }
 {
-    state_by(alloc, dumps, None)
+    let none = HashMap::new(alloc);
+    state_by(alloc, dumps, &none, false)
 }
 
-/// The same of what is wanted instead of a state: filters that are there come before new ones, since some kinds refuse a filter with the
-/// values that another one still has.
+/// The same of what is wanted instead of a state. Filters that are there come before new ones, since some kinds refuse a filter with the
+/// values that another one still has; and handles of qdiscs that the kernel chose are those of the same places now.
 pub fn state_after<A: Allocator + Copy>(
     alloc: A,
     dumps: Vec<Dump<A>, A>,
@@ -55,20 +57,27 @@ pub fn state_after<A: Allocator + Copy>(
 ) -> Result<State<A>, StateError>
     ensures ready { IfOk result (λ state. ready same_key [] (things state.objects.items) ≡ true) }
 {
-    state_by(alloc, dumps, Some(&now.handles))
+    let dumps = renamed(alloc, &now.handles, dumps)?;
+    state_by(alloc, dumps, &now.handles, true)
 }
 
+// The same, with filters that aren't there last, if it sorts.
 fn state_by<A: Allocator + Copy>(
     alloc: A,
     dumps: Vec<Dump<A>, A>,
-    there: Option<&Handles<A>>,
+    there: &Handles<A>,
+    sorts: bool,
 ) -> Result<State<A>, StateError>
     ensures ready { IfOk result (λ state. ready same_key [] (things state.objects.items) ≡ true) }
 {
     let known = known_of(alloc, &dumps)?;
     let readings = readings_of(alloc, &known, dumps)?;
     let steps = steps_of(alloc, readings)?;
-    let steps = new_last(alloc, there, steps)?;
+    let steps = if sorts {
+        new_last(alloc, there, steps)?
+    } else {
+        steps
+    };
     let order = ordered(alloc, steps)?;
     if let Some(step) = order.unordered.first() {
         return Err(StateError::Circle {
@@ -88,7 +97,7 @@ fn state_by<A: Allocator + Copy>(
 // These steps, those of filters last that aren't there.
 fn new_last<A: Allocator + Copy>(
     alloc: A,
-    there: Option<&Handles<A>>,
+    there: &Handles<A>,
     steps: Vec<Step<Item<A>, Key, A>, A>,
 ) -> Result<Vec<Step<Item<A>, Key, A>, A>, AllocError> {
     let mut first = Vec::with_capacity(alloc, steps.len())?;
@@ -105,9 +114,9 @@ fn new_last<A: Allocator + Copy>(
 }
 
 // True for a filter that isn't there.
-fn is_new<A: Allocator>(there: Option<&Handles<A>>, key: Key) -> bool {
-    match (there, key) {
-        (Some(there), Key::Filter { .. }) => !there.contains_key(&key),
+fn is_new<A: Allocator>(there: &Handles<A>, key: Key) -> bool {
+    match key {
+        Key::Filter { .. } => !there.contains_key(&key),
         _ => false,
     }
 }
