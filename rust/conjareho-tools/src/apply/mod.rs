@@ -19,7 +19,7 @@ use wanted::{Wanted, wanted_of};
 
 use crate::netlink::fault::Printable;
 use crate::netlink::{Socket, Transport};
-use crate::restore::compare::Key;
+use crate::restore::compare::{Key, Objects, by_place};
 use crate::restore::prepare::Ended;
 use crate::restore::sending::Sending;
 use crate::restore::status::Status;
@@ -169,7 +169,7 @@ fn carried_out<T: Transport, L: Transport>(
     let wanted = &prepared.wanted;
     sending.carry_out(&prepared.steps)?;
     // Actions belong to no interface.
-    let after = same(sending, &wanted.objects, |_| true, |key, _| key.is_action())?;
+    let after = same(sending, &wanted.objects, by_place, |key, _| key.is_action())?;
     check_after(&without(&after, &prepared.others), wanted)?;
     if wanted.in_hardware > 0 {
         said.extend(hardware::lost(wanted.in_hardware, hardware::count(lines_of(&after)?.text.lines())));
@@ -230,7 +230,8 @@ fn gone_back<T: Transport, L: Transport>(prepared: &Prepared, sending: &mut Send
     }
     // Actions that neither side names are others'.
     let is_seen = |key: &Key| !key.is_action() || prepared.wanted.names(key);
-    match (same(sending, &prepared.before_objects, is_seen, |_, _| false), refused) {
+    let seen = |all: Objects| by_place(all.into_iter().filter(|(key, _)| is_seen(key)).collect());
+    match (same(sending, &prepared.before_objects, seen, |_, _| false), refused) {
         (Ok(_), _) => Ok(()),
         (Err(_), Some(stop)) | (Err(stop), None) => Err(stop),
     }

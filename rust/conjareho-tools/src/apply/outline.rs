@@ -31,7 +31,7 @@ pub(crate) fn lines(steps: &[Vec<u8>], now: &[Vec<u8>], wanted: &[Vec<u8>], devi
         let sign = if replaces(step) { '~' } else { '+' };
         format!("  {sign} {}{}", name_of(step, devices), more_of(step, sign == '~', &old, &gone))
     };
-    [counted(steps, &old, &wanted)].into_iter().chain(steps.iter().map(line)).collect()
+    [counted(steps, &wanted)].into_iter().chain(steps.iter().map(line)).collect()
 }
 
 // True for the dump of what a request deletes by its own handle, or a qdisc by its place.
@@ -49,16 +49,13 @@ fn is_deleted(dump: &[u8], step: &[u8]) -> bool {
         && chain_of(dump) == chain_of(step)
 }
 
-fn counted(steps: &[Vec<u8>], now: &Objects, wanted: &Objects) -> String {
+fn counted(steps: &[Vec<u8>], wanted: &Objects) -> String {
     if steps.is_empty() {
         return "what is there is what is wanted".to_string();
     }
     let deleted = steps.iter().filter(|step| deletes(step)).count();
     let changed = steps.iter().filter(|step| replaces(step)).count();
-    let touched: Vec<Key> = steps.iter().filter(|step| !deletes(step)).filter_map(|step| key_of(step)).collect();
-    let stays =
-        |(key, held): &(&Key, &Held)| !touched.contains(key) && now.get(*key).is_some_and(|it| it.is_same(held));
-    let stay = wanted.iter().filter(stays).count();
+    let stay = wanted.keys().filter(|key| !key.is_order()).count().saturating_sub(steps.len() - deleted);
     let requests = if steps.len() == 1 { "1 request".to_string() } else { format!("{} requests", steps.len()) };
     let made = steps.len() - deleted - changed;
     format!("{requests}: {deleted} deleted, {changed} changed, {made} made; {stay} objects stay")

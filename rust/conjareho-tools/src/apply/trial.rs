@@ -7,6 +7,7 @@ use super::prepare::{Planned, planned};
 use super::scratch::within;
 use super::wanted::{Wanted, wanted_of};
 use crate::netlink::{Device, Devices, Fault, Transport, state_of};
+use crate::restore::compare::by_place;
 use crate::restore::messages::blocks_of;
 use crate::restore::plan::requests_of_dump;
 use crate::restore::prepare::Ended;
@@ -107,6 +108,6 @@ fn made_there<T: Transport, L: Transport>(
     let there = sending.world.first_dump(own)?.messages;
     let steps = plan(&there, &wanted.messages, |_| false).map_err(|faults| Stop::Unplanned(wanted.said_of(&faults)))?;
     sending.carry_out(&steps)?;
-    check_after(&same(sending, &wanted.objects, |_| true, |key, _| key.is_action())?, wanted)?;
+    check_after(&same(sending, &wanted.objects, by_place, |key, _| key.is_action())?, wanted)?;
     Ok(steps.len())
 }

@@ -69,6 +69,26 @@ impl Key {
         matches!(self, Key::Action(..))
     }
 
+    // Interface, parent and handle of a qdisc whose handle the kernel chose.
+    fn chosen(&self) -> Option<(i32, u32, u32)> {
+        match self {
+            Key::Object { kind: RTM_NEWQDISC, index, parent, handle, .. } if CHOSEN.contains(&(handle >> 16)) => {
+                Some((*index, *parent, *handle))
+            }
+            _ => None,
+        }
+    }
+
+    fn moved(mut self, majors: &Majors) -> Key {
+        if let Key::Object { kind: RTM_NEWQDISC | RTM_NEWTCLASS, index, handle, .. } = &mut self {
+            *handle = moved(majors, *index, *handle);
+        }
+        if let Key::Object { index, parent, .. } | Key::Order { index, parent, .. } = &mut self {
+            *parent = moved(majors, *index, *parent);
+        }
+        self
+    }
+
     /// The number of the shared block that it is in.
     pub(crate) fn block(&self) -> Option<u32> {
         match self {
@@ -181,6 +201,33 @@ fn put_object(request: &[u8], header: Tcmsg, is_ingress: bool, objects: &mut Obj
         }
     }
     objects.insert(Key::Object { kind, index, parent, chain, info, handle }, Held::Request(request.to_vec()));
+}
+
+// The first handle that the kernel chooses for a qdisc, and the last.
+const CHOSEN: std::ops::RangeInclusive<u32> = 0x8000..=0xFFFE;
+
+/// Objects with the handles that the kernel chose as if it had chosen them by place: the same for each state that differs in nothing else.
+pub(crate) fn by_place(objects: Objects) -> Objects {
+    let qdiscs: Vec<(i32, u32, u32)> = objects.keys().filter_map(Key::chosen).collect();
+    let mut majors = BTreeMap::new();
+    loop {
+        let is_next = |(index, parent, handle): &(i32, u32, u32)| {
+            !majors.contains_key(&(*index, handle >> 16))
+                && (!CHOSEN.contains(&(parent >> 16)) || majors.contains_key(&(*index, parent >> 16)))
+        };
+        let next = qdiscs.iter().copied().filter(is_next);
+        let next = next.min_by_key(|(index, parent, _)| (*index, moved(&majors, *index, *parent)));
+        let Some((index, _, handle)) = next else { break };
+        majors.insert((index, handle >> 16), CHOSEN.start() + majors.len() as u32);
+    }
+    objects.into_iter().map(|(key, held)| (key.moved(&majors), held)).collect()
+}
+
+// The new upper halves of handles, by interface and upper half.
+type Majors = BTreeMap<(i32, u32), u32>;
+
+fn moved(majors: &Majors, index: i32, handle: u32) -> u32 {
+    majors.get(&(index, handle >> 16)).map_or(handle, |major| major << 16 | handle & 0xFFFF)
 }
 
 /// What a request or a notification is about.
@@ -357,6 +404,22 @@ mod tests {
     fn passed_over(mut value: Value) -> Value {
         pass_over(&mut value);
         value
+    }
+
+    #[test]
+    fn chosen_handles_are_those_of_their_places() {
+        let object = |kind, parent, handle| Key::Object { kind, index: 7, parent, chain: 0, info: 0, handle };
+        let state = |one: u32, two: u32| -> Vec<Key> {
+            let keys = [
+                object(RTM_NEWQDISC, 0x1_0010, one << 16),
+                object(RTM_NEWQDISC, 0x1_0020, two << 16),
+                object(RTM_NEWTCLASS, two << 16, two << 16 | 1),
+                object(RTM_NEWTFILTER, two << 16, 1),
+            ];
+            by_place(keys.into_iter().map(|key| (key, Held::Handles(Vec::new()))).collect()).into_keys().collect()
+        };
+        assert_eq!(state(0x8001, 0x8002), state(0x8055, 0x8003));
+        assert_ne!(state(0x8001, 0x20), state(0x8001, 0x8002));
     }
 
     #[test]

@@ -169,21 +169,20 @@ fn carried_out<T: Transport, L: Transport>(
     // Without --clear what was there stays; actions belong to no interface.
     let was_there = |key: &Key, held: &Held| prepared.before.get(key).is_some_and(|before| before.is_same(held));
     let may_be = |key: &Key, held: &Held| key.is_action() || !arguments.clear && was_there(key, held);
-    let after = same(sending, &prepared.wanted, |_| true, may_be)?;
+    let after = same(sending, &prepared.wanted, |all| all, may_be)?;
     if prepared.in_hardware > 0 {
         said.extend(hardware::lost(prepared.in_hardware, hardware::count(lines_of(&after)?.text.lines())));
     }
     Ok(())
 }
 
-/// What is there, as it is dumped; an error if it isn't what is wanted, among the keys that are looked at. What was deleted may live on for a time.
+/// What is there, as it is dumped; an error if it isn't what is wanted, as far as that is `seen`. What was deleted may live on for a time.
 pub(crate) fn same<T: Transport, L: Transport>(
     sending: &mut Sending<'_, '_, T, L>,
     wanted: &Objects,
-    is_seen: impl Fn(&Key) -> bool,
+    seen: impl Fn(Objects) -> Objects,
     may_be: impl Fn(&Key, &Held) -> bool,
 ) -> Result<Vec<Vec<u8>>, Stop> {
-    let seen = |objects: Objects| objects.into_iter().filter(|(key, _)| is_seen(key)).collect::<Objects>();
     let wanted = seen(wanted.clone());
     let place = sending.place;
     let until = Instant::now() + PATIENCE;
@@ -241,7 +240,8 @@ fn gone_back<T: Transport, L: Transport>(prepared: &Prepared, sending: &mut Send
     }
     // Actions that aren't the save's are others'.
     let is_seen = |key: &Key| !key.is_action() || prepared.wanted.contains_key(key);
-    match (same(sending, &prepared.before, is_seen, |_, _| false), refused) {
+    let seen = |all: Objects| all.into_iter().filter(|(key, _)| is_seen(key)).collect();
+    match (same(sending, &prepared.before, seen, |_, _| false), refused) {
         (Ok(_), _) => Ok(()),
         (Err(_), Err(stop)) | (Err(stop), Ok(())) => Err(stop),
     }
