@@ -143,8 +143,8 @@ module _ (m : Message) (h : Header) (found : IsFound m h) (laws : Correspond (wo
       taken m h found verdict refl (tt, (tt, (tt, tt))) (read_events f s c) (read_sent f s c) line text is_text same_tokens utf8 refl refl
       (λ name some. inl (named name all members refl (subst (λ o. IsTrue (is_some o)) (at name) some)))
       made
-      (said.Read (Some f) (Some s) (Some c), says_read (words_of m.holds) m.payload laws _ x reads f s c fits settled canonical (at (codes "refused")) (at (codes "fits")) (at (codes "settled")) (at (codes "canonical")))
-      (agrees_read (words_of m.holds) m.payload laws _ x reads f s c fits settled canonical (at (codes "refused")) (at (codes "fits")) (at (codes "settled")) (at (codes "canonical")))
+      (said.Read (Some f) (Some s) (Some c), says_read (words_of m.holds) m.payload laws (ordered (object (members_of all))) x reads f s c fits settled canonical (at (codes "refused")) (at (codes "fits")) (at (codes "settled")) (at (codes "canonical")))
+      (agrees_read (words_of m.holds) m.payload laws (ordered (object (members_of all))) x reads f s c fits settled canonical (at (codes "refused")) (at (codes "fits")) (at (codes "settled")) (at (codes "canonical")))
 
   refused : (e : DecodeError) → AreSmall e → (words_of m.holds).Fault m.payload e → IsRefused m e line → IsTaken text m.payload
   refused e small faulty (offset, within, path, is_text) =
@@ -152,6 +152,8 @@ module _ (m : Message) (h : Header) (found : IsFound m h) (laws : Correspond (wo
       let all = line_slots m h verdict (shown_of tc_tables (form_of m.holds) m.payload) in
       let at : (name : List ℕ) → get name (ordered (object (members_of all))) ≡ option_map ordered (value_at name all) = λ name. found_in_order name all refl in
       let n = numbers_of e in
+      let place : Slots = (codes "offset", Some (a_number offset)) ∷ (codes "path", Some (string path)) ∷ [] in
+      let after : AreReadable place 49 = (within, (tt, tt)) in
       let told : AreTold (ordered (object (members_of all))) e = record {
         len = at (codes "len") ∙ kept_number n.len;
         needed = at (codes "needed") ∙ kept_number n.needed;
@@ -160,15 +162,15 @@ module _ (m : Message) (h : Header) (found : IsFound m h) (laws : Correspond (wo
         expected = at (codes "expected") ∙ kept_number n.expected;
         got = at (codes "got") ∙ kept_number n.got;
       } in
-      taken m h found verdict refl (tt, both_readable (number_slots n) _ 49 (numbers_readable e 49 small) (within, (tt, tt))) (fault_events e offset path)
+      taken m h found verdict refl (tt, both_readable (number_slots n) place 49 (numbers_readable e 49 small) after) (fault_events e offset path)
       (fault_sent e offset path) line text is_text same_tokens utf8 refl refl
       (λ name some. elim (either name members fault_members (named name all (members ++ fault_members) refl (subst (λ o. IsTrue (is_some o)) (at name) some))) [
         | inl one ↦ inl one
         | inr other ↦ inr (ap is_some (at (codes "refused")), other)
       ])
       made
-      (said.Refused e, says_refused (words_of m.holds) m.payload laws _ e faulty (at (codes "refused")) told)
-      (agrees_refused (words_of m.holds) m.payload laws _ e faulty (at (codes "refused")) told)
+      (said.Refused e, says_refused (words_of m.holds) m.payload laws (ordered (object (members_of all))) e faulty (at (codes "refused")) told)
+      (agrees_refused (words_of m.holds) m.payload laws (ordered (object (members_of all))) e faulty (at (codes "refused")) told)
 
   pub line_taken : ((e : DecodeError) → (grammar_of m.holds).Fault m.payload e → AreSmall e) → IsLineOf m line → IsTaken text m.payload
   unfolding IsLineOf
