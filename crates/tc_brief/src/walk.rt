@@ -7,8 +7,8 @@ ghost use Rattle.tc_units.specs.Names.{names_view};
 ghost use Rattle.tc_brief.specs.Leaves.{leaf_view, leaves_view, value_view};
 ghost use Rattle.tc_brief.specs.Rows.{find_row, or_row, plain_row, row_view, rows_view};
 ghost use Rattle.tc_brief.specs.Tape.{event_of, events_of};
-ghost use Rattle.tc_brief.specs.Walk.{close_map, close_seq, closing, displayed, frame_view, is_actions, is_flat, is_head, is_of_action, is_other};
-ghost use Rattle.tc_brief.specs.Walk.{is_silent, is_through, is_transparent, item_shape, leaf_of, leaves, list_shape, names_in, note, number_value};
+ghost use Rattle.tc_brief.specs.Walk.{close_map, close_seq, closing, displayed, frame_view, is_actions, is_enum, is_flat, is_head, is_of_action, is_other};
+ghost use Rattle.tc_brief.specs.Walk.{is_silent, is_stand_in, is_through, is_transparent, item_shape, leaf_of, leaves, list_shape, names_in, note, number_value};
 ghost use Rattle.tc_brief.specs.Walk.{open_map, open_seq, opened, opening, option_list, other_leaf, place_within, plain_leaf, rated, record_shape};
 ghost use Rattle.tc_brief.specs.Walk.{rest_of, section_in, settle, stack_of, start, state_of, step, styled, take_key, take_leaf, text_number, top_of};
 ghost use Rattle.tc_brief.specs.Walk.{value_of, with_number};
@@ -239,11 +239,25 @@ fn is_through(key: &str) -> bool
 fn record_shape(key: &str, display: &Display, style: Style) -> Shape
     ensures { result ≡ record_shape key.now display.now style }
 {
-    if is_transparent(display) || is_flat(style) || is_through(key) {
+    if is_transparent(display) || is_flat(style) || is_through(key) || is_enum(display) {
         Shape::Silent
     } else {
         Shape::Braces
     }
+}
+
+// True for a number with names.
+fn is_enum(display: &Display) -> bool
+    ensures { result ≡ is_enum display.now }
+{
+    matches!(display, Display::Text(_) | Display::Verdict(_) | Display::Family(_))
+}
+
+// True for the names of what stands for a number with names: a number without one, or malformed bytes.
+fn is_stand_in(key: &str) -> bool
+    ensures { result ≡ is_stand_in key.now }
+{
+    is_other(key) || is_same(key, "raw")
 }
 
 fn list_shape(key: &str, display: &Display, style: Style) -> Shape
@@ -458,6 +472,9 @@ impl<'t> Walk<'t> {
     fn take_key<C: Columns, W: Words>(&mut self, columns: &C, words: &W, key: &'t str, frame: &Frame<'t>)
         ensures { state_of self.new ≡ take_key (C.table (C.options columns.now)) W.rows key.now (state_of self.old) (frame_view frame.now) }
     {
+        if is_enum(&self.display) && is_stand_in(key) {
+            return;
+        }
         self.key = key;
         self.display = display_at(columns, self.companion, frame.place, frame.base, key);
         self.row = rated(frame.row, row_in(words, frame.place, frame.base, key));

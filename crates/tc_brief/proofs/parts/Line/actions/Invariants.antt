@@ -2,7 +2,7 @@ use Rattle.std.proofs.Common.{length, ◌++◌, ◌≡◌}
 use Rattle.tc_brief.specs.Leaves.{leaves_view}
 use Rattle.tc_brief.specs.Lines.{actions}
 use Rattle.tc_brief.specs.Words.{written}
-use Rattle.tc_brief.proofs.line.Line.actions.Given as goal
+use Rattle.tc_brief.proofs.parts.Line.actions.Given as goal
 
 -- what the leaves that are left add to what there is, is what all add
 
