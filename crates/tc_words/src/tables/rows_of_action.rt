@@ -16,7 +16,7 @@ static ROWS_OF_ACTION: [&'static [Row<'static>]; 9] = [
         Row { key: "Flags", word: "", style: Style::Flat, with: "", left: LeftOut::Never },
         Row { key: "HwStats", word: "hw_stats", style: Style::Value, with: "", left: LeftOut::Never },
         Row { key: "UsedHwStats", word: "", style: Style::Statistics, with: "", left: LeftOut::Never },
-        Row { key: "InHwCount", word: "", style: Style::Statistics, with: "", left: LeftOut::Never },
+        Row { key: "InHwCount", word: "", style: Style::Statistics, with: "", left: LeftOut::Equal(0) },
         Row { key: "Options", word: "", style: Style::Flat, with: "", left: LeftOut::Never },
     ],
     &[ // 1, `list action`: the rows of all kinds
@@ -27,7 +27,7 @@ static ROWS_OF_ACTION: [&'static [Row<'static>]; 9] = [
         Row { key: "Flags", word: "", style: Style::Flat, with: "", left: LeftOut::Never },
         Row { key: "HwStats", word: "hw_stats", style: Style::Value, with: "", left: LeftOut::Never },
         Row { key: "UsedHwStats", word: "", style: Style::Statistics, with: "", left: LeftOut::Never },
-        Row { key: "InHwCount", word: "", style: Style::Statistics, with: "", left: LeftOut::Never },
+        Row { key: "InHwCount", word: "", style: Style::Statistics, with: "", left: LeftOut::Equal(0) },
     ],
     &[ // 2, `list action`: the rows of other kinds
         Row { key: "Options", word: "", style: Style::Flat, with: "", left: LeftOut::Never },
@@ -44,8 +44,8 @@ static ROWS_OF_ACTION: [&'static [Row<'static>]; 9] = [
         Row { key: "index", word: "index", style: Style::Control, with: "", left: LeftOut::Never },
         Row { key: "capab", word: "", style: Style::Value, with: "", left: LeftOut::Equal(0) },
         Row { key: "action", word: "", style: Style::Control, with: "", left: LeftOut::Never },
-        Row { key: "refcnt", word: "ref", style: Style::Statistics, with: "", left: LeftOut::Never },
-        Row { key: "bindcnt", word: "bind", style: Style::Statistics, with: "", left: LeftOut::Never },
+        Row { key: "refcnt", word: "ref", style: Style::Statistics, with: "", left: LeftOut::Equal(0) },
+        Row { key: "bindcnt", word: "bind", style: Style::Statistics, with: "", left: LeftOut::Equal(0) },
     ],
     &[],
     &[ // 8, `struct tcf_t`

@@ -121,9 +121,9 @@ static ROWS_OF_ACTIONS_CTINFO: [&'static [Row<'static>]; 3] = [
         Row { key: "Zone", word: "zone", style: Style::Value, with: "", left: LeftOut::Never },
         Row { key: "ParmsDscpMask", word: "dscp", style: Style::Value, with: "", left: LeftOut::Never },
         Row { key: "ParmsCpmarkMask", word: "cpmark", style: Style::Value, with: "", left: LeftOut::Never },
-        Row { key: "StatsDscpSet", word: "dscp_set", style: Style::Statistics, with: "", left: LeftOut::Never },
-        Row { key: "StatsDscpError", word: "dscp_error", style: Style::Statistics, with: "", left: LeftOut::Never },
-        Row { key: "StatsCpmarkSet", word: "cpmark_set", style: Style::Statistics, with: "", left: LeftOut::Never },
+        Row { key: "StatsDscpSet", word: "dscp_set", style: Style::Statistics, with: "", left: LeftOut::Equal(0) },
+        Row { key: "StatsDscpError", word: "dscp_error", style: Style::Statistics, with: "", left: LeftOut::Equal(0) },
+        Row { key: "StatsCpmarkSet", word: "cpmark_set", style: Style::Statistics, with: "", left: LeftOut::Equal(0) },
     ],
     &[ // 121, `struct tc_ctinfo`
         Row { key: "generic", word: "", style: Style::Flat, with: "", left: LeftOut::Never },
@@ -425,8 +425,8 @@ static ROWS_OF_ACTIONS_POLICE: [&'static [Row<'static>]; 4] = [
         Row { key: "mtu", word: "mtu", style: Style::Value, with: "", left: LeftOut::Never },
         Row { key: "rate", word: "rate", style: Style::Rate, with: "Rate64", left: LeftOut::Never },
         Row { key: "peakrate", word: "peakrate", style: Style::Rate, with: "Peakrate64", left: LeftOut::Equal(0) },
-        Row { key: "refcnt", word: "ref", style: Style::Statistics, with: "", left: LeftOut::Never },
-        Row { key: "bindcnt", word: "bind", style: Style::Statistics, with: "", left: LeftOut::Never },
+        Row { key: "refcnt", word: "ref", style: Style::Statistics, with: "", left: LeftOut::Equal(0) },
+        Row { key: "bindcnt", word: "bind", style: Style::Statistics, with: "", left: LeftOut::Equal(0) },
         Row { key: "capab", word: "", style: Style::Value, with: "", left: LeftOut::Equal(0) },
     ],
     &[ // 339, `list action`: the rows of police

@@ -8,7 +8,10 @@ use tc_brief::{LeftOut, Row, Style};
 
 #[rattlefmt::skip]
 static ROWS_OF_ELEMENTS: [&'static [Row<'static>]; 4] = [
-    &[], &[], &[],
+    &[], &[],
+    &[ // 506, what an array holds
+        Row { key: "tab", word: "", style: Style::Value, with: "", left: LeftOut::Always },
+    ],
     &[ // 507, what an array holds
         Row { key: "tab", word: "", style: Style::Value, with: "", left: LeftOut::Always },
     ],

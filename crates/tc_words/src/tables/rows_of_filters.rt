@@ -307,7 +307,7 @@ static ROWS_OF_FILTERS_U32: [&'static [Row<'static>]; 6] = [
     &[ // 796, `struct tc_u32_mark`
         Row { key: "val", word: "", style: Style::Alone, with: "", left: LeftOut::Never },
         Row { key: "mask", word: "", style: Style::Alone, with: "", left: LeftOut::Never },
-        Row { key: "success", word: "", style: Style::Statistics, with: "", left: LeftOut::Never },
+        Row { key: "success", word: "", style: Style::Statistics, with: "", left: LeftOut::Equal(0) },
     ],
     &[ // 797, `list tc`: the rows of u32
         Row { key: "Options", word: "", style: Style::Flat, with: "", left: LeftOut::Never },

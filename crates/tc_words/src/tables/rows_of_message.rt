@@ -20,7 +20,7 @@ static ROWS_OF_MESSAGE: [&'static [Row<'static>]; 11] = [
         Row { key: "HwOffload", word: "|offloaded", style: Style::Choice, with: "", left: LeftOut::Equal(0) },
         Row { key: "IngressBlock", word: "ingress_block", style: Style::Value, with: "", left: LeftOut::Never },
         Row { key: "EgressBlock", word: "egress_block", style: Style::Value, with: "", left: LeftOut::Never },
-        Row { key: "Options", word: "", style: Style::Flat, with: "", left: LeftOut::Never },
+        Row { key: "OptionsRaw", word: "", style: Style::Bytes, with: "", left: LeftOut::Never },
         Row { key: "Xstats", word: "", style: Style::Statistics, with: "", left: LeftOut::Never },
     ],
     &[ // 820, `list tc`: the rows of all kinds
@@ -36,7 +36,7 @@ static ROWS_OF_MESSAGE: [&'static [Row<'static>]; 11] = [
         Row { key: "EgressBlock", word: "egress_block", style: Style::Value, with: "", left: LeftOut::Never },
     ],
     &[ // 821, `list tc`: the rows of other kinds
-        Row { key: "Options", word: "", style: Style::Flat, with: "", left: LeftOut::Never },
+        Row { key: "OptionsRaw", word: "", style: Style::Bytes, with: "", left: LeftOut::Never },
         Row { key: "Xstats", word: "", style: Style::Statistics, with: "", left: LeftOut::Never },
     ],
     &[], &[], &[], &[],

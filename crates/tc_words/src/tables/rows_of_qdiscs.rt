@@ -670,7 +670,7 @@ static ROWS_OF_QDISCS_HTB: [&'static [Row<'static>]; 7] = [
         Row { key: "buffer", word: "burst", style: Style::Burst, with: "rate", left: LeftOut::Never },
         Row { key: "cbuffer", word: "cburst", style: Style::Burst, with: "ceil", left: LeftOut::Never },
         Row { key: "quantum", word: "quantum", style: Style::Value, with: "", left: LeftOut::Never },
-        Row { key: "level", word: "level", style: Style::Statistics, with: "", left: LeftOut::Never },
+        Row { key: "level", word: "level", style: Style::Statistics, with: "", left: LeftOut::Equal(0) },
         Row { key: "prio", word: "prio", style: Style::Value, with: "", left: LeftOut::Never },
     ],
     &[ // 1251, `struct tc_htb_glob`
@@ -678,7 +678,7 @@ static ROWS_OF_QDISCS_HTB: [&'static [Row<'static>]; 7] = [
         Row { key: "rate2quantum", word: "r2q", style: Style::Value, with: "", left: LeftOut::Never },
         Row { key: "defcls", word: "default", style: Style::Value, with: "", left: LeftOut::Never },
         Row { key: "debug", word: "", style: Style::Value, with: "", left: LeftOut::Equal(0) },
-        Row { key: "direct_pkts", word: "direct_packets_stat", style: Style::Statistics, with: "", left: LeftOut::Never },
+        Row { key: "direct_pkts", word: "direct_packets_stat", style: Style::Statistics, with: "", left: LeftOut::Equal(0) },
     ],
     &[],
     &[ // 1253, `list tc`: the rows of htb

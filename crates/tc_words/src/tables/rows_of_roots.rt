@@ -25,7 +25,7 @@ static ROWS_OF_ROOTS_250: [&'static [Row<'static>]; 23] = [
         Row { key: "Flags", word: "", style: Style::Flat, with: "", left: LeftOut::Never },
         Row { key: "HwStats", word: "hw_stats", style: Style::Value, with: "", left: LeftOut::Never },
         Row { key: "UsedHwStats", word: "", style: Style::Statistics, with: "", left: LeftOut::Never },
-        Row { key: "InHwCount", word: "", style: Style::Statistics, with: "", left: LeftOut::Never },
+        Row { key: "InHwCount", word: "", style: Style::Statistics, with: "", left: LeftOut::Equal(0) },
         Row { key: "Options", word: "", style: Style::Flat, with: "", left: LeftOut::Never },
     ],
 ];
