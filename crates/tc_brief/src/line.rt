@@ -21,8 +21,8 @@ use crate::leaf::{Leaf, Section, Value};
 use crate::numbers::put_signed;
 use crate::parts::{Line, Scope, is_in};
 use crate::row::{Style, Words};
-use crate::values::{is_left_out, number_in, put_interface};
 use crate::tape::tokens_of;
+use crate::values::{is_left_out, number_in, put_interface};
 use crate::walk::leaves_of;
 use crate::words::put_first;
 use forms_json::{Form, Tables};
@@ -285,7 +285,13 @@ impl Line {
 
     // Writes `tcm_info`.
     #[tactic(auto, using(crate::proofs::Written::written_append))]
-    fn info(&mut self, counted: bool, of: InfoOf, names: &[Name<'_>], n: u64) -> Result<(), AllocError>
+    fn info(
+        &mut self,
+        counted: bool,
+        of: InfoOf,
+        names: &[Name<'_>],
+        n: u64,
+    ) -> Result<(), AllocError>
         ensures { OnOk result (self.new.text.items ≡ self.old.text.items ++ written (info_words counted of (names_view names.now) n)) }
     {
         match of {
@@ -303,7 +309,13 @@ impl Line {
         }
     }
 
-    fn info_in(&mut self, counted: bool, display: &Display, names: &[Name<'_>], value: &Value<'_>) -> Result<(), AllocError>
+    fn info_in(
+        &mut self,
+        counted: bool,
+        display: &Display,
+        names: &[Name<'_>],
+        value: &Value<'_>,
+    ) -> Result<(), AllocError>
         ensures { OnOk result (self.new.text.items ≡ self.old.text.items ++ written (info_in counted display.now (names_view names.now) (value_view value.now))) }
     {
         match (display, value) {
@@ -414,7 +426,12 @@ impl Line {
 
     // Writes statistics.
     #[tactic(auto, using(crate::proofs::Written::written_append))]
-    fn statistics(&mut self, scope: &Scope<'_, '_>, section: Section, leaves: &[Leaf<'_>]) -> Result<(), BriefError>
+    fn statistics(
+        &mut self,
+        scope: &Scope<'_, '_>,
+        section: Section,
+        leaves: &[Leaf<'_>],
+    ) -> Result<(), BriefError>
         ensures { OnOk result (self.new.text.items ≡ self.old.text.items ++ written (statistics (scope_view scope.now) section (leaves_view leaves.now))) }
     {
         self.counts(section, leaves)?;
@@ -446,7 +463,12 @@ impl Line {
 
     // Writes the actions of a filter.
     #[tactic(auto, using(crate::proofs::Written::written_append))]
-    fn actions(&mut self, counted: bool, protocol: u64, leaves: &[Leaf<'_>]) -> Result<(), BriefError>
+    fn actions(
+        &mut self,
+        counted: bool,
+        protocol: u64,
+        leaves: &[Leaf<'_>],
+    ) -> Result<(), BriefError>
         ensures { OnOk result (self.new.text.items ≡ self.old.text.items ++ written (actions counted protocol (leaves_view leaves.now))) }
     {
         let mut left = leaves;
@@ -467,7 +489,12 @@ impl Line {
 
     // Writes statistics after a semicolon.
     #[tactic(auto, using(crate::proofs::Written::written_append))]
-    fn after_semicolon(&mut self, counted: bool, scope: &Scope<'_, '_>, section: Section) -> Result<(), BriefError>
+    fn after_semicolon(
+        &mut self,
+        counted: bool,
+        scope: &Scope<'_, '_>,
+        section: Section,
+    ) -> Result<(), BriefError>
         ensures { OnOk result (self.new.text.items ≡ self.old.text.items
             ++ written (after_semicolon counted (scope_view scope.now) section)) }
     {
@@ -491,7 +518,12 @@ impl Line {
 
     // Writes the words of an object's kind, its hardware flags, and its actions.
     #[tactic(auto, using(crate::proofs::Written::written_append))]
-    fn body(&mut self, counted: bool, scope: &Scope<'_, '_>, leaves: &[Leaf<'_>]) -> Result<(), BriefError>
+    fn body(
+        &mut self,
+        counted: bool,
+        scope: &Scope<'_, '_>,
+        leaves: &[Leaf<'_>],
+    ) -> Result<(), BriefError>
         ensures { OnOk result (self.new.text.items ≡ self.old.text.items ++ written (body counted (scope_view scope.now) (leaves_view leaves.now))) }
     {
         self.section(scope, Section::Words, leaves)?;
@@ -516,7 +548,13 @@ impl Line {
 
     // Writes the line of an action after its verb.
     #[tactic(auto, using(crate::proofs::Written::written_append))]
-    fn own_action(&mut self, said: &Said<'_>, all: &[Leaf<'_>], kind: &Leaf<'_>, scope: &Scope<'_, '_>) -> Result<(), BriefError>
+    fn own_action(
+        &mut self,
+        said: &Said<'_>,
+        all: &[Leaf<'_>],
+        kind: &Leaf<'_>,
+        scope: &Scope<'_, '_>,
+    ) -> Result<(), BriefError>
         ensures { OnOk result (self.new.text.items ≡ self.old.text.items
             ++ written (own_action_words (said_view said.now) (leaves_view all.now) (leaf_view kind.now) (scope_view scope.now))) }
     {

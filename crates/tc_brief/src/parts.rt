@@ -17,8 +17,8 @@ use crate::leaf::{Leaf, Section, Shape, Value};
 use crate::numbers::{put_bits, put_burst};
 use crate::row::Style;
 use crate::values::{
-    depth_after, is_left_out, is_opening, is_set, is_skipped, number_in, put_assigned, put_hex_bytes,
-    put_name_of, put_open, put_value, put_within,
+    depth_after, is_left_out, is_opening, is_set, is_skipped, number_in, put_assigned,
+    put_hex_bytes, put_name_of, put_open, put_value, put_within,
 };
 use crate::words::put_word;
 use std::alloc::AllocError;
@@ -321,7 +321,12 @@ impl Line {
     }
 
     // Writes a leaf as its style says.
-    fn styled(&mut self, scope: &Scope<'_, '_>, rest: &[Leaf<'_>], leaf: &Leaf<'_>) -> Result<(), AllocError>
+    fn styled(
+        &mut self,
+        scope: &Scope<'_, '_>,
+        rest: &[Leaf<'_>],
+        leaf: &Leaf<'_>,
+    ) -> Result<(), AllocError>
         ensures { OnOk result (self.new.text.items ≡ self.old.text.items
             ++ written (styled_words leaf.now.row.style (scope_view scope.now) (leaves_view rest.now) (leaf_view leaf.now))) }
     {
@@ -354,7 +359,12 @@ impl Line {
         Ok(())
     }
 
-    fn by_value(&mut self, scope: &Scope<'_, '_>, rest: &[Leaf<'_>], leaf: &Leaf<'_>) -> Result<(), BriefError>
+    fn by_value(
+        &mut self,
+        scope: &Scope<'_, '_>,
+        rest: &[Leaf<'_>],
+        leaf: &Leaf<'_>,
+    ) -> Result<(), BriefError>
         ensures { OnOk result (self.new.text.items ≡ self.old.text.items
             ++ written (words_by (value_view leaf.now.value) (scope_view scope.now) (leaves_view rest.now) (leaf_view leaf.now))) }
     {
@@ -369,7 +379,13 @@ impl Line {
     }
 
     // Writes a leaf, unless it is left out or written by the one before it.
-    fn leaf(&mut self, scope: &Scope<'_, '_>, before: Option<&Leaf<'_>>, rest: &[Leaf<'_>], leaf: &Leaf<'_>) -> Result<(), BriefError>
+    fn leaf(
+        &mut self,
+        scope: &Scope<'_, '_>,
+        before: Option<&Leaf<'_>>,
+        rest: &[Leaf<'_>],
+        leaf: &Leaf<'_>,
+    ) -> Result<(), BriefError>
         ensures { OnOk result (self.new.text.items ≡ self.old.text.items
             ++ written (words_of (scope_view scope.now) (option_map (λ b. leaf_view b.now) before.entry) (leaves_view rest.now) (leaf_view leaf.now))) }
     {
@@ -381,7 +397,12 @@ impl Line {
 
     /// Writes the leaves of a section.
     #[tactic(auto, using(crate::proofs::Written::written_append))]
-    pub(crate) fn section(&mut self, scope: &Scope<'_, '_>, section: Section, leaves: &[Leaf<'_>]) -> Result<(), BriefError>
+    pub(crate) fn section(
+        &mut self,
+        scope: &Scope<'_, '_>,
+        section: Section,
+        leaves: &[Leaf<'_>],
+    ) -> Result<(), BriefError>
         ensures { OnOk result (self.new.text.items ≡ self.old.text.items
             ++ written (section_words (scope_view scope.now) section 0 None (leaves_view leaves.now))) }
     {

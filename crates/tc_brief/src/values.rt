@@ -80,7 +80,12 @@ fn put_named(out: &mut Vec<u8>, unit: Unit, name: Option<&str>, n: u64) -> Resul
 }
 
 // Appends a number as its column says.
-fn put_shown(out: &mut Vec<u8>, display: &Display, names: &[Name<'_>], n: u64) -> Result<(), AllocError>
+fn put_shown(
+    out: &mut Vec<u8>,
+    display: &Display,
+    names: &[Name<'_>],
+    n: u64,
+) -> Result<(), AllocError>
     ensures { OnOk result (out.new.items ≡ out.old.items ++ shown_number display.now (names_view names.now) n) }
 {
     match display {
@@ -102,7 +107,13 @@ fn put_shown_signed(out: &mut Vec<u8>, display: &Display, n: i64) -> Result<(), 
 }
 
 // Appends a name in JSON with its number.
-fn put_name(out: &mut Vec<u8>, display: &Display, names: &[Name<'_>], text: &str, n: u64) -> Result<(), AllocError>
+fn put_name(
+    out: &mut Vec<u8>,
+    display: &Display,
+    names: &[Name<'_>],
+    text: &str,
+    n: u64,
+) -> Result<(), AllocError>
     ensures { OnOk result (out.new.items ≡ out.old.items ++ shown_name display.now (names_view names.now) text.now n) }
 {
     match display {
@@ -247,7 +258,9 @@ fn is_framing(key: &str) -> bool
 pub(crate) fn is_left_out(leaf: &Leaf<'_>) -> bool
     ensures { result ≡ is_left_out (leaf_view leaf.now) }
 {
-    matches!(leaf.display, Display::Hidden) || is_framing(leaf.key) || left_by(leaf.row.left, &leaf.value)
+    matches!(leaf.display, Display::Hidden)
+        || is_framing(leaf.key)
+        || left_by(leaf.row.left, &leaf.value)
 }
 
 fn put_comma(out: &mut Vec<u8>, first: bool) -> Result<(), AllocError>

@@ -55,5 +55,4 @@ pub(crate) fn put_first(out: &mut Vec<u8>, raw: &[u8]) -> Result<(), AllocError>
 #[tactic(auto, using(crate::proofs::Bare::word_is))]
 pub fn word_is_a_word(_raw: &[u8])
     ensures { IsWord (word _raw.now) }
-{
-}
+{}

@@ -1,4 +1,4 @@
-//! Tests of the lines of messages, of one for each of 34 kinds.
+//! Tests of the lines of messages, of one for each of 32 kinds.
 #![tactic(auto)]
 
 #[cfg(test)]

@@ -6,7 +6,7 @@ use Rattle.tc_brief.proofs.parts.Line.own_actions.Given as goal
 -- what the leaves that are left add to what there is, is what all add
 
 abbrev pub invariant-each : goal.invariant-each
-invariant-each l = 
+invariant-each l =
     l.self.text.items ++ own_actions (said_view l.said) (leaves_view l.leaves) (leaves_view l.left)
     ≡ l.fn.self.text.items ++ own_actions (said_view l.said) (leaves_view l.leaves) (leaves_view l.leaves)
 
