@@ -1,11 +1,10 @@
 -- The line of an object, and of each action of an action message.
-use Rattle.std.specs.Prelude.{Bool, List, None, Option, Some, [], bytes_eq, codes, decimal, false, flat_map, if◌then◌else◌, nat_le, option_and_then, true, unwrap_or, ℕ, ℤ, ◌%◌, ◌&&◌, ◌*◌, ◌+◌, ◌++◌, ◌/◌, ◌==◌, ◌||◌, ◌∷◌}
-use Rattle.std.specs.Borrow.{Bor}
+use Rattle.std.specs.Prelude.{Bool, List, None, Option, Some, [], bytes_eq, codes, decimal, false, if◌then◌else◌, true, unwrap_or, ℕ, ◌%◌, ◌&&◌, ◌*◌, ◌+◌, ◌++◌, ◌/◌, ◌==◌, ◌||◌, ◌∷◌}
 use Rattle.tc_brief.specs.Leaves as leaf
 use Rattle.tc_brief.specs.Leaves.{Leaf, Value}
 use Rattle.tc_brief.specs.Numbers as numbers
-use Rattle.tc_brief.specs.Parts.{Around, is_in, section_words, valued}
-use Rattle.tc_brief.specs.Values.{assigned, interface_text, name_of_leaf, number_in, value_text}
+use Rattle.tc_brief.specs.Parts.{Around, is_in, section_words}
+use Rattle.tc_brief.specs.Values.{interface_text, is_left_out, number_in, value_text}
 use Rattle.tc_brief.specs.Words.{word, written}
 use Rattle.tc_brief.specs.declared.leaf.Section.{Section}
 use Rattle.tc_brief.specs.declared.leaf.Section.TheVariants as section
@@ -95,16 +94,17 @@ abbrev pub named_or_hex : Option (List ℕ) → ℕ → List ℕ
 named_or_hex None n = units.number_text LongHex n
 named_or_hex (Some name) n = name
 
-abbrev pub info_words : InfoOf → List Name → ℕ → List (List ℕ)
-info_words info.Refcnt names n = if nat_le n 1 then [] else codes "refcnt" ∷ decimal n ∷ []
-info_words info.Leaf names n = unless_zero n (codes "leaf" ∷ handle_text (n % 0x100000000) ∷ [])
-info_words (info.Pref p) names n =
+-- references are a statistic
+abbrev pub info_words : Bool → InfoOf → List Name → ℕ → List (List ℕ)
+info_words stats info.Refcnt names n = if stats then unless_zero n (codes "refcnt" ∷ decimal n ∷ []) else []
+info_words stats info.Leaf names n = unless_zero n (codes "leaf" ∷ handle_text (n % 0x100000000) ∷ [])
+info_words stats (info.Pref p) names n =
     unless_zero (n / 0x10000) (codes "pref" ∷ decimal (n / 0x10000) ∷ [])
     ++ unless_zero (protocol_in n) (codes "protocol" ∷ named_or_hex (name_of names (protocol_in n)) (protocol_in n) ∷ [])
 
-abbrev pub info_in : Display → List Name → Value → List (List ℕ)
-info_in (display.Info i) names (leaf.number n) = info_words i names n
-info_in h names v = []
+abbrev pub info_in : Bool → Display → List Name → Value → List (List ℕ)
+info_in stats (display.Info i) names (leaf.number n) = info_words stats i names n
+info_in stats h names v = []
 
 -- an address family, unless it is 0
 abbrev pub family_words : Value → List (List ℕ)
@@ -161,17 +161,18 @@ bracketed true words = codes "[" ∷ (words ++ codes "]" ∷ [])
 bracketed false words = []
 
 -- the words of an action after its kind
-abbrev pub action_words : Bool → ℕ → List Leaf → List (List ℕ)
-action_words stats p ls =
-    let c = record { leaves = ls; protocol = p } in
-    section_words c section.Actions 0 None ls
-    ++ (section_words c section.Control 0 None ls ++ bracketed stats (statistics c section.ActionStatistics ls))
+abbrev pub action_words : Around → List (List ℕ)
+action_words c = section_words c section.Actions 0 None c.leaves ++ section_words c section.Control 0 None c.leaves
+
+-- the same with its statistics, in brackets
+abbrev pub counted_action : Bool → Around → List (List ℕ)
+counted_action stats c = action_words c ++ bracketed stats (statistics c section.ActionStatistics c.leaves)
 
 -- the actions of a filter
 abbrev pub actions : Bool → ℕ → List Leaf → List (List ℕ)
 actions stats p [] = []
 actions stats p (l ∷ ls) =
-    (if is_action l then codes "action" ∷ value_text l l.value ∷ action_words stats p (one_action ls) else []) ++ actions stats p ls
+    (if is_action l then codes "action" ∷ value_text l l.value ∷ counted_action stats (record { leaves = one_action ls; protocol = p }) else []) ++ actions stats p ls
 
 -- ---- the line
 
@@ -192,26 +193,29 @@ dev_of l = dev_words l.value
 abbrev pub place_of : Leaf → List (List ℕ)
 place_of l = place_words l.display l.value
 
-abbrev pub info_of : Leaf → List (List ℕ)
-info_of l = info_in l.display l.names l.value
+abbrev pub info_of : Bool → Leaf → List (List ℕ)
+info_of stats l = info_in stats l.display l.names l.value
 
 abbrev pub family_of : Leaf → List (List ℕ)
 family_of l = family_words l.value
 
 -- where the object is, and the filter's priority and protocol, or the class's qdisc
-abbrev pub place : List Leaf → List (List ℕ)
-place ls =
+abbrev pub place : Bool → List Leaf → List (List ℕ)
+place stats ls =
     of_leaf dev_of (in_head ls (codes "index")) ++ (of_leaf place_of (in_head ls (codes "parent"))
-    ++ (of_leaf info_of (in_head ls (codes "info")) ++ of_leaf family_of (in_head ls (codes "family"))))
+    ++ (of_leaf (info_of stats) (in_head ls (codes "info")) ++ of_leaf family_of (in_head ls (codes "family"))))
 
 -- kind and handle; of a chain its number; of an action its kind
 abbrev pub kind_words : Object → List Leaf → List (List ℕ)
 kind_words object.Chain ls = text_or_dash (in_head ls (codes "Chain")) ∷ []
 kind_words o ls = text_or_dash (in_head ls (codes "Kind")) ∷ handle_word (in_head ls (codes "handle")) ∷ []
 
+abbrev pub with_word : List ℕ → Leaf → List (List ℕ)
+with_word name l = if is_left_out l then [] else name ∷ value_text l l.value ∷ []
+
 abbrev pub chain_words : Object → List Leaf → List (List ℕ)
-chain_words object.Chain ls = of_leaf (λ l. codes "kind" ∷ value_text l l.value ∷ []) (in_head ls (codes "Kind"))
-chain_words o ls = of_leaf (λ l. codes "chain" ∷ value_text l l.value ∷ []) (in_head ls (codes "Chain"))
+chain_words object.Chain ls = of_leaf (with_word (codes "kind")) (in_head ls (codes "Kind"))
+chain_words o ls = of_leaf (with_word (codes "chain")) (in_head ls (codes "Chain"))
 
 -- the protocol of a filter's header
 abbrev pub protocol_of : Option Leaf → ℕ
@@ -221,12 +225,16 @@ protocol_of (Some l) = protocol_in (unwrap_or (number_in l.value) 0)
 abbrev pub around : List Leaf → Around
 around ls = record { leaves = ls; protocol = protocol_of (in_head ls (codes "info")) }
 
-abbrev pub after_semicolon : Bool → List (List ℕ) → List (List ℕ)
-after_semicolon true words = codes ";" ∷ words
-after_semicolon false words = []
+-- true if a leaf of the section isn't left out
+abbrev pub has_any : Section → List Leaf → Bool
+has_any s [] = false
+has_any s (l ∷ ls) = is_in s l && (if is_left_out l then false else true) || has_any s ls
 
-abbrev pub head : Object → List Leaf → List (List ℕ)
-head o ls = object_text o ∷ (kind_words o ls ++ (place ls ++ chain_words o ls))
+abbrev pub after_semicolon : Bool → Around → Section → List (List ℕ)
+after_semicolon stats c s = if stats && has_any s c.leaves then codes ";" ∷ statistics c s c.leaves else []
+
+abbrev pub head : Bool → Object → List Leaf → List (List ℕ)
+head stats o ls = object_text o ∷ (kind_words o ls ++ (place stats ls ++ chain_words o ls))
 
 abbrev pub body : Bool → Around → List Leaf → List (List ℕ)
 body stats c ls = section_words c section.Words 0 None ls ++ (section_words c section.Hardware 0 None ls ++ actions stats c.protocol ls)
@@ -234,21 +242,23 @@ body stats c ls = section_words c section.Words 0 None ls ++ (section_words c se
 -- the words of an object's line, after the verb
 abbrev pub object_words : Said → List Leaf → List (List ℕ)
 object_words said ls =
-    head said.object ls ++ (body said.statistics (around ls) ls ++ (by_words said.port
-    ++ after_semicolon said.statistics (statistics (around ls) section.Statistics ls)))
+    head said.statistics said.object ls ++ (body said.statistics (around ls) ls ++ (by_words said.port
+    ++ after_semicolon said.statistics (around ls) section.Statistics))
 
 -- the words of an action's line, after the verb
-abbrev pub own_action_words : Said → Leaf → List Leaf → List (List ℕ)
-own_action_words said l ls =
-    codes "action" ∷ value_text l l.value ∷ codes "-" ∷ (action_words said.statistics 0 ls ++ by_words said.port)
+abbrev pub own_action_words : Said → List Leaf → Leaf → Around → List (List ℕ)
+own_action_words said all l c =
+    codes "action" ∷ value_text l l.value ∷ codes "-" ∷ (action_words c ++ (section_words c section.Words 0 None all ++ (by_words said.port
+    ++ after_semicolon said.statistics c section.ActionStatistics)))
 
 -- a line: its words, one blank between, and a line feed
 abbrev pub line : List ℕ → List (List ℕ) → List ℕ
 line verb words = word verb ++ (written words ++ codes "\n")
 
-abbrev pub own_actions : Said → List Leaf → List ℕ
-own_actions said [] = []
-own_actions said (l ∷ ls) = (if is_action l then line said.verb (own_action_words said l (one_action ls)) else []) ++ own_actions said ls
+abbrev pub own_actions : Said → List Leaf → List Leaf → List ℕ
+own_actions said all [] = []
+own_actions said all (l ∷ ls) =
+    (if is_action l then line said.verb (own_action_words said all l (record { leaves = one_action ls; protocol = 0 })) else []) ++ own_actions said all ls
 
 abbrev pub has_action : List Leaf → Bool
 has_action [] = false
@@ -260,7 +270,7 @@ is_of_actions o = false
 
 -- the lines of a message: one for each action of an action message, else one
 abbrev pub message_lines : Said → List Leaf → List ℕ
-message_lines said ls = if has_action ls && is_of_actions said.object then own_actions said ls else line said.verb (object_words said ls)
+message_lines said ls = if has_action ls && is_of_actions said.object then own_actions said ls ls else line said.verb (object_words said ls)
 
 -- ---- abstract values of the code's types
 

@@ -1,7 +1,6 @@
 -- Numbers in a line: exact, in the largest unit that leaves at most three decimals.
-use Rattle.std.specs.Char.{digit_char}
 use Rattle.std.specs.Int.{is_negative}
-use Rattle.std.specs.Prelude.{List, [], codes, decimal, if◌then◌else◌, nat_le, nat_lt, suc, unsigned_abs, zero, ℕ, ℤ, ◌%◌, ◌&&◌, ◌*◌, ◌+◌, ◌++◌, ◌-◌, ◌/◌, ◌==◌, ◌^◌, ◌∷◌}
+use Rattle.std.specs.Prelude.{List, codes, decimal, if◌then◌else◌, nat_le, unsigned_abs, ℕ, ℤ, ◌%◌, ◌&&◌, ◌*◌, ◌+◌, ◌++◌, ◌/◌, ◌==◌}
 use Rattle.tc_units.specs.Units as units
 use Rattle.tc_units.specs.declared.unit.Unit.{Unit}
 use Rattle.tc_units.specs.declared.unit.Unit.TheVariants as unit
@@ -37,43 +36,22 @@ time_text n =
 
 -- ---- shares of 2^32 - 1
 
--- the whole
-abbrev pub WHOLE : ℕ
-WHOLE = 0xffffffff
+-- a share in thousandths of a percent, rounded, and the share of these, rounded
+abbrev pub thousandths_of : ℕ → ℕ
+thousandths_of n = (n * 200000 + 0xffffffff) / 0x1fffffffe
 
--- a share in percent with this many decimals, rounded, as a number of the last decimal's units
-abbrev pub percent_of : ℕ → ℕ → ℕ
-percent_of decimals n = (n * (200 * 10 ^ decimals) + WHOLE) / (2 * WHOLE)
+abbrev pub share_of : ℕ → ℕ
+share_of p = (p * 0x1fffffffe + 100000) / 200000
 
--- the share of a percentage with this many decimals, rounded
-abbrev pub share_of : ℕ → ℕ → ℕ
-share_of decimals p = (p * (2 * WHOLE) + 100 * 10 ^ decimals) / (200 * 10 ^ decimals)
-
--- the last digits of a number, as many as there are decimals
-abbrev pub last_digits : ℕ → ℕ → List ℕ
-last_digits zero p = []
-last_digits (suc more) p = digit_char (p / 10 ^ more % 10) ∷ last_digits more p
-
-abbrev pub fraction : ℕ → ℕ → List ℕ
-fraction decimals p = if decimals == 0 then [] else codes "." ++ last_digits decimals p
-
-abbrev pub percent_text : ℕ → ℕ → List ℕ
-percent_text decimals p = decimal (p / 10 ^ decimals) ++ (fraction decimals p ++ codes "%")
-
--- with as few decimals as determine the share, from 9 - `more` on
-abbrev pub share_with : ℕ → ℕ → List ℕ
-share_with zero n = percent_text 9 (percent_of 9 n)
-share_with (suc more) n =
-    if share_of (8 - more) (percent_of (8 - more) n) == n then percent_text (8 - more) (percent_of (8 - more) n) else share_with more n
-
+-- the percentage, if at most three decimals determine the share; else the number
 abbrev pub share_text : ℕ → List ℕ
-share_text n = if nat_le n WHOLE then share_with 9 n else decimal n
+share_text n = if share_of (thousandths_of n) == n then thousandths_text (thousandths_of n) ++ codes "%" else decimal n
 
 -- ---- units
 
 -- a power of two, given its exponent
 abbrev pub power_text : ℕ → List ℕ
-power_text n = if nat_lt n 64 then decimal (2 ^ n) else codes "2^" ++ decimal n
+power_text n = codes "2^" ++ decimal n
 
 -- a number in its unit
 abbrev pub number_text : Unit → ℕ → List ℕ

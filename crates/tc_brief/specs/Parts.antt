@@ -106,19 +106,25 @@ burst_text ls l = numbers.burst_text (rate_named ls ls l.row.with) (unwrap_or (n
 -- ---- words of numbers
 
 -- the word at an index, of words with bars between
+abbrev pub is_bar : ℕ → Bool
+is_bar c = c == 124
+
 abbrev pub choice_at : ℕ → List ℕ → List ℕ
-choice_at zero text = before_first (λ c. c == 124) text
-choice_at (suc n) text = choice_at n (after_first (λ c. c == 124) text)
+choice_at zero text = before_first is_bar text
+choice_at (suc n) text = choice_at n (after_first is_bar text)
 
 abbrev pub choice : List ℕ → Option ℕ → List ℕ
 choice text None = []
 choice text (Some n) = if nat_lt n 64 then choice_at n text else []
 
 -- a text of one word, or of two with a blank between
+abbrev pub is_blank : ℕ → Bool
+is_blank c = c == 32
+
 abbrev pub phrase : List ℕ → List (List ℕ)
 phrase text =
-    if bytes_eq (after_first (λ c. c == 32) text) [] then text ∷ []
-    else before_first (λ c. c == 32) text ∷ after_first (λ c. c == 32) text ∷ []
+    if bytes_eq (after_first is_blank text) [] then text ∷ []
+    else before_first is_blank text ∷ after_first is_blank text ∷ []
 
 abbrev pub chosen : Leaf → List ℕ → List (List ℕ)
 chosen l [] = assigned l ∷ []
@@ -148,10 +154,13 @@ control l h n = plain l
 abbrev pub key_text : ℕ → List ℕ
 key_text n = four_digits (n / 0x10000 % 0x10000) ++ four_digits (n % 0x10000)
 
+abbrev pub match_words : ℕ → Leaf → Leaf → List (List ℕ)
+match_words mask v o =
+    codes "match" ∷ (key_text (unwrap_or (number_in v.value) 0) ++ (codes "/" ++ key_text mask)) ∷ codes "at" ∷ value_text o o.value ∷ []
+
 -- a u32 key: its mask, and after it its value and its offset
 abbrev pub key_words : Leaf → Option ℕ → List Leaf → List (List ℕ)
-key_words l (Some mask) (v ∷ o ∷ ls) =
-    codes "match" ∷ (key_text (unwrap_or (number_in v.value) 0) ++ (codes "/" ++ key_text mask)) ∷ codes "at" ∷ value_text o o.value ∷ []
+key_words l (Some mask) (v ∷ o ∷ ls) = match_words mask v o
 key_words l mask ls = assigned l ∷ []
 
 abbrev pub protocol_words : ℕ → Leaf → Option ℕ → List (List ℕ)
@@ -182,7 +191,7 @@ styled_words s c rest l = plain l
 
 -- a list or record of one word
 abbrev pub opened_words : Leaf → List ℕ → List Leaf → List (List ℕ)
-opened_words l open rest = valued l (open ++ within_word 1 true rest)
+opened_words l bracket rest = valued l (bracket ++ within_word 1 true rest)
 
 abbrev pub words_by : Value → Around → List Leaf → Leaf → List (List ℕ)
 words_by (leaf.opens s) c rest l = opened_words l (open_text s) rest

@@ -161,7 +161,19 @@ abbrev pub is_opening : Value → Bool
 is_opening (leaf.opens s) = true
 is_opening v = false
 
+-- true for a leaf that is left out within a word
+abbrev pub is_skipped_as : Leaf → Value → Bool
+is_skipped_as l (leaf.opens s) = false
+is_skipped_as l (leaf.closes s) = false
+is_skipped_as l v = is_left_out l
+
+abbrev pub is_skipped : Leaf → Bool
+is_skipped l = is_skipped_as l l.value
+
 -- the rest of a word that began with an open bracket
 abbrev pub within_word : ℕ → Bool → List Leaf → List ℕ
 within_word n first [] = []
-within_word n first (l ∷ ls) = if n == 0 then [] else within_as first l l.value ++ within_word (depth_after n l.value) (is_opening l.value) ls
+within_word n first (l ∷ ls) =
+    if n == 0 then []
+    else if is_skipped l then within_word n first ls
+    else within_as first l l.value ++ within_word (depth_after n l.value) (is_opening l.value) ls

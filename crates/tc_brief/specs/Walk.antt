@@ -116,14 +116,24 @@ is_transparent h = false
 abbrev pub is_other : List ℕ → Bool
 is_other key = bytes_eq key (codes "Other")
 
+abbrev pub is_stand_in : List ℕ → Bool
+is_stand_in key = is_other key || bytes_eq key (codes "raw")
+
 abbrev pub is_through : List ℕ → Bool
 is_through key = is_other key || bytes_eq key (codes "Options")
 
 abbrev pub goes_through : List ℕ → Display → Style → Bool
 goes_through key h st = is_transparent h || is_flat st || is_through key
 
+-- a number with names: one without is `{"Other":9}`
+abbrev pub is_enum : Display → Bool
+is_enum (display.Text p) = true
+is_enum (display.Verdict p) = true
+is_enum (display.Family p) = true
+is_enum h = false
+
 abbrev pub record_shape : List ℕ → Display → Style → Shape
-record_shape key h st = if goes_through key h st then Silent else Braces
+record_shape key h st = if goes_through key h st || is_enum h then Silent else Braces
 
 -- a list of attributes is written like a record
 abbrev pub list_shape : List ℕ → Display → Style → Shape
@@ -285,8 +295,12 @@ module _ (t : Table) where
   abbrev pub take_leaf : Event → State → Frame → State
   take_leaf e s f = if is_other f.row.key then other_leaf e s f else plain_leaf e s f
 
+  abbrev pub new_key : (ℕ → List Row) → List ℕ → State → Frame → State
+  new_key rows key s f = record s { key = key; display = display_at s.companion f key; row = row_at rows f key }
+
+  -- what stands for a number with names keeps the name of that
   abbrev pub take_key : (ℕ → List Row) → List ℕ → State → Frame → State
-  take_key rows key s f = record s { key = key; display = display_at s.companion f key; row = row_at rows f key }
+  take_key rows key s f = if is_enum s.display && is_stand_in key then s else new_key rows key s f
 
   -- one event
   abbrev pub step_in : (ℕ → List Row) → Event → State → Option Frame → Option State

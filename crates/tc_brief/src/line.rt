@@ -4,13 +4,13 @@ ghost use Rattle.std.specs.Prelude.{IfOk, List, None, OnOk, Some, [], bytes_eq, 
 ghost use Rattle.forms_json.specs.Shown.{shown_of};
 ghost use Rattle.forms_values.specs.Sent.{events};
 ghost use Rattle.tc_brief.specs.Leaves.{Leaf as LeafView, leaf_view, leaves_view, value_view};
-ghost use Rattle.tc_brief.specs.Lines.{action_words, actions, body, chain_words, count_in, counted, counts, dev_words, family_words, handle_in};
-ghost use Rattle.tc_brief.specs.Lines.{handle_value, handle_word, has_action, head, in_head, info_in, info_words, is_action, is_count, is_kind};
+ghost use Rattle.tc_brief.specs.Lines.{action_words, actions, after_semicolon, body, chain_words, count_in, counted, counted_action, counts, dev_words, family_words, handle_in};
+ghost use Rattle.tc_brief.specs.Lines.{handle_value, handle_word, has_action, has_any, head, in_head, info_in, info_words, is_action, is_count, is_kind};
 ghost use Rattle.tc_brief.specs.Lines.{is_of_actions, kind_words, message_lines, named_or_hex, object_text, object_words, of_leaf, one_action};
 ghost use Rattle.tc_brief.specs.Lines.{own_action_words, own_actions, parent_words, place, place_words, protocol_in, protocol_of, said_view};
-ghost use Rattle.tc_brief.specs.Lines.{statistics, text_or_dash, unless_zero};
+ghost use Rattle.tc_brief.specs.Lines.{statistics, text_or_dash, unless_zero, with_word};
 ghost use Rattle.tc_brief.specs.Parts.{scope_view};
-ghost use Rattle.tc_brief.specs.Values.{value_text};
+ghost use Rattle.tc_brief.specs.Values.{number_in};
 ghost use Rattle.tc_brief.specs.Walk.{leaves};
 ghost use Rattle.tc_brief.specs.Words.{written};
 ghost use Rattle.tc_texts.specs.Handle.{handle_of};
@@ -21,8 +21,8 @@ use crate::leaf::{Leaf, Section, Value};
 use crate::numbers::put_signed;
 use crate::parts::{Line, Scope, is_in};
 use crate::row::{Style, Words};
-use crate::values::{number_in, put_interface, put_value};
 use crate::tape::tokens_of;
+use crate::values::{is_left_out, number_in, put_interface};
 use crate::walk::leaves_of;
 use crate::words::put_first;
 use forms_json::{Form, Tables};
@@ -285,15 +285,18 @@ impl Line {
 
     // Writes `tcm_info`.
     #[tactic(auto, using(crate::proofs::Written::written_append))]
-    fn info(&mut self, of: InfoOf, names: &[Name<'_>], n: u64) -> Result<(), AllocError>
-        ensures { OnOk result (self.new.text.items ≡ self.old.text.items ++ written (info_words of (names_view names.now) n)) }
+    fn info(
+        &mut self,
+        counted: bool,
+        of: InfoOf,
+        names: &[Name<'_>],
+        n: u64,
+    ) -> Result<(), AllocError>
+        ensures { OnOk result (self.new.text.items ≡ self.old.text.items ++ written (info_words counted of (names_view names.now) n)) }
     {
         match of {
-            InfoOf::Refcnt if n <= 1 => Ok(()),
-            InfoOf::Refcnt => {
-                self.word(b"refcnt")?;
-                self.decimal(n)
-            }
+            InfoOf::Refcnt if counted => self.numbered(b"refcnt", n),
+            InfoOf::Refcnt => Ok(()),
             InfoOf::Leaf if n == 0 => Ok(()),
             InfoOf::Leaf => {
                 self.word(b"leaf")?;
@@ -306,11 +309,17 @@ impl Line {
         }
     }
 
-    fn info_in(&mut self, display: &Display, names: &[Name<'_>], value: &Value<'_>) -> Result<(), AllocError>
-        ensures { OnOk result (self.new.text.items ≡ self.old.text.items ++ written (info_in display.now (names_view names.now) (value_view value.now))) }
+    fn info_in(
+        &mut self,
+        counted: bool,
+        display: &Display,
+        names: &[Name<'_>],
+        value: &Value<'_>,
+    ) -> Result<(), AllocError>
+        ensures { OnOk result (self.new.text.items ≡ self.old.text.items ++ written (info_in counted display.now (names_view names.now) (value_view value.now))) }
     {
         match (display, value) {
-            (Display::Info(of), Value::Unsigned(n)) => self.info(*of, names, *n),
+            (Display::Info(of), Value::Unsigned(n)) => self.info(counted, *of, names, *n),
             _ => Ok(()),
         }
     }
@@ -332,8 +341,8 @@ impl Line {
 
     // Writes where the object is.
     #[tactic(auto, using(crate::proofs::Written::written_append))]
-    fn place(&mut self, leaves: &[Leaf<'_>]) -> Result<(), AllocError>
-        ensures { OnOk result (self.new.text.items ≡ self.old.text.items ++ written (place (leaves_view leaves.now))) }
+    fn place(&mut self, counted: bool, leaves: &[Leaf<'_>]) -> Result<(), AllocError>
+        ensures { OnOk result (self.new.text.items ≡ self.old.text.items ++ written (place counted (leaves_view leaves.now))) }
     {
         if let Some(leaf) = in_head(leaves, "index") {
             self.dev(&leaf.value)?;
@@ -342,7 +351,7 @@ impl Line {
             self.place_in(&leaf.display, &leaf.value)?;
         }
         if let Some(leaf) = in_head(leaves, "info") {
-            self.info_in(&leaf.display, leaf.names, &leaf.value)?;
+            self.info_in(counted, &leaf.display, leaf.names, &leaf.value)?;
         }
         if let Some(leaf) = in_head(leaves, "family") {
             self.family(&leaf.value)?;
@@ -363,12 +372,13 @@ impl Line {
         }
     }
 
-    // Writes a word and the value of a leaf, if there is one.
+    // Writes a word and the value of a leaf, if there is one that isn't left out.
     fn with_word(&mut self, word: &[u8], leaf: Option<&Leaf<'_>>) -> Result<(), AllocError>
         ensures { OnOk result (self.new.text.items ≡ self.old.text.items
-            ++ written (of_leaf (λ l. word.now ∷ value_text l l.value ∷ []) (option_map (λ l. leaf_view l.now) leaf.entry))) }
+            ++ written (of_leaf (with_word word.now) (option_map (λ l. leaf_view l.now) leaf.entry))) }
     {
         match leaf {
+            Some(leaf) if is_left_out(leaf) => Ok(()),
             Some(leaf) => {
                 self.word(word)?;
                 self.alone(leaf)
@@ -416,7 +426,12 @@ impl Line {
 
     // Writes statistics.
     #[tactic(auto, using(crate::proofs::Written::written_append))]
-    fn statistics(&mut self, scope: &Scope<'_, '_>, section: Section, leaves: &[Leaf<'_>]) -> Result<(), BriefError>
+    fn statistics(
+        &mut self,
+        scope: &Scope<'_, '_>,
+        section: Section,
+        leaves: &[Leaf<'_>],
+    ) -> Result<(), BriefError>
         ensures { OnOk result (self.new.text.items ≡ self.old.text.items ++ written (statistics (scope_view scope.now) section (leaves_view leaves.now))) }
     {
         self.counts(section, leaves)?;
@@ -425,15 +440,22 @@ impl Line {
 
     // Writes an action after its kind.
     #[tactic(auto, using(crate::proofs::Written::written_append))]
-    fn action(&mut self, counted: bool, protocol: u64, leaves: &[Leaf<'_>]) -> Result<(), BriefError>
-        ensures { OnOk result (self.new.text.items ≡ self.old.text.items ++ written (action_words counted protocol (leaves_view leaves.now))) }
+    fn action(&mut self, scope: &Scope<'_, '_>) -> Result<(), BriefError>
+        ensures { OnOk result (self.new.text.items ≡ self.old.text.items ++ written (action_words (scope_view scope.now))) }
     {
-        let scope = Scope { leaves, protocol };
-        self.section(&scope, Section::Actions, leaves)?;
-        self.section(&scope, Section::Control, leaves)?;
+        self.section(scope, Section::Actions, scope.leaves)?;
+        self.section(scope, Section::Control, scope.leaves)
+    }
+
+    // Writes an action after its kind, and its statistics in brackets.
+    #[tactic(auto, using(crate::proofs::Written::written_append))]
+    fn counted_action(&mut self, counted: bool, scope: &Scope<'_, '_>) -> Result<(), BriefError>
+        ensures { OnOk result (self.new.text.items ≡ self.old.text.items ++ written (counted_action counted (scope_view scope.now))) }
+    {
+        self.action(scope)?;
         if counted {
             self.word(b"[")?;
-            self.statistics(&scope, Section::ActionStatistics, leaves)?;
+            self.statistics(scope, Section::ActionStatistics, scope.leaves)?;
             self.word(b"]")?;
         }
         Ok(())
@@ -441,7 +463,12 @@ impl Line {
 
     // Writes the actions of a filter.
     #[tactic(auto, using(crate::proofs::Written::written_append))]
-    fn actions(&mut self, counted: bool, protocol: u64, leaves: &[Leaf<'_>]) -> Result<(), BriefError>
+    fn actions(
+        &mut self,
+        counted: bool,
+        protocol: u64,
+        leaves: &[Leaf<'_>],
+    ) -> Result<(), BriefError>
         ensures { OnOk result (self.new.text.items ≡ self.old.text.items ++ written (actions counted protocol (leaves_view leaves.now))) }
     {
         let mut left = leaves;
@@ -449,36 +476,54 @@ impl Line {
             if is_action(leaf) {
                 self.word(b"action")?;
                 self.alone(leaf)?;
-                self.action(counted, protocol, one_action(rest))?;
+                let scope = Scope {
+                    leaves: one_action(rest),
+                    protocol,
+                };
+                self.counted_action(counted, &scope)?;
             }
             left = rest;
         }
         Ok(())
     }
 
-    // Writes statistics after a semicolon, if there are any.
-    fn after_semicolon(&mut self, scope: &Scope<'_, '_>, leaves: &[Leaf<'_>]) -> Result<(), BriefError>
+    // Writes statistics after a semicolon.
+    #[tactic(auto, using(crate::proofs::Written::written_append))]
+    fn after_semicolon(
+        &mut self,
+        counted: bool,
+        scope: &Scope<'_, '_>,
+        section: Section,
+    ) -> Result<(), BriefError>
         ensures { OnOk result (self.new.text.items ≡ self.old.text.items
-            ++ written (codes ";" ∷ statistics (scope_view scope.now) Section.Statistics (leaves_view leaves.now))) }
+            ++ written (after_semicolon counted (scope_view scope.now) section)) }
     {
+        if !counted || !has_any(section, scope.leaves) {
+            return Ok(());
+        }
         self.word(b";")?;
-        self.statistics(scope, Section::Statistics, leaves)
+        self.statistics(scope, section, scope.leaves)
     }
 
     // Writes where the object is, and what it is.
     #[tactic(auto, using(crate::proofs::Written::written_append))]
-    fn head(&mut self, object: Object, leaves: &[Leaf<'_>]) -> Result<(), AllocError>
-        ensures { OnOk result (self.new.text.items ≡ self.old.text.items ++ written (head object (leaves_view leaves.now))) }
+    fn head(&mut self, counted: bool, object: Object, leaves: &[Leaf<'_>]) -> Result<(), AllocError>
+        ensures { OnOk result (self.new.text.items ≡ self.old.text.items ++ written (head counted object (leaves_view leaves.now))) }
     {
         self.word(object_text(object).as_bytes())?;
         self.kind(object, leaves)?;
-        self.place(leaves)?;
+        self.place(counted, leaves)?;
         self.chain(object, leaves)
     }
 
     // Writes the words of an object's kind, its hardware flags, and its actions.
     #[tactic(auto, using(crate::proofs::Written::written_append))]
-    fn body(&mut self, counted: bool, scope: &Scope<'_, '_>, leaves: &[Leaf<'_>]) -> Result<(), BriefError>
+    fn body(
+        &mut self,
+        counted: bool,
+        scope: &Scope<'_, '_>,
+        leaves: &[Leaf<'_>],
+    ) -> Result<(), BriefError>
         ensures { OnOk result (self.new.text.items ≡ self.old.text.items ++ written (body counted (scope_view scope.now) (leaves_view leaves.now))) }
     {
         self.section(scope, Section::Words, leaves)?;
@@ -495,38 +540,46 @@ impl Line {
             leaves,
             protocol: protocol_of(in_head(leaves, "info")),
         };
-        self.head(said.object, leaves)?;
+        self.head(said.statistics, said.object, leaves)?;
         self.body(said.statistics, &scope, leaves)?;
         self.numbered(b"by", said.port)?;
-        if said.statistics {
-            self.after_semicolon(&scope, leaves)?;
-        }
-        Ok(())
+        self.after_semicolon(said.statistics, &scope, Section::Statistics)
     }
 
     // Writes the line of an action after its verb.
     #[tactic(auto, using(crate::proofs::Written::written_append))]
-    fn own_action(&mut self, said: &Said<'_>, kind: &Leaf<'_>, leaves: &[Leaf<'_>]) -> Result<(), BriefError>
+    fn own_action(
+        &mut self,
+        said: &Said<'_>,
+        all: &[Leaf<'_>],
+        kind: &Leaf<'_>,
+        scope: &Scope<'_, '_>,
+    ) -> Result<(), BriefError>
         ensures { OnOk result (self.new.text.items ≡ self.old.text.items
-            ++ written (own_action_words (said_view said.now) (leaf_view kind.now) (leaves_view leaves.now))) }
+            ++ written (own_action_words (said_view said.now) (leaves_view all.now) (leaf_view kind.now) (scope_view scope.now))) }
     {
         self.word(b"action")?;
         self.alone(kind)?;
         self.word(b"-")?;
-        self.action(said.statistics, 0, leaves)?;
+        self.action(scope)?;
+        self.section(scope, Section::Words, all)?;
         self.numbered(b"by", said.port)?;
-        Ok(())
+        self.after_semicolon(said.statistics, scope, Section::ActionStatistics)
     }
 
     // Writes a line for each action, and its end.
     fn own_actions(&mut self, said: &Said<'_>, leaves: &[Leaf<'_>]) -> Result<(), BriefError>
-        ensures { OnOk result (self.new.text.items ≡ self.old.text.items ++ own_actions (said_view said.now) (leaves_view leaves.now)) }
+        ensures { OnOk result (self.new.text.items ≡ self.old.text.items ++ own_actions (said_view said.now) (leaves_view leaves.now) (leaves_view leaves.now)) }
     {
         let mut left = leaves;
         'each: while let [leaf, rest @ ..] = left {
             if is_action(leaf) {
+                let scope = Scope {
+                    leaves: one_action(rest),
+                    protocol: 0,
+                };
                 put_first(&mut self.text, said.verb.as_bytes())?;
-                self.own_action(said, leaf, one_action(rest))?;
+                self.own_action(said, leaves, leaf, &scope)?;
                 self.text.extend_from_slice(b"\n")?;
             }
             left = rest;
@@ -546,6 +599,20 @@ impl Line {
         self.text.extend_from_slice(b"\n")?;
         Ok(())
     }
+}
+
+// True if a leaf of the section isn't left out.
+fn has_any(section: Section, leaves: &[Leaf<'_>]) -> bool
+    ensures { result ≡ has_any section (leaves_view leaves.now) }
+{
+    let mut left = leaves;
+    'each: while let [leaf, rest @ ..] = left {
+        if is_in(section, leaf) && !is_left_out(leaf) {
+            return true;
+        }
+        left = rest;
+    }
+    false
 }
 
 // True if one of the leaves is the kind of an action.

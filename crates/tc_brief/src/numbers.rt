@@ -1,13 +1,12 @@
 //! Numbers in a line: exact, in the largest unit that leaves at most three decimals.
 
-ghost use Rattle.std.specs.Prelude.{OnOk, decimal, ◌*◌, ◌++◌, ◌<◌, ◌^◌, ◌≡◌, ◌≤◌};
+ghost use Rattle.std.specs.Prelude.{OnOk, decimal, ◌++◌, ◌^◌, ◌≡◌, ◌≤◌};
 ghost use Rattle.tc_units.specs.Units.{decimals};
-ghost use Rattle.tc_brief.specs.Numbers.{bits_text, burst_text, fraction, last_digits, number_text, percent_of, percent_text, power_text};
-ghost use Rattle.tc_brief.specs.Numbers.{share_of, share_text, share_with, signed_text, size_text, thousandths_text, time_text};
+ghost use Rattle.tc_brief.specs.Numbers.{bits_text, burst_text, number_text, power_text, share_of, share_text, signed_text, size_text};
+ghost use Rattle.tc_brief.specs.Numbers.{thousandths_of, thousandths_text, time_text};
 
 use itoa::Buffer;
 use std::alloc::AllocError;
-use tc_texts::hex_digit;
 use tc_units::{Unit, put_number as put_exact};
 
 // Appends a number in decimal.
@@ -105,96 +104,29 @@ fn put_time(out: &mut Vec<u8>, n: u128) -> Result<(), AllocError>
     put_counted(out, n, b"ns")
 }
 
-// Ten to the power of a number of decimals.
-fn scale_of(decimals: u8) -> u128
-    requires { decimals ≤ 9 }
-    ensures power { result ≡ 10 ^ decimals }
-    ensures most { result ≤ 1000000000 }
-    ensures least { 0 < result }
-{
-    match decimals {
-        0 => 1,
-        1 => 10,
-        2 => 100,
-        3 => 1000,
-        4 => 10_000,
-        5 => 100_000,
-        6 => 1_000_000,
-        7 => 10_000_000,
-        8 => 100_000_000,
-        _ => 1_000_000_000,
-    }
-}
-
-// A share in percent with this many decimals.
-fn percent_of(decimals: u8, n: u32) -> u128
-    requires { decimals ≤ 9 }
-    ensures percent { result ≡ percent_of decimals n }
+// A share in thousandths of a percent.
+fn thousandths_of(n: u64) -> u128
+    ensures share { result ≡ thousandths_of n }
     ensures most { result ≤ 2 ^ 80 }
 {
-    (n as u128 * (200 * scale_of(decimals)) + 0xffff_ffff) / 0x1_ffff_fffe
+    (n as u128 * 200_000 + 0xffff_ffff) / 0x1_ffff_fffe
 }
 
-// The share of a percentage with this many decimals.
-fn share_of(decimals: u8, p: u128) -> u128
-    requires decimals { decimals ≤ 9 }
-    requires most { p ≤ 2 ^ 80 }
-    ensures { result ≡ share_of decimals p }
+// The share of thousandths of a percent.
+fn share_of(p: u128) -> u128
+    requires { p ≤ 2 ^ 80 }
+    ensures { result ≡ share_of p }
 {
-    let scale = scale_of(decimals);
-    (p * 0x1_ffff_fffe + 100 * scale) / (200 * scale)
+    (p * 0x1_ffff_fffe + 100_000) / 200_000
 }
 
-// Appends the last digits of a number.
-fn put_last_digits(out: &mut Vec<u8>, decimals: u8, p: u128) -> Result<(), AllocError>
-    requires { decimals ≤ 9 }
-    ensures { OnOk result (out.new.items ≡ out.old.items ++ last_digits decimals p) }
-{
-    match decimals.checked_sub(1) {
-        None => Ok(()),
-        Some(more) => {
-            out.push(hex_digit((p / scale_of(more) % 10) as u8))?;
-            put_last_digits(out, more, p)
-        }
-    }
-}
-
-fn put_percent(out: &mut Vec<u8>, decimals: u8, p: u128) -> Result<(), AllocError>
-    requires { decimals ≤ 9 }
-    ensures { OnOk result (out.new.items ≡ out.old.items ++ percent_text decimals p) }
-{
-    put_wide(out, p / scale_of(decimals))?;
-    if decimals > 0 {
-        out.extend_from_slice(b".")?;
-        put_last_digits(out, decimals, p)?;
-    }
-    out.extend_from_slice(b"%")
-}
-
-// Appends a share with as few decimals as determine it, from 9 - `more` on.
-fn put_share_with(out: &mut Vec<u8>, more: u8, n: u32) -> Result<(), AllocError>
-    requires { more ≤ 9 }
-    ensures { OnOk result (out.new.items ≡ out.old.items ++ share_with more n) }
-{
-    match more.checked_sub(1) {
-        None => put_percent(out, 9, percent_of(9, n)),
-        Some(others) => {
-            let decimals = 8 - others;
-            let p = percent_of(decimals, n);
-            if share_of(decimals, p) == n as u128 {
-                return put_percent(out, decimals, p);
-            }
-            put_share_with(out, others, n)
-        }
-    }
-}
-
-// Appends a share of 2^32 - 1 in percent.
+// Appends a share of 2^32 - 1 in percent; the number if three decimals don't determine it.
 fn put_share(out: &mut Vec<u8>, n: u64) -> Result<(), AllocError>
     ensures { OnOk result (out.new.items ≡ out.old.items ++ share_text n) }
 {
-    if n <= 0xffff_ffff {
-        return put_share_with(out, 9, n as u32);
+    let p = thousandths_of(n);
+    if share_of(p) == n as u128 {
+        return put_thousandths(out, p, b"%");
     }
     put_wide(out, n as u128)
 }
@@ -203,9 +135,6 @@ fn put_share(out: &mut Vec<u8>, n: u64) -> Result<(), AllocError>
 fn put_power(out: &mut Vec<u8>, n: u64) -> Result<(), AllocError>
     ensures { OnOk result (out.new.items ≡ out.old.items ++ power_text n) }
 {
-    if n < 64 {
-        return put_wide(out, (1u64 << n) as u128);
-    }
     out.extend_from_slice(b"2^")?;
     put_wide(out, n as u128)
 }

@@ -1,9 +1,10 @@
 //! The words of a leaf, given the leaves around it.
 
-ghost use Rattle.std.specs.Prelude.{None, OnOk, [], bytes_eq, decimal, option_map, unwrap_or, ◌++◌, ◌<◌, ◌≡◌, ◌∷◌};
+ghost use Rattle.std.specs.List.{after_first, before_first};
+ghost use Rattle.std.specs.Prelude.{None, OnOk, [], bytes_eq, codes, decimal, option_map, true, unwrap_or, ◌++◌, ◌<◌, ◌≡◌, ◌∷◌};
 ghost use Rattle.tc_brief.specs.Leaves.{leaf_view, leaves_view, value_view};
-ghost use Rattle.tc_brief.specs.Parts.{begun, bit_words, burst_text, choice, choice_at, chosen, control, end_text, hardware, hex_words, is_in, is_rate};
-ghost use Rattle.tc_brief.specs.Parts.{is_taken, is_with, key_text, key_words, mask_text, next_with, number_of, number_of_section, opened_words, or_key};
+ghost use Rattle.tc_brief.specs.Parts.{begun, bit_words, burst_text, choice, choice_at, chosen, control, end_text, hardware, hex_words, is_bar, is_blank, is_in, is_rate};
+ghost use Rattle.tc_brief.specs.Parts.{is_taken, is_with, key_text, key_words, mask_text, match_words, next_with, number_of, number_of_section, opened_words, or_key};
 ghost use Rattle.tc_brief.specs.Parts.{own_word, phrase, plain, protocol_words, rate_named, rate_of, rate_text, scope_view, section_words, styled_words};
 ghost use Rattle.tc_brief.specs.Parts.{takes, valued, verdict_words, words_by, words_of};
 ghost use Rattle.tc_brief.specs.Values.{assigned, name_of_leaf, number_in, open_text, value_text, within_word};
@@ -16,8 +17,8 @@ use crate::leaf::{Leaf, Section, Shape, Value};
 use crate::numbers::{put_bits, put_burst};
 use crate::row::Style;
 use crate::values::{
-    depth_after, is_left_out, is_opening, is_set, number_in, put_assigned, put_hex_bytes,
-    put_name_of, put_open, put_value, put_within,
+    depth_after, is_left_out, is_opening, is_set, is_skipped, number_in, put_assigned,
+    put_hex_bytes, put_name_of, put_open, put_value, put_within,
 };
 use crate::words::put_word;
 use std::alloc::AllocError;
@@ -67,11 +68,13 @@ impl Line {
         ensures text { OnOk result (self.new.text.items ≡ self.old.text.items ++ written (own_word leaf.now.row.word.now)) }
         ensures word { OnOk result (self.new.word.items ≡ begun leaf.now.row.word.now (name_of_leaf (leaf_view leaf.now) (value_view leaf.now.value))) }
     {
-        self.begin();
         if leaf.row.word.is_empty() {
+            self.begin();
             return put_name_of(&mut self.word, leaf);
         }
-        self.word(leaf.row.word.as_bytes())
+        self.word(leaf.row.word.as_bytes())?;
+        self.begin();
+        Ok(())
     }
 
     // Writes the word or the name of a leaf that is true.
@@ -258,32 +261,51 @@ impl Line {
     fn key(&mut self, leaf: &Leaf<'_>, rest: &[Leaf<'_>]) -> Result<(), AllocError>
         ensures { OnOk result (self.new.text.items ≡ self.old.text.items ++ written (key_words (leaf_view leaf.now) (number_in (value_view leaf.now.value)) (leaves_view rest.now))) }
     {
-        match (number_in(&leaf.value), rest) {
-            (Some(mask), [value, offset, ..]) => {
-                self.word(b"match")?;
-                self.begin();
-                put_key(&mut self.word, number_or_zero(value))?;
-                self.word.extend_from_slice(b"/")?;
-                put_key(&mut self.word, mask)?;
-                self.end()?;
-                self.word(b"at")?;
-                self.alone(offset)
-            }
-            _ => self.assigned(leaf),
+        let mask = match number_in(&leaf.value) {
+            Some(mask) => mask,
+            None => return self.assigned(leaf),
+        };
+        let (value, others) = match rest.split_first() {
+            Some(parts) => parts,
+            None => return self.assigned(leaf),
+        };
+        match others.split_first() {
+            Some((offset, _)) => self.match_at(mask, value, offset),
+            None => self.assigned(leaf),
         }
+    }
+
+    // Writes the value and the mask of a u32 key, and its offset.
+    fn match_at(&mut self, mask: u64, value: &Leaf<'_>, offset: &Leaf<'_>) -> Result<(), AllocError>
+        ensures { OnOk result (self.new.text.items ≡ self.old.text.items ++ written (match_words mask (leaf_view value.now) (leaf_view offset.now))) }
+    {
+        self.word(b"match")?;
+        self.masked_key(number_or_zero(value), mask)?;
+        self.word(b"at")?;
+        self.alone(offset)
+    }
+
+    // Writes a value and its mask.
+    fn masked_key(&mut self, value: u64, mask: u64) -> Result<(), AllocError>
+        ensures { OnOk result (self.new.text.items ≡ self.old.text.items ++ written ((key_text value ++ (codes "/" ++ key_text mask)) ∷ [])) }
+    {
+        self.begin();
+        put_key(&mut self.word, value)?;
+        self.word.extend_from_slice(b"/")?;
+        put_key(&mut self.word, mask)?;
+        self.end()
     }
 
     // Writes a text of one word, or of two with a blank between.
     fn phrase(&mut self, text: &str) -> Result<(), AllocError>
         ensures { OnOk result (self.new.text.items ≡ self.old.text.items ++ written (phrase text.now)) }
     {
-        match text.split_once(' ') {
-            Some((first, second)) if !second.is_empty() => {
-                self.word(first.as_bytes())?;
-                self.word(second.as_bytes())
-            }
-            _ => self.word(text.as_bytes()),
+        let (first, second) = at_blank(text);
+        if is_same(second, "") {
+            return self.word(text.as_bytes());
         }
+        self.word(first.as_bytes())?;
+        self.word(second.as_bytes())
     }
 
     // Writes the word of a number.
@@ -299,7 +321,12 @@ impl Line {
     }
 
     // Writes a leaf as its style says.
-    fn styled(&mut self, scope: &Scope<'_, '_>, rest: &[Leaf<'_>], leaf: &Leaf<'_>) -> Result<(), AllocError>
+    fn styled(
+        &mut self,
+        scope: &Scope<'_, '_>,
+        rest: &[Leaf<'_>],
+        leaf: &Leaf<'_>,
+    ) -> Result<(), AllocError>
         ensures { OnOk result (self.new.text.items ≡ self.old.text.items
             ++ written (styled_words leaf.now.row.style (scope_view scope.now) (leaves_view rest.now) (leaf_view leaf.now))) }
     {
@@ -332,7 +359,12 @@ impl Line {
         Ok(())
     }
 
-    fn by_value(&mut self, scope: &Scope<'_, '_>, rest: &[Leaf<'_>], leaf: &Leaf<'_>) -> Result<(), BriefError>
+    fn by_value(
+        &mut self,
+        scope: &Scope<'_, '_>,
+        rest: &[Leaf<'_>],
+        leaf: &Leaf<'_>,
+    ) -> Result<(), BriefError>
         ensures { OnOk result (self.new.text.items ≡ self.old.text.items
             ++ written (words_by (value_view leaf.now.value) (scope_view scope.now) (leaves_view rest.now) (leaf_view leaf.now))) }
     {
@@ -347,7 +379,13 @@ impl Line {
     }
 
     // Writes a leaf, unless it is left out or written by the one before it.
-    fn leaf(&mut self, scope: &Scope<'_, '_>, before: Option<&Leaf<'_>>, rest: &[Leaf<'_>], leaf: &Leaf<'_>) -> Result<(), BriefError>
+    fn leaf(
+        &mut self,
+        scope: &Scope<'_, '_>,
+        before: Option<&Leaf<'_>>,
+        rest: &[Leaf<'_>],
+        leaf: &Leaf<'_>,
+    ) -> Result<(), BriefError>
         ensures { OnOk result (self.new.text.items ≡ self.old.text.items
             ++ written (words_of (scope_view scope.now) (option_map (λ b. leaf_view b.now) before.entry) (leaves_view rest.now) (leaf_view leaf.now))) }
     {
@@ -359,7 +397,12 @@ impl Line {
 
     /// Writes the leaves of a section.
     #[tactic(auto, using(crate::proofs::Written::written_append))]
-    pub(crate) fn section(&mut self, scope: &Scope<'_, '_>, section: Section, leaves: &[Leaf<'_>]) -> Result<(), BriefError>
+    pub(crate) fn section(
+        &mut self,
+        scope: &Scope<'_, '_>,
+        section: Section,
+        leaves: &[Leaf<'_>],
+    ) -> Result<(), BriefError>
         ensures { OnOk result (self.new.text.items ≡ self.old.text.items
             ++ written (section_words (scope_view scope.now) section 0 None (leaves_view leaves.now))) }
     {
@@ -392,13 +435,16 @@ fn put_within_word(out: &mut Vec<u8>, leaves: &[Leaf<'_>]) -> Result<(), BriefEr
         if depth == 0 {
             return Ok(());
         }
+        left = rest;
+        if is_skipped(leaf) {
+            continue;
+        }
         put_within(out, first, leaf)?;
         depth = match depth_after(depth, &leaf.value) {
             Some(depth) => depth,
             None => return Err(BriefError::NotJson),
         };
         first = is_opening(&leaf.value);
-        left = rest;
     }
     Ok(())
 }
@@ -524,12 +570,27 @@ fn choice_at(n: u64, words: &str) -> &str
     requires { n < 64 }
     ensures { result.now ≡ choice_at n words.now }
 {
-    match (n.checked_sub(1), words.split_once('|')) {
-        (None, Some((word, _))) => word,
-        (None, None) => words,
-        (Some(n), Some((_, others))) => choice_at(n, others),
-        (Some(n), None) => choice_at(n, ""),
+    let (word, others) = at_bar(words);
+    if n == 0 {
+        return word;
     }
+    choice_at(n - 1, others)
+}
+
+// The parts before and after the first bar; all is before it if there is none.
+fn at_bar(text: &str) -> (&str, &str)
+    ensures before { result.0.now ≡ before_first is_bar text.now }
+    ensures after { result.1.now ≡ after_first is_bar text.now }
+{
+    text.split_once('|').unwrap_or((text, ""))
+}
+
+// The parts before and after the first blank; all is before it if there is none.
+fn at_blank(text: &str) -> (&str, &str)
+    ensures before { result.0.now ≡ before_first is_blank text.now }
+    ensures after { result.1.now ≡ after_first is_blank text.now }
+{
+    text.split_once(' ').unwrap_or((text, ""))
 }
 
 fn choice(words: &str, number: Option<u64>) -> &str

@@ -4,7 +4,7 @@ ghost use Rattle.std.specs.Prelude.{IfSome, OnOk, [], bytes_eq, ◌++◌, ◌≡
 ghost use Rattle.tc_brief.specs.Leaves.{leaf_view, name_now, value_view};
 ghost use Rattle.tc_brief.specs.Numbers.{number_text};
 ghost use Rattle.tc_brief.specs.Values.{assigned, attribute_name, bar, bits_text, bytes_text, close_text, comma, depth_after, equals};
-ghost use Rattle.tc_brief.specs.Values.{flags_text, interface_text, is_framing, is_left_out, is_opening, left_by, name_of_leaf, named_text};
+ghost use Rattle.tc_brief.specs.Values.{flags_text, interface_text, is_framing, is_left_out, is_opening, is_skipped, left_by, name_of_leaf, named_text};
 ghost use Rattle.tc_brief.specs.Values.{number_in, open_text, shown_name, shown_number, shown_signed, value_text, within_as};
 ghost use Rattle.tc_units.specs.Flags.{is_set};
 ghost use Rattle.tc_units.specs.Names.{names_view};
@@ -80,7 +80,12 @@ fn put_named(out: &mut Vec<u8>, unit: Unit, name: Option<&str>, n: u64) -> Resul
 }
 
 // Appends a number as its column says.
-fn put_shown(out: &mut Vec<u8>, display: &Display, names: &[Name<'_>], n: u64) -> Result<(), AllocError>
+fn put_shown(
+    out: &mut Vec<u8>,
+    display: &Display,
+    names: &[Name<'_>],
+    n: u64,
+) -> Result<(), AllocError>
     ensures { OnOk result (out.new.items ≡ out.old.items ++ shown_number display.now (names_view names.now) n) }
 {
     match display {
@@ -102,7 +107,13 @@ fn put_shown_signed(out: &mut Vec<u8>, display: &Display, n: i64) -> Result<(), 
 }
 
 // Appends a name in JSON with its number.
-fn put_name(out: &mut Vec<u8>, display: &Display, names: &[Name<'_>], text: &str, n: u64) -> Result<(), AllocError>
+fn put_name(
+    out: &mut Vec<u8>,
+    display: &Display,
+    names: &[Name<'_>],
+    text: &str,
+    n: u64,
+) -> Result<(), AllocError>
     ensures { OnOk result (out.new.items ≡ out.old.items ++ shown_name display.now (names_view names.now) text.now n) }
 {
     match display {
@@ -247,7 +258,9 @@ fn is_framing(key: &str) -> bool
 pub(crate) fn is_left_out(leaf: &Leaf<'_>) -> bool
     ensures { result ≡ is_left_out (leaf_view leaf.now) }
 {
-    matches!(leaf.display, Display::Hidden) || is_framing(leaf.key) || left_by(leaf.row.left, &leaf.value)
+    matches!(leaf.display, Display::Hidden)
+        || is_framing(leaf.key)
+        || left_by(leaf.row.left, &leaf.value)
 }
 
 fn put_comma(out: &mut Vec<u8>, first: bool) -> Result<(), AllocError>
@@ -274,6 +287,16 @@ fn put_close(out: &mut Vec<u8>, shape: Shape) -> Result<(), AllocError>
     match shape {
         Shape::Brackets => out.extend_from_slice(b"]"),
         _ => out.extend_from_slice(b"}"),
+    }
+}
+
+/// True for a leaf that is left out within a word.
+pub(crate) fn is_skipped(leaf: &Leaf<'_>) -> bool
+    ensures { result ≡ is_skipped (leaf_view leaf.now) }
+{
+    match leaf.value {
+        Value::Opens(_) | Value::Closes(_) => false,
+        _ => is_left_out(leaf),
     }
 }
 

@@ -7,8 +7,8 @@ ghost use Rattle.tc_units.specs.Names.{names_view};
 ghost use Rattle.tc_brief.specs.Leaves.{leaf_view, leaves_view, value_view};
 ghost use Rattle.tc_brief.specs.Rows.{find_row, or_row, plain_row, row_view, rows_view};
 ghost use Rattle.tc_brief.specs.Tape.{event_of, events_of};
-ghost use Rattle.tc_brief.specs.Walk.{close_map, close_seq, closing, displayed, frame_view, is_actions, is_flat, is_head, is_of_action, is_other};
-ghost use Rattle.tc_brief.specs.Walk.{is_silent, is_through, is_transparent, item_shape, leaf_of, leaves, list_shape, names_in, note, number_value};
+ghost use Rattle.tc_brief.specs.Walk.{close_map, close_seq, closing, displayed, frame_view, is_actions, is_enum, is_flat, is_head, is_of_action, is_other};
+ghost use Rattle.tc_brief.specs.Walk.{is_silent, is_stand_in, is_through, is_transparent, item_shape, leaf_of, leaves, list_shape, names_in, note, number_value};
 ghost use Rattle.tc_brief.specs.Walk.{open_map, open_seq, opened, opening, option_list, other_leaf, place_within, plain_leaf, rated, record_shape};
 ghost use Rattle.tc_brief.specs.Walk.{rest_of, section_in, settle, stack_of, start, state_of, step, styled, take_key, take_leaf, text_number, top_of};
 ghost use Rattle.tc_brief.specs.Walk.{value_of, with_number};
@@ -124,7 +124,13 @@ fn rated<'t>(outer: Row<'t>, row: Row<'t>) -> Row<'t>
 }
 
 // The display of a name, among the columns of a companion, of the kind, or of every kind.
-fn display_at<C: Columns>(columns: &C, companion: usize, place: usize, base: usize, key: &str) -> Display
+fn display_at<C: Columns>(
+    columns: &C,
+    companion: usize,
+    place: usize,
+    base: usize,
+    key: &str,
+) -> Display
     ensures { result ≡ (column_of ((C.table (C.options columns.now)).columns companion) ((C.table (C.options columns.now)).columns place)
         ((C.table (C.options columns.now)).columns base) key.now).display }
 {
@@ -152,7 +158,10 @@ fn is_head(section: Section) -> bool
 fn is_of_action(section: Section) -> bool
     ensures { result ≡ is_of_action section }
 {
-    matches!(section, Section::Actions | Section::Control | Section::ActionStatistics)
+    matches!(
+        section,
+        Section::Actions | Section::Control | Section::ActionStatistics
+    )
 }
 
 // The section of a member with this style, in a record or list of this section.
@@ -208,7 +217,10 @@ fn item_shape(shape: Shape) -> Shape
 fn is_flat(style: Style) -> bool
     ensures { result ≡ is_flat style }
 {
-    matches!(style, Style::Flat | Style::Rate | Style::Actions | Style::Keys | Style::Statistics)
+    matches!(
+        style,
+        Style::Flat | Style::Rate | Style::Actions | Style::Keys | Style::Statistics
+    )
 }
 
 fn is_actions(style: Style) -> bool
@@ -220,7 +232,10 @@ fn is_actions(style: Style) -> bool
 fn is_transparent(display: &Display) -> bool
     ensures { result ≡ is_transparent display.now }
 {
-    matches!(display, Display::Inline(_) | Display::Below(_) | Display::SameLine(_))
+    matches!(
+        display,
+        Display::Inline(_) | Display::Below(_) | Display::SameLine(_)
+    )
 }
 
 // True for an attribute without a row.
@@ -239,11 +254,28 @@ fn is_through(key: &str) -> bool
 fn record_shape(key: &str, display: &Display, style: Style) -> Shape
     ensures { result ≡ record_shape key.now display.now style }
 {
-    if is_transparent(display) || is_flat(style) || is_through(key) {
+    if is_transparent(display) || is_flat(style) || is_through(key) || is_enum(display) {
         Shape::Silent
     } else {
         Shape::Braces
     }
+}
+
+// True for a number with names.
+fn is_enum(display: &Display) -> bool
+    ensures { result ≡ is_enum display.now }
+{
+    matches!(
+        display,
+        Display::Text(_) | Display::Verdict(_) | Display::Family(_)
+    )
+}
+
+// True for the names of what stands for a number with names: a number without one, or malformed bytes.
+fn is_stand_in(key: &str) -> bool
+    ensures { result ≡ is_stand_in key.now }
+{
+    is_other(key) || is_same(key, "raw")
 }
 
 fn list_shape(key: &str, display: &Display, style: Style) -> Shape
@@ -455,9 +487,18 @@ impl<'t> Walk<'t> {
     }
 
     // The name of the next value.
-    fn take_key<C: Columns, W: Words>(&mut self, columns: &C, words: &W, key: &'t str, frame: &Frame<'t>)
+    fn take_key<C: Columns, W: Words>(
+        &mut self,
+        columns: &C,
+        words: &W,
+        key: &'t str,
+        frame: &Frame<'t>,
+    )
         ensures { state_of self.new ≡ take_key (C.table (C.options columns.now)) W.rows key.now (state_of self.old) (frame_view frame.now) }
     {
+        if is_enum(&self.display) && is_stand_in(key) {
+            return;
+        }
         self.key = key;
         self.display = display_at(columns, self.companion, frame.place, frame.base, key);
         self.row = rated(frame.row, row_in(words, frame.place, frame.base, key));
@@ -491,13 +532,22 @@ impl<'t> Walk<'t> {
     }
 
     // A leaf with a name of its own.
-    fn plain_leaf<C: Columns>(&mut self, columns: &'t C, token: &'t Token, frame: Frame<'t>) -> Result<(), AllocError>
+    fn plain_leaf<C: Columns>(
+        &mut self,
+        columns: &'t C,
+        token: &'t Token,
+        frame: Frame<'t>,
+    ) -> Result<(), AllocError>
         ensures { OnOk result (state_of self.new ≡ plain_leaf (C.table (C.options columns.now)) (event_of token.now) (state_of self.old) (frame_view frame.entry)) }
     {
         let value = value_of(columns, &self.display, token);
         let leaf = self.leaf_of(columns, &frame, value);
         self.out.push(leaf)?;
-        let before = if is_head(frame.section) { self.companion } else { NONE };
+        let before = if is_head(frame.section) {
+            self.companion
+        } else {
+            NONE
+        };
         self.companion = companion_by(&self.display, says_block(token), before);
         let noted = self.noted(columns, token, frame);
         drop_top(&mut self.frames);
@@ -505,7 +555,12 @@ impl<'t> Walk<'t> {
     }
 
     // A leaf of an attribute without a row: its `nla_type`, or its bytes.
-    fn other_leaf<C: Columns>(&mut self, columns: &'t C, token: &'t Token, frame: Frame<'t>) -> Result<(), AllocError>
+    fn other_leaf<C: Columns>(
+        &mut self,
+        columns: &'t C,
+        token: &'t Token,
+        frame: Frame<'t>,
+    ) -> Result<(), AllocError>
         ensures { OnOk result (state_of self.new ≡ other_leaf (C.table (C.options columns.now)) (event_of token.now) (state_of self.old) (frame_view frame.entry)) }
     {
         match token {
@@ -524,7 +579,12 @@ impl<'t> Walk<'t> {
     }
 
     // The next value, which has no contents.
-    fn take_leaf<C: Columns>(&mut self, columns: &'t C, token: &'t Token, frame: Frame<'t>) -> Result<(), AllocError>
+    fn take_leaf<C: Columns>(
+        &mut self,
+        columns: &'t C,
+        token: &'t Token,
+        frame: Frame<'t>,
+    ) -> Result<(), AllocError>
         ensures { OnOk result (state_of self.new ≡ take_leaf (C.table (C.options columns.now)) (event_of token.now) (state_of self.old) (frame_view frame.entry)) }
     {
         if is_other(frame.row.key) {
@@ -534,7 +594,13 @@ impl<'t> Walk<'t> {
     }
 
     // The beginning of a record or list, if it is a part of its own.
-    fn opening(&self, actions: bool, key: &'t str, section: Section, shape: Shape) -> Option<Leaf<'t>>
+    fn opening(
+        &self,
+        actions: bool,
+        key: &'t str,
+        section: Section,
+        shape: Shape,
+    ) -> Option<Leaf<'t>>
         ensures { option_list (option_map leaf_view result) ≡ opening actions key.now (state_of self.now) section shape }
     {
         if actions {
@@ -631,7 +697,12 @@ impl<'t> Walk<'t> {
     }
 
     // One event.
-    fn take<C: Columns, W: Words>(&mut self, columns: &'t C, words: &W, token: &'t Token) -> Result<(), BriefError>
+    fn take<C: Columns, W: Words>(
+        &mut self,
+        columns: &'t C,
+        words: &W,
+        token: &'t Token,
+    ) -> Result<(), BriefError>
         ensures { OnOk result (step (C.table (C.options columns.now)) W.rows (event_of token.now) (state_of self.old) ≡ Some (state_of self.new)) }
     {
         let frame = match top(&self.frames) {

@@ -1,7 +1,7 @@
 //! Words after one another, one blank between.
 
 ghost use Rattle.std.specs.Prelude.{OnOk, flat_map, ◌++◌, ◌≡◌};
-ghost use Rattle.tc_brief.specs.Words.{is_bare, spaced, word, word_byte};
+ghost use Rattle.tc_brief.specs.Words.{IsWord, is_bare, spaced, word, word_byte};
 
 use std::alloc::AllocError;
 use tc_texts::hex_digit;
@@ -20,7 +20,7 @@ fn put_byte(out: &mut Vec<u8>, b: u8) -> Result<(), AllocError>
     if is_bare(b) {
         return out.extend_from_slice(&[b]);
     }
-    out.extend_from_slice(&[92, 120, hex_digit(b / 16), hex_digit(b % 16)])
+    out.extend_from_slice(&[92, 120, hex_digit(b / 16 % 16), hex_digit(b % 16)])
 }
 
 // Appends the bytes of a word.
@@ -50,3 +50,9 @@ pub(crate) fn put_first(out: &mut Vec<u8>, raw: &[u8]) -> Result<(), AllocError>
     }
     put_bytes(out, raw)
 }
+
+/// A law, which does nothing: a word has no blank and is printable, and it isn't empty.
+#[tactic(auto, using(crate::proofs::Bare::word_is))]
+pub fn word_is_a_word(_raw: &[u8])
+    ensures { IsWord (word _raw.now) }
+{}

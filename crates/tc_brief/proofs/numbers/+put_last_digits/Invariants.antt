@@ -1,4 +1,0 @@
-use Rattle.tc_brief.proofs.numbers.+put_last_digits.Given as goal
-
-abbrev pub decreases-put_last_digits : goal.decreases-put_last_digits
-decreases-put_last_digits l = l.decimals
