@@ -1,6 +1,6 @@
 -- Rows, given places and names in JSON.
 use Rattle.std.specs.Borrow.{Bor}
-use Rattle.std.specs.Prelude.{List, [], bytes_eq, if◌then◌else◌, map, ℕ, ◌∷◌}
+use Rattle.std.specs.Prelude.{List, None, Option, Some, [], bytes_eq, if◌then◌else◌, map, ℕ, ◌∷◌}
 use Rattle.tc_brief.specs.declared.row.LeftOut.{LeftOut}
 use Rattle.tc_brief.specs.declared.row.LeftOut.TheVariants.{Never}
 use Rattle.tc_brief.specs.declared.row.RowOf.{RowOf}
@@ -19,9 +19,14 @@ abbrev pub plain_row : List ℕ → Row
 plain_row key = record { key = key; word = []; style = Value; with = []; left = Never }
 
 -- the row of a name
-abbrev pub row_of : List Row → List ℕ → Row
-row_of [] key = plain_row key
-row_of (r ∷ rs) key = if bytes_eq r.key key then r else row_of rs key
+abbrev pub find_row : List Row → List ℕ → Option Row
+find_row [] key = None
+find_row (r ∷ rs) key = if bytes_eq r.key key then Some r else find_row rs key
+
+-- the first, or else the second
+abbrev pub or_row : Option Row → Option Row → Option Row
+or_row None r = r
+or_row (Some r) other = Some r
 
 -- ---- abstract values of the code's types
 

@@ -10,6 +10,8 @@ pub enum LeftOut {
     Always,
     /// If it is this number; `false` is 0 and `true` is 1.
     Equal(u64),
+    /// If it is less than this number.
+    Below(u64),
 }
 
 /// How a member is written. Its unit and the names of its numbers are those of its column.
@@ -40,6 +42,8 @@ pub enum Style {
     Protocol,
     /// A flag word: the names of its bits, after the kind's words.
     Hardware,
+    /// A flag word: the names of its bits, in its place.
+    Bits,
     /// After the words of its action.
     Control,
     /// In the head.

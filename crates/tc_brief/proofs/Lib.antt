@@ -1,0 +1,4 @@
+pub mod Bare
+pub mod Choices
+pub mod Stacks
+pub mod Written

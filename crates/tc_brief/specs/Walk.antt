@@ -1,0 +1,350 @@
+-- From the events of JSON to its leaves.
+use Rattle.std.specs.Prelude.{Bool, List, None, Option, Some, [], bytes_eq, codes, false, if◌then◌else◌, length, nat_lt, option_and_then, option_map, reverse, true, unwrap_or, ℕ, map, ◌%◌, ◌&&◌, ◌++◌, ◌||◌, ◌∷◌}
+use Rattle.serde.specs.Event as event
+use Rattle.serde.specs.Event.{Event}
+use Rattle.serde.specs.declared.name.Case.TheVariants.{AsIs}
+use Rattle.tc_brief.specs.Leaves.{Leaf, Value, attribute, closes, interface, leaves_view, named, nothing, number, opens, signed, text, truth}
+use Rattle.tc_brief.specs.Rows.{Row, find_row, or_row, plain_row, row_view}
+use Rattle.tc_brief.specs.declared.leaf.Section.{Section}
+use Rattle.tc_brief.specs.declared.leaf.Section.TheVariants as section
+use Rattle.tc_brief.specs.declared.leaf.Shape.{Shape}
+use Rattle.tc_brief.specs.declared.leaf.Shape.TheVariants.{Braces, Brackets, Silent}
+use Rattle.tc_brief.specs.declared.row.Style.{Style}
+use Rattle.tc_brief.specs.declared.row.Style.TheVariants as style
+use Rattle.tc_brief.specs.declared.walk.Frame.{Frame as CodeFrame}
+use Rattle.tc_brief.specs.declared.walk.Walk.{Walk}
+use Rattle.tc_lines.specs.Columns.{Table, column_of, is_nested, place_in}
+use Rattle.tc_lines.specs.Lines.{NONE, companion_by, says_block}
+use Rattle.tc_lines.specs.declared.column.Display.{Display}
+use Rattle.tc_lines.specs.declared.column.Display.TheVariants as display
+use Rattle.tc_lines.specs.declared.column.InfoOf.TheVariants.{Pref}
+use Rattle.tc_units.specs.Names.{Name, number_of}
+
+-- an open record or list: the place of its columns, that of its list's without a kind, the section of its leaves, how it
+-- is written, whether it is a list, whether it is part of one word, and its row
+pub record Frame : Type 0 where
+  pub place : ℕ
+  pub base : ℕ
+  pub section : Section
+  pub shape : Shape
+  pub list : Bool
+  pub inside : Bool
+  pub row : Row
+
+-- the leaves so far; the open records and lists, innermost first; the place of the columns of the last leaf's companion;
+-- the name, display and row of the next value; and the last `nla_type` of an attribute without a row
+pub record State : Type 0 where
+  pub out : List Leaf
+  pub frames : List Frame
+  pub companion : ℕ
+  pub key : List ℕ
+  pub display : Display
+  pub row : Row
+  pub word : ℕ
+
+abbrev pub first_frame : ℕ → Frame
+first_frame root = record { place = root; base = root; section = section.Words; shape = Silent; list = false; inside = false; row = plain_row [] }
+
+-- before a message with the columns at a place
+abbrev pub start : ℕ → State
+start root =
+    record {
+      out = [];
+      frames = first_frame root ∷ [];
+      companion = NONE;
+      key = [];
+      display = display.Inline root;
+      row = plain_row [];
+      word = 0;
+    }
+
+-- ---- sections and shapes
+
+abbrev pub is_head : Section → Bool
+is_head section.Head = true
+is_head s = false
+
+abbrev pub is_of_action : Section → Bool
+is_of_action section.Actions = true
+is_of_action section.Control = true
+is_of_action section.ActionStatistics = true
+is_of_action s = false
+
+-- the section of a member with this style, in a record or list of this section
+abbrev pub styled : Style → Section → Section
+styled style.Actions s = section.Actions
+styled style.Statistics s = if is_of_action s then section.ActionStatistics else section.Statistics
+styled style.Control s = if is_of_action s then section.Control else s
+styled style.Hardware s = if is_of_action s then s else section.Hardware
+styled style.Head s = if is_of_action s then s else section.Head
+styled other s = s
+
+-- the section of a member: a header and a message's kind are in the head
+abbrev pub displayed : Display → Section → Section
+displayed (display.SameLine p) s = section.Head
+displayed display.Kind s = if is_of_action s then s else section.Head
+displayed h s = s
+
+abbrev pub section_in : Frame → Display → Style → Section
+section_in f h st = if f.inside then f.section else displayed h (styled st f.section)
+
+abbrev pub is_silent : Shape → Bool
+is_silent Silent = true
+is_silent s = false
+
+abbrev pub item_shape : Shape → Shape
+item_shape Brackets = Braces
+item_shape s = Silent
+
+-- true if the members are written as if they stood in the place of the record or list
+abbrev pub is_flat : Style → Bool
+is_flat style.Flat = true
+is_flat style.Rate = true
+is_flat style.Actions = true
+is_flat style.Keys = true
+is_flat style.Statistics = true
+is_flat st = false
+
+-- the same, by the display: layers, headers and attributes without a line of their own
+abbrev pub is_transparent : Display → Bool
+is_transparent (display.Inline p) = true
+is_transparent (display.Below p) = true
+is_transparent (display.SameLine p) = true
+is_transparent h = false
+
+-- an attribute without a row, and the options of any kind
+abbrev pub is_other : List ℕ → Bool
+is_other key = bytes_eq key (codes "Other")
+
+abbrev pub is_stand_in : List ℕ → Bool
+is_stand_in key = is_other key || bytes_eq key (codes "raw")
+
+abbrev pub is_through : List ℕ → Bool
+is_through key = is_other key || bytes_eq key (codes "Options")
+
+abbrev pub goes_through : List ℕ → Display → Style → Bool
+goes_through key h st = is_transparent h || is_flat st || is_through key
+
+-- a number with names: one without is `{"Other":9}`
+abbrev pub is_enum : Display → Bool
+is_enum (display.Text p) = true
+is_enum (display.Verdict p) = true
+is_enum (display.Family p) = true
+is_enum h = false
+
+abbrev pub record_shape : List ℕ → Display → Style → Shape
+record_shape key h st = if goes_through key h st || is_enum h then Silent else Braces
+
+-- a list of attributes is written like a record
+abbrev pub list_shape : List ℕ → Display → Style → Shape
+list_shape key (display.Nested p) st = if is_flat st || is_through key then Silent else Braces
+list_shape key h st = if goes_through key h st then Silent else Brackets
+
+-- the place of the columns within
+abbrev pub place_within : Display → ℕ
+place_within h = if is_nested h then place_in h else NONE
+
+-- ---- leaves
+
+-- the row of the number of a `struct tc_ratespec` has the word of the record's row
+abbrev pub rated : Style → Row → Row → Row
+rated style.OfRate outer row = record { key = row.key; word = outer.word; style = style.OfRate; with = outer.with; left = outer.left }
+rated st outer row = row
+
+abbrev pub key_in : Frame → List ℕ → List ℕ
+key_in f key = if f.list then [] else key
+
+-- the beginning of a record or list that is one word; of actions under a word of their own, the kind of that name
+abbrev pub opening : Bool → List ℕ → State → Section → Shape → List Leaf
+opening true key s sec shape =
+    if bytes_eq s.row.word [] then []
+    else record { key = codes "Kind"; row = plain_row (codes "Kind"); display = display.Kind; names = []; section = sec; value = text s.row.word } ∷ []
+opening false key s sec shape =
+    if is_silent shape then []
+    else record { key = key; row = s.row; display = s.display; names = []; section = sec; value = opens shape } ∷ []
+
+abbrev pub is_actions : Style → Bool
+is_actions style.Actions = true
+is_actions st = false
+
+abbrev pub closing : Frame → List Leaf
+closing f =
+    if is_silent f.shape then []
+    else record { key = []; row = plain_row []; display = display.Plain; names = []; section = f.section; value = closes f.shape } ∷ []
+
+-- after a record, the items of its list have the columns of the kind in it
+abbrev pub settle : ℕ → List Frame → List Frame
+settle place [] = []
+settle place (f ∷ fs) = (if f.list then record f { place = place } else f) ∷ fs
+
+abbrev pub row_in : (ℕ → List Row) → Frame → List ℕ → Row
+row_in rows f key = unwrap_or (or_row (find_row (rows f.place) key) (find_row (rows f.base) key)) (plain_row key)
+
+abbrev pub row_at : (ℕ → List Row) → Frame → List ℕ → Row
+row_at rows f key = rated (row_in rows f key).style f.row (row_in rows f key)
+
+abbrev pub with_number : List ℕ → Option ℕ → Value
+with_number s None = text s
+with_number s (Some n) = named s n
+
+-- a record or list as the value of a name
+abbrev pub within : Bool → Shape → State → Frame → Frame
+within list shape s f =
+    record {
+      place = place_within s.display;
+      base = place_within s.display;
+      section = section_in f s.display s.row.style;
+      shape = shape;
+      list = list;
+      inside = f.inside || (if is_silent shape then false else true);
+      row = s.row;
+    }
+
+abbrev pub opened : Bool → Shape → State → Frame → State
+opened list shape s f =
+    record s {
+      out = s.out ++ opening (is_actions s.row.style) (key_in f s.key) s (section_in f s.display s.row.style) shape;
+      frames = within list shape s f ∷ s.frames;
+    }
+
+-- a record as an item of a list
+abbrev pub opened_item : State → Frame → State
+opened_item s f =
+    record s {
+      out = s.out ++ opening false [] s f.section (item_shape f.shape);
+      frames = record f { shape = item_shape f.shape; list = false } ∷ s.frames;
+    }
+
+abbrev pub open_map : State → Frame → State
+open_map s f = if f.list then opened_item s f else opened false (record_shape s.key s.display s.row.style) s f
+
+abbrev pub open_seq : State → Frame → State
+open_seq s f = opened true (list_shape s.key s.display s.row.style) s f
+
+-- the innermost, and the others
+abbrev pub top_of : List Frame → Option Frame
+top_of [] = None
+top_of (f ∷ fs) = Some f
+
+abbrev pub rest_of : List Frame → List Frame
+rest_of [] = []
+rest_of (f ∷ fs) = fs
+
+abbrev pub close_map : State → Frame → State
+close_map s f = record s { out = s.out ++ closing f; frames = settle f.place (rest_of s.frames) }
+
+abbrev pub close_seq : State → Frame → State
+close_seq s f = record s { out = s.out ++ closing f; frames = rest_of s.frames }
+
+module _ (t : Table) where
+  abbrev pub display_at : ℕ → Frame → List ℕ → Display
+  display_at companion f key = (column_of (t.columns companion) (t.columns f.place) (t.columns f.base) key).display
+
+  -- the names of a column's numbers
+  abbrev pub names_in : Display → List Name
+  names_in (display.Named u p) = t.names p
+  names_in (display.Flags p) = t.names p
+  names_in (display.Text p) = t.names p
+  names_in (display.Slash p q) = t.names p
+  names_in (display.Info (Pref p)) = t.names p
+  names_in h = []
+
+  -- the number of a text that is a name in JSON, or a mask
+  abbrev pub text_number : Display → List ℕ → Option ℕ
+  text_number (display.Text p) s = t.number p s
+  text_number (display.Verdict p) s = t.number p s
+  text_number (display.Family p) s = t.number p s
+  text_number (display.Slash p q) s = number_of (t.names p) s
+  text_number h s = None
+
+  abbrev pub number_value : Display → ℕ → Value
+  number_value display.Interface n = interface n (t.interface n)
+  number_value (display.Index p) n = interface n (t.interface n)
+  number_value h n = number n
+
+  abbrev pub value_of : Display → Event → Value
+  value_of h (event.boolean b) = truth b
+  value_of h (event.unsigned n) = number_value h n
+  value_of h (event.signed z) = signed z
+  value_of h (event.text s) = with_number s (text_number h s)
+  value_of h e = nothing
+
+  abbrev pub leaf_of : State → Frame → Value → Leaf
+  leaf_of s f v =
+      record { key = key_in f s.key; row = s.row; display = s.display; names = names_in s.display; section = section_in f s.display s.row.style; value = v }
+
+  -- a kind selects the columns of the items after it
+  abbrev pub note : Event → Display → Frame → Frame
+  note (event.text name) display.Kind f = record f { place = t.under f.base name }
+  note e h f = f
+
+  abbrev pub plain_leaf : Event → State → Frame → State
+  plain_leaf e s f =
+      record s {
+        out = s.out ++ leaf_of s f (value_of s.display e) ∷ [];
+        companion = companion_by s.display (says_block e) (if is_head f.section then s.companion else NONE);
+        frames = note e s.display f ∷ rest_of s.frames;
+      }
+
+  -- an attribute without a row: its `nla_type`, then its bytes
+  abbrev pub other_leaf : Event → State → Frame → State
+  other_leaf (event.unsigned n) s f = record s { word = n }
+  other_leaf (event.text v) s f = record s { out = s.out ++ leaf_of s f (attribute s.word v) ∷ [] }
+  other_leaf e s f = plain_leaf e s f
+
+  abbrev pub take_leaf : Event → State → Frame → State
+  take_leaf e s f = if is_other f.row.key then other_leaf e s f else plain_leaf e s f
+
+  abbrev pub new_key : (ℕ → List Row) → List ℕ → State → Frame → State
+  new_key rows key s f = record s { key = key; display = display_at s.companion f key; row = row_at rows f key }
+
+  -- what stands for a number with names keeps the name of that
+  abbrev pub take_key : (ℕ → List Row) → List ℕ → State → Frame → State
+  take_key rows key s f = if is_enum s.display && is_stand_in key then s else new_key rows key s f
+
+  -- one event
+  abbrev pub step_in : (ℕ → List Row) → Event → State → Option Frame → Option State
+  step_in rows e s None = None
+  step_in rows (event.field_key k AsIs) s (Some f) = Some (take_key rows k s f)
+  step_in rows (event.map_begins n) s (Some f) = Some (open_map s f)
+  step_in rows (event.seq_begins n) s (Some f) = Some (open_seq s f)
+  step_in rows event.map_ends s (Some f) = Some (close_map s f)
+  step_in rows event.seq_ends s (Some f) = Some (close_seq s f)
+  step_in rows e s (Some f) = Some (take_leaf e s f)
+
+  abbrev pub step : (ℕ → List Row) → Event → State → Option State
+  step rows e s = step_in rows e s (top_of s.frames)
+
+  -- events in sequence
+  abbrev pub walked : (ℕ → List Row) → List Event → Option State → Option State
+  walked rows [] s = s
+  walked rows (e ∷ es) s = walked rows es (option_and_then (step rows e) s)
+
+  -- the leaves of a message with the columns at a place
+  abbrev pub leaves : (ℕ → List Row) → ℕ → List Event → Option (List Leaf)
+  leaves rows root es = option_map (λ s. s.out) (walked rows es (Some (start root)))
+
+-- ---- abstract values of the code's types
+
+abbrev pub frame_view : CodeFrame → Frame
+frame_view f =
+    record { place = f.place; base = f.base; section = f.section; shape = f.shape; list = f.list; inside = f.inside; row = row_view f.row }
+
+abbrev pub stack_of : List CodeFrame → List Frame
+stack_of fs = map frame_view (reverse fs)
+
+abbrev pub option_list : {A : Type 0} → Option A → List A
+option_list None = []
+option_list (Some x) = x ∷ []
+
+abbrev pub state_of : Walk → State
+state_of w =
+    record {
+      out = leaves_view w.out.items;
+      frames = stack_of w.frames.items;
+      companion = w.companion;
+      key = w.key.now;
+      display = w.display;
+      row = row_view w.row;
+      word = w.word;
+    }

@@ -1,0 +1,662 @@
+//! The line of an object.
+
+ghost use Rattle.std.specs.Prelude.{IfOk, List, None, OnOk, Some, [], bytes_eq, codes, decimal, option_map, unwrap_or, ◌++◌, ◌∷◌, ◌≡◌};
+ghost use Rattle.forms_json.specs.Shown.{shown_of};
+ghost use Rattle.forms_values.specs.Sent.{events};
+ghost use Rattle.tc_brief.specs.Leaves.{Leaf as LeafView, leaf_view, leaves_view, value_view};
+ghost use Rattle.tc_brief.specs.Lines.{action_words, actions, after_semicolon, body, chain_words, count_in, counted, counted_action, counts, dev_words, family_words, handle_in};
+ghost use Rattle.tc_brief.specs.Lines.{handle_value, handle_word, has_action, has_any, head, in_head, info_in, info_words, is_action, is_count, is_kind};
+ghost use Rattle.tc_brief.specs.Lines.{is_of_actions, kind_words, message_lines, named_or_hex, object_text, object_words, of_leaf, one_action};
+ghost use Rattle.tc_brief.specs.Lines.{own_action_words, own_actions, parent_words, place, place_words, protocol_in, protocol_of, said_view};
+ghost use Rattle.tc_brief.specs.Lines.{statistics, text_or_dash, unless_zero, with_word};
+ghost use Rattle.tc_brief.specs.Parts.{scope_view};
+ghost use Rattle.tc_brief.specs.Values.{number_in};
+ghost use Rattle.tc_brief.specs.Walk.{leaves};
+ghost use Rattle.tc_brief.specs.Words.{written};
+ghost use Rattle.tc_texts.specs.Handle.{handle_of};
+ghost use Rattle.tc_units.specs.Names.{name_of, names_view};
+
+use crate::error::BriefError;
+use crate::leaf::{Leaf, Section, Value};
+use crate::numbers::put_signed;
+use crate::parts::{Line, Scope, is_in};
+use crate::row::{Style, Words};
+use crate::tape::tokens_of;
+use crate::values::{is_left_out, number_in, put_interface};
+use crate::walk::leaves_of;
+use crate::words::put_first;
+use forms_json::{Form, Tables};
+use std::alloc::{AllocError, Global};
+use tc_lines::{Columns, Display, InfoOf};
+use tc_texts::{handle_from_tc_text, handle_text};
+use tc_units::{Name, Unit, name_of, put_number as put_exact};
+
+/// The type of an object.
+#[derive(Clone, Copy, PartialEq, Eq, Debug, Drop)]
+pub enum Object {
+    Qdisc,
+    Class,
+    Filter,
+    Chain,
+    Action,
+}
+
+/// What is known of a message beside its bytes.
+#[derive(Clone, Copy, Drop)]
+pub struct Said<'v> {
+    /// What the message does, such as `add`, `is` or `gone`.
+    pub verb: &'v str,
+    pub object: Object,
+    /// True if statistics are written.
+    pub statistics: bool,
+    /// The port id of a notification's sender; 0 for none.
+    pub port: u64,
+}
+
+fn object_text(object: Object) -> &'static str
+    ensures { result.now ≡ object_text object }
+{
+    match object {
+        Object::Qdisc => "qdisc",
+        Object::Class => "class",
+        Object::Filter => "filter",
+        Object::Chain => "chain",
+        Object::Action => "action",
+    }
+}
+
+fn is_same(a: &str, b: &str) -> bool
+    ensures { result ≡ bytes_eq a.now b.now }
+{
+    a == b
+}
+
+// The first leaf of this name in the head.
+fn in_head<'l, 't>(leaves: &'l [Leaf<'t>], key: &str) -> Option<&'l Leaf<'t>>
+    ensures { option_map (λ l. leaf_view l.now) result ≡ in_head (leaves_view leaves.now) key.now }
+{
+    let mut left = leaves;
+    'each: while let [leaf, rest @ ..] = left {
+        if is_in(Section::Head, leaf) && is_same(leaf.key, key) {
+            return Some(leaf);
+        }
+        left = rest;
+    }
+    None
+}
+
+fn is_count(style: Style) -> bool
+    ensures { result ≡ is_count style }
+{
+    matches!(style, Style::Count)
+}
+
+// The first count of this name.
+fn count_in<'l, 't>(section: Section, leaves: &'l [Leaf<'t>], key: &str) -> Option<&'l Leaf<'t>>
+    ensures { option_map (λ l. leaf_view l.now) result ≡ count_in section (leaves_view leaves.now) key.now }
+{
+    let mut left = leaves;
+    'each: while let [leaf, rest @ ..] = left {
+        if is_in(section, leaf) && is_count(leaf.row.style) && is_same(leaf.key, key) {
+            return Some(leaf);
+        }
+        left = rest;
+    }
+    None
+}
+
+fn protocol_in(n: u64) -> u64
+    ensures { result ≡ protocol_in n }
+{
+    n % 0x100 * 0x100 + n / 0x100 % 0x100
+}
+
+// The protocol of a filter's header.
+fn protocol_of(info: Option<&Leaf<'_>>) -> u64
+    ensures { result ≡ protocol_of (option_map (λ l. leaf_view l.now) info.entry) }
+{
+    match info {
+        Some(leaf) => match number_in(&leaf.value) {
+            Some(n) => protocol_in(n),
+            None => 0,
+        },
+        None => 0,
+    }
+}
+
+fn is_kind(display: &Display) -> bool
+    ensures { result ≡ is_kind display.now }
+{
+    matches!(display, Display::Kind)
+}
+
+// True for the kind of an action, with which it begins.
+fn is_action(leaf: &Leaf<'_>) -> bool
+    ensures { result ≡ is_action (leaf_view leaf.now) }
+{
+    is_kind(&leaf.display) && is_in(Section::Actions, leaf)
+}
+
+// The leaves up to the next action.
+fn one_action<'l, 't>(leaves: &'l [Leaf<'t>]) -> &'l [Leaf<'t>]
+    ensures { leaves_view result.now ≡ one_action (leaves_view leaves.now) }
+{
+    let mut count = 0;
+    for leaf in leaves {
+        if is_action(leaf) {
+            return &leaves[..count];
+        }
+        count += 1;
+    }
+    leaves
+}
+
+impl Line {
+    // Writes the value of a leaf, or `-`.
+    fn text_or_dash(&mut self, leaf: Option<&Leaf<'_>>) -> Result<(), AllocError>
+        ensures { OnOk result (self.new.text.items ≡ self.old.text.items ++ written (text_or_dash (option_map (λ l. leaf_view l.now) leaf.entry) ∷ [])) }
+    {
+        match leaf {
+            Some(leaf) => self.alone(leaf),
+            None => self.word(b"-"),
+        }
+    }
+
+    // Writes a handle in a unit; the text if it isn't a handle.
+    fn handle_in(&mut self, unit: Unit, text: &str) -> Result<(), AllocError>
+        ensures { OnOk result (self.new.text.items ≡ self.old.text.items ++ written (handle_in unit text.now (handle_of text.now) ∷ [])) }
+    {
+        match handle_from_tc_text(text) {
+            Some(n) => {
+                self.begin();
+                put_exact(&mut self.word, unit, n as u64)?;
+                self.end()
+            }
+            None => self.word(text.as_bytes()),
+        }
+    }
+
+    // Writes a handle; `-` for 0.
+    fn handle_value(&mut self, display: &Display, value: &Value<'_>) -> Result<(), AllocError>
+        ensures { OnOk result (self.new.text.items ≡ self.old.text.items ++ written (handle_value display.now (value_view value.now) ∷ [])) }
+    {
+        match (value, display) {
+            (Value::Text(text), _) if is_same(text, "0:0") => self.word(b"-"),
+            (Value::Text(text), Display::Handle(unit)) => self.handle_in(*unit, text),
+            (Value::Text(text), _) => self.word(text.as_bytes()),
+            _ => self.word(b"-"),
+        }
+    }
+
+    fn handle_word(&mut self, leaf: Option<&Leaf<'_>>) -> Result<(), AllocError>
+        ensures { OnOk result (self.new.text.items ≡ self.old.text.items ++ written (handle_word (option_map (λ l. leaf_view l.now) leaf.entry) ∷ [])) }
+    {
+        match leaf {
+            Some(leaf) => self.handle_value(&leaf.display, &leaf.value),
+            None => self.word(b"-"),
+        }
+    }
+
+    // Writes the interface, unless it is 0 or a block.
+    fn dev(&mut self, value: &Value<'_>) -> Result<(), AllocError>
+        ensures { OnOk result (self.new.text.items ≡ self.old.text.items ++ written (dev_words (value_view value.now))) }
+    {
+        match value {
+            Value::Interface(0, _) | Value::Signed(-1) => Ok(()),
+            Value::Interface(n, name) => {
+                self.word(b"dev")?;
+                self.begin();
+                put_interface(&mut self.word, *n, *name)?;
+                self.end()
+            }
+            Value::Signed(n) => {
+                self.word(b"dev")?;
+                self.begin();
+                put_signed(&mut self.word, Unit::Plain, *n)?;
+                self.end()
+            }
+            _ => Ok(()),
+        }
+    }
+
+    // Writes the place of an object: `root`, `ingress`, `egress` or a parent.
+    fn parent(&mut self, text: &str) -> Result<(), AllocError>
+        ensures { OnOk result (self.new.text.items ≡ self.old.text.items ++ written (parent_words text.now)) }
+    {
+        if is_same(text, "0:0") {
+            return Ok(());
+        }
+        if is_same(text, "root") {
+            return self.word(b"root");
+        }
+        if is_same(text, "ffff:fff2") {
+            return self.word(b"ingress");
+        }
+        if is_same(text, "ffff:fff3") {
+            return self.word(b"egress");
+        }
+        self.word(b"parent")?;
+        self.word(text.as_bytes())
+    }
+
+    // Writes the place of an object, or the number of a block.
+    fn place_in(&mut self, display: &Display, value: &Value<'_>) -> Result<(), AllocError>
+        ensures { OnOk result (self.new.text.items ≡ self.old.text.items ++ written (place_words display.now (value_view value.now))) }
+    {
+        match (value, display) {
+            (Value::Text(text), Display::Handle(unit)) => {
+                self.word(b"block")?;
+                self.handle_in(*unit, text)
+            }
+            (Value::Text(text), _) => self.parent(text),
+            _ => Ok(()),
+        }
+    }
+
+    // Writes a word and a number, unless the number is 0.
+    fn numbered(&mut self, word: &[u8], n: u64) -> Result<(), AllocError>
+        ensures { OnOk result (self.new.text.items ≡ self.old.text.items ++ written (unless_zero n (word.now ∷ decimal n ∷ []))) }
+    {
+        if n == 0 {
+            return Ok(());
+        }
+        self.word(word)?;
+        self.decimal(n)
+    }
+
+    // Writes a protocol, unless it is 0.
+    fn protocol_in(&mut self, names: &[Name<'_>], n: u64) -> Result<(), AllocError>
+        ensures { OnOk result (self.new.text.items ≡ self.old.text.items
+            ++ written (unless_zero n (codes "protocol" ∷ named_or_hex (name_of (names_view names.now) n) n ∷ []))) }
+    {
+        if n == 0 {
+            return Ok(());
+        }
+        self.word(b"protocol")?;
+        match name_of(names, n) {
+            Some(name) => self.word(name.as_bytes()),
+            None => {
+                self.begin();
+                put_exact(&mut self.word, Unit::LongHex, n)?;
+                self.end()
+            }
+        }
+    }
+
+    // Writes `tcm_info`.
+    #[tactic(auto, using(crate::proofs::Written::written_append))]
+    fn info(
+        &mut self,
+        counted: bool,
+        of: InfoOf,
+        names: &[Name<'_>],
+        n: u64,
+    ) -> Result<(), AllocError>
+        ensures { OnOk result (self.new.text.items ≡ self.old.text.items ++ written (info_words counted of (names_view names.now) n)) }
+    {
+        match of {
+            InfoOf::Refcnt if counted => self.numbered(b"refcnt", n),
+            InfoOf::Refcnt => Ok(()),
+            InfoOf::Leaf if n == 0 => Ok(()),
+            InfoOf::Leaf => {
+                self.word(b"leaf")?;
+                self.word(handle_text((n % 0x1_0000_0000) as u32).as_bytes())
+            }
+            InfoOf::Pref(_) => {
+                self.numbered(b"pref", n / 0x10000)?;
+                self.protocol_in(names, protocol_in(n))
+            }
+        }
+    }
+
+    fn info_in(
+        &mut self,
+        counted: bool,
+        display: &Display,
+        names: &[Name<'_>],
+        value: &Value<'_>,
+    ) -> Result<(), AllocError>
+        ensures { OnOk result (self.new.text.items ≡ self.old.text.items ++ written (info_in counted display.now (names_view names.now) (value_view value.now))) }
+    {
+        match (display, value) {
+            (Display::Info(of), Value::Unsigned(n)) => self.info(counted, *of, names, *n),
+            _ => Ok(()),
+        }
+    }
+
+    // Writes an address family, unless it is 0.
+    fn family(&mut self, value: &Value<'_>) -> Result<(), AllocError>
+        ensures { OnOk result (self.new.text.items ≡ self.old.text.items ++ written (family_words (value_view value.now))) }
+    {
+        match value {
+            Value::Named(_, 0) => Ok(()),
+            Value::Named(text, _) => {
+                self.word(b"family")?;
+                self.word(text.as_bytes())
+            }
+            Value::Unsigned(n) => self.numbered(b"family", *n),
+            _ => Ok(()),
+        }
+    }
+
+    // Writes where the object is.
+    #[tactic(auto, using(crate::proofs::Written::written_append))]
+    fn place(&mut self, counted: bool, leaves: &[Leaf<'_>]) -> Result<(), AllocError>
+        ensures { OnOk result (self.new.text.items ≡ self.old.text.items ++ written (place counted (leaves_view leaves.now))) }
+    {
+        if let Some(leaf) = in_head(leaves, "index") {
+            self.dev(&leaf.value)?;
+        }
+        if let Some(leaf) = in_head(leaves, "parent") {
+            self.place_in(&leaf.display, &leaf.value)?;
+        }
+        if let Some(leaf) = in_head(leaves, "info") {
+            self.info_in(counted, &leaf.display, leaf.names, &leaf.value)?;
+        }
+        if let Some(leaf) = in_head(leaves, "family") {
+            self.family(&leaf.value)?;
+        }
+        Ok(())
+    }
+
+    // Writes kind and handle; of a chain its number.
+    fn kind(&mut self, object: Object, leaves: &[Leaf<'_>]) -> Result<(), AllocError>
+        ensures { OnOk result (self.new.text.items ≡ self.old.text.items ++ written (kind_words object (leaves_view leaves.now))) }
+    {
+        match object {
+            Object::Chain => self.text_or_dash(in_head(leaves, "Chain")),
+            _ => {
+                self.text_or_dash(in_head(leaves, "Kind"))?;
+                self.handle_word(in_head(leaves, "handle"))
+            }
+        }
+    }
+
+    // Writes a word and the value of a leaf, if there is one that isn't left out.
+    fn with_word(&mut self, word: &[u8], leaf: Option<&Leaf<'_>>) -> Result<(), AllocError>
+        ensures { OnOk result (self.new.text.items ≡ self.old.text.items
+            ++ written (of_leaf (with_word word.now) (option_map (λ l. leaf_view l.now) leaf.entry))) }
+    {
+        match leaf {
+            Some(leaf) if is_left_out(leaf) => Ok(()),
+            Some(leaf) => {
+                self.word(word)?;
+                self.alone(leaf)
+            }
+            None => Ok(()),
+        }
+    }
+
+    // Writes a filter's chain, or the kind of a chain's template.
+    fn chain(&mut self, object: Object, leaves: &[Leaf<'_>]) -> Result<(), AllocError>
+        ensures { OnOk result (self.new.text.items ≡ self.old.text.items ++ written (chain_words object (leaves_view leaves.now))) }
+    {
+        match object {
+            Object::Chain => self.with_word(b"kind", in_head(leaves, "Kind")),
+            _ => self.with_word(b"chain", in_head(leaves, "Chain")),
+        }
+    }
+
+    // Writes a count after its word, if it has one.
+    fn counted(&mut self, word: &[u8], leaf: Option<&Leaf<'_>>) -> Result<(), AllocError>
+        ensures { OnOk result (self.new.text.items ≡ self.old.text.items ++ written (counted word.now (option_map (λ l. leaf_view l.now) leaf.entry))) }
+    {
+        let leaf = match leaf {
+            Some(leaf) => leaf,
+            None => return Ok(()),
+        };
+        if !word.is_empty() {
+            self.word(word)?;
+        }
+        self.alone(leaf)
+    }
+
+    // Writes the counts that each line with statistics has.
+    #[tactic(auto, using(crate::proofs::Written::written_append))]
+    fn counts(&mut self, section: Section, leaves: &[Leaf<'_>]) -> Result<(), AllocError>
+        ensures { OnOk result (self.new.text.items ≡ self.old.text.items ++ written (counts section (leaves_view leaves.now))) }
+    {
+        self.counted(b"sent", count_in(section, leaves, "bytes"))?;
+        self.counted(b"", count_in(section, leaves, "packets"))?;
+        self.counted(b"dropped", count_in(section, leaves, "drops"))?;
+        self.counted(b"overlimits", count_in(section, leaves, "overlimits"))?;
+        self.counted(b"backlog", count_in(section, leaves, "backlog"))?;
+        self.counted(b"", count_in(section, leaves, "qlen"))
+    }
+
+    // Writes statistics.
+    #[tactic(auto, using(crate::proofs::Written::written_append))]
+    fn statistics(
+        &mut self,
+        scope: &Scope<'_, '_>,
+        section: Section,
+        leaves: &[Leaf<'_>],
+    ) -> Result<(), BriefError>
+        ensures { OnOk result (self.new.text.items ≡ self.old.text.items ++ written (statistics (scope_view scope.now) section (leaves_view leaves.now))) }
+    {
+        self.counts(section, leaves)?;
+        self.section(scope, section, leaves)
+    }
+
+    // Writes an action after its kind.
+    #[tactic(auto, using(crate::proofs::Written::written_append))]
+    fn action(&mut self, scope: &Scope<'_, '_>) -> Result<(), BriefError>
+        ensures { OnOk result (self.new.text.items ≡ self.old.text.items ++ written (action_words (scope_view scope.now))) }
+    {
+        self.section(scope, Section::Actions, scope.leaves)?;
+        self.section(scope, Section::Control, scope.leaves)
+    }
+
+    // Writes an action after its kind, and its statistics in brackets.
+    #[tactic(auto, using(crate::proofs::Written::written_append))]
+    fn counted_action(&mut self, counted: bool, scope: &Scope<'_, '_>) -> Result<(), BriefError>
+        ensures { OnOk result (self.new.text.items ≡ self.old.text.items ++ written (counted_action counted (scope_view scope.now))) }
+    {
+        self.action(scope)?;
+        if counted {
+            self.word(b"[")?;
+            self.statistics(scope, Section::ActionStatistics, scope.leaves)?;
+            self.word(b"]")?;
+        }
+        Ok(())
+    }
+
+    // Writes the actions of a filter.
+    #[tactic(auto, using(crate::proofs::Written::written_append))]
+    fn actions(
+        &mut self,
+        counted: bool,
+        protocol: u64,
+        leaves: &[Leaf<'_>],
+    ) -> Result<(), BriefError>
+        ensures { OnOk result (self.new.text.items ≡ self.old.text.items ++ written (actions counted protocol (leaves_view leaves.now))) }
+    {
+        let mut left = leaves;
+        'each: while let [leaf, rest @ ..] = left {
+            if is_action(leaf) {
+                self.word(b"action")?;
+                self.alone(leaf)?;
+                let scope = Scope {
+                    leaves: one_action(rest),
+                    protocol,
+                };
+                self.counted_action(counted, &scope)?;
+            }
+            left = rest;
+        }
+        Ok(())
+    }
+
+    // Writes statistics after a semicolon.
+    #[tactic(auto, using(crate::proofs::Written::written_append))]
+    fn after_semicolon(
+        &mut self,
+        counted: bool,
+        scope: &Scope<'_, '_>,
+        section: Section,
+    ) -> Result<(), BriefError>
+        ensures { OnOk result (self.new.text.items ≡ self.old.text.items
+            ++ written (after_semicolon counted (scope_view scope.now) section)) }
+    {
+        if !counted || !has_any(section, scope.leaves) {
+            return Ok(());
+        }
+        self.word(b";")?;
+        self.statistics(scope, section, scope.leaves)
+    }
+
+    // Writes where the object is, and what it is.
+    #[tactic(auto, using(crate::proofs::Written::written_append))]
+    fn head(&mut self, counted: bool, object: Object, leaves: &[Leaf<'_>]) -> Result<(), AllocError>
+        ensures { OnOk result (self.new.text.items ≡ self.old.text.items ++ written (head counted object (leaves_view leaves.now))) }
+    {
+        self.word(object_text(object).as_bytes())?;
+        self.kind(object, leaves)?;
+        self.place(counted, leaves)?;
+        self.chain(object, leaves)
+    }
+
+    // Writes the words of an object's kind, its hardware flags, and its actions.
+    #[tactic(auto, using(crate::proofs::Written::written_append))]
+    fn body(
+        &mut self,
+        counted: bool,
+        scope: &Scope<'_, '_>,
+        leaves: &[Leaf<'_>],
+    ) -> Result<(), BriefError>
+        ensures { OnOk result (self.new.text.items ≡ self.old.text.items ++ written (body counted (scope_view scope.now) (leaves_view leaves.now))) }
+    {
+        self.section(scope, Section::Words, leaves)?;
+        self.section(scope, Section::Hardware, leaves)?;
+        self.actions(counted, scope.protocol, leaves)
+    }
+
+    // Writes the line of an object after its verb.
+    #[tactic(auto, using(crate::proofs::Written::written_append))]
+    fn object(&mut self, said: &Said<'_>, leaves: &[Leaf<'_>]) -> Result<(), BriefError>
+        ensures { OnOk result (self.new.text.items ≡ self.old.text.items ++ written (object_words (said_view said.now) (leaves_view leaves.now))) }
+    {
+        let scope = Scope {
+            leaves,
+            protocol: protocol_of(in_head(leaves, "info")),
+        };
+        self.head(said.statistics, said.object, leaves)?;
+        self.body(said.statistics, &scope, leaves)?;
+        self.numbered(b"by", said.port)?;
+        self.after_semicolon(said.statistics, &scope, Section::Statistics)
+    }
+
+    // Writes the line of an action after its verb.
+    #[tactic(auto, using(crate::proofs::Written::written_append))]
+    fn own_action(
+        &mut self,
+        said: &Said<'_>,
+        all: &[Leaf<'_>],
+        kind: &Leaf<'_>,
+        scope: &Scope<'_, '_>,
+    ) -> Result<(), BriefError>
+        ensures { OnOk result (self.new.text.items ≡ self.old.text.items
+            ++ written (own_action_words (said_view said.now) (leaves_view all.now) (leaf_view kind.now) (scope_view scope.now))) }
+    {
+        self.word(b"action")?;
+        self.alone(kind)?;
+        self.word(b"-")?;
+        self.action(scope)?;
+        self.section(scope, Section::Words, all)?;
+        self.numbered(b"by", said.port)?;
+        self.after_semicolon(said.statistics, scope, Section::ActionStatistics)
+    }
+
+    // Writes a line for each action, and its end.
+    fn own_actions(&mut self, said: &Said<'_>, leaves: &[Leaf<'_>]) -> Result<(), BriefError>
+        ensures { OnOk result (self.new.text.items ≡ self.old.text.items ++ own_actions (said_view said.now) (leaves_view leaves.now) (leaves_view leaves.now)) }
+    {
+        let mut left = leaves;
+        'each: while let [leaf, rest @ ..] = left {
+            if is_action(leaf) {
+                let scope = Scope {
+                    leaves: one_action(rest),
+                    protocol: 0,
+                };
+                put_first(&mut self.text, said.verb.as_bytes())?;
+                self.own_action(said, leaves, leaf, &scope)?;
+                self.text.extend_from_slice(b"\n")?;
+            }
+            left = rest;
+        }
+        Ok(())
+    }
+
+    // Writes the lines of a message.
+    fn message(&mut self, said: &Said<'_>, leaves: &[Leaf<'_>]) -> Result<(), BriefError>
+        ensures { OnOk result (self.new.text.items ≡ self.old.text.items ++ message_lines (said_view said.now) (leaves_view leaves.now)) }
+    {
+        if has_action(leaves) && is_of_actions(said.object) {
+            return self.own_actions(said, leaves);
+        }
+        put_first(&mut self.text, said.verb.as_bytes())?;
+        self.object(said, leaves)?;
+        self.text.extend_from_slice(b"\n")?;
+        Ok(())
+    }
+}
+
+// True if a leaf of the section isn't left out.
+fn has_any(section: Section, leaves: &[Leaf<'_>]) -> bool
+    ensures { result ≡ has_any section (leaves_view leaves.now) }
+{
+    let mut left = leaves;
+    'each: while let [leaf, rest @ ..] = left {
+        if is_in(section, leaf) && !is_left_out(leaf) {
+            return true;
+        }
+        left = rest;
+    }
+    false
+}
+
+// True if one of the leaves is the kind of an action.
+fn has_action(leaves: &[Leaf<'_>]) -> bool
+    ensures { result ≡ has_action (leaves_view leaves.now) }
+{
+    let mut left = leaves;
+    'each: while let [leaf, rest @ ..] = left {
+        if is_action(leaf) {
+            return true;
+        }
+        left = rest;
+    }
+    false
+}
+
+fn is_of_actions(object: Object) -> bool
+    ensures { result ≡ is_of_actions object }
+{
+    matches!(object, Object::Action)
+}
+
+/// The lines of a message, each with a line feed after it: one for each action of an action message, else one. `bytes`
+/// are in `form`, with `columns` and `words` for its members.
+pub fn lines_of<T: Tables, C: Columns + Drop, W: Words + Drop>(
+    alloc: Global,
+    table: T,
+    form: Form,
+    columns: C,
+    words: W,
+    said: &Said<'_>,
+    bytes: &[u8],
+) -> Result<Vec<u8>, BriefError>
+    ensures { IfOk result (λ text. (found : List LeafView)
+        × (leaves (C.table (C.options columns)) W.rows (C.options columns).root (events (shown_of (T.parts_of table) form bytes.now)) ≡ Some found)
+        × (text.items ≡ message_lines (said_view said.now) found)) }
+{
+    let tokens = tokens_of(alloc, table, form, bytes)?;
+    let found = leaves_of(alloc, &columns, &words, &tokens)?;
+    let mut line = Line {
+        text: Vec::with_capacity(alloc, 256)?,
+        word: Vec::with_capacity(alloc, 64)?,
+    };
+    line.message(said, &found)?;
+    let Line { text, .. } = line;
+    Ok(text)
+}

@@ -1,0 +1,334 @@
+//! The value of a leaf, as part of a word.
+
+ghost use Rattle.std.specs.Prelude.{IfSome, OnOk, [], bytes_eq, ◌++◌, ◌≡◌};
+ghost use Rattle.tc_brief.specs.Leaves.{leaf_view, name_now, value_view};
+ghost use Rattle.tc_brief.specs.Numbers.{number_text};
+ghost use Rattle.tc_brief.specs.Values.{assigned, attribute_name, bar, bits_text, bytes_text, close_text, comma, depth_after, equals};
+ghost use Rattle.tc_brief.specs.Values.{flags_text, interface_text, is_framing, is_left_out, is_opening, is_skipped, left_by, name_of_leaf, named_text};
+ghost use Rattle.tc_brief.specs.Values.{number_in, open_text, shown_name, shown_number, shown_signed, value_text, within_as};
+ghost use Rattle.tc_units.specs.Flags.{is_set};
+ghost use Rattle.tc_units.specs.Names.{names_view};
+
+use crate::leaf::{Leaf, Shape, Value};
+use crate::numbers::{put_number, put_signed};
+use crate::row::LeftOut;
+use std::alloc::AllocError;
+use tc_lines::Display;
+use tc_units::{Name, Unit, name_of, put_decimal, put_hex, put_verdict};
+
+/// True if a bit is set.
+pub(crate) fn is_set(bit: u64, n: u64) -> bool
+    ensures { result ≡ is_set bit n }
+{
+    bit > 0 && n / bit % 2 == 1
+}
+
+fn put_bar(out: &mut Vec<u8>, first: bool) -> Result<(), AllocError>
+    ensures { OnOk result (out.new.items ≡ out.old.items ++ bar first) }
+{
+    if first {
+        return Ok(());
+    }
+    out.extend_from_slice(b"|")
+}
+
+// Appends the names of the set bits, then the others in hex.
+fn put_names(out: &mut Vec<u8>, first: bool, names: &[Name<'_>], n: u64) -> Result<(), AllocError>
+    ensures { OnOk result (out.new.items ≡ out.old.items ++ bits_text first (names_view names.now) n) }
+{
+    let (name, others) = match names.split_first() {
+        Some(parts) => parts,
+        None => return put_others(out, first, n),
+    };
+    if !is_set(name.number, n) {
+        return put_names(out, first, others, n);
+    }
+    put_bar(out, first)?;
+    out.extend_from_slice(name.name.as_bytes())?;
+    put_names(out, false, others, n - name.number)
+}
+
+// Appends the bits without a name in hex.
+fn put_others(out: &mut Vec<u8>, first: bool, n: u64) -> Result<(), AllocError>
+    ensures { OnOk result (out.new.items ≡ out.old.items ++ bits_text first [] n) }
+{
+    if n == 0 {
+        return Ok(());
+    }
+    put_bar(out, first)?;
+    put_hex(out, n)
+}
+
+// Appends a flag word: the names of its bits with bars between.
+fn put_flags(out: &mut Vec<u8>, names: &[Name<'_>], n: u64) -> Result<(), AllocError>
+    ensures { OnOk result (out.new.items ≡ out.old.items ++ flags_text (names_view names.now) n) }
+{
+    if n == 0 {
+        return out.extend_from_slice(b"0");
+    }
+    put_names(out, true, names, n)
+}
+
+// Appends the name of a number, or the number in its unit.
+fn put_named(out: &mut Vec<u8>, unit: Unit, name: Option<&str>, n: u64) -> Result<(), AllocError>
+    ensures { OnOk result (out.new.items ≡ out.old.items ++ named_text (name_now name.entry) (number_text unit n)) }
+{
+    match name {
+        Some(name) => out.extend_from_slice(name.as_bytes()),
+        None => put_number(out, unit, n),
+    }
+}
+
+// Appends a number as its column says.
+fn put_shown(
+    out: &mut Vec<u8>,
+    display: &Display,
+    names: &[Name<'_>],
+    n: u64,
+) -> Result<(), AllocError>
+    ensures { OnOk result (out.new.items ≡ out.old.items ++ shown_number display.now (names_view names.now) n) }
+{
+    match display {
+        Display::Number(unit) => put_number(out, *unit, n),
+        Display::Named(unit, _) => put_named(out, *unit, name_of(names, n), n),
+        Display::Flags(_) => put_flags(out, names, n),
+        Display::Verdict(_) => put_verdict(out, (n % 0x1_0000_0000) as u32),
+        _ => put_decimal(out, n),
+    }
+}
+
+fn put_shown_signed(out: &mut Vec<u8>, display: &Display, n: i64) -> Result<(), AllocError>
+    ensures { OnOk result (out.new.items ≡ out.old.items ++ shown_signed display.now n) }
+{
+    match display {
+        Display::Number(unit) => put_signed(out, *unit, n),
+        _ => put_signed(out, Unit::Plain, n),
+    }
+}
+
+// Appends a name in JSON with its number.
+fn put_name(
+    out: &mut Vec<u8>,
+    display: &Display,
+    names: &[Name<'_>],
+    text: &str,
+    n: u64,
+) -> Result<(), AllocError>
+    ensures { OnOk result (out.new.items ≡ out.old.items ++ shown_name display.now (names_view names.now) text.now n) }
+{
+    match display {
+        Display::Verdict(_) => put_verdict(out, (n % 0x1_0000_0000) as u32),
+        Display::Slash(_, _) => put_decimal(out, n),
+        Display::Text(_) => match name_of(names, n) {
+            Some(name) => out.extend_from_slice(name.as_bytes()),
+            None => out.extend_from_slice(text.as_bytes()),
+        },
+        _ => out.extend_from_slice(text.as_bytes()),
+    }
+}
+
+/// Appends an interface, by its name if known.
+pub(crate) fn put_interface(out: &mut Vec<u8>, n: u64, name: Option<&str>) -> Result<(), AllocError>
+    ensures { OnOk result (out.new.items ≡ out.old.items ++ interface_text n (name_now name.entry)) }
+{
+    if let Some(name) = name {
+        return out.extend_from_slice(name.as_bytes());
+    }
+    put_decimal(out, n)
+}
+
+/// Appends bytes in hex, or their number if there are more than 32.
+pub(crate) fn put_hex_bytes(out: &mut Vec<u8>, hex: &str) -> Result<(), AllocError>
+    ensures { OnOk result (out.new.items ≡ out.old.items ++ bytes_text hex.now) }
+{
+    if hex.len() <= 64 {
+        out.extend_from_slice(b"0x")?;
+        return out.extend_from_slice(hex.as_bytes());
+    }
+    out.extend_from_slice(b"<")?;
+    put_decimal(out, (hex.len() / 2) as u64)?;
+    out.extend_from_slice(b"B>")
+}
+
+/// Appends the value of a leaf.
+pub(crate) fn put_value(out: &mut Vec<u8>, leaf: &Leaf<'_>) -> Result<(), AllocError>
+    ensures { OnOk result (out.new.items ≡ out.old.items ++ value_text (leaf_view leaf.now) (value_view leaf.now.value)) }
+{
+    match leaf.value {
+        Value::Null => out.extend_from_slice(b"null"),
+        Value::Bool(true) => out.extend_from_slice(b"true"),
+        Value::Bool(false) => out.extend_from_slice(b"false"),
+        Value::Unsigned(n) => put_shown(out, &leaf.display, leaf.names, n),
+        Value::Signed(n) => put_shown_signed(out, &leaf.display, n),
+        Value::Text(text) => out.extend_from_slice(text.as_bytes()),
+        Value::Named(text, n) => put_name(out, &leaf.display, leaf.names, text, n),
+        Value::Interface(n, name) => put_interface(out, n, name),
+        Value::Attribute(_, hex) => put_hex_bytes(out, hex),
+        Value::Opens(_) | Value::Closes(_) => Ok(()),
+    }
+}
+
+// Appends the name of an attribute without a row.
+fn put_attribute_name(out: &mut Vec<u8>, word: u64) -> Result<(), AllocError>
+    ensures { OnOk result (out.new.items ≡ out.old.items ++ attribute_name word) }
+{
+    out.extend_from_slice(b"attr")?;
+    if word < 0x4000 {
+        return put_decimal(out, word);
+    }
+    put_hex(out, word)
+}
+
+// Appends a name and an equals sign, unless the name is empty.
+fn put_equals(out: &mut Vec<u8>, name: &str) -> Result<(), AllocError>
+    ensures { OnOk result (out.new.items ≡ out.old.items ++ equals name.now) }
+{
+    if name.is_empty() {
+        return Ok(());
+    }
+    out.extend_from_slice(name.as_bytes())?;
+    out.extend_from_slice(b"=")
+}
+
+/// Appends `Name=`, unless the leaf is an item of a list.
+pub(crate) fn put_name_of(out: &mut Vec<u8>, leaf: &Leaf<'_>) -> Result<(), AllocError>
+    ensures { OnOk result (out.new.items ≡ out.old.items ++ equals (name_of_leaf (leaf_view leaf.now) (value_view leaf.now.value))) }
+{
+    if let Value::Attribute(word, _) = leaf.value {
+        put_attribute_name(out, word)?;
+        return out.extend_from_slice(b"=");
+    }
+    put_equals(out, leaf.key)
+}
+
+/// Appends `Name=value`; only the name if it is true.
+pub(crate) fn put_assigned(out: &mut Vec<u8>, leaf: &Leaf<'_>) -> Result<(), AllocError>
+    ensures { OnOk result (out.new.items ≡ out.old.items ++ assigned (leaf_view leaf.now)) }
+{
+    if let Value::Bool(true) = leaf.value {
+        return out.extend_from_slice(leaf.key.as_bytes());
+    }
+    put_name_of(out, leaf)?;
+    put_value(out, leaf)
+}
+
+/// The number of a value, by which a row leaves it out.
+pub(crate) fn number_in(value: &Value<'_>) -> Option<u64>
+    ensures { result ≡ number_in (value_view value.now) }
+{
+    match value {
+        Value::Bool(true) => Some(1),
+        Value::Bool(false) => Some(0),
+        Value::Unsigned(n) | Value::Named(_, n) | Value::Interface(n, _) => Some(*n),
+        _ => None,
+    }
+}
+
+fn left_by(left: LeftOut, value: &Value<'_>) -> bool
+    ensures { result ≡ left_by left (value_view value.now) }
+{
+    match left {
+        LeftOut::Never => false,
+        LeftOut::Always => true,
+        LeftOut::Equal(n) => match number_in(value) {
+            Some(k) => k == n,
+            None => false,
+        },
+        LeftOut::Below(n) => match number_in(value) {
+            Some(k) => k < n,
+            None => false,
+        },
+    }
+}
+
+fn is_same(a: &str, b: &str) -> bool
+    ensures { result ≡ bytes_eq a.now b.now }
+{
+    a == b
+}
+
+// True for the `nla_type` and the padding of an attribute.
+fn is_framing(key: &str) -> bool
+    ensures { result ≡ is_framing key.now }
+{
+    is_same(key, "word") || is_same(key, "pad")
+}
+
+/// True if a line leaves the leaf out.
+pub(crate) fn is_left_out(leaf: &Leaf<'_>) -> bool
+    ensures { result ≡ is_left_out (leaf_view leaf.now) }
+{
+    matches!(leaf.display, Display::Hidden)
+        || is_framing(leaf.key)
+        || left_by(leaf.row.left, &leaf.value)
+}
+
+fn put_comma(out: &mut Vec<u8>, first: bool) -> Result<(), AllocError>
+    ensures { OnOk result (out.new.items ≡ out.old.items ++ comma first) }
+{
+    if first {
+        return Ok(());
+    }
+    out.extend_from_slice(b",")
+}
+
+pub(crate) fn put_open(out: &mut Vec<u8>, shape: Shape) -> Result<(), AllocError>
+    ensures { OnOk result (out.new.items ≡ out.old.items ++ open_text shape) }
+{
+    match shape {
+        Shape::Brackets => out.extend_from_slice(b"["),
+        _ => out.extend_from_slice(b"{"),
+    }
+}
+
+fn put_close(out: &mut Vec<u8>, shape: Shape) -> Result<(), AllocError>
+    ensures { OnOk result (out.new.items ≡ out.old.items ++ close_text shape) }
+{
+    match shape {
+        Shape::Brackets => out.extend_from_slice(b"]"),
+        _ => out.extend_from_slice(b"}"),
+    }
+}
+
+/// True for a leaf that is left out within a word.
+pub(crate) fn is_skipped(leaf: &Leaf<'_>) -> bool
+    ensures { result ≡ is_skipped (leaf_view leaf.now) }
+{
+    match leaf.value {
+        Value::Opens(_) | Value::Closes(_) => false,
+        _ => is_left_out(leaf),
+    }
+}
+
+/// Appends one leaf within a word.
+pub(crate) fn put_within(out: &mut Vec<u8>, first: bool, leaf: &Leaf<'_>) -> Result<(), AllocError>
+    ensures { OnOk result (out.new.items ≡ out.old.items ++ within_as first (leaf_view leaf.now) (value_view leaf.now.value)) }
+{
+    if let Value::Closes(shape) = leaf.value {
+        return put_close(out, shape);
+    }
+    put_comma(out, first)?;
+    if let Value::Opens(shape) = leaf.value {
+        put_equals(out, leaf.key)?;
+        return put_open(out, shape);
+    }
+    put_assigned(out, leaf)
+}
+
+/// True for the beginning of a list or record.
+pub(crate) fn is_opening(value: &Value<'_>) -> bool
+    ensures { result ≡ is_opening (value_view value.now) }
+{
+    matches!(value, Value::Opens(_))
+}
+
+/// How deep in lists and records of one word the leaf after this one is.
+pub(crate) fn depth_after(depth: usize, value: &Value<'_>) -> Option<usize>
+    ensures { IfSome result (λ n. n ≡ depth_after depth (value_view value.now)) }
+{
+    match value {
+        Value::Opens(_) => depth.checked_add(1),
+        Value::Closes(_) => Some(depth.saturating_sub(1)),
+        _ => Some(depth),
+    }
+}

@@ -1,0 +1,740 @@
+//! From the events of JSON to its leaves.
+
+ghost use Rattle.std.specs.Prelude.{IfOk, MatchOption, OnOk, Some, [], bytes_eq, option_map, unwrap_or, ◌++◌, ◌∷◌, ◌≡◌};
+ghost use Rattle.tc_lines.specs.Columns.{column_of, columns_view, find};
+ghost use Rattle.tc_lines.specs.Lines.{companion_by, says_block};
+ghost use Rattle.tc_units.specs.Names.{names_view};
+ghost use Rattle.tc_brief.specs.Leaves.{leaf_view, leaves_view, value_view};
+ghost use Rattle.tc_brief.specs.Rows.{find_row, or_row, plain_row, row_view, rows_view};
+ghost use Rattle.tc_brief.specs.Tape.{event_of, events_of};
+ghost use Rattle.tc_brief.specs.Walk.{close_map, close_seq, closing, displayed, frame_view, is_actions, is_enum, is_flat, is_head, is_of_action, is_other};
+ghost use Rattle.tc_brief.specs.Walk.{is_silent, is_stand_in, is_through, is_transparent, item_shape, leaf_of, leaves, list_shape, names_in, note, number_value};
+ghost use Rattle.tc_brief.specs.Walk.{open_map, open_seq, opened, opening, option_list, other_leaf, place_within, plain_leaf, rated, record_shape};
+ghost use Rattle.tc_brief.specs.Walk.{rest_of, section_in, settle, stack_of, start, state_of, step, styled, take_key, take_leaf, text_number, top_of};
+ghost use Rattle.tc_brief.specs.Walk.{value_of, with_number};
+
+use crate::error::BriefError;
+use crate::leaf::{Leaf, Section, Shape, Value};
+use crate::row::{LeftOut, Row, Style, Words};
+use crate::tape::Token;
+use std::alloc::{AllocError, Global};
+use tc_lines::{Column, Columns, Display, InfoOf};
+use tc_units::{Name, Unit, number_of};
+
+/// An open record or list.
+#[derive(Clone, Copy)]
+pub(crate) struct Frame<'t> {
+    // The place of its columns, and that of its list's without a kind.
+    pub place: usize,
+    pub base: usize,
+    pub section: Section,
+    pub shape: Shape,
+    pub list: bool,
+    // True if it is part of one word.
+    pub inside: bool,
+    pub row: Row<'t>,
+}
+
+/// The state between events.
+#[derive(Drop)]
+pub(crate) struct Walk<'t> {
+    pub out: Vec<Leaf<'t>>,
+    // Innermost last.
+    pub frames: Vec<Frame<'t>>,
+    // The place of the columns that are looked up first: those of the last leaf's companion.
+    pub companion: usize,
+    // The name, display and row of the next value.
+    pub key: &'t str,
+    pub display: Display,
+    pub row: Row<'t>,
+    // The last `nla_type` of an attribute without a row.
+    pub word: u64,
+}
+
+// The place without columns.
+const NONE: usize = 65535;
+
+fn is_same(a: &str, b: &str) -> bool
+    ensures { result ≡ bytes_eq a.now b.now }
+{
+    a == b
+}
+
+// The display of a name's column.
+fn find(columns: &[Column<'_>], key: &str) -> Option<Display>
+    ensures { result ≡ option_map (λ c. c.display) (find (columns_view columns.now) key.now) }
+{
+    match columns.split_first() {
+        Some((column, _)) if is_same(column.key, key) => Some(column.display),
+        Some((_, others)) => find(others, key),
+        None => None,
+    }
+}
+
+fn find_row(rows: &'static [Row<'static>], key: &str) -> Option<Row<'static>>
+    ensures { option_map row_view result ≡ find_row (rows_view rows.now) key.now }
+{
+    match rows.split_first() {
+        Some((row, _)) if is_same(row.key, key) => Some(*row),
+        Some((_, others)) => find_row(others, key),
+        None => None,
+    }
+}
+
+// The row of a member without one.
+fn plain_row<'t>(key: &'t str) -> Row<'t>
+    ensures { row_view result ≡ plain_row key.now }
+{
+    Row {
+        key,
+        word: "",
+        style: Style::Value,
+        with: "",
+        left: LeftOut::Never,
+    }
+}
+
+// The row of a name.
+fn row_in<'t, W: Words>(words: &W, place: usize, base: usize, key: &'t str) -> Row<'t>
+    ensures { row_view result ≡ unwrap_or (or_row (find_row (W.rows place) key.now) (find_row (W.rows base) key.now)) (plain_row key.now) }
+{
+    if let Some(row) = find_row(words.rows(place), key) {
+        return row;
+    }
+    if let Some(row) = find_row(words.rows(base), key) {
+        return row;
+    }
+    plain_row(key)
+}
+
+// The row as it stands in a record with this row.
+fn rated<'t>(outer: Row<'t>, row: Row<'t>) -> Row<'t>
+    ensures { row_view result ≡ rated row.entry.style (row_view outer.entry) (row_view row.entry) }
+{
+    match row.style {
+        Style::OfRate => Row {
+            key: row.key,
+            word: outer.word,
+            style: Style::OfRate,
+            with: outer.with,
+            left: outer.left,
+        },
+        _ => row,
+    }
+}
+
+// The display of a name, among the columns of a companion, of the kind, or of every kind.
+fn display_at<C: Columns>(
+    columns: &C,
+    companion: usize,
+    place: usize,
+    base: usize,
+    key: &str,
+) -> Display
+    ensures { result ≡ (column_of ((C.table (C.options columns.now)).columns companion) ((C.table (C.options columns.now)).columns place)
+        ((C.table (C.options columns.now)).columns base) key.now).display }
+{
+    if let Some(display) = find(columns.columns(companion), key) {
+        return display;
+    }
+    if let Some(display) = find(columns.columns(place), key) {
+        return display;
+    }
+    if let Some(display) = find(columns.columns(base), key) {
+        return display;
+    }
+    if is_same(key, "word") {
+        return Display::Number(Unit::LongHex);
+    }
+    Display::Plain
+}
+
+fn is_head(section: Section) -> bool
+    ensures { result ≡ is_head section }
+{
+    matches!(section, Section::Head)
+}
+
+fn is_of_action(section: Section) -> bool
+    ensures { result ≡ is_of_action section }
+{
+    matches!(
+        section,
+        Section::Actions | Section::Control | Section::ActionStatistics
+    )
+}
+
+// The section of a member with this style, in a record or list of this section.
+fn styled(style: Style, section: Section) -> Section
+    ensures { result ≡ styled style section }
+{
+    let action = is_of_action(section);
+    match style {
+        Style::Actions => Section::Actions,
+        Style::Statistics if action => Section::ActionStatistics,
+        Style::Statistics => Section::Statistics,
+        Style::Control if action => Section::Control,
+        Style::Hardware if !action => Section::Hardware,
+        Style::Head if !action => Section::Head,
+        _ => section,
+    }
+}
+
+fn displayed(display: &Display, section: Section) -> Section
+    ensures { result ≡ displayed display.now section }
+{
+    match display {
+        Display::SameLine(_) => Section::Head,
+        Display::Kind if !is_of_action(section) => Section::Head,
+        _ => section,
+    }
+}
+
+fn section_in(frame: &Frame<'_>, display: &Display, style: Style) -> Section
+    ensures { result ≡ section_in (frame_view frame.now) display.now style }
+{
+    if frame.inside {
+        return frame.section;
+    }
+    displayed(display, styled(style, frame.section))
+}
+
+fn is_silent(shape: Shape) -> bool
+    ensures { result ≡ is_silent shape }
+{
+    matches!(shape, Shape::Silent)
+}
+
+fn item_shape(shape: Shape) -> Shape
+    ensures { result ≡ item_shape shape }
+{
+    match shape {
+        Shape::Brackets => Shape::Braces,
+        _ => Shape::Silent,
+    }
+}
+
+fn is_flat(style: Style) -> bool
+    ensures { result ≡ is_flat style }
+{
+    matches!(
+        style,
+        Style::Flat | Style::Rate | Style::Actions | Style::Keys | Style::Statistics
+    )
+}
+
+fn is_actions(style: Style) -> bool
+    ensures { result ≡ is_actions style }
+{
+    matches!(style, Style::Actions)
+}
+
+fn is_transparent(display: &Display) -> bool
+    ensures { result ≡ is_transparent display.now }
+{
+    matches!(
+        display,
+        Display::Inline(_) | Display::Below(_) | Display::SameLine(_)
+    )
+}
+
+// True for an attribute without a row.
+fn is_other(key: &str) -> bool
+    ensures { result ≡ is_other key.now }
+{
+    is_same(key, "Other")
+}
+
+fn is_through(key: &str) -> bool
+    ensures { result ≡ is_through key.now }
+{
+    is_other(key) || is_same(key, "Options")
+}
+
+fn record_shape(key: &str, display: &Display, style: Style) -> Shape
+    ensures { result ≡ record_shape key.now display.now style }
+{
+    if is_transparent(display) || is_flat(style) || is_through(key) || is_enum(display) {
+        Shape::Silent
+    } else {
+        Shape::Braces
+    }
+}
+
+// True for a number with names.
+fn is_enum(display: &Display) -> bool
+    ensures { result ≡ is_enum display.now }
+{
+    matches!(
+        display,
+        Display::Text(_) | Display::Verdict(_) | Display::Family(_)
+    )
+}
+
+// True for the names of what stands for a number with names: a number without one, or malformed bytes.
+fn is_stand_in(key: &str) -> bool
+    ensures { result ≡ is_stand_in key.now }
+{
+    is_other(key) || is_same(key, "raw")
+}
+
+fn list_shape(key: &str, display: &Display, style: Style) -> Shape
+    ensures { result ≡ list_shape key.now display.now style }
+{
+    if is_transparent(display) || is_flat(style) || is_through(key) {
+        return Shape::Silent;
+    }
+    match display {
+        Display::Nested(_) => Shape::Braces,
+        _ => Shape::Brackets,
+    }
+}
+
+// The place of the columns within.
+fn place_within(display: &Display) -> usize
+    ensures { result ≡ place_within display.now }
+{
+    match display {
+        Display::Nested(place)
+        | Display::Inline(place)
+        | Display::Below(place)
+        | Display::Elements(place)
+        | Display::SameLine(place) => *place,
+        _ => NONE,
+    }
+}
+
+// The names of a column's numbers.
+fn names_in<C: Columns>(columns: &C, display: &Display) -> &'static [Name<'static>]
+    ensures { names_view result.now ≡ names_in (C.table (C.options columns.now)) display.now }
+{
+    match display {
+        Display::Named(_, place)
+        | Display::Flags(place)
+        | Display::Text(place)
+        | Display::Slash(place, _)
+        | Display::Info(InfoOf::Pref(place)) => columns.names(*place),
+        _ => &[],
+    }
+}
+
+// The number of a text that is a name in JSON, or a mask.
+fn text_number<C: Columns>(columns: &C, display: &Display, text: &str) -> Option<u64>
+    ensures { result ≡ text_number (C.table (C.options columns.now)) display.now text.now }
+{
+    match display {
+        Display::Text(place) | Display::Verdict(place) | Display::Family(place) => {
+            columns.number(*place, text)
+        }
+        Display::Slash(place, _) => number_of(columns.names(*place), text),
+        _ => None,
+    }
+}
+
+fn text_value<'t, C: Columns>(columns: &C, display: &Display, text: &'t str) -> Value<'t>
+    ensures { value_view result ≡ with_number text.now (text_number (C.table (C.options columns.now)) display.now text.now) }
+{
+    match text_number(columns, display, text) {
+        Some(n) => Value::Named(text, n),
+        None => Value::Text(text),
+    }
+}
+
+fn number_value<'t, C: Columns>(columns: &'t C, display: &Display, n: u64) -> Value<'t>
+    ensures { value_view result ≡ number_value (C.table (C.options columns.now)) display.now n }
+{
+    match display {
+        Display::Interface | Display::Index(_) => Value::Interface(n, columns.interface(n)),
+        _ => Value::Unsigned(n),
+    }
+}
+
+// The companion after a leaf.
+fn companion_by(display: &Display, block: bool, companion: usize) -> usize
+    ensures { result ≡ companion_by display.now block companion }
+{
+    match display {
+        Display::First(place) | Display::From(place) => *place,
+        Display::Index(place) if block => *place,
+        Display::Slash(_, _) | Display::To(_) => NONE,
+        _ => companion,
+    }
+}
+
+// True for `TCM_IFINDEX_MAGIC_BLOCK`.
+fn says_block(token: &Token) -> bool
+    ensures { result ≡ says_block (event_of token.now) }
+{
+    match token {
+        Token::Signed(z) => *z == -1,
+        _ => false,
+    }
+}
+
+// The value of a token, as its column says.
+fn value_of<'t, C: Columns>(columns: &'t C, display: &Display, token: &'t Token) -> Value<'t>
+    ensures { value_view result ≡ value_of (C.table (C.options columns.now)) display.now (event_of token.now) }
+{
+    match token {
+        Token::Bool(b) => Value::Bool(*b),
+        Token::Unsigned(n) => number_value(columns, display, *n),
+        Token::Signed(z) => Value::Signed(*z),
+        Token::Text(text) => text_value(columns, display, text.as_str()),
+        _ => Value::Null,
+    }
+}
+
+// Opens a record or list.
+#[tactic(auto, using(crate::proofs::Stacks::reverse_snoc))]
+fn push<'t>(frames: &mut Vec<Frame<'t>>, frame: Frame<'t>) -> Result<(), AllocError>
+    ensures { OnOk result (stack_of frames.new.items ≡ frame_view frame.entry ∷ stack_of frames.old.items) }
+{
+    frames.push(frame)?;
+    Ok(())
+}
+
+// Removes and returns the innermost.
+#[tactic(auto, using(crate::proofs::Stacks::reverse_snoc))]
+fn pop<'t>(frames: &mut Vec<Frame<'t>>) -> Option<Frame<'t>>
+    ensures { MatchOption result ((stack_of frames.old.items ≡ []) × (stack_of frames.new.items ≡ []))
+        (λ f. stack_of frames.old.items ≡ frame_view f ∷ stack_of frames.new.items) }
+{
+    frames.pop()
+}
+
+// Closes the innermost.
+fn drop_top(frames: &mut Vec<Frame<'_>>)
+    ensures { stack_of frames.new.items ≡ rest_of (stack_of frames.old.items) }
+{
+    let _ = pop(frames);
+}
+
+// The innermost.
+#[tactic(auto, using(crate::proofs::Stacks::reverse_snoc))]
+fn top<'t>(frames: &[Frame<'t>]) -> Option<Frame<'t>>
+    ensures { option_map frame_view result ≡ top_of (stack_of frames.now) }
+{
+    match frames.split_last() {
+        Some((frame, _)) => Some(*frame),
+        None => None,
+    }
+}
+
+// After a record, the items of its list have the columns of the kind in it.
+fn settle(place: usize, frames: &mut Vec<Frame<'_>>) -> Result<(), AllocError>
+    ensures { OnOk result (stack_of frames.new.items ≡ settle place (stack_of frames.old.items)) }
+{
+    match pop(frames) {
+        Some(frame) if frame.list => push(frames, Frame { place, ..frame }),
+        Some(frame) => push(frames, frame),
+        None => Ok(()),
+    }
+}
+
+// The end of a record or list.
+fn closing<'t>(frame: &Frame<'t>) -> Option<Leaf<'t>>
+    ensures { option_list (option_map leaf_view result) ≡ closing (frame_view frame.now) }
+{
+    if is_silent(frame.shape) {
+        return None;
+    }
+    Some(Leaf {
+        key: "",
+        row: plain_row(""),
+        display: Display::Plain,
+        names: &[],
+        section: frame.section,
+        value: Value::Closes(frame.shape),
+    })
+}
+
+// Appends a leaf, if there is one.
+fn put<'t>(out: &mut Vec<Leaf<'t>>, leaf: Option<Leaf<'t>>) -> Result<(), AllocError>
+    ensures { OnOk result (leaves_view out.new.items ≡ leaves_view out.old.items ++ option_list (option_map leaf_view leaf.entry)) }
+{
+    if let Some(leaf) = leaf {
+        out.push(leaf)?;
+    }
+    Ok(())
+}
+
+impl<'t> Walk<'t> {
+    // Before a message with the columns of `root`.
+    fn new(alloc: Global, root: usize, room: usize) -> Result<Walk<'t>, AllocError>
+        ensures { IfOk result (λ w. state_of w ≡ start root) }
+    {
+        let out = Vec::with_capacity(alloc, room)?;
+        let mut frames = Vec::with_capacity(alloc, 16)?;
+        let first = Frame {
+            place: root,
+            base: root,
+            section: Section::Words,
+            shape: Shape::Silent,
+            list: false,
+            inside: false,
+            row: plain_row(""),
+        };
+        push(&mut frames, first)?;
+        Ok(Walk {
+            out,
+            frames,
+            companion: NONE,
+            key: "",
+            display: Display::Inline(root),
+            row: plain_row(""),
+            word: 0,
+        })
+    }
+
+    // The name of the next value.
+    fn take_key<C: Columns, W: Words>(
+        &mut self,
+        columns: &C,
+        words: &W,
+        key: &'t str,
+        frame: &Frame<'t>,
+    )
+        ensures { state_of self.new ≡ take_key (C.table (C.options columns.now)) W.rows key.now (state_of self.old) (frame_view frame.now) }
+    {
+        if is_enum(&self.display) && is_stand_in(key) {
+            return;
+        }
+        self.key = key;
+        self.display = display_at(columns, self.companion, frame.place, frame.base, key);
+        self.row = rated(frame.row, row_in(words, frame.place, frame.base, key));
+    }
+
+    // The next value, which has no contents.
+    fn leaf_of<C: Columns>(&self, columns: &C, frame: &Frame<'t>, value: Value<'t>) -> Leaf<'t>
+        ensures { leaf_view result ≡ leaf_of (C.table (C.options columns.now)) (state_of self.now) (frame_view frame.now) (value_view value.entry) }
+    {
+        Leaf {
+            key: if frame.list { "" } else { self.key },
+            row: self.row,
+            display: self.display,
+            names: names_in(columns, &self.display),
+            section: section_in(frame, &self.display, self.row.style),
+            value,
+        }
+    }
+
+    // The innermost record or list after a leaf: a kind selects the columns of the items after it.
+    fn noted<C: Columns>(&self, columns: &C, token: &Token, frame: Frame<'t>) -> Frame<'t>
+        ensures { frame_view result ≡ note (C.table (C.options columns.now)) (event_of token.now) self.now.display (frame_view frame.entry) }
+    {
+        match (self.display, token) {
+            (Display::Kind, Token::Text(name)) => Frame {
+                place: columns.under(frame.base, name.as_str()),
+                ..frame
+            },
+            _ => frame,
+        }
+    }
+
+    // A leaf with a name of its own.
+    fn plain_leaf<C: Columns>(
+        &mut self,
+        columns: &'t C,
+        token: &'t Token,
+        frame: Frame<'t>,
+    ) -> Result<(), AllocError>
+        ensures { OnOk result (state_of self.new ≡ plain_leaf (C.table (C.options columns.now)) (event_of token.now) (state_of self.old) (frame_view frame.entry)) }
+    {
+        let value = value_of(columns, &self.display, token);
+        let leaf = self.leaf_of(columns, &frame, value);
+        self.out.push(leaf)?;
+        let before = if is_head(frame.section) {
+            self.companion
+        } else {
+            NONE
+        };
+        self.companion = companion_by(&self.display, says_block(token), before);
+        let noted = self.noted(columns, token, frame);
+        drop_top(&mut self.frames);
+        push(&mut self.frames, noted)
+    }
+
+    // A leaf of an attribute without a row: its `nla_type`, or its bytes.
+    fn other_leaf<C: Columns>(
+        &mut self,
+        columns: &'t C,
+        token: &'t Token,
+        frame: Frame<'t>,
+    ) -> Result<(), AllocError>
+        ensures { OnOk result (state_of self.new ≡ other_leaf (C.table (C.options columns.now)) (event_of token.now) (state_of self.old) (frame_view frame.entry)) }
+    {
+        match token {
+            Token::Unsigned(n) => {
+                self.word = *n;
+                Ok(())
+            }
+            Token::Text(text) => {
+                let value = Value::Attribute(self.word, text.as_str());
+                let leaf = self.leaf_of(columns, &frame, value);
+                self.out.push(leaf)?;
+                Ok(())
+            }
+            _ => self.plain_leaf(columns, token, frame),
+        }
+    }
+
+    // The next value, which has no contents.
+    fn take_leaf<C: Columns>(
+        &mut self,
+        columns: &'t C,
+        token: &'t Token,
+        frame: Frame<'t>,
+    ) -> Result<(), AllocError>
+        ensures { OnOk result (state_of self.new ≡ take_leaf (C.table (C.options columns.now)) (event_of token.now) (state_of self.old) (frame_view frame.entry)) }
+    {
+        if is_other(frame.row.key) {
+            return self.other_leaf(columns, token, frame);
+        }
+        self.plain_leaf(columns, token, frame)
+    }
+
+    // The beginning of a record or list, if it is a part of its own.
+    fn opening(
+        &self,
+        actions: bool,
+        key: &'t str,
+        section: Section,
+        shape: Shape,
+    ) -> Option<Leaf<'t>>
+        ensures { option_list (option_map leaf_view result) ≡ opening actions key.now (state_of self.now) section shape }
+    {
+        if actions {
+            if self.row.word.is_empty() {
+                return None;
+            }
+            return Some(Leaf {
+                key: "Kind",
+                row: plain_row("Kind"),
+                display: Display::Kind,
+                names: &[],
+                section,
+                value: Value::Text(self.row.word),
+            });
+        }
+        if is_silent(shape) {
+            return None;
+        }
+        Some(Leaf {
+            key,
+            row: self.row,
+            display: self.display,
+            names: &[],
+            section,
+            value: Value::Opens(shape),
+        })
+    }
+
+    // Opens a record or list as the value of a name.
+    fn open(&mut self, list: bool, shape: Shape, frame: &Frame<'t>) -> Result<(), AllocError>
+        ensures { OnOk result (state_of self.new ≡ opened list shape (state_of self.old) (frame_view frame.now)) }
+    {
+        let section = section_in(frame, &self.display, self.row.style);
+        let key = if frame.list { "" } else { self.key };
+        let actions = is_actions(self.row.style);
+        let leaf = self.opening(actions, key, section, shape);
+        put(&mut self.out, leaf)?;
+        let place = place_within(&self.display);
+        let within = Frame {
+            place,
+            base: place,
+            section,
+            shape,
+            list,
+            inside: frame.inside || !is_silent(shape),
+            row: self.row,
+        };
+        push(&mut self.frames, within)
+    }
+
+    // Opens a record.
+    fn open_map(&mut self, frame: &Frame<'t>) -> Result<(), AllocError>
+        ensures { OnOk result (state_of self.new ≡ open_map (state_of self.old) (frame_view frame.now)) }
+    {
+        if !frame.list {
+            let shape = record_shape(self.key, &self.display, self.row.style);
+            return self.open(false, shape, frame);
+        }
+        let shape = item_shape(frame.shape);
+        let leaf = self.opening(false, "", frame.section, shape);
+        put(&mut self.out, leaf)?;
+        let item = Frame {
+            shape,
+            list: false,
+            ..*frame
+        };
+        push(&mut self.frames, item)
+    }
+
+    // Opens a list.
+    fn open_seq(&mut self, frame: &Frame<'t>) -> Result<(), AllocError>
+        ensures { OnOk result (state_of self.new ≡ open_seq (state_of self.old) (frame_view frame.now)) }
+    {
+        let shape = list_shape(self.key, &self.display, self.row.style);
+        self.open(true, shape, frame)
+    }
+
+    // Closes a record.
+    fn close_map(&mut self, frame: &Frame<'t>) -> Result<(), AllocError>
+        ensures { OnOk result (state_of self.new ≡ close_map (state_of self.old) (frame_view frame.now)) }
+    {
+        put(&mut self.out, closing(frame))?;
+        drop_top(&mut self.frames);
+        settle(frame.place, &mut self.frames)
+    }
+
+    // Closes a list.
+    fn close_seq(&mut self, frame: &Frame<'t>) -> Result<(), AllocError>
+        ensures { OnOk result (state_of self.new ≡ close_seq (state_of self.old) (frame_view frame.now)) }
+    {
+        put(&mut self.out, closing(frame))?;
+        drop_top(&mut self.frames);
+        Ok(())
+    }
+
+    // One event.
+    fn take<C: Columns, W: Words>(
+        &mut self,
+        columns: &'t C,
+        words: &W,
+        token: &'t Token,
+    ) -> Result<(), BriefError>
+        ensures { OnOk result (step (C.table (C.options columns.now)) W.rows (event_of token.now) (state_of self.old) ≡ Some (state_of self.new)) }
+    {
+        let frame = match top(&self.frames) {
+            Some(frame) => frame,
+            None => return Err(BriefError::NotJson),
+        };
+        match token {
+            Token::Key(key) => self.take_key(columns, words, key.as_str(), &frame),
+            Token::BeginMap(_) => self.open_map(&frame)?,
+            Token::BeginSeq(_) => self.open_seq(&frame)?,
+            Token::EndMap => self.close_map(&frame)?,
+            Token::EndSeq => self.close_seq(&frame)?,
+            _ => self.take_leaf(columns, token, frame)?,
+        }
+        Ok(())
+    }
+}
+
+/// The leaves of a message with these columns and rows, given the events of its JSON.
+pub(crate) fn leaves_of<'t, C: Columns, W: Words>(
+    alloc: Global,
+    columns: &'t C,
+    words: &W,
+    tokens: &'t [Token],
+) -> Result<Vec<Leaf<'t>>, BriefError>
+    ensures { IfOk result (λ found. leaves (C.table (C.options columns.now)) W.rows (C.options columns.now).root (events_of tokens.now)
+        ≡ Some (leaves_view found.items)) }
+{
+    let mut walk = Walk::new(alloc, columns.root(), tokens.len() / 2)?;
+    for token in tokens {
+        walk.take(columns, words, token)?;
+    }
+    let Walk { out, .. } = walk;
+    Ok(out)
+}

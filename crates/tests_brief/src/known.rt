@@ -1,0 +1,83 @@
+//! Known lines.
+
+use crate::messages::ALL;
+use forms_kinds::TcTables;
+use std::alloc::{AllocError, Global};
+use tc_brief::{Object, Said, lines_of};
+use tc_columns::{KindColumns, Root};
+use tc_words::TcWords;
+
+/// A message: its object, what it does and who sent it, its bytes in hex, and its lines without and with statistics; the latter may be empty, and isn't tested then.
+pub(crate) struct Known {
+    pub(crate) root: Root,
+    pub(crate) object: Object,
+    pub(crate) verb: &'static str,
+    pub(crate) port: u64,
+    pub(crate) digits: &'static [&'static str],
+    pub(crate) line: &'static [&'static str],
+    pub(crate) counted: &'static [&'static str],
+}
+
+fn joined(alloc: Global, parts: &[&str], end: &str) -> Result<Vec<u8>, AllocError> {
+    let mut text = Vec::new(alloc);
+    for part in parts {
+        text.extend_from_slice(part.as_bytes())?;
+    }
+    text.extend_from_slice(end.as_bytes())?;
+    Ok(text)
+}
+
+// The line of a message. Fails as if out of memory if the hex is malformed.
+fn text_of(alloc: Global, known: &Known, statistics: bool) -> Result<Vec<u8>, AllocError> {
+    let columns = KindColumns {
+        root: known.root,
+        interfaces: &[],
+        links: None,
+        all: false,
+    };
+    let said = Said {
+        verb: known.verb,
+        object: known.object,
+        statistics,
+        port: known.port,
+    };
+    let digits = joined(alloc, known.digits, "")?;
+    let bytes = match hex::decode(alloc, digits.as_slice()) {
+        Ok(bytes) => bytes,
+        Err(_) => return Err(AllocError),
+    };
+    match lines_of(
+        alloc,
+        TcTables,
+        known.root.form(),
+        columns,
+        TcWords,
+        &said,
+        &bytes,
+    ) {
+        Ok(text) => Ok(text),
+        Err(_) => Err(AllocError),
+    }
+}
+
+// True if a message has this line.
+fn is_known(alloc: Global, known: &Known, statistics: bool) -> bool {
+    let line = if statistics {
+        known.counted
+    } else {
+        known.line
+    };
+    match (text_of(alloc, known, statistics), joined(alloc, line, "\n")) {
+        (Ok(text), Ok(line)) => text.as_slice() == line.as_slice(),
+        _ => false,
+    }
+}
+
+#[test]
+fn lines_are_known(rt: HostRuntime) {
+    let alloc = rt.alloc();
+    for known in &ALL {
+        assert!(rt; is_known(alloc, known, false));
+        assert!(rt; known.counted.is_empty() || is_known(alloc, known, true));
+    }
+}
