@@ -7,18 +7,19 @@ use crate::now::{Counts, Single, now_of, singles_of, unlisted_in};
 use crate::plans::plan_by;
 use crate::restore::{Dump, dump_of, restored};
 use forms_json::Tables;
-use nla_frames::ParseableBytes;
+use nla_frames::{NLA_TYPE_MASK, Nla, ParseableBytes};
 use program_io::{Stop, write_text};
 use std::alloc::{AllocError, Global};
 use std::io::{BufRead, Write};
 use tc_action_messages::{TcActionMessage, TcActionMessageAttribute};
+use tc_actions::{TcAction, TcActionAttribute};
 use tc_messages::TcMessage;
 use tc_plan::{
     Entry, Fate, Item, Key, Named, Now, Order, Reason, Step, circle, entry_of, entry_of_actions,
     fate_of_action, has_action, ingress_of, made_by_filters, name_of_action, newest_first,
     offloaded_by, plan, shared_action,
 };
-use tc_restore::{Object, RestoreError, RootTable, notice_of, root_table};
+use tc_restore::{Object, RestoreError, RootTable, actions_of_filter, notice_of, root_table};
 use tcmake_lines::run::put_message;
 use tcmake_lines::{NetlinkHeader, Output, OutputFormat};
 use tcmake_messages::{Forms, Made};
@@ -468,7 +469,7 @@ struct Shown {
     listed: Vec<Named>,
     // Those of them that filters share and nothing else holds.
     shared: Vec<Key>,
-    // The actions of filters with an offload flag.
+    // The actions of filters with an offload flag, and those that filters have and that have one themselves.
     offloaded: Vec<Key>,
 }
 
@@ -487,12 +488,24 @@ impl Shown {
                 if object == Object::Filter {
                     let offloaded = offloaded_by(alloc, message)?;
                     self.offloaded.extend_from_slice(&offloaded)?;
+                    let filter = TcMessage::parse(alloc, &dump.made.bytes)?;
+                    self.keep_flagged(alloc, filter)?;
                 }
                 Ok(())
             }
             Ok(Dump::Actions) => self.keep_actions(alloc, &dump.made.bytes),
             Err(_) => Ok(()),
         }
+    }
+
+    // An action takes the offload flag of a filter that has it, even of another interface's.
+    fn keep_flagged(&mut self, alloc: Global, filter: TcMessage) -> Result<(), Complaint> {
+        for action in &actions_of_filter(alloc, filter)? {
+            if let (true, Some(key)) = (has_offload_flag(action), shared_action(action)) {
+                self.offloaded.push(key)?;
+            }
+        }
+        Ok(())
     }
 
     fn keep_actions(&mut self, alloc: Global, bytes: &[u8]) -> Result<(), Complaint> {
@@ -509,6 +522,34 @@ impl Shown {
             }
         }
         Ok(())
+    }
+}
+
+// `TCA_ACT_FLAGS`, a bitfield, and `TCA_ACT_FLAGS_SKIP_HW` with `TCA_ACT_FLAGS_SKIP_SW` in its value.
+const ACTION_FLAGS: u16 = 7;
+
+const OFFLOAD_FLAGS: u8 = 6;
+
+fn has_offload_flag(action: &TcAction) -> bool {
+    action
+        .attributes
+        .iter()
+        .any(|attribute| is_offload_flag(attribute))
+}
+
+fn is_offload_flag(attribute: &TcActionAttribute) -> bool {
+    match attribute {
+        TcActionAttribute::Other(nla) => {
+            nla.kind() & NLA_TYPE_MASK == ACTION_FLAGS && begins_with_offload_flag(nla.value())
+        }
+        _ => false,
+    }
+}
+
+fn begins_with_offload_flag(value: &[u8]) -> bool {
+    match value.split_first() {
+        Some((first, _)) => *first & OFFLOAD_FLAGS != 0,
+        None => false,
     }
 }
 

@@ -24,6 +24,11 @@ fn json_of(line: &str) -> String {
     json
 }
 
+/// The same JSON as `tcshow` writes it: what a terminal would obey is escaped (DEL and C1; JSON itself escapes C0).
+fn safe(json: &str) -> String {
+    json.chars().map(|c| if c.is_control() { format!("\\u{:04x}", u32::from(c)) } else { c.to_string() }).collect()
+}
+
 #[test]
 fn the_json_of_labelled_messages_is_that_stored() {
     let top = Path::new(env!("CARGO_MANIFEST_DIR")).join("../..");
@@ -33,7 +38,7 @@ fn the_json_of_labelled_messages_is_that_stored() {
     // The last of the stored lines of JSON are those of these messages.
     let lines: Vec<&str> = stored.lines().filter(|line| line.starts_with('{')).collect();
     for (ours, line) in json.iter().zip(&lines[lines.len() - json.len()..]) {
-        assert!(line.ends_with(&format!(",\"message\":{ours}}}")), "{line}");
+        assert!(line.ends_with(&format!(",\"message\":{}}}", safe(ours))), "{line}");
     }
 }
 
