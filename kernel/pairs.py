@@ -12,7 +12,7 @@ from states import State, as_used
 from streams import asked
 
 OF_A_GUEST = 12  # pairs
-THERE = ["what is there is what is wanted"]
+THERE = "what is there is what is wanted"  # notices of what no dump shows may follow
 KILLED, INTERRUPTED = 128 + 9, 128 + 2  # the statuses of a command that SIGKILL or SIGINT ends
 HELD = "a block that other interfaces hold too has something else"  # d8 holds those of d7 too
 LINKS = [f"link {it} 4" for it in (7, 8, 9)]
@@ -27,7 +27,7 @@ def pairs(seed, count):
         before, wanted = own[2 * number], own[2 * number + 1]
         if number % 2:
             wanted = [it for it in before if chance.random() < 0.8] + [it for it in wanted if chance.random() < 0.2]
-        yield before, wanted, [f"{chance.uniform(0.2, 1):.3f}" for _ in range(2)]
+        yield before, wanted, [f"{chance.uniform(0.4, 0.9):.3f}" for _ in range(2)]
 
 
 class Pair:
@@ -112,8 +112,9 @@ class Pair:
     def is_wanted(self, answers):
         """What there is is what is wanted, and a second plan is empty."""
         wrong = self.unlike(self.state(answers["wanted"]), self.state(answers["after"]))
-        if not wrong and answers["plan"] != Said(0, THERE):
-            wrong = f"a second plan: {answers['plan']}"
+        plan = answers["plan"]
+        if not wrong and (plan.status or plan.lines[:1] != [THERE]):
+            wrong = f"a second plan: {plan}"
         return wrong
 
     def judge_killed(self, answers):
