@@ -154,9 +154,13 @@ control l h n = plain l
 abbrev pub key_text : ℕ → List ℕ
 key_text n = four_digits (n / 0x10000 % 0x10000) ++ four_digits (n % 0x10000)
 
+-- without its unit
+abbrev pub bare : Leaf → Leaf
+bare l = record l { display = display.Plain }
+
 abbrev pub match_words : ℕ → Leaf → Leaf → List (List ℕ)
 match_words mask v o =
-    codes "match" ∷ (key_text (unwrap_or (number_in v.value) 0) ++ (codes "/" ++ key_text mask)) ∷ codes "at" ∷ value_text o o.value ∷ []
+    codes "match" ∷ (key_text (unwrap_or (number_in v.value) 0) ++ (codes "/" ++ key_text mask)) ∷ codes "at" ∷ value_text (bare o) o.value ∷ []
 
 -- a u32 key: its mask, and after it its value and its offset
 abbrev pub key_words : Leaf → Option ℕ → List Leaf → List (List ℕ)

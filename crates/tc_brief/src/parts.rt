@@ -3,7 +3,7 @@
 ghost use Rattle.std.specs.List.{after_first, before_first};
 ghost use Rattle.std.specs.Prelude.{None, OnOk, [], bytes_eq, codes, decimal, option_map, true, unwrap_or, ◌++◌, ◌<◌, ◌≡◌, ◌∷◌};
 ghost use Rattle.tc_brief.specs.Leaves.{leaf_view, leaves_view, value_view};
-ghost use Rattle.tc_brief.specs.Parts.{begun, bit_words, burst_text, choice, choice_at, chosen, control, end_text, hardware, hex_words, is_bar, is_blank, is_in, is_rate};
+ghost use Rattle.tc_brief.specs.Parts.{bare, begun, bit_words, burst_text, choice, choice_at, chosen, control, end_text, hardware, hex_words, is_bar, is_blank, is_in, is_rate};
 ghost use Rattle.tc_brief.specs.Parts.{is_taken, is_with, key_text, key_words, mask_text, match_words, next_with, number_of, number_of_section, opened_words, or_key};
 ghost use Rattle.tc_brief.specs.Parts.{own_word, phrase, plain, protocol_words, rate_named, rate_of, rate_text, scope_view, section_words, styled_words};
 ghost use Rattle.tc_brief.specs.Parts.{takes, valued, verdict_words, words_by, words_of};
@@ -282,7 +282,7 @@ impl Line {
         self.word(b"match")?;
         self.masked_key(number_or_zero(value), mask)?;
         self.word(b"at")?;
-        self.alone(offset)
+        self.alone(&bare(offset))
     }
 
     // Writes a value and its mask.
@@ -453,6 +453,16 @@ fn is_same(a: &str, b: &str) -> bool
     ensures { result ≡ bytes_eq a.now b.now }
 {
     a == b
+}
+
+/// The leaf without its unit.
+pub(crate) fn bare<'t>(leaf: &Leaf<'t>) -> Leaf<'t>
+    ensures { leaf_view result ≡ bare (leaf_view leaf.now) }
+{
+    Leaf {
+        display: Display::Plain,
+        ..*leaf
+    }
 }
 
 fn is_with(key: &str, leaf: &Leaf<'_>) -> bool
