@@ -1,5 +1,6 @@
 -- The line of an object, and of each action of an action message.
-use Rattle.std.specs.Prelude.{Bool, List, None, Option, Some, [], bytes_eq, codes, decimal, false, if◌then◌else◌, true, unwrap_or, ℕ, ◌%◌, ◌&&◌, ◌*◌, ◌+◌, ◌++◌, ◌/◌, ◌==◌, ◌||◌, ◌∷◌}
+use Rattle.std.specs.Prelude.{Bool, List, None, Option, Some, [], bytes_eq, codes, decimal, false, if◌then◌else◌, true, unwrap_or, ℕ, ◌%◌, ◌&&◌, ◌*◌, ◌+◌}
+use Rattle.std.specs.Prelude.{◌++◌, ◌/◌, ◌==◌, ◌||◌, ◌∷◌}
 use Rattle.tc_brief.specs.Leaves as leaf
 use Rattle.tc_brief.specs.Leaves.{Leaf, Value}
 use Rattle.tc_brief.specs.Numbers as numbers
@@ -183,7 +184,8 @@ counted_action stats c =
 abbrev pub actions : Bool → ℕ → List Leaf → List (List ℕ)
 actions stats p [] = []
 actions stats p (l ∷ ls) =
-    (if is_action l then codes "action" ∷ value_text l l.value ∷ counted_action stats (record { leaves = one_action ls; protocol = p }) else []) ++ actions stats p ls
+    (if is_action l
+    then codes "action" ∷ value_text l l.value ∷ counted_action stats (record { leaves = one_action ls; protocol = p }) else []) ++ actions stats p ls
 
 -- ---- the line
 

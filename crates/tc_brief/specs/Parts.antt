@@ -1,10 +1,12 @@
 -- The words of a leaf, given the leaves around it.
 use Rattle.std.specs.List.{after_first, before_first}
-use Rattle.std.specs.Prelude.{Bool, List, None, Option, Some, [], bytes_eq, codes, decimal, false, if◌then◌else◌, nat_lt, suc, true, unwrap_or, zero, ℕ, ◌%◌, ◌&&◌, ◌*◌, ◌+◌, ◌++◌, ◌-◌, ◌/◌, ◌==◌, ◌||◌, ◌∷◌}
+use Rattle.std.specs.Prelude.{Bool, List, None, Option, Some, [], bytes_eq, codes, decimal, false, if◌then◌else◌, nat_lt, suc, true, unwrap_or, zero, ℕ, ◌%◌}
+use Rattle.std.specs.Prelude.{◌&&◌, ◌*◌, ◌+◌, ◌++◌, ◌-◌, ◌/◌, ◌==◌, ◌||◌, ◌∷◌}
 use Rattle.tc_brief.specs.Leaves as leaf
 use Rattle.tc_brief.specs.Leaves.{Leaf, Value, leaves_view}
 use Rattle.tc_brief.specs.Numbers as numbers
-use Rattle.tc_brief.specs.Values.{assigned, bytes_text, depth_after, equals, is_left_out, is_opening, name_of_leaf, number_in, open_text, value_text, within_word}
+use Rattle.tc_brief.specs.Values.{assigned, bytes_text, depth_after, equals, is_left_out, is_opening, name_of_leaf, number_in, open_text, value_text}
+use Rattle.tc_brief.specs.Values.{within_word}
 use Rattle.tc_brief.specs.declared.leaf.Section.{Section}
 use Rattle.tc_brief.specs.declared.leaf.Section.TheVariants as section
 use Rattle.tc_brief.specs.declared.parts.Scope.{Scope}

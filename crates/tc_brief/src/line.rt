@@ -4,7 +4,8 @@ ghost use Rattle.std.specs.Prelude.{IfOk, List, None, OnOk, Some, [], bytes_eq, 
 ghost use Rattle.forms_json.specs.Shown.{shown_of};
 ghost use Rattle.forms_values.specs.Sent.{events};
 ghost use Rattle.tc_brief.specs.Leaves.{Leaf as LeafView, leaf_view, leaves_view, value_view};
-ghost use Rattle.tc_brief.specs.Lines.{action_words, actions, after_semicolon, body, chain_words, count_in, counted, counted_action, counted_bare, counts, dev_words, family_words, handle_in};
+ghost use Rattle.tc_brief.specs.Lines.{action_words, actions, after_semicolon, body, chain_words, count_in, counted, counted_action, counted_bare, counts};
+ghost use Rattle.tc_brief.specs.Lines.{dev_words, family_words, handle_in};
 ghost use Rattle.tc_brief.specs.Lines.{handle_value, handle_word, has_action, has_any, head, in_head, info_in, info_words, is_action, is_count, is_kind};
 ghost use Rattle.tc_brief.specs.Lines.{is_of_actions, kind_words, message_lines, named_or_hex, object_text, object_words, of_leaf, one_action};
 ghost use Rattle.tc_brief.specs.Lines.{own_action_words, own_actions, parent_words, place, place_words, protocol_in, protocol_of, said_view};
@@ -316,7 +317,8 @@ impl Line {
         names: &[Name<'_>],
         value: &Value<'_>,
     ) -> Result<(), AllocError>
-        ensures { OnOk result (self.new.text.items ≡ self.old.text.items ++ written (info_in counted display.now (names_view names.now) (value_view value.now))) }
+        ensures { OnOk result (self.new.text.items ≡ self.old.text.items
+            ++ written (info_in counted display.now (names_view names.now) (value_view value.now))) }
     {
         match (display, value) {
             (Display::Info(of), Value::Unsigned(n)) => self.info(counted, *of, names, *n),
@@ -579,7 +581,8 @@ impl Line {
 
     // Writes a line for each action, and its end.
     fn own_actions(&mut self, said: &Said<'_>, leaves: &[Leaf<'_>]) -> Result<(), BriefError>
-        ensures { OnOk result (self.new.text.items ≡ self.old.text.items ++ own_actions (said_view said.now) (leaves_view leaves.now) (leaves_view leaves.now)) }
+        ensures { OnOk result (self.new.text.items ≡ self.old.text.items
+            ++ own_actions (said_view said.now) (leaves_view leaves.now) (leaves_view leaves.now)) }
     {
         let mut left = leaves;
         'each: while let [leaf, rest @ ..] = left {
