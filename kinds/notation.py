@@ -217,7 +217,7 @@ def check_word(block, x):
     """That what the column `tc` refers to is there, and that `=` has a number."""
     word = x.columns.get('tc', '')
     names = [y.name for y in block.lines if y is not x]
-    in_file = ['', 'protocol', 'handle'] + [y.name for b in blocks.values() if b.where[0] == block.where[0] for y in b.lines if y is not x]
+    in_file = ['', 'protocol'] + [y.name for b in blocks.values() if b.where[0] == block.where[0] for y in b.lines if y is not x]
     if word[:1] == '/' and word[1:] not in names or word[:1] == '-' and word[1:] not in in_file:
         fault(x.where, 'no such line: %s' % word[1:])
     if word[:1] == '^' and word[1:] not in [y.columns['tc'] for b in blocks.values() if b.sort == 'struct' for y in b.lines if is_rate(y)]:
