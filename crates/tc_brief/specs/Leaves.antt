@@ -1,6 +1,7 @@
 -- The leaves of JSON, each with its column and its row.
 use Rattle.std.specs.Borrow.{Bor}
-use Rattle.std.specs.Prelude.{Bool, List, None, Option, Some, [], bytes_eq, codes, false, if◌then◌else◌, map, option_and_then, option_map, true, ℕ, ℤ, ◌%◌, ◌&&◌, ◌++◌, ◌||◌, ◌∷◌}
+use Rattle.std.specs.Prelude.{Bool, List, None, Option, Some, [], bytes_eq, codes, false, if◌then◌else◌, map, option_and_then, option_map, true, ℕ, ℤ, ◌%◌}
+use Rattle.std.specs.Prelude.{◌&&◌, ◌++◌, ◌||◌, ◌∷◌}
 use Rattle.serde.specs.Event as event
 use Rattle.serde.specs.Event.{Event}
 use Rattle.tc_brief.specs.Rows.{CodeRow, Row, plain_row, row_view}

@@ -1,9 +1,10 @@
 -- The line of an object, and of each action of an action message.
-use Rattle.std.specs.Prelude.{Bool, List, None, Option, Some, [], bytes_eq, codes, decimal, false, if◌then◌else◌, true, unwrap_or, ℕ, ◌%◌, ◌&&◌, ◌*◌, ◌+◌, ◌++◌, ◌/◌, ◌==◌, ◌||◌, ◌∷◌}
+use Rattle.std.specs.Prelude.{Bool, List, None, Option, Some, [], bytes_eq, codes, decimal, false, if◌then◌else◌, true, unwrap_or, ℕ, ◌%◌, ◌&&◌, ◌*◌, ◌+◌}
+use Rattle.std.specs.Prelude.{◌++◌, ◌/◌, ◌==◌, ◌||◌, ◌∷◌}
 use Rattle.tc_brief.specs.Leaves as leaf
 use Rattle.tc_brief.specs.Leaves.{Leaf, Value}
 use Rattle.tc_brief.specs.Numbers as numbers
-use Rattle.tc_brief.specs.Parts.{Around, is_in, section_words}
+use Rattle.tc_brief.specs.Parts.{Around, bare, is_in, section_words}
 use Rattle.tc_brief.specs.Values.{interface_text, is_left_out, number_in, value_text}
 use Rattle.tc_brief.specs.Words.{word, written}
 use Rattle.tc_brief.specs.declared.leaf.Section.{Section}
@@ -132,14 +133,24 @@ counted name None = []
 counted [] (Some l) = value_text l l.value ∷ []
 counted (b ∷ bs) (Some l) = (b ∷ bs) ∷ value_text l l.value ∷ []
 
+-- the same without its unit
+abbrev pub counted_bare : List ℕ → Option Leaf → List (List ℕ)
+counted_bare name None = []
+counted_bare name (Some l) = counted name (Some (bare l))
+
 abbrev pub counts : Section → List Leaf → List (List ℕ)
 counts s ls =
     counted (codes "sent") (count_in s ls (codes "bytes")) ++ (counted [] (count_in s ls (codes "packets"))
-    ++ (counted (codes "dropped") (count_in s ls (codes "drops")) ++ (counted (codes "overlimits") (count_in s ls (codes "overlimits"))
+    ++ (counted_bare (codes "dropped") (count_in s ls (codes "drops")) ++ (counted (codes "overlimits") (count_in s ls (codes "overlimits"))
     ++ (counted (codes "backlog") (count_in s ls (codes "backlog")) ++ counted [] (count_in s ls (codes "qlen"))))))
 
 abbrev pub statistics : Around → Section → List Leaf → List (List ℕ)
 statistics c s ls = counts s ls ++ section_words c s 0 None ls
+
+-- true if a leaf of the section isn't left out
+abbrev pub has_any : Section → List Leaf → Bool
+has_any s [] = false
+has_any s (l ∷ ls) = is_in s l && (if is_left_out l then false else true) || has_any s ls
 
 -- ---- actions
 
@@ -166,13 +177,15 @@ action_words c = section_words c section.Actions 0 None c.leaves ++ section_word
 
 -- the same with its statistics, in brackets
 abbrev pub counted_action : Bool → Around → List (List ℕ)
-counted_action stats c = action_words c ++ bracketed stats (statistics c section.ActionStatistics c.leaves)
+counted_action stats c =
+    action_words c ++ bracketed (stats && has_any section.ActionStatistics c.leaves) (statistics c section.ActionStatistics c.leaves)
 
 -- the actions of a filter
 abbrev pub actions : Bool → ℕ → List Leaf → List (List ℕ)
 actions stats p [] = []
 actions stats p (l ∷ ls) =
-    (if is_action l then codes "action" ∷ value_text l l.value ∷ counted_action stats (record { leaves = one_action ls; protocol = p }) else []) ++ actions stats p ls
+    (if is_action l
+    then codes "action" ∷ value_text l l.value ∷ counted_action stats (record { leaves = one_action ls; protocol = p }) else []) ++ actions stats p ls
 
 -- ---- the line
 
@@ -224,11 +237,6 @@ protocol_of (Some l) = protocol_in (unwrap_or (number_in l.value) 0)
 
 abbrev pub around : List Leaf → Around
 around ls = record { leaves = ls; protocol = protocol_of (in_head ls (codes "info")) }
-
--- true if a leaf of the section isn't left out
-abbrev pub has_any : Section → List Leaf → Bool
-has_any s [] = false
-has_any s (l ∷ ls) = is_in s l && (if is_left_out l then false else true) || has_any s ls
 
 abbrev pub after_semicolon : Bool → Around → Section → List (List ℕ)
 after_semicolon stats c s = if stats && has_any s c.leaves then codes ";" ∷ statistics c s c.leaves else []

@@ -1,10 +1,12 @@
 -- The words of a leaf, given the leaves around it.
 use Rattle.std.specs.List.{after_first, before_first}
-use Rattle.std.specs.Prelude.{Bool, List, None, Option, Some, [], bytes_eq, codes, decimal, false, if◌then◌else◌, nat_lt, suc, true, unwrap_or, zero, ℕ, ◌%◌, ◌&&◌, ◌*◌, ◌+◌, ◌++◌, ◌-◌, ◌/◌, ◌==◌, ◌||◌, ◌∷◌}
+use Rattle.std.specs.Prelude.{Bool, List, None, Option, Some, [], bytes_eq, codes, decimal, false, if◌then◌else◌, nat_lt, suc, true, unwrap_or, zero, ℕ, ◌%◌}
+use Rattle.std.specs.Prelude.{◌&&◌, ◌*◌, ◌+◌, ◌++◌, ◌-◌, ◌/◌, ◌==◌, ◌||◌, ◌∷◌}
 use Rattle.tc_brief.specs.Leaves as leaf
 use Rattle.tc_brief.specs.Leaves.{Leaf, Value, leaves_view}
 use Rattle.tc_brief.specs.Numbers as numbers
-use Rattle.tc_brief.specs.Values.{assigned, bytes_text, depth_after, equals, is_left_out, is_opening, name_of_leaf, number_in, open_text, value_text, within_word}
+use Rattle.tc_brief.specs.Values.{assigned, bytes_text, depth_after, equals, is_left_out, is_opening, name_of_leaf, number_in, open_text, value_text}
+use Rattle.tc_brief.specs.Values.{within_word}
 use Rattle.tc_brief.specs.declared.leaf.Section.{Section}
 use Rattle.tc_brief.specs.declared.leaf.Section.TheVariants as section
 use Rattle.tc_brief.specs.declared.parts.Scope.{Scope}
@@ -154,9 +156,13 @@ control l h n = plain l
 abbrev pub key_text : ℕ → List ℕ
 key_text n = four_digits (n / 0x10000 % 0x10000) ++ four_digits (n % 0x10000)
 
+-- without its unit
+abbrev pub bare : Leaf → Leaf
+bare l = record l { display = display.Plain }
+
 abbrev pub match_words : ℕ → Leaf → Leaf → List (List ℕ)
 match_words mask v o =
-    codes "match" ∷ (key_text (unwrap_or (number_in v.value) 0) ++ (codes "/" ++ key_text mask)) ∷ codes "at" ∷ value_text o o.value ∷ []
+    codes "match" ∷ (key_text (unwrap_or (number_in v.value) 0) ++ (codes "/" ++ key_text mask)) ∷ codes "at" ∷ value_text (bare o) o.value ∷ []
 
 -- a u32 key: its mask, and after it its value and its offset
 abbrev pub key_words : Leaf → Option ℕ → List Leaf → List (List ℕ)

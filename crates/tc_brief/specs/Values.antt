@@ -1,5 +1,6 @@
 -- The value of a leaf, as part of a word.
-use Rattle.std.specs.Prelude.{Bool, List, None, Option, Some, [], bytes_eq, codes, decimal, false, if◌then◌else◌, length, nat_le, nat_lt, true, ℕ, ℤ, ◌%◌, ◌+◌, ◌++◌, ◌-◌, ◌/◌, ◌==◌, ◌||◌, ◌∷◌}
+use Rattle.std.specs.Prelude.{Bool, List, None, Option, Some, [], bytes_eq, codes, decimal, false, if◌then◌else◌, length, nat_le, nat_lt, true, ℕ, ℤ, ◌%◌}
+use Rattle.std.specs.Prelude.{◌+◌, ◌++◌, ◌-◌, ◌/◌, ◌==◌, ◌||◌, ◌∷◌}
 use Rattle.tc_brief.specs.Leaves as leaf
 use Rattle.tc_brief.specs.Leaves.{Leaf, Value}
 use Rattle.tc_brief.specs.Numbers.{number_text, signed_text}

@@ -4,7 +4,8 @@ ghost use Rattle.std.specs.Prelude.{IfOk, List, None, OnOk, Some, [], bytes_eq, 
 ghost use Rattle.forms_json.specs.Shown.{shown_of};
 ghost use Rattle.forms_values.specs.Sent.{events};
 ghost use Rattle.tc_brief.specs.Leaves.{Leaf as LeafView, leaf_view, leaves_view, value_view};
-ghost use Rattle.tc_brief.specs.Lines.{action_words, actions, after_semicolon, body, chain_words, count_in, counted, counted_action, counts, dev_words, family_words, handle_in};
+ghost use Rattle.tc_brief.specs.Lines.{action_words, actions, after_semicolon, body, chain_words, count_in, counted, counted_action, counted_bare, counts};
+ghost use Rattle.tc_brief.specs.Lines.{dev_words, family_words, handle_in};
 ghost use Rattle.tc_brief.specs.Lines.{handle_value, handle_word, has_action, has_any, head, in_head, info_in, info_words, is_action, is_count, is_kind};
 ghost use Rattle.tc_brief.specs.Lines.{is_of_actions, kind_words, message_lines, named_or_hex, object_text, object_words, of_leaf, one_action};
 ghost use Rattle.tc_brief.specs.Lines.{own_action_words, own_actions, parent_words, place, place_words, protocol_in, protocol_of, said_view};
@@ -19,7 +20,7 @@ ghost use Rattle.tc_units.specs.Names.{name_of, names_view};
 use crate::error::BriefError;
 use crate::leaf::{Leaf, Section, Value};
 use crate::numbers::put_signed;
-use crate::parts::{Line, Scope, is_in};
+use crate::parts::{Line, Scope, bare, is_in};
 use crate::row::{Style, Words};
 use crate::tape::tokens_of;
 use crate::values::{is_left_out, number_in, put_interface};
@@ -316,7 +317,8 @@ impl Line {
         names: &[Name<'_>],
         value: &Value<'_>,
     ) -> Result<(), AllocError>
-        ensures { OnOk result (self.new.text.items ≡ self.old.text.items ++ written (info_in counted display.now (names_view names.now) (value_view value.now))) }
+        ensures { OnOk result (self.new.text.items ≡ self.old.text.items
+            ++ written (info_in counted display.now (names_view names.now) (value_view value.now))) }
     {
         match (display, value) {
             (Display::Info(of), Value::Unsigned(n)) => self.info(counted, *of, names, *n),
@@ -411,6 +413,16 @@ impl Line {
         self.alone(leaf)
     }
 
+    // Writes a count after its word, without its unit.
+    fn counted_bare(&mut self, word: &[u8], leaf: Option<&Leaf<'_>>) -> Result<(), AllocError>
+        ensures { OnOk result (self.new.text.items ≡ self.old.text.items ++ written (counted_bare word.now (option_map (λ l. leaf_view l.now) leaf.entry))) }
+    {
+        match leaf {
+            Some(leaf) => self.counted(word, Some(&bare(leaf))),
+            None => Ok(()),
+        }
+    }
+
     // Writes the counts that each line with statistics has.
     #[tactic(auto, using(crate::proofs::Written::written_append))]
     fn counts(&mut self, section: Section, leaves: &[Leaf<'_>]) -> Result<(), AllocError>
@@ -418,7 +430,7 @@ impl Line {
     {
         self.counted(b"sent", count_in(section, leaves, "bytes"))?;
         self.counted(b"", count_in(section, leaves, "packets"))?;
-        self.counted(b"dropped", count_in(section, leaves, "drops"))?;
+        self.counted_bare(b"dropped", count_in(section, leaves, "drops"))?;
         self.counted(b"overlimits", count_in(section, leaves, "overlimits"))?;
         self.counted(b"backlog", count_in(section, leaves, "backlog"))?;
         self.counted(b"", count_in(section, leaves, "qlen"))
@@ -453,7 +465,7 @@ impl Line {
         ensures { OnOk result (self.new.text.items ≡ self.old.text.items ++ written (counted_action counted (scope_view scope.now))) }
     {
         self.action(scope)?;
-        if counted {
+        if counted && has_any(Section::ActionStatistics, scope.leaves) {
             self.word(b"[")?;
             self.statistics(scope, Section::ActionStatistics, scope.leaves)?;
             self.word(b"]")?;
@@ -569,7 +581,8 @@ impl Line {
 
     // Writes a line for each action, and its end.
     fn own_actions(&mut self, said: &Said<'_>, leaves: &[Leaf<'_>]) -> Result<(), BriefError>
-        ensures { OnOk result (self.new.text.items ≡ self.old.text.items ++ own_actions (said_view said.now) (leaves_view leaves.now) (leaves_view leaves.now)) }
+        ensures { OnOk result (self.new.text.items ≡ self.old.text.items
+            ++ own_actions (said_view said.now) (leaves_view leaves.now) (leaves_view leaves.now)) }
     {
         let mut left = leaves;
         'each: while let [leaf, rest @ ..] = left {

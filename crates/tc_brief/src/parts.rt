@@ -3,8 +3,10 @@
 ghost use Rattle.std.specs.List.{after_first, before_first};
 ghost use Rattle.std.specs.Prelude.{None, OnOk, [], bytes_eq, codes, decimal, option_map, true, unwrap_or, ◌++◌, ◌<◌, ◌≡◌, ◌∷◌};
 ghost use Rattle.tc_brief.specs.Leaves.{leaf_view, leaves_view, value_view};
-ghost use Rattle.tc_brief.specs.Parts.{begun, bit_words, burst_text, choice, choice_at, chosen, control, end_text, hardware, hex_words, is_bar, is_blank, is_in, is_rate};
-ghost use Rattle.tc_brief.specs.Parts.{is_taken, is_with, key_text, key_words, mask_text, match_words, next_with, number_of, number_of_section, opened_words, or_key};
+ghost use Rattle.tc_brief.specs.Parts.{bare, begun, bit_words, burst_text, choice, choice_at, chosen, control, end_text, hardware, hex_words, is_bar};
+ghost use Rattle.tc_brief.specs.Parts.{is_blank, is_in, is_rate};
+ghost use Rattle.tc_brief.specs.Parts.{is_taken, is_with, key_text, key_words, mask_text, match_words, next_with, number_of, number_of_section, opened_words};
+ghost use Rattle.tc_brief.specs.Parts.{or_key};
 ghost use Rattle.tc_brief.specs.Parts.{own_word, phrase, plain, protocol_words, rate_named, rate_of, rate_text, scope_view, section_words, styled_words};
 ghost use Rattle.tc_brief.specs.Parts.{takes, valued, verdict_words, words_by, words_of};
 ghost use Rattle.tc_brief.specs.Values.{assigned, name_of_leaf, number_in, open_text, value_text, within_word};
@@ -145,7 +147,8 @@ impl Line {
     // Writes a rate.
     #[tactic(auto, using(crate::proofs::Written::written_append))]
     fn rate(&mut self, leaves: &[Leaf<'_>], leaf: &Leaf<'_>) -> Result<(), AllocError>
-        ensures { OnOk result (self.new.text.items ≡ self.old.text.items ++ written (valued (leaf_view leaf.now) (rate_text (leaves_view leaves.now) (leaf_view leaf.now)))) }
+        ensures { OnOk result (self.new.text.items ≡ self.old.text.items
+            ++ written (valued (leaf_view leaf.now) (rate_text (leaves_view leaves.now) (leaf_view leaf.now)))) }
     {
         self.begin_valued(leaf)?;
         put_bits(&mut self.word, rate_of(leaves, leaf) as u128 * 8)?;
@@ -155,7 +158,8 @@ impl Line {
     // Writes a burst.
     #[tactic(auto, using(crate::proofs::Written::written_append))]
     fn burst(&mut self, leaves: &[Leaf<'_>], leaf: &Leaf<'_>) -> Result<(), AllocError>
-        ensures { OnOk result (self.new.text.items ≡ self.old.text.items ++ written (valued (leaf_view leaf.now) (burst_text (leaves_view leaves.now) (leaf_view leaf.now)))) }
+        ensures { OnOk result (self.new.text.items ≡ self.old.text.items
+            ++ written (valued (leaf_view leaf.now) (burst_text (leaves_view leaves.now) (leaf_view leaf.now)))) }
     {
         self.begin_valued(leaf)?;
         let rate = rate_named(leaves, leaf.row.with);
@@ -178,7 +182,8 @@ impl Line {
 
     // Writes a protocol, unless it is the header's.
     fn protocol(&mut self, protocol: u64, leaf: &Leaf<'_>) -> Result<(), AllocError>
-        ensures { OnOk result (self.new.text.items ≡ self.old.text.items ++ written (protocol_words protocol (leaf_view leaf.now) (number_in (value_view leaf.now.value)))) }
+        ensures { OnOk result (self.new.text.items ≡ self.old.text.items
+            ++ written (protocol_words protocol (leaf_view leaf.now) (number_in (value_view leaf.now.value)))) }
     {
         match number_in(&leaf.value) {
             Some(n) if n == protocol => Ok(()),
@@ -249,7 +254,8 @@ impl Line {
     }
 
     fn control(&mut self, leaf: &Leaf<'_>) -> Result<(), AllocError>
-        ensures { OnOk result (self.new.text.items ≡ self.old.text.items ++ written (control (leaf_view leaf.now) leaf.now.display (number_in (value_view leaf.now.value)))) }
+        ensures { OnOk result (self.new.text.items ≡ self.old.text.items
+            ++ written (control (leaf_view leaf.now) leaf.now.display (number_in (value_view leaf.now.value)))) }
     {
         match (leaf.display, number_in(&leaf.value)) {
             (Display::Verdict(_), Some(n)) => self.verdict((n % 0x1_0000_0000) as u32),
@@ -259,7 +265,8 @@ impl Line {
 
     // Writes a u32 key.
     fn key(&mut self, leaf: &Leaf<'_>, rest: &[Leaf<'_>]) -> Result<(), AllocError>
-        ensures { OnOk result (self.new.text.items ≡ self.old.text.items ++ written (key_words (leaf_view leaf.now) (number_in (value_view leaf.now.value)) (leaves_view rest.now))) }
+        ensures { OnOk result (self.new.text.items ≡ self.old.text.items
+            ++ written (key_words (leaf_view leaf.now) (number_in (value_view leaf.now.value)) (leaves_view rest.now))) }
     {
         let mask = match number_in(&leaf.value) {
             Some(mask) => mask,
@@ -282,7 +289,7 @@ impl Line {
         self.word(b"match")?;
         self.masked_key(number_or_zero(value), mask)?;
         self.word(b"at")?;
-        self.alone(offset)
+        self.alone(&bare(offset))
     }
 
     // Writes a value and its mask.
@@ -350,7 +357,8 @@ impl Line {
     // Writes a list or record as one word.
     #[tactic(auto, using(crate::proofs::Written::written_append))]
     fn opened(&mut self, leaf: &Leaf<'_>, shape: Shape, rest: &[Leaf<'_>]) -> Result<(), BriefError>
-        ensures { OnOk result (self.new.text.items ≡ self.old.text.items ++ written (opened_words (leaf_view leaf.now) (open_text shape) (leaves_view rest.now))) }
+        ensures { OnOk result (self.new.text.items ≡ self.old.text.items
+            ++ written (opened_words (leaf_view leaf.now) (open_text shape) (leaves_view rest.now))) }
     {
         self.begin_valued(leaf)?;
         put_open(&mut self.word, shape)?;
@@ -453,6 +461,16 @@ fn is_same(a: &str, b: &str) -> bool
     ensures { result ≡ bytes_eq a.now b.now }
 {
     a == b
+}
+
+/// The leaf without its unit.
+pub(crate) fn bare<'t>(leaf: &Leaf<'t>) -> Leaf<'t>
+    ensures { leaf_view result ≡ bare (leaf_view leaf.now) }
+{
+    Leaf {
+        display: Display::Plain,
+        ..*leaf
+    }
 }
 
 fn is_with(key: &str, leaf: &Leaf<'_>) -> bool

@@ -8,7 +8,8 @@ ghost use Rattle.tc_brief.specs.Leaves.{leaf_view, leaves_view, value_view};
 ghost use Rattle.tc_brief.specs.Rows.{find_row, or_row, plain_row, row_view, rows_view};
 ghost use Rattle.tc_brief.specs.Tape.{event_of, events_of};
 ghost use Rattle.tc_brief.specs.Walk.{close_map, close_seq, closing, displayed, frame_view, is_actions, is_enum, is_flat, is_head, is_of_action, is_other};
-ghost use Rattle.tc_brief.specs.Walk.{is_silent, is_stand_in, is_through, is_transparent, item_shape, leaf_of, leaves, list_shape, names_in, note, number_value};
+ghost use Rattle.tc_brief.specs.Walk.{is_silent, is_stand_in, is_through, is_transparent, item_shape, leaf_of, leaves, list_shape, names_in, note};
+ghost use Rattle.tc_brief.specs.Walk.{number_value};
 ghost use Rattle.tc_brief.specs.Walk.{open_map, open_seq, opened, opening, option_list, other_leaf, place_within, plain_leaf, rated, record_shape};
 ghost use Rattle.tc_brief.specs.Walk.{rest_of, section_in, settle, stack_of, start, state_of, step, styled, take_key, take_leaf, text_number, top_of};
 ghost use Rattle.tc_brief.specs.Walk.{value_of, with_number};
@@ -538,7 +539,8 @@ impl<'t> Walk<'t> {
         token: &'t Token,
         frame: Frame<'t>,
     ) -> Result<(), AllocError>
-        ensures { OnOk result (state_of self.new ≡ plain_leaf (C.table (C.options columns.now)) (event_of token.now) (state_of self.old) (frame_view frame.entry)) }
+        ensures { OnOk result (state_of self.new
+            ≡ plain_leaf (C.table (C.options columns.now)) (event_of token.now) (state_of self.old) (frame_view frame.entry)) }
     {
         let value = value_of(columns, &self.display, token);
         let leaf = self.leaf_of(columns, &frame, value);
@@ -561,7 +563,8 @@ impl<'t> Walk<'t> {
         token: &'t Token,
         frame: Frame<'t>,
     ) -> Result<(), AllocError>
-        ensures { OnOk result (state_of self.new ≡ other_leaf (C.table (C.options columns.now)) (event_of token.now) (state_of self.old) (frame_view frame.entry)) }
+        ensures { OnOk result (state_of self.new
+            ≡ other_leaf (C.table (C.options columns.now)) (event_of token.now) (state_of self.old) (frame_view frame.entry)) }
     {
         match token {
             Token::Unsigned(n) => {
@@ -585,7 +588,8 @@ impl<'t> Walk<'t> {
         token: &'t Token,
         frame: Frame<'t>,
     ) -> Result<(), AllocError>
-        ensures { OnOk result (state_of self.new ≡ take_leaf (C.table (C.options columns.now)) (event_of token.now) (state_of self.old) (frame_view frame.entry)) }
+        ensures { OnOk result (state_of self.new
+            ≡ take_leaf (C.table (C.options columns.now)) (event_of token.now) (state_of self.old) (frame_view frame.entry)) }
     {
         if is_other(frame.row.key) {
             return self.other_leaf(columns, token, frame);
