@@ -4,6 +4,7 @@ use Rattle.std.specs.Prelude.{◌||◌, IsTrue}
 use Rattle.std.proofs.lemmas.List.Elements.{All-push}
 use Rattle.tc_outline.specs.Page.{IsShown, is_shown}
 use Rattle.tcshow_json.specs.Messages.{Header, Message, Reason, Thing, message, answer, other}
+use Rattle.tcshow_json.specs.Safe.{safe_text}
 use Rattle.tc_select.specs.declared.filter.Filter.{Filter}
 use Rattle.tcshow_input.specs.Selection.{is_matched, is_included}
 use Rattle.tcshow_input.specs.Shown.{ended, IsEscaped, IsPage, IsOutline, IsViewOf, View, has_fault, lines_with, IfTaken, Nothing, Shows, ShowsEach, ShowsMessage, ShowsAnswer, ShowsNotice, ShowsSummary}
@@ -90,7 +91,7 @@ is_page Json page shown = (page, shown, refl)
 -- a notice on a line of JSON, and on a page
 pub notice_line : (json : Bool) (line : List ℕ) (s n : State) → json ≡ true → (text : List ℕ) × IsEscaped line text × Grows text false s n
     → (text : List ℕ) × ShowsNotice json text × Grows text false s n
-notice_line json line s n is x = (x.0, subst (λ j. ShowsNotice j x.0) (sym is) (x.1.0, x.1.2), x.2)
+notice_line json line s n is x = (x.0, subst (λ j. ShowsNotice j x.0) (sym is) (safe_text line, x.1.printed), x.2)
 
 pub notice_page : (json : Bool) (text : List ℕ) (s n : State) → json ≡ false → IsPage text → Grows text false s n
     → (text : List ℕ) × ShowsNotice json text × Grows text false s n
