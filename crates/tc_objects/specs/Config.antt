@@ -47,13 +47,19 @@ is_action k = false
 abbrev pub shares : List Key → List Key → Bool
 shares keys among = list_all (λ k. not (is_action k) || list_any (same_key k) among) keys
 
--- an object is changed into another: both can be changed and have in common what a change can't alter, no option is missing that would stay, and
--- they go with the same objects and share the same actions
+-- a change leads from one configuration to another: both can be changed and have in common what a change can't alter, and no option is missing that
+-- would stay
+unfoldable pub fits_by : ℕ → ℕ → List ℕ → List ℕ → List ℕ → List ℕ → Bool
+fits_by was is fixed_was fixed_is kept_was kept_is =
+    (was == 2) && ((is == 2) && (bytes_eq fixed_was fixed_is && list_all (λ t. list_any (nat_eq t) kept_is) kept_was))
+
+abbrev pub configs_fit : List ℕ → List ℕ → Bool
+configs_fit old new = fits_by (making_in old) (making_in new) (fixed_in old) (fixed_in new) (kept_in old) (kept_in new)
+
+-- two objects go with the same others and share the same actions
+abbrev pub needs_fit : KernelThing → KernelThing → Bool
+needs_fit o n = pointwise same_key o.under n.under && (shares o.refers n.refers && shares n.refers o.refers)
+
+-- an object is changed into another
 abbrev pub takes : KernelThing → KernelThing → Bool
-takes o n =
-    (making_in o.config == 2)
-    && ((making_in n.config == 2)
-    && (bytes_eq (fixed_in o.config) (fixed_in n.config)
-    && (list_all (λ t. list_any (nat_eq t) (kept_in n.config)) (kept_in o.config)
-    && (pointwise same_key o.under n.under
-    && (shares o.refers n.refers && shares n.refers o.refers)))))
+takes o n = configs_fit o.config n.config && needs_fit o n

@@ -12,19 +12,28 @@ pub(crate) fn classes_of<A: Allocator + Copy>(
     alloc: A,
     filter: &TcMessage<A>,
 ) -> Result<Vec<u32, A>, AllocError> {
+    let wanted = class_type(kind_of(filter));
     let mut classes = Vec::new(alloc);
-    let mut kind = "";
     for attribute in &filter.attributes {
         match attribute {
-            TcAttribute::Kind(name) => kind = name.as_str(),
             TcAttribute::Options(options) => classes = with_classes(classes, options)?,
             TcAttribute::OptionsRaw(nla) => {
-                classes = with_raw_classes(alloc, classes, class_type(kind), nla.value())?;
+                classes = with_raw_classes(alloc, classes, wanted, nla.value())?;
             }
             _ => {}
         }
     }
     Ok(classes)
+}
+
+/// The kind of a message, or "".
+pub(crate) fn kind_of<A: Allocator>(message: &TcMessage<A>) -> &str {
+    for attribute in &message.attributes {
+        if let TcAttribute::Kind(kind) = attribute {
+            return kind.as_str();
+        }
+    }
+    ""
 }
 
 fn with_classes<A: Allocator>(

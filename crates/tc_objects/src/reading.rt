@@ -1,6 +1,6 @@
 //! What single dumps show.
 
-use crate::classes::classes_of;
+use crate::classes::{classes_of, kind_of};
 use crate::config::{MADE, NEVER};
 use crate::configured::{configured, plain};
 use crate::dump::Dump;
@@ -135,16 +135,6 @@ fn sort_of_filter<A: Allocator>(known: &Known<A>, entry: &Entry<A>) -> Sort {
         }
     }
     Sort::Filter
-}
-
-// The kind of a message, or "".
-fn kind_of<A: Allocator>(message: &TcMessage<A>) -> &str {
-    for attribute in &message.attributes {
-        if let TcAttribute::Kind(kind) = attribute {
-            return kind.as_str();
-        }
-    }
-    ""
 }
 
 // Puts what a dump shows, unless the kernel makes it with something else.

@@ -51,9 +51,22 @@ pub(crate) fn requests_of<A: Allocator + Copy>(
 {
     let mut requests = Vec::new(alloc);
     for step in steps {
-        if let Some(request) = request_of(alloc, handles, step)? {
-            requests.push(request)?;
-        }
+        let one = request_of(alloc, handles, step)?;
+        requests = with(requests, one)?;
+    }
+    Ok(requests)
+}
+
+// Requests, and one more if there is one.
+fn with<A: Allocator>(
+    requests: Vec<PlanRequest<A>, A>,
+    one: Option<PlanRequest<A>>,
+) -> Result<Vec<PlanRequest<A>, A>, AllocError>
+    ensures { IfOk result (λ made. map seen made.items ≡ map seen requests.items ++ map seen (option_to_list one)) }
+{
+    let mut requests = requests;
+    if let Some(one) = one {
+        requests.push(one)?;
     }
     Ok(requests)
 }
@@ -126,11 +139,11 @@ fn message_by<A: Allocator + Copy>(
     ensures { IfOk result (λ made. made.items ≡ message_by key handle message.now) }
 {
     match key {
-        Key::Place { index, .. }
-        | Key::Class { index, .. }
-        | Key::Chain { index, .. }
-        | Key::Priority { index, .. }
-        | Key::Filter { index, .. } => addressed(alloc, index, handle, message),
+        Key::Place { index, .. } => addressed(alloc, index, handle, message),
+        Key::Class { index, .. } => addressed(alloc, index, handle, message),
+        Key::Chain { index, .. } => addressed(alloc, index, handle, message),
+        Key::Priority { index, .. } => addressed(alloc, index, handle, message),
+        Key::Filter { index, .. } => addressed(alloc, index, handle, message),
         Key::Action { .. } | Key::Block { .. } => Vec::from_slice(alloc, message),
     }
 }

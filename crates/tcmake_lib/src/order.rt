@@ -317,10 +317,11 @@ pub fn requests_of<T: Tables, R: BufRead>(
     match asked.now {
         None => requests_by(alloc, lines, None, false),
         Some(text) => {
-            let mut there = lines_of_now(alloc, forms, text)?;
             if asked.plans {
+                let there = lines_of_now(alloc, forms, asked.index, text)?;
                 return plan_by(alloc, there, lines);
             }
+            let mut there = lines_of_now(alloc, forms, None, text)?;
             let now = now_of(alloc, &mut there)?;
             let lines = with_remarks(lines, there)?;
             requests_by(alloc, lines, Some(&now), asked.replaces_actions)
@@ -350,10 +351,15 @@ pub fn requests_of_dumps(
     requests_by(alloc, lines, None, false)
 }
 
-fn lines_of_now<T: Tables>(alloc: Global, forms: Forms<T>, text: &[u8]) -> Result<Lines, Stop> {
+fn lines_of_now<T: Tables>(
+    alloc: Global,
+    forms: Forms<T>,
+    index: Option<i32>,
+    text: &[u8],
+) -> Result<Lines, Stop> {
     let reading = Reading {
         source: Source::Now,
-        index: None,
+        index,
         names: None,
     };
     let mut reader = text;
