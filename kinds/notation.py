@@ -47,10 +47,10 @@ class Line:
 
 class Block:
     """A block: its sort (struct, list, qdisc ..), its names and its lines, the layers and the width at which it is used, and its parts by layer; of a kind
-    what a change takes, and the options that only making it takes."""
+    what changes of it and of its classes take, and the options with which it is otherwise."""
     def __init__(self, where, sort, words):
         self.where, self.sort, self.words, self.name, self.lines, self.layers, self.bits, self.parts = where, sort, words, words[0], [], [], 32, {}
-        self.change, self.fixed = None, []
+        self.change, self.classes, self.fixed, self.equal, self.free = None, None, [], [], []
 
 def number(where, text):
     if re.fullmatch(r'0x[0-9a-f]+', text):
@@ -109,8 +109,10 @@ def read_change(block, where, words):
     """What a change of a kind takes; true if the words say that."""
     if words[0] == 'change' and len(words) == 2 and words[1] in CHANGES and not block.change:
         block.change = words[1]
-    elif words[0] == 'fixed' and len(words) > 1:
-        block.fixed += words[1:]
+    elif words[0] == 'class' and len(words) == 2 and words[1] in CHANGES and not block.classes:
+        block.classes = words[1]
+    elif words[0] in ('fixed', 'equal', 'free') and len(words) > 1:
+        getattr(block, words[0]).extend(words[1:])
     else:
         return False
     return True
@@ -210,9 +212,9 @@ def check_columns(block, x):
             fault(x.where, 'no such line: %s' % x.columns[what])
 
 def check_fixed(kind):
-    """That the options that only making a kind takes are attributes of its list."""
+    """That the options of which lines about a change tell are attributes of the kind's list."""
     options = [named(x.form) for x in kind.lines if x.name == 'options']
-    for name in kind.fixed:
+    for name in kind.fixed + kind.equal + kind.free:
         if name not in [x.name for block in options if block for x in block.lines]:
             fault(kind.where, 'no such option: %s' % name)
 
@@ -246,7 +248,7 @@ def check_all():
 
 def read_all():
     paths = sorted(os.path.relpath(os.path.join(folder, name), HERE) for folder, _, names in os.walk(HERE) for name in names)
-    for path in [p for p in paths if p not in ('generate', 'notation.py', 'prove', 'columns', 'wireshark', 'README.md')]:
+    for path in [p for p in paths if p not in ('generate', 'notation.py', 'prove', 'columns', 'words', 'changes', 'wireshark', 'README.md')]:
         read(path)
     if not faults:
         check_all()

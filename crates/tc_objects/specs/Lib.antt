@@ -1,2 +1,5 @@
 pub mod Names
 pub mod Needs
+pub mod Config
+pub mod Sent
+pub mod Confined

@@ -5,14 +5,14 @@ use Rattle.tc_changes.specs.declared.key.Key.{Key}
 use Rattle.tc_changes.specs.declared.key.Key.TheVariants as key
 use Rattle.tc_objects.specs.declared.shown.Shown.{Shown}
 use Rattle.tc_objects.specs.declared.shown.Sort.{Sort}
-use Rattle.tc_objects.specs.declared.shown.Sort.TheVariants.{Qdisc, Class, Chain, Filter}
+use Rattle.tc_objects.specs.declared.shown.Sort.TheVariants.{Qdisc, Class, Chain}
 
 -- a name, and the key of the object that has it: a handle is written as that of a class; the qdisc is at its place
 abbrev pub named_by : {A : Type 0} → Sort → Shown A → Option (Key × Key)
 named_by Qdisc s = if s.handle == 0 then None else Some (key.Class s.index s.handle, key.Place s.index s.parent)
 named_by Class s = Some (key.Class s.index s.handle, key.Class s.index s.handle)
 named_by Chain s = Some (key.Chain s.index s.parent s.chain, key.Chain s.index s.parent s.chain)
-named_by Filter s = None
+named_by sort s = None
 
 abbrev pub named : {A : Type 0} → Shown A → Option (Key × Key)
 named s = named_by s.sort s

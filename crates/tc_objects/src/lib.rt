@@ -2,13 +2,35 @@
 //! filters.
 #![tactic(auto)]
 
+mod classes;
+mod config;
+mod configured;
+pub mod dump;
+mod frames;
+mod kinds;
+mod known;
 pub mod names;
+mod normal;
 pub mod objects;
+pub mod plans;
+pub mod reading;
+mod renamed;
+pub mod requests;
+pub mod rules;
 pub mod shown;
+pub mod state;
+pub mod state_error;
 
+pub use dump::Dump;
 pub use names::{Names, names_of};
 pub use objects::object_of;
+pub use plans::{Planned, plan_between};
+pub use reading::Origin;
+pub use requests::{CHANGE_FLAGS, DELETE_FLAGS, PlanRequest};
+pub use rules::KindRules;
 pub use shown::{Shown, Sort};
+pub use state::{State, state_after, state_of};
+pub use state_error::StateError;
 
 #[cfg(test)]
 mod tests;

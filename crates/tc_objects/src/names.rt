@@ -66,6 +66,6 @@ fn named<A: Allocator>(shown: &Shown<A>) -> Option<(Key, Key)>
             };
             Some((key, key))
         }
-        Sort::Filter => None,
+        Sort::Priority | Sort::Filter | Sort::Table | Sort::Action(_) => None,
     }
 }

@@ -5,7 +5,7 @@ ghost use Rattle.std.specs.List.{flat_map};
 ghost use Rattle.std.specs.Option.{option_to_list};
 ghost use Rattle.std.specs.HashMap as hash;
 ghost use Rattle.tc_changes.specs.Objects.{same_key};
-ghost use Rattle.tc_objects.specs.Needs.{key_of, under, refers, major, above, owner, parent_class, class_named};
+ghost use Rattle.tc_objects.specs.Needs.{key_of, priority_of, under, refers, major, above, owner, parent_class, class_named};
 
 use crate::names::Names;
 use crate::shown::{Shown, Sort};
@@ -13,7 +13,7 @@ use std::alloc::{AllocError, Allocator};
 use tc_changes::{Key, Object};
 
 /// An object among those with these names. A need that is in no dump has a name that no object has, so a state with it has no
-/// order (`is_ready`). That is so for all that is in a block, too, since no object is one: shared blocks can't be planned yet.
+/// order (`is_ready`).
 pub fn object_of<A: Allocator + Copy>(
     alloc: A,
     names: &Names<A>,
@@ -36,7 +36,7 @@ pub fn object_of<A: Allocator + Copy>(
     })
 }
 
-fn key_of<A: Allocator>(shown: &Shown<A>) -> Key
+pub(crate) fn key_of<A: Allocator>(shown: &Shown<A>) -> Key
     ensures { result ≡ key_of shown.now }
 {
     let Shown {
@@ -55,13 +55,30 @@ fn key_of<A: Allocator>(shown: &Shown<A>) -> Key
             parent,
             number: chain,
         },
-        Sort::Filter => Key::Filter {
+        Sort::Priority => priority_of(shown),
+        Sort::Filter | Sort::Table => Key::Filter {
             index,
             parent,
             number: chain,
             priority,
             handle,
         },
+        Sort::Action(kind) => Key::Action {
+            kind,
+            index: handle,
+        },
+    }
+}
+
+// The priority of a filter.
+fn priority_of<A: Allocator>(shown: &Shown<A>) -> Key
+    ensures { result ≡ priority_of shown.now }
+{
+    Key::Priority {
+        index: shown.index,
+        parent: shown.parent,
+        number: shown.chain,
+        priority: shown.priority,
     }
 }
 
@@ -72,15 +89,12 @@ fn major(handle: u32) -> u32
     handle / 0x1_0000 * 0x1_0000
 }
 
-// What a qdisc, a chain or a filter is under: the block, nothing at the root and for ingress and clsact, or the class or the qdisc
-// that its parent names.
+// What a qdisc, a chain or a filter is under: nothing in a block that interfaces share, at the root, and for ingress and clsact; or the
+// class or the qdisc that its parent names.
 fn above<A: Allocator>(names: &Names<A>, index: i32, parent: u32) -> Option<Key>
     ensures { option_to_list result ≡ above (hash.get same_key names.now) index parent }
 {
-    if index == -1 {
-        return Some(Key::Block { number: parent });
-    }
-    if parent == 0xffff_ffff || parent == 0xffff_fff1 {
+    if index == -1 || parent == 0xffff_ffff || parent == 0xffff_fff1 {
         return None;
     }
     match names.get(&Key::Class {
@@ -114,7 +128,7 @@ fn under<A: Allocator + Copy>(
     match shown.sort {
         Sort::Class => keys.push(owner(names, shown.index, shown.handle))?,
         Sort::Qdisc | Sort::Chain => keys = with(keys, above(names, shown.index, shown.parent))?,
-        Sort::Filter => {
+        Sort::Priority | Sort::Table => {
             let chain = Key::Chain {
                 index: shown.index,
                 parent: shown.parent,
@@ -123,6 +137,8 @@ fn under<A: Allocator + Copy>(
             keys = with(keys, above(names, shown.index, shown.parent))?;
             keys = with(keys, names.get(&chain).copied())?;
         }
+        Sort::Filter => keys.push(priority_of(shown))?,
+        Sort::Action(_) => {}
     }
     Ok(keys)
 }
@@ -141,7 +157,12 @@ fn refers<A: Allocator + Copy>(
             keys.extend_from_slice(&shown.others)?;
             Ok(keys)
         }
-        Sort::Qdisc | Sort::Chain => Ok(Vec::new(alloc)),
+        Sort::Table => {
+            let keys = Vec::from_slice(alloc, &shown.others)?;
+            with(keys, Some(priority_of(shown)))
+        }
+        Sort::Chain | Sort::Priority => Vec::from_slice(alloc, &shown.others),
+        Sort::Qdisc | Sort::Action(_) => Ok(Vec::new(alloc)),
     }
 }
 

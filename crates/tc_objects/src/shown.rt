@@ -12,8 +12,14 @@ pub enum Sort {
     Class,
     /// A chain of filters.
     Chain,
+    /// A priority of a chain, which has one kind of filters and one protocol.
+    Priority,
     /// A filter.
     Filter,
+    /// A hash table of u32.
+    Table,
+    /// An action of this kind, padded with zeros.
+    Action([u8; 16]),
 }
 
 /// What a dump shows of an object, as far as it is about others.
@@ -22,7 +28,7 @@ pub struct Shown<A: Allocator> {
     pub sort: Sort,
     /// The interface (`tcm_ifindex`), or -1 in a block that interfaces share.
     pub index: i32,
-    /// The handle (`tcm_handle`).
+    /// The handle (`tcm_handle`); the index of an action.
     pub handle: u32,
     /// The parent (`tcm_parent`), or the number of the block.
     pub parent: u32,
@@ -32,8 +38,9 @@ pub struct Shown<A: Allocator> {
     pub priority: u32,
     /// Handles of the classes that a filter names.
     pub classes: Vec<u32, A>,
-    /// What else a filter refers to: actions that it shares, hash tables of u32.
+    /// What else it refers to: a filter to actions that it shares and to hash tables of u32; what is in a block that interfaces share, to the
+    /// qdiscs that have it.
     pub others: Vec<Key, A>,
-    /// The bytes of the request that makes it.
+    /// The bytes of its configuration.
     pub config: Vec<u8, A>,
 }

@@ -1,0 +1,206 @@
+//! The configuration of what a request makes.
+
+use crate::config::{CHANGED, Config, MADE, written};
+use crate::frames::{bytes_of, frames_of, type_of};
+use crate::kinds::{Change, Rule, rule_of};
+use crate::shown::Sort;
+use nla_frames::{DefaultNla, Nla};
+use std::alloc::{AllocError, Allocator};
+
+// The lengths of `struct tcmsg` and `struct tcamsg`.
+const HEADER: usize = 20;
+
+const ACTION_HEADER: usize = 4;
+
+// `TCA_OPTIONS` of `linux/rtnetlink.h`, and `TCA_ACT_OPTIONS` of `linux/pkt_cls.h`.
+const OPTIONS: u16 = 2;
+
+/// The configuration of an object of this kind, which the request with this message makes.
+pub(crate) fn configured<A: Allocator + Copy>(
+    alloc: A,
+    sort: Sort,
+    kind: &str,
+    message: &[u8],
+) -> Result<Vec<u8, A>, AllocError> {
+    let rule = rule_of(sort, kind);
+    if rule.change == Change::Never {
+        return plain(alloc, MADE, message);
+    }
+    let options = options_of(alloc, sort, rule.skipped, message)?;
+    let kept = match rule.change {
+        Change::Keeps => types_of(alloc, &options)?,
+        Change::Never | Change::Whole => Vec::new(alloc),
+    };
+    let fixed = fixed_of(alloc, sort, rule, message, options)?;
+    let change = match sort {
+        Sort::Action(_) => Vec::new(alloc),
+        _ => changing(alloc, rule, message)?,
+    };
+    written(
+        alloc,
+        &Config {
+            making: CHANGED,
+            kept: &kept,
+            fixed: &fixed,
+            change: &change,
+            message,
+        },
+    )
+}
+
+/// The configuration of an object that no change leads to.
+pub(crate) fn plain<A: Allocator>(
+    alloc: A,
+    making: u8,
+    message: &[u8],
+) -> Result<Vec<u8, A>, AllocError> {
+    written(
+        alloc,
+        &Config {
+            making,
+            kept: &[],
+            fixed: &[],
+            change: &[],
+            message,
+        },
+    )
+}
+
+// The frames after a header.
+fn frames_after<A: Allocator + Copy>(
+    alloc: A,
+    header: usize,
+    message: &[u8],
+) -> Result<Vec<DefaultNla<A>, A>, AllocError> {
+    match message.split_at_checked(header) {
+        Some((_, rest)) => frames_of(alloc, rest),
+        None => Ok(Vec::new(alloc)),
+    }
+}
+
+// The options in a message; of an action those of the first one.
+fn options_of<A: Allocator + Copy>(
+    alloc: A,
+    sort: Sort,
+    skipped: usize,
+    message: &[u8],
+) -> Result<Vec<DefaultNla<A>, A>, AllocError> {
+    let frames = match sort {
+        Sort::Action(_) => {
+            let lists = frames_after(alloc, ACTION_HEADER, message)?;
+            let actions = in_first(alloc, &lists)?;
+            in_first(alloc, &actions)?
+        }
+        _ => frames_after(alloc, HEADER, message)?,
+    };
+    for frame in &frames {
+        if type_of(frame) == OPTIONS {
+            return frames_after(alloc, skipped, frame.value());
+        }
+    }
+    Ok(Vec::new(alloc))
+}
+
+// The frames in the first of these.
+fn in_first<A: Allocator + Copy>(
+    alloc: A,
+    frames: &[DefaultNla<A>],
+) -> Result<Vec<DefaultNla<A>, A>, AllocError> {
+    match frames.first() {
+        Some(frame) => frames_of(alloc, frame.value()),
+        None => Ok(Vec::new(alloc)),
+    }
+}
+
+// The types of options, those above 255 as that.
+fn types_of<A: Allocator + Copy>(
+    alloc: A,
+    options: &[DefaultNla<A>],
+) -> Result<Vec<u8, A>, AllocError> {
+    let mut types = Vec::new(alloc);
+    for option in options {
+        types.push(u8::try_from(type_of(option)).unwrap_or(255))?;
+    }
+    Ok(types)
+}
+
+// What has to be the same in both, if the one is changed into the other: the header, all attributes but the options, and what the rule says of
+// options.
+fn fixed_of<A: Allocator + Copy>(
+    alloc: A,
+    sort: Sort,
+    rule: Rule,
+    message: &[u8],
+    options: Vec<DefaultNla<A>, A>,
+) -> Result<Vec<u8, A>, AllocError> {
+    let mut fixed = Vec::new(alloc);
+    let mut frames = Vec::new(alloc);
+    if let Sort::Action(_) = sort {} else if let Some((header, rest)) = message.split_at_checked(
+        HEADER,
+    ) {
+        fixed.extend_from_slice(header)?;
+        for frame in frames_of(alloc, rest)? {
+            if type_of(&frame) != OPTIONS {
+                frames.push(frame)?;
+            }
+        }
+    }
+    for option in options {
+        let found = type_of(&option);
+        if rule.fixed.contains(&found) || rule.equal.contains(&found) {
+            frames.push(option)?;
+        } else if rule.by_name && !rule.free.contains(&found) {
+            frames.push(DefaultNla::new(found, Vec::new(alloc)))?;
+        }
+    }
+    if let Some(bytes) = bytes_of(alloc, &frames)? {
+        fixed.extend_from_slice(&bytes)?;
+    }
+    Ok(fixed)
+}
+
+// The message of a request that changes an object: without the options that only making it takes; empty if it has none.
+fn changing<A: Allocator + Copy>(
+    alloc: A,
+    rule: Rule,
+    message: &[u8],
+) -> Result<Vec<u8, A>, AllocError> {
+    if rule.fixed.is_empty() {
+        return Ok(Vec::new(alloc));
+    }
+    let Some((header, rest)) = message.split_at_checked(HEADER) else {
+        return Ok(Vec::new(alloc));
+    };
+    let mut frames = Vec::new(alloc);
+    for frame in frames_of(alloc, rest)? {
+        if type_of(&frame) == OPTIONS {
+            let value = without(alloc, rule.fixed, frame.value())?;
+            frames.push(DefaultNla::new(frame.kind(), value))?;
+        } else {
+            frames.push(frame)?;
+        }
+    }
+    let mut made = Vec::from_slice(alloc, header)?;
+    if let Some(bytes) = bytes_of(alloc, &frames)? {
+        made.extend_from_slice(&bytes)?;
+    }
+    Ok(made)
+}
+
+// The list of options without those of these types.
+fn without<A: Allocator + Copy>(
+    alloc: A,
+    types: &[u16],
+    bytes: &[u8],
+) -> Result<Vec<u8, A>, AllocError> {
+    let mut frames = Vec::new(alloc);
+    for frame in frames_of(alloc, bytes)? {
+        if !types.contains(&type_of(&frame)) {
+            frames.push(frame)?;
+        }
+    }
+    match bytes_of(alloc, &frames)? {
+        Some(made) => Ok(made),
+        None => Vec::from_slice(alloc, bytes),
+    }
+}

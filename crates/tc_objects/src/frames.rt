@@ -1,0 +1,74 @@
+//! Attributes as frames.
+
+ghost use Rattle.std.specs.Prelude.{◌≡◌, map, IfOk};
+ghost use Rattle.nla_frames.specs.DefaultNla.{kept_frame};
+ghost use Rattle.tc_objects.specs.Sent.{frame_bytes};
+
+use nla_frames::{
+    DecodeError, DefaultNla, Emitable, NLA_TYPE_MASK, Nla, emit_list, list_checked_len, parse_list,
+};
+use std::alloc::{AllocError, Allocator};
+
+/// The frames of bytes; none of bytes that aren't frames.
+pub(crate) fn frames_of<A: Allocator + Copy>(
+    alloc: A,
+    bytes: &[u8],
+) -> Result<Vec<DefaultNla<A>, A>, AllocError> {
+    match parse_list(alloc, bytes) {
+        Ok(frames) => Ok(frames),
+        Err(DecodeError::OutOfMemory) => Err(AllocError),
+        Err(_) => Ok(Vec::new(alloc)),
+    }
+}
+
+/// The bytes of frames; `None` if they are too long.
+pub(crate) fn bytes_of<A: Allocator + Copy>(
+    alloc: A,
+    frames: &[DefaultNla<A>],
+) -> Result<Option<Vec<u8, A>>, AllocError> {
+    match list_checked_len(frames) {
+        Some(len) => {
+            let mut bytes = vec![in alloc; 0u8; len]?;
+            emit_list(frames, &mut bytes);
+            Ok(Some(bytes))
+        }
+        None => Ok(None),
+    }
+}
+
+/// The bytes of a message; `None` if it is too long.
+pub(crate) fn emitted<A: Allocator + Copy, M: Emitable>(
+    alloc: A,
+    message: &M,
+) -> Result<Option<Vec<u8, A>>, AllocError> {
+    match message.checked_len() {
+        Some(len) => {
+            let mut bytes = vec![in alloc; 0u8; len]?;
+            message.emit(&mut bytes);
+            Ok(Some(bytes))
+        }
+        None => Ok(None),
+    }
+}
+
+/// The type of a frame, without flags.
+pub(crate) fn type_of<A: Allocator>(frame: &DefaultNla<A>) -> u16 {
+    frame.kind() & NLA_TYPE_MASK
+}
+
+/// The bytes of frames. Fails of frames that are too long, too.
+pub(crate) fn framed<A: Allocator + Copy>(
+    alloc: A,
+    frames: &[DefaultNla<A>],
+) -> Result<Vec<u8, A>, AllocError>
+    ensures { IfOk result (λ made. made.items ≡ frame_bytes (map kept_frame frames.now)) }
+{
+    match list_checked_len(frames) {
+        Some(len) => {
+            let mut bytes = vec![in alloc; 0u8; len]?;
+            emit_list(frames, &mut bytes);
+            Ok(bytes)
+        }
+        None => Err(AllocError),
+    }
+}
