@@ -28,6 +28,13 @@ fn shown(
     })
 }
 
+const PRIORITY: Key = Key::Priority {
+    index: 2,
+    parent: 0x1_0000,
+    number: 0,
+    priority: 1,
+};
+
 fn class(handle: u32) -> Key {
     Key::Class { index: 2, handle }
 }
@@ -43,6 +50,7 @@ fn dumps(alloc: Global) -> Result<Vec<Shown<Global>>, AllocError> {
     made.push(shown(alloc, Sort::Class, 0x1_0001, ROOT, &[])?)?;
     made.push(shown(alloc, Sort::Class, 0x1_0010, 0x1_0001, &[])?)?;
     made.push(shown(alloc, Sort::Qdisc, 0x10_0000, 0x1_0010, &[])?)?;
+    made.push(shown(alloc, Sort::Priority, 0, 0x1_0000, &[])?)?;
     made.push(shown(
         alloc,
         Sort::Filter,
@@ -67,14 +75,15 @@ fn needs(rt: HostRuntime) -> Result<(), AllocError> {
     let alloc = rt.alloc();
     let made = objects(alloc, dumps(alloc)?)?;
     assert!(rt; is_ready(alloc, &made)?);
-    let under: [&[Key]; 5] = [
+    let under: [&[Key]; 6] = [
         &[],
         &[place(ROOT)],
         &[place(ROOT)],
         &[class(0x1_0010)],
         &[place(ROOT)],
+        &[PRIORITY],
     ];
-    let refers: [&[Key]; 5] = [&[], &[], &[class(0x1_0001)], &[], &[class(0x1_0010)]];
+    let refers: [&[Key]; 6] = [&[], &[], &[class(0x1_0001)], &[], &[], &[class(0x1_0010)]];
     for (object, (under, refers)) in made.iter().zip(under.iter().zip(refers.iter())) {
         assert!(rt; object.under.as_slice() == *under);
         assert!(rt; object.refers.as_slice() == *refers);
