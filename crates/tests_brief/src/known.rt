@@ -1,6 +1,6 @@
 //! Known lines.
 
-use crate::messages::ALL;
+use crate::messages::all;
 use forms_kinds::TcTables;
 use std::alloc::{AllocError, Global};
 use tc_brief::{Object, Said, lines_of};
@@ -76,7 +76,7 @@ fn is_known(alloc: Global, known: &Known, statistics: bool) -> bool {
 #[test]
 fn lines_are_known(rt: HostRuntime) {
     let alloc = rt.alloc();
-    for known in &ALL {
+    for known in all() {
         assert!(rt; is_known(alloc, known, false));
         assert!(rt; known.counted.is_empty() || is_known(alloc, known, true));
     }

@@ -20,10 +20,7 @@ static ACTION_CONNMARK: Known = Known {
     line: &[
         "is action connmark - zone 555 cookie aabbccddeeff112233445566778800a1 index 5 pipe acts 1",
     ],
-    counted: &[
-        "is action connmark - zone 555 cookie aabbccddeeff112233445566778800a1 index 5 pipe acts 1 ; sent 0B 0p dropped 0 overlimits 0 backlog 0B 0p ",
-        "ref 1 installed 680ms used 680ms",
-    ],
+    counted: &[],
 };
 
 // tdc612.answer.getaction.gact.0080
@@ -42,10 +39,7 @@ static ACTION_GACT: Known = Known {
     line: &[
         "is action gact - random {ptype=determ,pval=2,paction=drop} index 90 pass acts 1",
     ],
-    counted: &[
-        "is action gact - random {ptype=determ,pval=2,paction=drop} index 90 pass acts 1 ; sent 0B 0p dropped 0 overlimits 0 backlog 0B 0p used_hw_st",
-        "ats 0 ref 1 installed 50ms used 50ms",
-    ],
+    counted: &[],
 };
 
 // host618.answer.getaction.mirred.001
@@ -63,10 +57,7 @@ static ACTION_MIRRED: Known = Known {
     line: &[
         "is action mirred - ingress mirror dev 2 cookie 00ff index 7 continue",
     ],
-    counted: &[
-        "is action mirred - ingress mirror dev 2 cookie 00ff index 7 continue ; sent 0B 0p dropped 0 overlimits 0 backlog 0B 0p used_hw_stats 0 ref 1",
-        " installed 290ms used 290ms",
-    ],
+    counted: &[],
 };
 
 // tdc61.note.newaction.mpls.0031
@@ -85,10 +76,7 @@ static ACTION_MPLS: Known = Known {
     line: &[
         "new action mpls - push label 30 tc 2 ttl 125 protocol mpls_uc cookie aa11bb22cc33 index 1 pipe by 21644",
     ],
-    counted: &[
-        "new action mpls - push label 30 tc 2 ttl 125 protocol mpls_uc cookie aa11bb22cc33 index 1 pipe by 21644 ; sent 0B 0p dropped 0 overlimits 0 ",
-        "backlog 0B 0p ref 2 installed 140ms used 140ms",
-    ],
+    counted: &[],
 };
 
 // tdc61.answer.getaction.nat.0022
@@ -107,10 +95,7 @@ static ACTION_NAT: Known = Known {
     line: &[
         "is action nat - old 0.0.0.0 new 20.20.20.1 mask 255.255.255.255 egress cookie aa1bc2d3eeff112233445566778800a1 index 10 pipe acts 1",
     ],
-    counted: &[
-        "is action nat - old 0.0.0.0 new 20.20.20.1 mask 255.255.255.255 egress cookie aa1bc2d3eeff112233445566778800a1 index 10 pipe acts 1 ; sent 0",
-        "B 0p dropped 0 overlimits 0 backlog 0B 0p ref 1 installed 160ms used 160ms",
-    ],
+    counted: &[],
 };
 
 // tdc612.answer.getaction.police.0028
@@ -129,10 +114,7 @@ static ACTION_POLICE: Known = Known {
     line: &[
         "is action police - skip_hw selector=skip_hw burst 100KiB mtu 2040B rate 1Mbit index 199 reclassify acts 1",
     ],
-    counted: &[
-        "is action police - skip_hw selector=skip_hw burst 100KiB mtu 2040B rate 1Mbit index 199 reclassify acts 1 ; sent 0B 0p dropped 0 overlimits ",
-        "0 backlog 0B 0p used_hw_stats 0 ref 1 installed 220ms used 220ms",
-    ],
+    counted: &[],
 };
 
 // tdc612.answer.getaction.vlan.0008
@@ -151,10 +133,7 @@ static ACTION_VLAN: Known = Known {
     line: &[
         "is action vlan - push id 77 protocol 802.1Q priority 3 index 734 continue acts 1",
     ],
-    counted: &[
-        "is action vlan - push id 77 protocol 802.1Q priority 3 index 734 continue acts 1 ; sent 0B 0p dropped 0 overlimits 0 backlog 0B 0p used_hw_s",
-        "tats 0 ref 1 installed 80ms used 80ms",
-    ],
+    counted: &[],
 };
 
 // uml61.dump.newchain.flower.001
@@ -613,11 +592,7 @@ static TFILTER_BPF: Known = Known {
         "new filter bpf 0x1 dev 10 egress pref 9 protocol all ProgName=prog.o:[classifier] id 56 tag 59904229c5a1f55d not_in_hw action mirred egress ",
         "redirect dev 8 index 2 stolen action mirred egress mirror dev 9 index 3 pipe by 21644",
     ],
-    counted: &[
-        "new filter bpf 0x1 dev 10 egress pref 9 protocol all ProgName=prog.o:[classifier] id 56 tag 59904229c5a1f55d not_in_hw action mirred egress ",
-        "redirect dev 8 index 2 stolen [ sent 0B 0p dropped 0 overlimits 0 backlog 0B 0p ref 1 bind 1 ] action mirred egress mirror dev 9 index 3 pip",
-        "e [ sent 0B 0p dropped 0 overlimits 0 backlog 0B 0p ref 1 bind 1 ] by 21644",
-    ],
+    counted: &[],
 };
 
 // uml61.dump.newtfilter.flower+mpls.003
@@ -639,11 +614,7 @@ static TFILTER_FLOWER: Known = Known {
         "is filter flower 0x1 dev 7 egress pref 761 protocol ip src_mac 1a:c0:44:c6:98:57/24 ip_proto sctp src_ip 81.64.71.224/18 dst_ip 62.172.202.2",
         "18/15 src_port 20024 enc_dst_port 43471 ip_flags 0/is_fragment not_in_hw action mpls mac_push label 9 ttl 255 protocol mpls_uc index 23 pipe",
     ],
-    counted: &[
-        "is filter flower 0x1 dev 7 egress pref 761 protocol ip src_mac 1a:c0:44:c6:98:57/24 ip_proto sctp src_ip 81.64.71.224/18 dst_ip 62.172.202.2",
-        "18/15 src_port 20024 enc_dst_port 43471 ip_flags 0/is_fragment not_in_hw action mpls mac_push label 9 ttl 255 protocol mpls_uc index 23 pipe",
-        " [ sent 0B 0p dropped 0 overlimits 0 backlog 0B 0p ref 1 bind 1 installed 1.77s used 1.77s ]",
-    ],
+    counted: &[],
 };
 
 // tdc61.answer.newtfilter.fw+police.0001
@@ -662,10 +633,7 @@ static TFILTER_FW: Known = Known {
     line: &[
         "is filter fw 0x4 dev 3 parent ffff: pref 3 protocol all action police burst 10KiB mtu 2040B rate 1kbit index 5 reclassify",
     ],
-    counted: &[
-        "is filter fw 0x4 dev 3 parent ffff: pref 3 protocol all action police burst 10KiB mtu 2040B rate 1kbit index 5 reclassify [ sent 0B 0p dropp",
-        "ed 0 overlimits 0 backlog 0B 0p ref 1 bind 1 installed 60ms used 60ms ]",
-    ],
+    counted: &[],
 };
 
 // uml61.answer.newtfilter.matchall+mpls.001
@@ -686,10 +654,7 @@ static TFILTER_MATCHALL: Known = Known {
         "is filter matchall 0x1 dev 7 egress pref 351 protocol all not_in_hw action mpls push label 123 tc 3 ttl 64 bos 1 protocol mpls_uc index 4 pi",
         "pe",
     ],
-    counted: &[
-        "is filter matchall 0x1 dev 7 egress pref 351 protocol all not_in_hw action mpls push label 123 tc 3 ttl 64 bos 1 protocol mpls_uc index 4 pi",
-        "pe [ sent 0B 0p dropped 0 overlimits 0 backlog 0B 0p ref 1 bind 1 installed 2.3s used 2.3s ]",
-    ],
+    counted: &[],
 };
 
 // tdc61.answer.newtfilter.route+skbedit+gact.0001
@@ -712,46 +677,17 @@ static TFILTER_ROUTE: Known = Known {
         "is filter route 0xa0002 dev 3 parent ffff: pref 2 protocol ip to 2 from 10 classid 1:1 action skbedit mark 0x7 index 1 pipe action gact inde",
         "x 1 drop",
     ],
-    counted: &[
-        "is filter route 0xa0002 dev 3 parent ffff: pref 2 protocol ip to 2 from 10 classid 1:1 action skbedit mark 0x7 index 1 pipe [ sent 0B 0p dro",
-        "pped 0 overlimits 0 backlog 0B 0p ref 1 bind 1 installed 70ms used 70ms ] action gact index 1 drop [ sent 0B 0p dropped 0 overlimits 0 backl",
-        "og 0B 0p ref 1 bind 1 installed 70ms used 70ms ]",
-    ],
+    counted: &[],
 };
 
 /// All of them.
 #[rattlefmt::skip]
-pub(crate) static ALL: [&'static Known; 32] = [
-    &ACTION_CONNMARK,
-    &ACTION_GACT,
-    &ACTION_MIRRED,
-    &ACTION_MPLS,
-    &ACTION_NAT,
-    &ACTION_POLICE,
-    &ACTION_VLAN,
-    &CHAIN_FLOWER,
-    &QDISC_BFIFO,
-    &QDISC_CAKE,
-    &QDISC_CLSACT,
-    &QDISC_CODEL,
-    &QDISC_FQ,
-    &QDISC_FQ_CODEL,
-    &QDISC_HHF,
-    &QDISC_HTB,
-    &QDISC_INGRESS,
-    &QDISC_NETEM,
-    &QDISC_NOQUEUE,
-    &QDISC_PRIO,
-    &QDISC_TBF,
-    &TCLASS_ETS,
-    &TCLASS_FQ_CODEL,
-    &TCLASS_HFSC,
-    &TCLASS_HTB,
-    &TCLASS_QFQ,
-    &TCLASS_TAPRIO,
-    &TFILTER_BPF,
-    &TFILTER_FLOWER,
-    &TFILTER_FW,
-    &TFILTER_MATCHALL,
-    &TFILTER_ROUTE,
-];
+pub(crate) fn all() -> [&'static Known; 32] {
+    [
+        &ACTION_CONNMARK, &ACTION_GACT, &ACTION_MIRRED, &ACTION_MPLS, &ACTION_NAT, &ACTION_POLICE, &ACTION_VLAN,
+        &CHAIN_FLOWER, &QDISC_BFIFO, &QDISC_CAKE, &QDISC_CLSACT, &QDISC_CODEL, &QDISC_FQ, &QDISC_FQ_CODEL,
+        &QDISC_HHF, &QDISC_HTB, &QDISC_INGRESS, &QDISC_NETEM, &QDISC_NOQUEUE, &QDISC_PRIO, &QDISC_TBF,
+        &TCLASS_ETS, &TCLASS_FQ_CODEL, &TCLASS_HFSC, &TCLASS_HTB, &TCLASS_QFQ, &TCLASS_TAPRIO, &TFILTER_BPF,
+        &TFILTER_FLOWER, &TFILTER_FW, &TFILTER_MATCHALL, &TFILTER_ROUTE,
+    ]
+}
