@@ -155,6 +155,8 @@ pub(crate) const RULES: &[Rule] = &[
     // A clone can't fail, so the one that is written by hand is derived.
     ("impl Clone for TcFilterFlowerOption { $;b }", ""),
     ("pub enum TcFilterFlowerOption {", "#[derive(Clone)]\npub enum TcFilterFlowerOption {"),
+    // An error whose text is written by hand can be cloned as the others.
+    ("pub enum MakeError {", "#[derive(Clone)]\npub enum MakeError {"),
     // Rust's formatter isn't generic.
     ("< W : fmt :: Write > ( $*x Formatter < W >", "($*x Formatter<'_>"),
     ("< W : Write > ( $*x Formatter < W >", "($*x Formatter<'_>"),
