@@ -11,28 +11,36 @@ use tcmake_lib::arguments::{Request, arguments_of};
 use tcmake_lib::order::Asked;
 use tcmake_lib::program::serve_asked;
 
-const CAKE_10: &str = r#"{"type":"RTM_NEWQDISC","flags":0,"message":{"header":{"family":"Unspec","index":1,"handle":"1:","parent":"root","info":2},"attributes":[{"Kind":"cake"},{"Options":[{"Cake":{"BaseRate64":1250000}},{"Cake":{"Autorate":0}}]}]}}
+const CAKE_10: &str =
+    r#"{"type":"RTM_NEWQDISC","flags":0,"message":{"header":{"family":"Unspec","index":1,"handle":"1:","parent":"root","info":2},"attributes":[{"Kind":"cake"},{"Options":[{"Cake":{"BaseRate64":1250000}},{"Cake":{"Autorate":0}}]}]}}
 "#;
 
-const CAKE_20: &str = r#"{"type":"RTM_NEWQDISC","flags":0,"message":{"header":{"family":"Unspec","index":1,"handle":"1:","parent":"root","info":2},"attributes":[{"Kind":"cake"},{"Options":[{"Cake":{"BaseRate64":2500000}},{"Cake":{"Autorate":0}}]}]}}
+const CAKE_20: &str =
+    r#"{"type":"RTM_NEWQDISC","flags":0,"message":{"header":{"family":"Unspec","index":1,"handle":"1:","parent":"root","info":2},"attributes":[{"Kind":"cake"},{"Options":[{"Cake":{"BaseRate64":2500000}},{"Cake":{"Autorate":0}}]}]}}
 "#;
 
-const HTB: &str = r#"{"type":"RTM_NEWQDISC","flags":0,"message":{"header":{"family":"Unspec","index":1,"handle":"1:","parent":"root","info":2},"attributes":[{"Kind":"htb"},{"Options":[{"Htb":{"Init":{"version":196625,"rate2quantum":10,"defcls":48,"debug":0,"direct_pkts":7}}}]}]}}
+const HTB: &str =
+    r#"{"type":"RTM_NEWQDISC","flags":0,"message":{"header":{"family":"Unspec","index":1,"handle":"1:","parent":"root","info":2},"attributes":[{"Kind":"htb"},{"Options":[{"Htb":{"Init":{"version":196625,"rate2quantum":10,"defcls":48,"debug":0,"direct_pkts":7}}}]}]}}
 "#;
 
-const CLASS: &str = r#"{"type":"RTM_NEWTCLASS","flags":0,"message":{"header":{"family":"Unspec","index":1,"handle":"1:10","parent":"1:","info":0},"attributes":[{"Kind":"htb"},{"Options":[{"Htb":{"DirectQlen":1000}}]}]}}
+const CLASS: &str =
+    r#"{"type":"RTM_NEWTCLASS","flags":0,"message":{"header":{"family":"Unspec","index":1,"handle":"1:10","parent":"1:","info":0},"attributes":[{"Kind":"htb"},{"Options":[{"Htb":{"DirectQlen":1000}}]}]}}
 "#;
 
-const CLSACT: &str = r#"{"type":"RTM_NEWQDISC","flags":0,"message":{"header":{"family":"Unspec","index":1,"handle":"ffff:","parent":"ffff:fff1","info":1},"attributes":[{"Kind":"clsact"},{"Options":[]}]}}
+const CLSACT: &str =
+    r#"{"type":"RTM_NEWQDISC","flags":0,"message":{"header":{"family":"Unspec","index":1,"handle":"ffff:","parent":"ffff:fff1","info":1},"attributes":[{"Kind":"clsact"},{"Options":[]}]}}
 "#;
 
-const CHAIN: &str = r#"{"type":"RTM_NEWCHAIN","flags":0,"message":{"header":{"family":"Unspec","index":1,"handle":"0:0","parent":"ffff:fff2","info":0},"attributes":[{"Chain":7}]}}
+const CHAIN: &str =
+    r#"{"type":"RTM_NEWCHAIN","flags":0,"message":{"header":{"family":"Unspec","index":1,"handle":"0:0","parent":"ffff:fff2","info":0},"attributes":[{"Chain":7}]}}
 "#;
 
-const ACTION: &str = r#"{"type":"RTM_NEWACTION","flags":0,"message":{"header":{"family":"Unspec"},"attributes":[{"Actions":[{"tab":1,"attributes":[{"Kind":"gact"},{"Options":[{"Gact":{"Parms":{"generic":{"index":5,"capab":0,"action":"Shot","refcnt":1,"bindcnt":0}}}}]}]}]}]}}
+const ACTION: &str =
+    r#"{"type":"RTM_NEWACTION","flags":0,"message":{"header":{"family":"Unspec"},"attributes":[{"Actions":[{"tab":1,"attributes":[{"Kind":"gact"},{"Options":[{"Gact":{"Parms":{"generic":{"index":5,"capab":0,"action":"Shot","refcnt":1,"bindcnt":0}}}}]}]}]}]}}
 "#;
 
-const RED: &str = r#"{"type":"RTM_NEWQDISC","flags":0,"message":{"header":{"family":"Unspec","index":1,"handle":"1:","parent":"root","info":2},"attributes":[{"Kind":"red"},{"Options":[{"Red":{"MaxP":5}}]}]}}
+const RED: &str =
+    r#"{"type":"RTM_NEWQDISC","flags":0,"message":{"header":{"family":"Unspec","index":1,"handle":"1:","parent":"root","info":2},"attributes":[{"Kind":"red"},{"Options":[{"Red":{"MaxP":5}}]}]}}
 "#;
 
 const CHANGE_CAKE: &str = "\
@@ -91,11 +99,7 @@ fn planned(alloc: Global, now: &str, want: &str) -> Result<Outcome, Fail> {
 // True if these lines are written of what is there and what is wanted, and nothing is said.
 fn leads(alloc: Global, now: &str, want: &str, written: &str) -> Result<bool, Fail> {
     let run = planned(alloc, now, want)?;
-    Ok(
-        run.status == 0
-            && run.written.as_slice() == written.as_bytes()
-            && run.errors.is_empty(),
-    )
+    Ok(run.status == 0 && run.written.as_slice() == written.as_bytes() && run.errors.is_empty())
 }
 
 #[test]
@@ -141,6 +145,6 @@ fn refusals(rt: HostRuntime) -> Result<(), Fail> {
     let twice = format!(in alloc; "{HTB}{HTB}")?;
     let run = planned(alloc, "", twice.as_str())?;
     assert!(rt; run.status == 1 && run.written.is_empty());
-    assert!(rt; run.errors.as_slice() == b"tcmake: line 2: a second dump of this\n");
+    assert!(rt; run.errors.as_slice() == "tcmake: line 2: a second dump of this\n".as_bytes());
     Ok(())
 }
