@@ -220,7 +220,7 @@ fn show_file<R: AllocGlobal + Files + Input + Print, E: Write>(
 }
 
 // Prints the messages of an input of this name. A time of day is in the day of its first packet that has a time, which is read before.
-fn show_reader<R: AllocGlobal + Print, I: Read, E: Write>(
+fn show_reader<R: AllocGlobal + Print, I: Read + Drop, E: Write>(
     rt: &R,
     arguments: &Arguments<'_>,
     names: &[(u32, &str)],
@@ -249,7 +249,7 @@ fn show_reader<R: AllocGlobal + Print, I: Read, E: Write>(
     }
 }
 
-fn show_filtered<R: AllocGlobal + Print, I: Read, E: Write>(
+fn show_filtered<R: AllocGlobal + Print, I: Read + Drop, E: Write>(
     rt: &R,
     arguments: &Arguments<'_>,
     names: &[(u32, &str)],
