@@ -117,7 +117,9 @@ fn option<'a>(
 // conflicts with what is there. An order needs all lines, and an interface has its index or its name.
 fn alone<'a>(name: &str, option: Arg<'a>) -> Result<Arg<'a>, AllocError> {
     match name {
-        "settle" | "as-given" => option.conflicts_with("requests")?.conflicts_with("addresses"),
+        "settle" | "as-given" => option
+            .conflicts_with("requests")?
+            .conflicts_with("addresses"),
         "plan" => option.conflicts_with("requests"),
         "now" => option.conflicts_with("in-order"),
         "replace-actions" => option.requires_arg("now"),
@@ -190,9 +192,7 @@ fn address_group<'a>(alloc: Global) -> Result<ArgGroup<'a>, AllocError> {
 
 // What makes requests.
 fn asking_group<'a>(alloc: Global) -> Result<ArgGroup<'a>, AllocError> {
-    ArgGroup::new(alloc, "asking")
-        .arg("request")?
-        .arg("plan")
+    ArgGroup::new(alloc, "asking").arg("request")?.arg("plan")
 }
 
 fn with_output<'a>(alloc: Global) -> Result<Command<'a>, AllocError> {

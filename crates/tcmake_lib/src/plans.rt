@@ -14,8 +14,8 @@ use tc_capture::{MessageType, Time};
 use tc_changes::{Key, Plan};
 use tc_messages::TcMessage;
 use tc_objects::{
-    DELETE_FLAGS, Dump as Shown, KindRules, PlanRequest, Planned, State, StateError, plan_between, state_after,
-    state_of,
+    DELETE_FLAGS, Dump as Shown, KindRules, PlanRequest, Planned, State, StateError, plan_between,
+    state_after, state_of,
 };
 use tc_restore::RTM_NEWACTION;
 use tcmake_lines::{NetlinkHeader, packet_at};
@@ -79,7 +79,9 @@ pub(crate) fn plan_by(alloc: Global, now: Lines, want: Lines) -> Result<Restored
         _ => Vec::new(alloc),
     };
     let Lines {
-        remarks, is_void, ..
+        remarks,
+        is_void,
+        ..
     } = remarks;
     Ok(Restored {
         requests,
@@ -207,7 +209,11 @@ const RTM_DELACTION: u16 = 49;
 
 // A request, with the number of the line of now that it deletes, or of the line that is wanted.
 fn line_request(was: &Numbers, is: &Numbers, request: PlanRequest<Global>) -> LineRequest {
-    let numbers = if request.flags == DELETE_FLAGS { was } else { is };
+    let numbers = if request.flags == DELETE_FLAGS {
+        was
+    } else {
+        is
+    };
     let holds = match request.message_type {
         RTM_NEWACTION | RTM_DELACTION => MessageType::Action,
         _ => MessageType::Tc,
