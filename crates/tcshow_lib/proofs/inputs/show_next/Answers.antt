@@ -21,3 +21,6 @@ returns-clause-clean g c = clean_step _ _ _ _ _ c.show_input.ensures.clean c.sho
 
 pub returns-then-are_foreign-clause-clean : goal.returns-then-are_foreign-clause-clean
 returns-then-are_foreign-clause-clean g c = clean_step _ _ _ _ _ c.show_input.ensures.clean c.show_input.ensures.form c.write.ensures.clean
+
+pub returns-in_err-write-clause-clean : goal.returns-in_err-write-clause-clean
+returns-in_err-write-clause-clean g c = clean_step _ _ _ _ _ c.show_input.ensures.clean c.show_input.ensures.form c.write.ensures.clean
