@@ -1,5 +1,9 @@
 //! The requests that lead from what there is now to what is wanted.
 
+ghost use Rattle.std.specs.Prelude.{◌≡◌, [], true, IfOk, IfSome};
+ghost use Rattle.tc_changes.specs.Model.{ready};
+ghost use Rattle.tc_changes.specs.Objects.{same_key, things};
+
 use crate::complaint::Complaint;
 use crate::lines::{Lines, RemarkKind, Source};
 use crate::order::{LineRequest, Restored};
@@ -97,7 +101,9 @@ fn state_in(
     there: Option<&State<Global>>,
     lines: Lines,
     remarks: &mut Lines,
-) -> Result<Option<(State<Global>, Numbers)>, AllocError> {
+) -> Result<Option<(State<Global>, Numbers)>, AllocError>
+    ensures ready { IfOk result (λ found. IfSome found (λ shown. ready same_key [] (things shown.0.objects.items) ≡ true)) }
+{
     let Lines {
         dumps,
         remarks: said,
