@@ -48,7 +48,7 @@ const TEXT: &[u8] = b"A text that isn't hex.\n";
 fn each_has_its_name(rt: HostRuntime) -> Result<(), Fail> {
     let alloc = rt.alloc();
     let (a, b) = (
-        file_of_first(alloc, 2, Format::Pcap, false)?,
+        file_of_first(alloc, 2, Format::Microseconds, false)?,
         file_of_first(alloc, 3, Format::Stream, false)?,
     );
     let inputs: [(&str, &[u8]); 3] = [("a", &a), ("text", TEXT), ("b\u{1b}", &b)];
@@ -74,7 +74,7 @@ fn each_has_its_name(rt: HostRuntime) -> Result<(), Fail> {
 fn json_has_no_names(rt: HostRuntime) -> Result<(), Fail> {
     let alloc = rt.alloc();
     let options = all_in(OutputFormat::Json);
-    let a = file_of_first(alloc, 2, Format::Pcap, false)?;
+    let a = file_of_first(alloc, 2, Format::Microseconds, false)?;
     let one = shown(alloc, &options, &a);
     let (written, worst) = shown_each(alloc, &options, &[("a", &a), ("a", &a)])?;
     assert!(rt; written == joined(alloc, &[&one.written, &one.written])? && worst.status() == 0);
@@ -85,7 +85,7 @@ fn json_has_no_names(rt: HostRuntime) -> Result<(), Fail> {
 fn a_summary_counts_all(rt: HostRuntime) -> Result<(), Fail> {
     let alloc = rt.alloc();
     let options = counted_in(OutputFormat::OneLine);
-    let a = file_of_first(alloc, 2, Format::Pcap, false)?;
+    let a = file_of_first(alloc, 2, Format::Microseconds, false)?;
     let (written, _) = shown_each(alloc, &options, &[("a", &a), ("b", &a)])?;
     let text = std::str::from_utf8(&written)?;
     assert!(rt; text.contains("\n  4 messages\n"), "{text}");
