@@ -1,5 +1,5 @@
 pub mod Beside
 pub mod Names
 pub mod Refused
-pub mod Said
+pub mod Says
 pub mod Types

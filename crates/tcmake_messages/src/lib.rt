@@ -25,3 +25,4 @@ pub use making::Making;
 pub use members::{Numbered, number_of, wrong};
 pub use message::Forms;
 pub use save::{is_end, is_head, is_of_save};
+pub use verdict::{Said, Verdict};

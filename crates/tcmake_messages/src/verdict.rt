@@ -22,7 +22,7 @@ use tc_messages::TcMessage;
 
 /// What the codec finds of bytes.
 #[derive(Drop)]
-pub(crate) enum Verdict {
+pub enum Verdict {
     /// It refuses them.
     Refused(DecodeError),
     /// It reads a message.
@@ -38,7 +38,7 @@ pub(crate) enum Verdict {
 
 /// What a line says of it.
 #[derive(Drop)]
-pub(crate) enum Said {
+pub enum Said {
     /// It is refused.
     Refused(DecodeError),
     /// It is read; None of what the line doesn't say.

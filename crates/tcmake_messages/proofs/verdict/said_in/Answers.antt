@@ -3,7 +3,7 @@ use Rattle.std.proofs.lemmas.Result.{MatchResult-from_err}
 use Rattle.std.specs.Prelude.{codes}
 use Rattle.serde_json.specs.Find.{get}
 use Rattle.serde_json.specs.View.{view}
-use Rattle.tcmake_messages.proofs.Said.{no_canonical}
+use Rattle.tcmake_messages.proofs.Says.{no_canonical}
 use Rattle.tcmake_messages.proofs.verdict.said_in.Goals as goal
 
 pub returns-in_err-bool_of-in-None-3-clause-wrong : goal.returns-in_err-bool_of-in-None-3-clause-wrong
