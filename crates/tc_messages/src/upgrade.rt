@@ -24,6 +24,9 @@ use tc_options::{TcOption, is_known_kind};
 impl<A: Allocator> TcMessage<A> {
     /// Turns a message that version 1 read into the one that is read now: each `Options` under an unknown kind that is a
     /// single `TcOption::Other` of type 2 becomes `OptionsRaw` with its word and payload. Takes no memory.
+    ///
+    /// **Only for messages that version 1 read. In a message that was built by hand, options of an unknown kind that are one
+    /// option of type 2 lose one level of nesting, since they look the same.**
     pub fn upgrade(self) -> TcMessage<A>
         ensures value { tc_message result ≡ upgrade (tc_message self) }
         // What version 1 reads as the message, is now read as the upgrade.
