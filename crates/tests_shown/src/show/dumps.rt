@@ -122,15 +122,6 @@ fn lines_left_out(rt: HostRuntime) {
             are_shown(alloc, &[*dump], 0, Written::Is(&[line])),
             "{dump}"
         );
-        assert!(rt;
-            are_shown(
-                alloc,
-                &[*dump, PLAIN, *dump],
-                0,
-                Written::Is(&[line, ONE, line])
-            ),
-            "{dump}"
-        );
     }
 }
 
