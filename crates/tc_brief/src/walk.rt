@@ -108,7 +108,7 @@ fn row_in<'t, W: Words>(words: &W, place: usize, base: usize, key: &'t str) -> R
     plain_row(key)
 }
 
-// The row as it stands in a record with this row.
+// The row of a member of a record that has this row.
 fn rated<'t>(outer: Row<'t>, row: Row<'t>) -> Row<'t>
     ensures { row_view result ≡ rated row.entry.style (row_view outer.entry) (row_view row.entry) }
 {

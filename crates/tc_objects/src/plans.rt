@@ -65,7 +65,7 @@ pub fn plan_between<A: Allocator + Copy, R: Rules<A>>(
     Ok(Planned { plan, requests })
 }
 
-// The requests of a plan; none of one that is refused.
+// The requests of a plan; a refused plan has none.
 fn requests_by<A: Allocator + Copy>(
     alloc: A,
     now: &State<A>,

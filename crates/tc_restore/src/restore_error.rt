@@ -46,7 +46,7 @@ pub enum RestoreError {
     Terse,
 
     /// Two hash tables of u32 in one priority have a number of 0x800 or above and one bucket, so that the root table, which the
-    /// kernel makes, can't be told from the other.
+    /// kernel makes, can't be distinguished from the other.
     #[error("two root tables of u32 in one priority")]
     RootTables,
 

@@ -1,4 +1,4 @@
-//! The law of tcshow and tcmake: no line that the one writes of a message is refused by the other.
+//! The law of tcshow and tcmake: tcmake takes each line that tcshow writes of a message.
 #![tactic(auto)]
 
 ghost use Rattle.std.specs.Prelude.{◌≡◌, ◌≤◌, ℕ, List, IsUtf8, length};
@@ -13,7 +13,7 @@ use tc_meaning::laws::{action_message, tc_message};
 use tcshow_json::laws::safe_lines;
 
 /// For every message of a netlink message, and every line that tcshow prints of it: tcmake doesn't refuse the line, and makes these bytes
-/// of it. A line longer than tcmake's limit is refused before.
+/// of it. Lines over tcmake's limit are left out.
 #[tactic(auto, using(crate::proofs::Lines::taken_by))]
 pub fn shown_lines_are_made(payload: &[u8], line: &str)
     ensures { (m : Message) (h : Header) → m.payload ≡ payload.now → IsFound m h → IsLineOf m line.now → IsTaken (safe_text line.now) payload.now }
