@@ -3,7 +3,8 @@
 ghost use Rattle.std.specs.Prelude.{◌≡◌, IfOk};
 ghost use Rattle.std.specs.List.{list_any};
 ghost use Rattle.std.specs.Option.{option_to_list};
-ghost use Rattle.tc_plan.specs.SharedActions.{skips, option_skips, attribute_skips, has_offload_flag, Offloaded, is_of_filters, shared_action, is_among, made_by_filters};
+ghost use Rattle.tc_plan.specs.SharedActions.{skips, option_skips, attribute_skips, has_offload_flag, Offloaded, is_of_filters};
+ghost use Rattle.tc_plan.specs.SharedActions.{shared_action, is_among, made_by_filters};
 ghost use Rattle.tc_plan.specs.Now.{key_of};
 
 use crate::entry::{options_of, standalone_action};

@@ -7,7 +7,8 @@ use tc_brief::{Object, Said, lines_of};
 use tc_columns::{KindColumns, Root};
 use tc_words::TcWords;
 
-/// A message: its object, what it does and who sent it, its bytes in hex, and its lines without and with statistics; the latter may be empty, and isn't tested then.
+/// A message: its object, what it does and who sent it, its bytes in hex, and its lines without and with statistics.
+/// Lines with statistics that are empty aren't tested.
 pub(crate) struct Known {
     pub(crate) root: Root,
     pub(crate) object: Object,
