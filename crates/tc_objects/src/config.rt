@@ -12,7 +12,7 @@ use std::alloc::{AllocError, Allocator};
 pub(crate) struct Config<'a> {
     /// What a kernel does with it: `NEVER`, `MADE` or `CHANGED`.
     pub(crate) making: u8,
-    /// The types of the options that stay as they are if a change lacks them.
+    /// The types of the options that stay as they are if a change lacks them; 0 stands for the cookie of an action.
     pub(crate) kept: &'a [u8],
     /// What two objects have in common if the one is changed into the other.
     pub(crate) fixed: &'a [u8],
