@@ -1,4 +1,4 @@
-//! What the request of a dump provides and needs, and which other dumps must or must not exist.
+//! The keys that the request of a dump provides and needs, and the dumps that must or must not exist for it.
 
 ghost use Rattle.std.specs.Prelude.{◌≡◌, ◌∷◌, ◌++◌, [], codes, IfOk, if◌then◌else◌};
 ghost use Rattle.std.specs.List.{flat_map, list_any};
@@ -292,7 +292,7 @@ pub fn ingress_of<A: Allocator>(kind: Object, dump: &TcMessage<A>) -> Option<i32
     }
 }
 
-/// The key of the filters of basic or bpf that are in one chain and have one priority: that of a filter without a handle. The kernel
+/// The key of the filters of basic or bpf of one chain and priority, which is the key of one without a handle. The kernel
 /// puts a new one before the others, and dumps the newest first; packets come to the first that matches.
 pub fn newest_first<A: Allocator>(kind: Object, ingress: &[i32], dump: &TcMessage<A>) -> Option<Key>
     ensures { option_to_list result ≡ newest_first ingress.now kind dump.now }

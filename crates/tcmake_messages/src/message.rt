@@ -45,7 +45,7 @@ impl<T: Copy> Forms<T> {
     }
 }
 
-/// The bytes of a message, and where they are other than the JSON stands for.
+/// The bytes of a message, and the first place at which the JSON shows others.
 #[derive(Drop)]
 pub(crate) struct Message {
     pub(crate) bytes: Vec<u8>,
