@@ -1,10 +1,10 @@
-use Rattle.std.proofs.Common.{◌≡◌, ◌∙◌, ◌+◌, ℕ, List, [], ◌∷◌, Ok, Err, length, drop, map, sym, ap, arith, append-nil}
+use Rattle.std.proofs.Common.{◌∙◌, ◌+◌, ◌∷◌, Ok, Err, length, drop, map, sym, ap, arith, append-nil}
 use Rattle.std.specs.Prelude.{if◌then◌else◌}
 use Rattle.std.specs.Str.Lines.{lines}
 use Rattle.std.proofs.lemmas.Iterator.Consumers.{YieldsList-turn, YieldsList-end}
 use Rattle.std.proofs.lemmas.Iterator.Splits.{YieldsList-from_lines}
 use Rattle.std.proofs.lemmas.List.{at_drop_more, at_drop_all, length_push}
-use Rattle.tc_select.specs.Names.{content_of, listed, name_view, names_after, names_in, next_number, with_line}
+use Rattle.tc_select.specs.Names.{content_of, listed, name_view, names_after, names_in, with_line}
 use Rattle.tc_select.proofs.Listed.{listed_none}
 use Rattle.tc_select.proofs.names.names_in.Goals as goal
 

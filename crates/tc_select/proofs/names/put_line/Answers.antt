@@ -1,8 +1,8 @@
-use Rattle.std.proofs.Common.{◌∙◌, ◌∷◌, [], Some, None, ap, sym, map}
+use Rattle.std.proofs.Common.{◌∙◌, ◌∷◌, [], ap, sym, map}
 use Rattle.std.proofs.lemmas.Bool.{eqb-true}
 use Rattle.std.proofs.lemmas.List.{nil_from_length, map-append}
 use Rattle.std.specs.Prelude.{option_map}
-use Rattle.tc_select.specs.Names.{content_of, listed, name_view, named_in, with_line, with_link}
+use Rattle.tc_select.specs.Names.{listed, name_view, with_line, with_link}
 use Rattle.tc_select.proofs.Listed.{listed_one, some_line}
 use Rattle.tc_select.proofs.names.put_line.Goals as goal
 
