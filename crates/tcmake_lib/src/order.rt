@@ -262,8 +262,8 @@ fn fate_by_now(known: Known<'_>, name: Option<Named>, made: Made) -> (Fate, Opti
     }
 }
 
-// The fate of an action that a request would make or change, or that is there: it is refused if only its filters can make it. One that is
-// there has the offload flag of the filter that has it, and Linux refuses the filters without that flag.
+// The fate of an action that is to be made or changed, or is there already. An action that only its filters can make is refused: one that is
+// there has the offload flag of its filter, and Linux refuses it in a filter without the flag.
 fn fate_by_filters(known: Known<'_>, name: Option<Named>, fate: Fate) -> Fate {
     match name {
         Some(name) if has_action(known.by_filters, name) => Fate::Refused(Reason::Offload(name)),
