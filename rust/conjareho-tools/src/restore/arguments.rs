@@ -9,8 +9,7 @@ use std::path::PathBuf;
 /// Where the states before are kept.
 pub(crate) const STATE: &str = "/var/lib/conjareho";
 
-const ABOUT: &str =
-    "Restores the traffic control configuration that tcsave saved: qdiscs, classes, filters, chains and actions";
+const ABOUT: &str = "Restores traffic control as tcsave saved it: qdiscs, classes, filters, chains and actions";
 
 const NOTES: &str = "\
 Examples:
@@ -112,7 +111,7 @@ fn command() -> Command {
                 .long("state")
                 .value_name("DIR")
                 .value_parser(::clap::value_parser!(OsString))
-                .help(format!("Folder for what was there before, the last ten times [default: {STATE}]")),
+                .help(format!("Folder for the last ten states before [default: {STATE}]")),
         )
 }
 
