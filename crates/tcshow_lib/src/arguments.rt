@@ -147,7 +147,7 @@ enum Value {
 }
 
 // The options: name, value, heading and text of the help.
-static OPTIONS: [(&str, Value, &str, &str); 19] = [
+static OPTIONS: [(&str, Value, &str, &str); 20] = [
     (
         "no-header",
         Value::Word("WHAT", &["tc", "action"]),
@@ -159,6 +159,12 @@ static OPTIONS: [(&str, Value, &str, &str); 19] = [
         Value::Text("FILE"),
         INPUT,
         "Read interface names from FILE: lines like '7 eth0', or 'ip -o link'",
+    ),
+    (
+        "lines",
+        Value::Nothing,
+        FORMS,
+        "Print a line for each object, about as tc writes it: time, verb, object",
     ),
     (
         "oneline",
@@ -337,6 +343,17 @@ fn read<'a>(alloc: Global) -> Arg<'a> {
     option(alloc, "read", Value::Text("FILE"), INPUT, "Same as FILE").short('r')
 }
 
+fn statistics<'a>(alloc: Global) -> Arg<'a> {
+    option(
+        alloc,
+        "statistics",
+        Value::Nothing,
+        FORMS,
+        "With --lines, print statistics on the same line",
+    )
+    .short('s')
+}
+
 fn begun<'a>(alloc: Global) -> Result<Command<'a>, AllocError> {
     let files = files(alloc)?;
     Command::new(alloc, "tcshow")
@@ -348,7 +365,10 @@ fn begun<'a>(alloc: Global) -> Result<Command<'a>, AllocError> {
 
 // Output formats, which exclude one another.
 fn form_group<'a>(alloc: Global) -> Result<ArgGroup<'a>, AllocError> {
-    ArgGroup::new(alloc, "forms").arg("oneline")?.arg("json")
+    ArgGroup::new(alloc, "forms")
+        .arg("lines")?
+        .arg("oneline")?
+        .arg("json")
 }
 
 // Options about the tables, which exclude one another.
@@ -367,7 +387,7 @@ fn with_groups<'a>(alloc: Global) -> Result<Command<'a>, AllocError> {
 }
 
 fn command<'a>(alloc: Global) -> Result<Command<'a>, AllocError> {
-    let mut command = with_groups(alloc)?.arg(read(alloc))?;
+    let mut command = with_groups(alloc)?.arg(read(alloc))?.arg(statistics(alloc))?;
     for (name, value, heading, help) in &OPTIONS {
         command = command.arg(option(alloc, *name, *value, *heading, *help))?;
     }
@@ -377,6 +397,8 @@ fn command<'a>(alloc: Global) -> Result<Command<'a>, AllocError> {
 fn format_of(matches: &ArgMatches<'_>) -> OutputFormat {
     if matches.get_flag("json") {
         OutputFormat::Json
+    } else if matches.get_flag("lines") {
+        OutputFormat::Brief(matches.get_flag("statistics"))
     } else if matches.get_flag("oneline") {
         OutputFormat::OneLine
     } else {

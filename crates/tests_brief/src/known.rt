@@ -37,10 +37,11 @@ fn text_of(alloc: Global, known: &Known, statistics: bool) -> Result<Vec<u8>, Al
         all: false,
     };
     let said = Said {
-        verb: known.verb,
+        begin: known.verb.as_bytes(),
         object: known.object,
         statistics,
         port: known.port,
+        end: &[],
     };
     let digits = joined(alloc, known.digits, "")?;
     let bytes = match hex::decode(alloc, digits.as_slice()) {
