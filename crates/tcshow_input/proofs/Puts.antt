@@ -7,7 +7,8 @@ use Rattle.tcshow_json.specs.Messages.{Header, Message, Reason, Thing, message, 
 use Rattle.tcshow_json.specs.Safe.{safe_text}
 use Rattle.tc_select.specs.declared.filter.Filter.{Filter}
 use Rattle.tcshow_input.specs.Selection.{is_matched, is_included}
-use Rattle.tcshow_input.specs.Shown.{ended, IsEscaped, IsPage, IsOutline, IsViewOf, View, after, after_all, brief, has_fault, lines_with, IfTaken, Nothing, Shows, ShowsEach, ShowsMessage, ShowsAnswer, ShowsNotice, ShowsSummary}
+use Rattle.tcshow_input.specs.Shown.{ended, IsEscaped, IsPage, IsOutline, IsViewOf, View, after, after_all, has_fault, lines_with, IfTaken}
+use Rattle.tcshow_input.specs.Shown.{Nothing, Shows, ShowsEach, ShowsMessage, ShowsAnswer, ShowsNotice, ShowsSummary}
 use Rattle.tc_outline.specs.declared.page.Page.{Page}
 use Rattle.tc_outline.specs.Text.{Continues, is_in_lines, text_on}
 use Rattle.tcshow_input.specs.declared.options.OutputFormat.{OutputFormat}

@@ -51,6 +51,7 @@ impl<'a, A: Allocator + Copy> Printer<'a, A> {
         }
     }
 
+    #[tactic(auto, using(tcshow_lines::proofs::Printable::ended_shown))]
     fn put_lines(&mut self, found: &Message<'_>, statistics: bool) -> Result<(), AllocError>
         requires { statistics_in self.old.options.now.format ≡ Some statistics }
         ensures form { self.new.output.is_json ≡ self.old.output.is_json }
@@ -58,9 +59,10 @@ impl<'a, A: Allocator + Copy> Printer<'a, A> {
             × ShowsMessage false (state_of self.old).view (state_of self.old).before (message_view found.now) text bad
             × Grows text bad (state_of self.old) (state_of self.new)) }
     {
+        let options = self.options;
         let lines = lines_of_message(
             self.json,
-            self.options.names.names,
+            options.names.names,
             self.links.names(),
             self.requests.all(),
             statistics,

@@ -147,7 +147,7 @@ enum Value {
 }
 
 // The options: name, value, heading and text of the help.
-static OPTIONS: [(&str, Value, &str, &str); 20] = [
+static OPTIONS: [(&str, Value, &str, &str); 21] = [
     (
         "no-header",
         Value::Word("WHAT", &["tc", "action"]),
@@ -164,7 +164,13 @@ static OPTIONS: [(&str, Value, &str, &str); 20] = [
         "lines",
         Value::Nothing,
         FORMS,
-        "Print a line for each object, about as tc writes it: time, verb, object",
+        "Print a line for each object: time, verb, and the words of tc",
+    ),
+    (
+        "statistics",
+        Value::Nothing,
+        FORMS,
+        "With --lines, print statistics on the same line",
     ),
     (
         "oneline",
@@ -278,7 +284,16 @@ fn option<'a>(
     help: &'a str,
 ) -> Arg<'a> {
     let option = described(alloc, name, heading, help).action(action_of(value));
-    with_form(with_name(option, value), value)
+    with_letter(with_form(with_name(option, value), value), name)
+}
+
+// The letters of options.
+fn with_letter<'a>(option: Arg<'a>, name: &str) -> Arg<'a> {
+    match name {
+        "read" => option.short('r'),
+        "statistics" => option.short('s'),
+        _ => option,
+    }
 }
 
 fn described<'a>(alloc: Global, name: &'a str, heading: &'a str, help: &'a str) -> Arg<'a> {
@@ -340,18 +355,7 @@ fn files<'a>(alloc: Global) -> Result<Arg<'a>, AllocError> {
 }
 
 fn read<'a>(alloc: Global) -> Arg<'a> {
-    option(alloc, "read", Value::Text("FILE"), INPUT, "Same as FILE").short('r')
-}
-
-fn statistics<'a>(alloc: Global) -> Arg<'a> {
-    option(
-        alloc,
-        "statistics",
-        Value::Nothing,
-        FORMS,
-        "With --lines, print statistics on the same line",
-    )
-    .short('s')
+    option(alloc, "read", Value::Text("FILE"), INPUT, "Same as FILE")
 }
 
 fn begun<'a>(alloc: Global) -> Result<Command<'a>, AllocError> {
@@ -387,7 +391,7 @@ fn with_groups<'a>(alloc: Global) -> Result<Command<'a>, AllocError> {
 }
 
 fn command<'a>(alloc: Global) -> Result<Command<'a>, AllocError> {
-    let mut command = with_groups(alloc)?.arg(read(alloc))?.arg(statistics(alloc))?;
+    let mut command = with_groups(alloc)?.arg(read(alloc))?;
     for (name, value, heading, help) in &OPTIONS {
         command = command.arg(option(alloc, *name, *value, *heading, *help))?;
     }

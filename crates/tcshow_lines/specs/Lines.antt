@@ -3,7 +3,7 @@ use Rattle.forms_json.specs.Shown.{shown_of}
 use Rattle.forms_kinds.specs.Table.{tc_tables}
 use Rattle.forms_values.specs.Sent.{events}
 use Rattle.nla_frames.specs.declared.error.DecodeError.{DecodeError}
-use Rattle.std.specs.Prelude.{Bool, List, None, Option, Some, [], false, is_some, option_map, ℕ, ◌++◌, ◌≡◌, ◌∷◌}
+use Rattle.std.specs.Prelude.{Bool, List, None, Option, Some, [], false, is_some, option_map, true, ℕ, ◌++◌, ◌≡◌, ◌∷◌}
 use Rattle.tc_brief.specs.Leaves.{Leaf}
 use Rattle.tc_brief.specs.Lines.{Said, message_lines}
 use Rattle.tc_brief.specs.Walk.{leaves}

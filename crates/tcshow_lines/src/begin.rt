@@ -1,6 +1,6 @@
 //! What a line begins with.
 
-ghost use Rattle.std.specs.Prelude.{◌≡◌, ◌++◌, IfOk, OnOk};
+ghost use Rattle.std.specs.Prelude.{◌≡◌, ◌∷◌, ◌++◌, IfOk, OnOk};
 ghost use Rattle.tcshow_lines.specs.Begins.{clock_text, fraction, three_digits, timed, two_digits, words_text};
 ghost use Rattle.tcshow_lines.specs.Verbs.{flags_words, verb_word, verb_words};
 ghost use Rattle.tc_brief.specs.Words.{written};
@@ -38,8 +38,9 @@ fn put_fraction(out: &mut Vec<u8>, n: u64) -> Result<(), AllocError>
     put_three(out, n)
 }
 
-// A time of the day in UTC.
-fn clock_text(alloc: Global, time: &Time) -> Result<Vec<u8>, AllocError>
+/// A time of the day in UTC.
+#[tactic(auto, unfolding(crate::specs::Begins::clock_text))]
+pub(crate) fn clock_text(alloc: Global, time: &Time) -> Result<Vec<u8>, AllocError>
     ensures { IfOk result (λ text. text.items ≡ clock_text time.now) }
 {
     let mut text = Vec::with_capacity(alloc, 18)?;
@@ -53,8 +54,8 @@ fn clock_text(alloc: Global, time: &Time) -> Result<Vec<u8>, AllocError>
     Ok(text)
 }
 
-// The first word of a verb.
-fn word_of(verb: Verb) -> &'static str
+/// The first word of a verb.
+pub(crate) fn word_of(verb: Verb) -> &'static str
     ensures { result.now ≡ verb_word verb }
 {
     match verb {
@@ -87,19 +88,40 @@ fn put_flags(alloc: Global, out: &mut Vec<u8>, verb: Verb) -> Result<(), AllocEr
     put_word(out, &text)
 }
 
+// Appends the words of a verb.
+fn put_verb(alloc: Global, out: &mut Vec<u8>, verb: Verb) -> Result<(), AllocError>
+    ensures { OnOk result (out.new.items ≡ out.old.items ++ written (verb_words verb)) }
+{
+    put_word(out, word_of(verb).as_bytes())?;
+    put_flags(alloc, out, verb)
+}
+
+// A time and a verb.
+fn begin_at(alloc: Global, time: &Time, verb: Verb) -> Result<Vec<u8>, AllocError>
+    ensures { IfOk result (λ text. text.items ≡ words_text (clock_text time.now ∷ verb_words verb)) }
+{
+    let clock = clock_text(alloc, time)?;
+    let mut text = Vec::with_capacity(alloc, 32)?;
+    put_first(&mut text, &clock)?;
+    put_verb(alloc, &mut text, verb)?;
+    Ok(text)
+}
+
+fn begin_without_time(alloc: Global, verb: Verb) -> Result<Vec<u8>, AllocError>
+    ensures { IfOk result (λ text. text.items ≡ words_text (verb_words verb)) }
+{
+    let mut text = Vec::with_capacity(alloc, 16)?;
+    put_first(&mut text, word_of(verb).as_bytes())?;
+    put_flags(alloc, &mut text, verb)?;
+    Ok(text)
+}
+
 /// The time, if it is known, and the verb.
 pub(crate) fn begin(alloc: Global, time: &Option<Time>, verb: Verb) -> Result<Vec<u8>, AllocError>
     ensures { IfOk result (λ text. text.items ≡ words_text (timed time.now (verb_words verb))) }
 {
-    let mut text = Vec::with_capacity(alloc, 32)?;
     match time {
-        Some(time) => {
-            let clock = clock_text(alloc, time)?;
-            put_first(&mut text, &clock)?;
-            put_word(&mut text, word_of(verb).as_bytes())?;
-        }
-        None => put_first(&mut text, word_of(verb).as_bytes())?,
+        Some(time) => begin_at(alloc, time, verb),
+        None => begin_without_time(alloc, verb),
     }
-    put_flags(alloc, &mut text, verb)?;
-    Ok(text)
 }

@@ -5,7 +5,7 @@ ghost use Rattle.tc_outline.specs.Text.{Continues};
 
 use nla_frames::DecodeError;
 use std::alloc::{AllocError, Global};
-use tc_outline::{Fault, Layout, Page};
+use tc_outline::{Fault, Layout, Page, Path};
 use tcshow_json::text_of;
 
 /// Writes what is malformed, and where: ` malformed: 3 bytes, 4 expected, at Options/FqCodel/Limit (byte 44)`.
@@ -19,14 +19,17 @@ pub(crate) fn show_fault(
 {
     page.text(" malformed: ")?;
     show_error(page, &fault.error)?;
-    page.text(", at ")?;
-    let mut path = Page::new(alloc, Layout::OneLine);
-    fault.path.show(&mut path)?;
-    let names = names_in(alloc, text_of(&path))?;
-    page.text(names.as_str())?;
-    page.text(" (byte ")?;
-    page.number(fault.offset as u64)?;
-    page.text(")")
+    let place = place_of(alloc, &fault.path, fault.offset as u64)?;
+    page.text(place.as_str())
+}
+
+/// The place of a path: ` at Options/FqCodel/Limit (byte 44)`.
+pub(crate) fn place_of(alloc: Global, path: &Path, offset: u64) -> Result<String, AllocError> {
+    let mut page = Page::new(alloc, Layout::OneLine);
+    path.show(&mut page)?;
+    let names = names_in(alloc, text_of(&page))?;
+    let names = names.as_str();
+    format!(in alloc; " at {names} (byte {offset})")
 }
 
 // Writes what is wrong.
@@ -43,12 +46,12 @@ fn show_error(page: &mut Page<Global>, error: &DecodeError) -> Result<(), AllocE
         DecodeError::WrongLength { expected, got } => show_lengths(page, *got, *expected),
         DecodeError::XstatsShort { len } => {
             page.number(*len as u64)?;
-            page.text(" bytes of statistics")
+            page.text(" bytes of statistics,")
         }
-        DecodeError::NotUtf8 => page.text("not UTF-8"),
-        DecodeError::MissingKind => page.text("no kind"),
-        DecodeError::DuplicateKind => page.text("two kinds"),
-        DecodeError::OutOfMemory => page.text("too long"),
+        DecodeError::NotUtf8 => page.text("not UTF-8,"),
+        DecodeError::MissingKind => page.text("no kind,"),
+        DecodeError::DuplicateKind => page.text("two kinds,"),
+        DecodeError::OutOfMemory => page.text("too long,"),
     }
 }
 
@@ -59,7 +62,7 @@ fn show_lengths(page: &mut Page<Global>, len: usize, expected: usize) -> Result<
     page.number(len as u64)?;
     page.text(if len == 1 { " byte, " } else { " bytes, " })?;
     page.number(expected as u64)?;
-    page.text(" expected")
+    page.text(" expected,")
 }
 
 // True for the digits of a number.
@@ -79,7 +82,8 @@ fn put_part(names: &mut String, part: &str) -> Result<(), AllocError> {
     if !names.as_str().is_empty() {
         names.push('/')?;
     }
-    names.push_str(part)
+    names.push_str(part)?;
+    Ok(())
 }
 
 // The names in a JSON pointer, and the numbers of actions: `Options/FqCodel/Limit` for `/attributes/1/Options/0/FqCodel/Limit`.

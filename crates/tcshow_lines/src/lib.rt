@@ -8,10 +8,12 @@
 //! Calls that take an allocator fail with `AllocError` if it fails.
 #![tactic(auto)]
 
+mod answer;
 mod begin;
 mod fault;
 mod line;
 mod verb;
 
+pub use answer::lines_of_reply;
 pub use line::{Lines, lines_of_message};
 pub use verb::{Request, Requests, Speech, Verb, speech_of};

@@ -37,8 +37,8 @@ fn form_of(root: Root) -> Form
     }
 }
 
-// The lines of bytes with these names of interfaces.
-fn lines_with(
+/// The lines of bytes with these names of interfaces.
+pub(crate) fn lines_with(
     alloc: Global,
     interfaces: &[(u32, &str)],
     links: &LinkNames,
@@ -55,7 +55,15 @@ fn lines_with(
         links: Some(links),
         all: false,
     };
-    match lines_of(alloc, TcTables, form_of(root), columns, TcWords, said, bytes) {
+    match lines_of(
+        alloc,
+        TcTables,
+        form_of(root),
+        columns,
+        TcWords,
+        said,
+        bytes,
+    ) {
         Ok(text) => Ok(text),
         Err(_) => Err(AllocError),
     }
@@ -96,18 +104,18 @@ pub fn lines_of_message(
     ensures fault { IfOk result (λ lines. is_some lines.fault ≡ is_some (fault_of (message_view found.now))) }
 {
     let speech = speech_of(before, found);
-    let begin = begin(alloc, &found.origin.time, speech.verb)?;
+    let front = begin(alloc, &found.origin.time, speech.verb)?;
     let fault = locate(found.payload, found.what());
     let end = end_of(alloc, &fault)?;
-    let root = found.root();
+    let about = found.root();
     let said = Said {
-        begin: &begin,
-        object: object_in(root),
+        begin: front.as_slice(),
+        object: object_in(about),
         statistics,
-        port: u64::from(speech.port),
+        port: speech.port as u64,
         end: end.bytes(),
     };
-    let text = lines_with(alloc, interfaces, links, root, &said, found.payload)?;
+    let text = lines_with(alloc, interfaces, links, about, &said, found.payload)?;
     Ok(Lines {
         text,
         fault: name_of(&fault),

@@ -160,7 +160,8 @@ fn get_verb(flags: u16) -> Verb
     }
 }
 
-fn request_verb(object: Object, header: &NetlinkHeader) -> Verb
+/// What a request of this type with these flags does.
+pub(crate) fn request_verb(object: Object, header: &NetlinkHeader) -> Verb
     ensures { result ≡ request_verb object (header_view header.now) }
 {
     if is_new(header.kind) {
@@ -178,7 +179,7 @@ fn is_before(kind: u32, header: &NetlinkHeader, request: &Request) -> bool
 {
     u32::from(request.kind) == kind
         && (request.sequence == header.sequence
-        && (request.port == header.port || request.port == 0))
+            && (request.port == header.port || request.port == 0))
 }
 
 // True if one of the requests was of this type.
@@ -206,7 +207,8 @@ fn get_of(kind: u16) -> u32
 fn was_asked(before: &[Request], header: &NetlinkHeader) -> bool
     ensures { result ≡ was_asked before.now (header_view header.now) }
 {
-    was_sent(before, u32::from(header.kind), header) || was_sent(before, get_of(header.kind), header)
+    was_sent(before, u32::from(header.kind), header)
+        || was_sent(before, get_of(header.kind), header)
 }
 
 // True for messages in a file of rtmon.
@@ -221,7 +223,7 @@ fn is_request(before: &[Request], origin: &Origin, header: &NetlinkHeader) -> bo
 {
     has_flag(header.flags, NLM_F_REQUEST)
         && (!is_of_rtmon(origin)
-        && (header.port == 0 || (origin.packet.is_some() && !was_asked(before, header))))
+            && (header.port == 0 || (origin.packet.is_some() && !was_asked(before, header))))
 }
 
 fn kernels_verb(before: &[Request], header: &NetlinkHeader) -> Verb
@@ -231,8 +233,7 @@ fn kernels_verb(before: &[Request], header: &NetlinkHeader) -> Verb
         return Verb::Gone;
     }
     if is_new(header.kind)
-        && !(has_flag(header.flags, NLM_F_MULTI)
-        || was_sent(before, get_of(header.kind), header))
+        && !(has_flag(header.flags, NLM_F_MULTI) || was_sent(before, get_of(header.kind), header))
     {
         Verb::New
     } else {
@@ -249,12 +250,7 @@ fn port_of(verb: Verb, port: u32) -> u32
     }
 }
 
-fn speech_by(
-    before: &[Request],
-    origin: &Origin,
-    object: Object,
-    header: &NetlinkHeader,
-) -> Speech
+fn speech_by(before: &[Request], origin: &Origin, object: Object, header: &NetlinkHeader) -> Speech
     ensures { result ≡ speech_by before.now origin.now object (header_view header.now) }
 {
     if is_request(before, origin, header) {

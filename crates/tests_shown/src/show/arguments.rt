@@ -77,8 +77,14 @@ fn chooses_all(arguments: &Arguments<'_>) -> bool {
 // Words, and what they say.
 static WORDS: [(&[&str], &[Part]); 16] = [
     (&["tcshow"], &[Part::Defaults]),
-    (&["tcshow", "--lines"], &[Part::Format(OutputFormat::Brief(false))]),
-    (&["tcshow", "-s", "--lines"], &[Part::Format(OutputFormat::Brief(true))]),
+    (
+        &["tcshow", "--lines"],
+        &[Part::Format(OutputFormat::Brief(false))],
+    ),
+    (
+        &["tcshow", "-s", "--lines"],
+        &[Part::Format(OutputFormat::Brief(true))],
+    ),
     (
         &[
             "tcshow", "-r", "a", "--json", "--names", "b", "--kind", "u32",

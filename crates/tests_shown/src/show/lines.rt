@@ -34,10 +34,26 @@ fn lines_are_known(rt: HostRuntime) {
     };
     let options = chosen_in(OutputFormat::Brief(true), filter);
     assert!(rt;
-        gives(rt.alloc(), &options, TEXT.as_bytes(), 1, Written::Begins("new qdisc fq_codel 1: dev 2 root limit {raw"), "")
+        gives(
+            rt.alloc(),
+            &options,
+            TEXT.as_bytes(),
+            1,
+            Written::Begins("new qdisc fq_codel 1: dev 2 root limit {raw"),
+            ""
+        )
     );
     let options = counted_in(OutputFormat::Brief(false));
-    assert!(rt; gives(rt.alloc(), &options, TEXT.as_bytes(), 1, Written::Has("\nsummary\n"), ""));
+    assert!(rt;
+        gives(
+            rt.alloc(),
+            &options,
+            TEXT.as_bytes(),
+            1,
+            Written::Has("\nsummary\n"),
+            ""
+        )
+    );
 }
 
 // nlmsg_type, nlmsg_flags and nlmsg_pid of messages with sequence number 5, and the verb and the sender of each.
@@ -50,13 +66,7 @@ struct Said {
     sender: &'static str,
 }
 
-const fn said(
-    kind: u16,
-    flags: u16,
-    port: u16,
-    verb: &'static str,
-    sender: &'static str,
-) -> Said {
+const fn said(kind: u16, flags: u16, port: u16, verb: &'static str, sender: &'static str) -> Said {
     Said {
         kind,
         flags,
@@ -98,7 +108,9 @@ fn message_of(alloc: Global, said: &Said) -> Result<Vec<u8>, AllocError> {
     let [c, d] = said.flags.to_le_bytes();
     let [e, f] = said.port.to_le_bytes();
     let mut bytes = [36, 0, 0, 0, a, b, c, d, 5, 0, 0, 0, e, f, 0, 0].to_vec(alloc)?;
-    bytes.extend_from_slice(&[0, 0, 0, 0, 2, 0, 0, 0, 0, 0, 1, 0, 255, 255, 255, 255, 0, 0, 0, 0])?;
+    bytes.extend_from_slice(&[
+        0, 0, 0, 0, 2, 0, 0, 0, 0, 0, 1, 0, 255, 255, 255, 255, 0, 0, 0, 0,
+    ])?;
     Ok(bytes)
 }
 
@@ -111,17 +123,17 @@ fn object_of(kind: u16) -> &'static str {
 }
 
 // True if the messages of a capture have these verbs and senders, after this time.
-fn are_said(
-    alloc: Global,
-    format: Format,
-    time: &str,
-    all: &[Said],
-) -> Result<bool, Fail> {
+fn are_said(alloc: Global, format: Format, time: &str, all: &[Said]) -> Result<bool, Fail> {
     let mut messages = Vec::new(alloc);
     let mut lines = String::new(alloc);
     for one in all {
         messages.push(message_of(alloc, one)?)?;
-        let line = format!(in alloc; "{time}{} {}{}\n", one.verb, object_of(one.kind), one.sender)?;
+        let line = format!(in alloc;
+            "{time}{} {}{}\n",
+            one.verb,
+            object_of(one.kind),
+            one.sender
+        )?;
         lines.push_str(line.as_str())?;
     }
     let file = file_of(alloc, format, false, &messages)?;
@@ -143,7 +155,12 @@ static IN_PACKETS: [Said; 6] = [
 fn verbs_are_known(rt: HostRuntime) -> Result<(), Fail> {
     let alloc = rt.alloc();
     for one in &ALONE {
-        assert!(rt; are_said(alloc, Format::Stream, "", &[*one])?, "{} {}", one.kind, one.flags);
+        assert!(rt;
+            are_said(alloc, Format::Stream, "", &[*one])?,
+            "{} {}",
+            one.kind,
+            one.flags
+        );
     }
     assert!(rt; are_said(alloc, Format::Microseconds, "22:13:20.123456 ", &IN_PACKETS)?);
     Ok(())
