@@ -16,3 +16,9 @@ returns-clause-ran g c =
       λ n. on_is c.is_passed.result (is_passed gap) (capture_left n place before) (things_in_gap gap) (capture_left n place after) c.is_passed.ensures
           (gap_gives n place gap before after c.in_ok-gap.ensures),
     )
+
+pub returns-in_err-write-clause-stopped : goal.returns-in_err-write-clause-stopped
+returns-in_err-write-clause-stopped g c = λ _. c.write.ensures.halts
+
+pub returns-in_err-gap-clause-stopped : goal.returns-in_err-gap-clause-stopped
+returns-in_err-gap-clause-stopped g c = λ _. c.write.ensures.halts

@@ -53,3 +53,9 @@ returns-in_ok-put_last-in-Last-clause-ran g c =
       progress_more things _ _ _ _ _ c.in_ok-write_lines.ensures.ran put,
       last_gives header dump line before last,
     )
+
+pub returns-in_err-write_lines-clause-stopped : goal.returns-in_err-write_lines-clause-stopped
+returns-in_err-write_lines-clause-stopped g c = λ _. c.write_lines.ensures.halts
+
+pub returns-in_err-gap-clause-stopped : goal.returns-in_err-gap-clause-stopped
+returns-in_err-gap-clause-stopped g c = λ _. c.write_lines.ensures.halts

@@ -2,6 +2,10 @@ use Rattle.std.proofs.lemmas.Result.{on_ok_weaker}
 use Rattle.tc_input.specs.Left.{left_of, rest_of}
 use Rattle.tcshow_input.specs.State.{state_of}
 use Rattle.tcshow_input.proofs.InOrder.{begun_are}
+use Rattle.std.proofs.Common.{[]}
+use Rattle.std.proofs.lemmas.Result.{IfErr-weaker}
+use Rattle.tcshow_input.proofs.Breaking.{begun_first, breaks_halts, none_in}
+use Rattle.tcshow_input.proofs.Halting.{halts_none}
 use Rattle.tcshow_lib.proofs.run.show.Goals as goal
 
 pub returns-clause-ran : goal.returns-clause-ran
@@ -16,3 +20,20 @@ returns-clause-ran g c =
       x.2,
     ))
     c.show_all.ensures.ran
+
+pub returns-in_err-input-clause-partly : goal.returns-in_err-input-clause-partly
+returns-in_err-input-clause-partly g c = λ not. ([], none_in _ _, breaks_halts [] _ _ _ _ (halts_none _ _))
+
+pub returns-clause-partly : goal.returns-clause-partly
+returns-clause-partly g c =
+    let input = c.in_ok-input.input in
+    let left = left_of input (g.R.Read.remaining c.begin.new.reader) in
+    IfErr-weaker c.show_all.result _ _
+    (λ stop h not.
+    let x = h not in (
+      x.0,
+      begun_first (state_of c.args.printer.now).header (rest_of input) (g.R.Read.remaining c.args.reader.now) left x.0 c.in_ok-input.ensures.kept
+          c.in_ok-input.ensures.first x.1,
+      x.2,
+    ))
+    c.show_all.ensures.partly

@@ -1,4 +1,5 @@
 use Rattle.tcshow_input.specs.State.{state_of}
+use Rattle.tcshow_input.proofs.Breaking.{all_begin, breaks_ends, breaks_halts}
 use Rattle.tcshow_lib.proofs.run.show_all.Goals as goal
 
 pub returns-clause-ran : goal.returns-clause-ran
@@ -6,3 +7,17 @@ returns-clause-ran g c =
     let found = c.in_ok-show_input.ensures.ran in
     let summary = c.in_ok-put_summary.ensures.put in
     (found.0, found.1, (state_of c.show_input.new.printer, summary.0, found.2, summary.1, summary.2))
+
+pub returns-in_err-show_input-clause-partly : goal.returns-in_err-show_input-clause-partly
+returns-in_err-show_input-clause-partly g c = λ not.
+    let x = c.in_err-show_input.ensures.partly not in
+    (x.0, x.1, breaks_halts x.0 _ _ _ _ x.2)
+
+pub returns-then-are_foreign-clause-partly : goal.returns-then-are_foreign-clause-partly
+returns-then-are_foreign-clause-partly g c = λ not.
+    let found = c.in_ok-show_input.ensures.ran in
+    let summary = c.in_ok-put_summary.ensures.put in (
+      found.0,
+      all_begin _ _ _ found.0 found.1,
+      breaks_ends found.0 _ _ _ _ (state_of c.show_input.new.printer, summary.0, found.2, summary.1, summary.2),
+    )
