@@ -176,3 +176,28 @@ ran_on options file a b s n fault start same h =
       begun.written,
       sym begun.kept,
     )
+
+-- ---- the first things, and what is written of their text
+
+pub halts_in : (things : List Thing) (file : Option (List ℕ)) (header : Option MessageType) (a b : Option (List ℕ)) (s n : State) → AreFirstIn file header things
+    → Halts things a b s n → (things : List Thing) × AreFirstIn file header things × Halts things a b s n
+halts_in things file header a b s n first h = (things, first, h)
+
+pub breaks_in : (things : List Thing) (file : Option (List ℕ)) (header : Option MessageType) (a b : Option (List ℕ)) (s n : State) → AreFirstIn file header things
+    → Breaks things a b s n → (things : List Thing) × AreFirstIn file header things × Breaks things a b s n
+breaks_in things file header a b s n first h = (things, first, h)
+
+pub breaks_begun : (stop : Stop) (first : List ℕ) (file : Option (List ℕ)) (header : Option MessageType) (a b : Option (List ℕ)) (s n : State)
+    → (stop ≢ NoMemory → (things : List Thing) × BeginsWith first file header things × Halts things a b s n)
+    → stop ≢ NoMemory → (things : List Thing) × BeginsWith first file header things × Breaks things a b s n
+breaks_begun stop first file header a b s n h not =
+    let x = h not in
+    (x.0, x.1, breaks_halts x.0 a b s n x.2)
+
+pub halts_begun : (stop : Stop) (first : List ℕ) (file left : Option (List ℕ)) (header : Option MessageType) (a b : Option (List ℕ)) (s n : State)
+    → Keeps file left → IfSome file (λ bytes. take 4 first ≡ take 4 bytes)
+    → (stop ≢ NoMemory → (things : List Thing) × BeginsWith first left header things × Halts things a b s n)
+    → stop ≢ NoMemory → (things : List Thing) × AreFirstIn file header things × Halts things a b s n
+halts_begun stop first file left header a b s n kept same h not =
+    let x = h not in
+    (x.0, begun_first header first file left x.0 kept same x.1, x.2)

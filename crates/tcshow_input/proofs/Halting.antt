@@ -1,7 +1,7 @@
 -- Runs that end early.
 use Rattle.std.proofs.Common.{◌≡◌, ◌∙◌, ◌≢◌, ℕ, Bool, false, List, [], ◌∷◌, ◌++◌, refl, sym, ap, subst, append_assoc, append-nil}
 use Rattle.std.proofs.KnownBytes.{Appends-nil, Appends-trans}
-use Rattle.std.specs.Prelude.{Option, Some, ◌||◌}
+use Rattle.std.specs.Prelude.{Option, Some, Result, Ok, Err, IfErr, IsErrAnd, ◌||◌}
 use Rattle.std.specs.Io.KnownBytes.{Appends}
 use Rattle.tc_capture.specs.declared.kind.MessageType.{MessageType}
 use Rattle.tc_input.specs.Dumps.{Dump}
@@ -75,6 +75,10 @@ puts_halts xs a b s m n p h = halts_after xs a a b s m n (progress_puts a xs s m
 
 -- ---- over the rest of an input
 
+pub stops_with : (things : List Thing) (before after : Option (List Thing)) (a b : Option (List ℕ)) (s n : State) → Gives before things after → Halts things a b s n
+    → (things : List Thing) × GivesFirst before things × Halts things a b s n
+stops_with things before after a b s n given h = (things, (after, given), h)
+
 -- nothing of it was used
 pub stops_none : (stop : Stop) (left : Option (List Thing)) (a b : Option (List ℕ)) (s n : State)
     → (stop ≢ NoMemory → Halts [] a b s n) → Stops stop left a b s n
@@ -99,3 +103,20 @@ stops_at stop xs before after a b s n given h = λ not. (xs, (after, given), hal
 pub stops_header : (stop : Stop) (h k : Option MessageType) (d : Dump) (left : Option (List ℕ)) (a b : Option (List ℕ)) (s n : State) → h ≡ k
     → Stops stop (text_left h d left) a b s n → Stops stop (text_left k d left) a b s n
 stops_header stop h k d left a b s n same x = subst (λ (j : Option MessageType). Stops stop (text_left j d left) a b s n) same x
+
+-- nor is the dump that they go on with
+pub stops_dump : (stop : Stop) (h : Option MessageType) (d e : Dump) (left : Option (List ℕ)) (a b : Option (List ℕ)) (s n : State) → d ≡ e
+    → Stops stop (text_left h d left) a b s n → Stops stop (text_left h e left) a b s n
+stops_dump stop h d e left a b s n same x = subst (λ (j : Dump). Stops stop (text_left h j left) a b s n) same x
+
+-- ---- the reason
+
+-- however a run ends
+pub always : {T : Type 0} (r : Result T Stop) (P : Type 0) → P → IfErr r (λ stop. stop ≢ NoMemory → P)
+always (Ok x) P p = tt
+always (Err e) P p = λ not. p
+
+-- the end of a part of it
+pub passed : {T : Type 0} (r : Result T Stop) (e : Stop) (P : Type 0) → IsErrAnd r (λ x. x ≡ e) → (e ≢ NoMemory → P) → IfErr r (λ stop. stop ≢ NoMemory → P)
+passed (Ok x) e P same h = tt
+passed (Err x) e P same h = λ not. h (λ none. not (same ∙ none))

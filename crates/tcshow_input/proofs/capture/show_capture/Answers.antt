@@ -5,7 +5,7 @@ use Rattle.tcshow_input.specs.Reading.{capture_left}
 use Rattle.tcshow_input.proofs.Clean.{clean_none, clean_step}
 use Rattle.tcshow_input.proofs.InOrder.{gives_none, gives_then, on_is}
 use Rattle.tcshow_input.proofs.Progress.{progress_none, progress_then}
-use Rattle.tcshow_input.proofs.Halting.{stops_then, stops_at}
+use Rattle.tcshow_input.proofs.Halting.{passed, stops_then, stops_at}
 use Rattle.tcshow_input.proofs.capture.show_capture.Goals as goal
 
 pub returns-in_err-goes_on-clause-clean : goal.returns-in_err-goes_on-clause-clean
@@ -51,7 +51,7 @@ returns-then-not-goes_on-clause-clean g c = clean_step _ _ _ _ _ c.loop.invarian
 pub returns-in_err-goes_on-clause-stopped : goal.returns-in_err-goes_on-clause-stopped
 returns-in_err-goes_on-clause-stopped g c =
     let before = c.loop.invariant.ran in
-    stops_then _ before.0 _ _ _ _ _ _ _ _ before.2 before.1 c.in_err-goes_on.ensures.stopped
+    passed _ _ _ c.from_residual.ensures.1 (stops_then _ before.0 _ _ _ _ _ _ _ _ before.2 before.1 c.in_err-goes_on.ensures.stopped)
 
 pub returns-clause-stopped : goal.returns-clause-stopped
 returns-clause-stopped g c =

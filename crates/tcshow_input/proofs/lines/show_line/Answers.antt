@@ -6,7 +6,7 @@ use Rattle.tcshow_input.specs.State.{state_of}
 use Rattle.tcshow_input.proofs.InOrder.{line_gives}
 use Rattle.tcshow_input.proofs.Progress.{progress_puts, puts_progress}
 use Rattle.std.proofs.lemmas.Result.{IfErr-weaker}
-use Rattle.tcshow_input.proofs.Halting.{halts_progress, puts_halts, stops_none}
+use Rattle.tcshow_input.proofs.Halting.{always, stops_with, halts_progress, puts_halts, stops_none}
 use Rattle.tcshow_input.proofs.lines.show_line.Goals as goal
 
 pub returns-in_ok-write_much-in-Some-clause-ran : goal.returns-in_ok-write_much-in-Some-clause-ran
@@ -23,7 +23,7 @@ returns-in_ok-write_much-in-Some-clause-ran g c =
     )
 
 pub returns-in_err-write_much-in-Some-clause-stopped : goal.returns-in_err-write_much-in-Some-clause-stopped
-returns-in_err-write_much-in-Some-clause-stopped g c = λ not.
+returns-in_err-write_much-in-Some-clause-stopped g c =
     let header = (state_of c.args.printer.now).header in
     let reader = g.R.Read.remaining c.args.reader.now in
     let rest = rest_of c.line_end.new.self in
@@ -33,7 +33,7 @@ returns-in_err-write_much-in-Some-clause-stopped g c = λ not.
     line_gives header (dump_of c.args.dump.now) line (dump_of c.put_front.new.dump) (left_of c.args.input.now reader)
     (rest_of c.use_line.new.self) (drop (c.in-Some.end + 1) rest) reader
     (c.in-Some.ensures.line reader) c.use_line.ensures c.in_ok-put_front-in-Some.ensures.dump in
-    (things, (_, given), puts_halts things _ _ _ _ _ c.in_ok-put_front-in-Some.ensures.put c.write_much.ensures.halts)
+    always _ _ (stops_with things _ _ _ _ _ _ given (puts_halts things _ _ _ _ _ c.in_ok-put_front-in-Some.ensures.put c.write_much.ensures.halts))
 
 pub returns-then-are_other_text-in-Some-clause-stopped : goal.returns-then-are_other_text-in-Some-clause-stopped
 returns-then-are_other_text-in-Some-clause-stopped g c = λ not.

@@ -4,8 +4,8 @@ use Rattle.tcshow_input.specs.State.{state_of}
 use Rattle.tcshow_input.proofs.InOrder.{begun_are}
 use Rattle.std.proofs.Common.{[]}
 use Rattle.std.proofs.lemmas.Result.{IfErr-weaker}
-use Rattle.tcshow_input.proofs.Breaking.{begun_first, breaks_halts, none_in}
-use Rattle.tcshow_input.proofs.Halting.{halts_none}
+use Rattle.tcshow_input.proofs.Breaking.{begun_first, breaks_in, breaks_halts, none_in}
+use Rattle.tcshow_input.proofs.Halting.{always, halts_none}
 use Rattle.tcshow_lib.proofs.run.show.Goals as goal
 
 pub returns-clause-ran : goal.returns-clause-ran
@@ -22,7 +22,10 @@ returns-clause-ran g c =
     c.show_all.ensures.ran
 
 pub returns-in_err-input-clause-partly : goal.returns-in_err-input-clause-partly
-returns-in_err-input-clause-partly g c = λ not. ([], none_in _ _, breaks_halts [] _ _ _ _ (halts_none _ _))
+returns-in_err-input-clause-partly g c =
+    let s = state_of c.args.printer.now in
+    let a = g.W.Write.contents c.args.writer.now in
+    always _ _ (breaks_in [] (g.R.Read.remaining c.args.reader.now) s.header a a s s (none_in _ _) (breaks_halts [] a a s s (halts_none a s)))
 
 pub returns-clause-partly : goal.returns-clause-partly
 returns-clause-partly g c =
