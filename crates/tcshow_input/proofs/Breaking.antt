@@ -164,7 +164,7 @@ pub ran_on : (options : Options) (file a b : Option (List ℕ)) (s n : State) (f
 ran_on options file a b s n fault start same h =
     let begun = subst (λ (x : State). Breaks h.0 a b x n) start h.2 in
     let is_fault = same ∙ begun.bad in
-    let shown = subst (λ x. ShowsEach (is_json options.format) (view_of options.format options.all) options.filter h.0 begun.text x) (sym is_fault) begun.shown in (
+    let shown = subst (λ x. ShowsEach (is_json options.format) (view_of options.format options.all) options.filter [] h.0 begun.text x) (sym is_fault) begun.shown in (
       h.0,
       begun.text,
       begun.summary,

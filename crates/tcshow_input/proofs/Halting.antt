@@ -6,17 +6,16 @@ use Rattle.std.specs.Io.KnownBytes.{Appends}
 use Rattle.tc_capture.specs.declared.kind.MessageType.{MessageType}
 use Rattle.tc_input.specs.Dumps.{Dump}
 use Rattle.tc_input.specs.Left.{Gives}
-use Rattle.tc_select.specs.declared.filter.Filter.{Filter}
 use Rattle.tcshow_json.specs.Messages.{Thing}
 use Rattle.program_io.specs.Written.{GrowsByFront}
 use Rattle.tcshow_input.specs.declared.stop.Stop.{Stop}
 use Rattle.tcshow_input.specs.declared.stop.Stop.TheVariants.{NoMemory}
 use Rattle.tcshow_input.specs.Reading.{GivesFirst, text_left}
-use Rattle.tcshow_input.specs.Shown.{View, ShowsEach}
+use Rattle.tcshow_input.specs.Shown.{after_all}
 use Rattle.tcshow_input.specs.State.{State, Halts, Progress, Puts, Stops}
 use Rattle.tcshow_input.proofs.InOrder.{gives_none, gives_then}
 use Rattle.tcshow_input.proofs.Progress.{progress_none, progress_puts}
-use Rattle.tcshow_input.proofs.Puts.{each_append, or_assoc, or_false}
+use Rattle.tcshow_input.proofs.Puts.{each_append, each_in, or_assoc, or_false}
 
 -- nothing is lost
 pub halts_progress : (xs : List Thing) (a b : Option (List ℕ)) (s n : State) → Progress xs a b s n → Halts xs a b s n
@@ -54,11 +53,8 @@ halts_then xs ys a b c s m n h k = record {
   out = h.out ++ k.out;
   lost = k.lost;
   shown =
-      let later =
-      subst (λ j. ShowsEach j s.view s.filter ys k.text k.fault) h.json
-      (subst (λ (v : View). ShowsEach m.json v s.filter ys k.text k.fault) h.view
-      (subst (λ (f : Filter). ShowsEach m.json m.view f ys k.text k.fault) h.filter k.shown)) in
-      each_append s.json s.view s.filter xs ys h.text k.text h.fault k.fault h.shown later;
+      let later = each_in s m (after_all s.before xs) ys k.text k.fault h.json h.view h.filter h.before k.shown in
+      each_append s.json s.view s.filter s.before xs ys h.text k.text h.fault k.fault h.shown later;
   written = Appends-trans a b c h.out k.out h.written k.written;
   kept =
       append_assoc h.out k.out (n.text ++ k.lost) ∙ ap (λ l. h.out ++ l) k.kept ∙ sym (append_assoc h.out m.text k.text) ∙ ap (λ l. l ++ k.text) h.kept
