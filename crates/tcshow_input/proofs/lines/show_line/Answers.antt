@@ -35,8 +35,8 @@ returns-in_err-write_much-in-Some-clause-stopped g c =
     (c.in-Some.ensures.line reader) c.use_line.ensures c.in_ok-put_front-in-Some.ensures.dump in
     always _ _ (stops_with things _ _ _ _ _ _ given (puts_halts things _ _ _ _ _ c.in_ok-put_front-in-Some.ensures.put c.write_much.ensures.halts))
 
-pub returns-then-are_other_text-in-Some-clause-stopped : goal.returns-then-are_other_text-in-Some-clause-stopped
-returns-then-are_other_text-in-Some-clause-stopped g c = λ not.
+pub returns-then-are_other_text-clause-stopped : goal.returns-then-are_other_text-clause-stopped
+returns-then-are_other_text-clause-stopped g c = λ not.
     let header = (state_of c.args.printer.now).header in
     let reader = g.R.Read.remaining c.args.reader.now in
     let rest = rest_of c.line_end.new.self in
