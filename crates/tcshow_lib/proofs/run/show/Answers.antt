@@ -1,11 +1,11 @@
-use Rattle.std.proofs.lemmas.Result.{on_ok_weaker}
+use Rattle.std.proofs.lemmas.Result.{on_ok_weaker, IfErr-weaker}
 use Rattle.tc_input.specs.Left.{left_of, rest_of}
 use Rattle.tcshow_input.specs.State.{state_of}
 use Rattle.tcshow_input.proofs.InOrder.{begun_are}
 use Rattle.std.proofs.Common.{[]}
-use Rattle.std.proofs.lemmas.Result.{IfErr-weaker}
-use Rattle.tcshow_input.proofs.Breaking.{begun_first, breaks_in, breaks_halts, none_in}
+use Rattle.tcshow_input.proofs.Breaking.{breaks_in, breaks_halts, none_in}
 use Rattle.tcshow_input.proofs.Halting.{always, halts_none}
+use Rattle.tcshow_lib.proofs.Early.{breaks_first}
 use Rattle.tcshow_lib.proofs.run.show.Goals as goal
 
 pub returns-clause-ran : goal.returns-clause-ran
@@ -32,11 +32,5 @@ returns-clause-partly g c =
     let input = c.in_ok-input.input in
     let left = left_of input (g.R.Read.remaining c.begin.new.reader) in
     IfErr-weaker c.show_all.result _ _
-    (λ stop h not.
-    let x = h not in (
-      x.0,
-      begun_first (state_of c.args.printer.now).header (rest_of input) (g.R.Read.remaining c.args.reader.now) left x.0 c.in_ok-input.ensures.kept
-          c.in_ok-input.ensures.first x.1,
-      x.2,
-    ))
+    (λ stop h. breaks_first stop (rest_of input) (g.R.Read.remaining c.args.reader.now) left _ _ _ _ _ c.in_ok-input.ensures.kept c.in_ok-input.ensures.first h)
     c.show_all.ensures.partly

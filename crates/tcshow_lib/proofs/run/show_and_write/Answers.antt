@@ -1,7 +1,8 @@
 use Rattle.std.proofs.lemmas.Result.{on_ok_weaker}
 use Rattle.tcshow_input.proofs.Clean.{clean_step}
 use Rattle.tcshow_input.proofs.Progress.{completes}
-use Rattle.tcshow_input.proofs.Breaking.{all_in, breaks_at_end, breaks_write, if_err}
+use Rattle.tcshow_input.proofs.Breaking.{all_in, breaks_at_end, breaks_in, breaks_write}
+use Rattle.tcshow_input.proofs.Halting.{always}
 use Rattle.tcshow_lib.proofs.run.show_and_write.Goals as goal
 
 pub returns-in-Ok-clause-clean : goal.returns-in-Ok-clause-clean
@@ -20,8 +21,7 @@ pub returns-in-Ok-clause-partly : goal.returns-in-Ok-clause-partly
 returns-in-Ok-clause-partly g c =
     let f = c.write.ensures.front in
     let ends = c.in-Ok.ensures.ran in
-    if_err c.write.result _
-    (λ stop not. (ends.0, all_in _ _ ends.0 ends.1, breaks_at_end ends.0 _ _ _ _ _ _ f.0 ends.2 f.1 c.write.ensures.empty))
+    always _ _ (breaks_in ends.0 _ _ _ _ _ _ (all_in _ _ ends.0 ends.1) (breaks_at_end ends.0 _ _ _ _ _ _ f.0 ends.2 f.1 c.write.ensures.empty))
 
 pub returns-in-Err-clause-partly : goal.returns-in-Err-clause-partly
 returns-in-Err-clause-partly g c = λ not.

@@ -1,14 +1,13 @@
-use Rattle.std.proofs.Common.{◌∙◌, sym, ap, option_map}
-use Rattle.std.proofs.lemmas.Result.{on_ok_weaker}
+use Rattle.std.proofs.Common.{◌∙◌, sym, ap, option_map, []}
+use Rattle.std.proofs.lemmas.Result.{on_ok_weaker, IfErr-weaker}
 use Rattle.tc_capture.specs.Capture.{state_of as place_of, capture_at}
 use Rattle.tc_input.specs.Left.{left_of, rest_of}
 use Rattle.tcshow_input.specs.Reading.{is_hex_text}
 use Rattle.tcshow_input.specs.State.{state_of}
 use Rattle.tcshow_input.proofs.InOrder.{capture_begins, text_begins}
-use Rattle.std.proofs.Common.{[]}
-use Rattle.std.proofs.lemmas.Result.{IfErr-weaker}
-use Rattle.tcshow_input.proofs.Breaking.{capture_begins_with, none_begin, text_begins_with}
+use Rattle.tcshow_input.proofs.Breaking.{none_begin}
 use Rattle.tcshow_input.proofs.Halting.{halts_none}
+use Rattle.tcshow_lib.proofs.Early.{capture_halts, text_halts}
 use Rattle.tcshow_lib.proofs.run.show_input.Goals as goal
 
 pub returns-in-Some-clause-ran : goal.returns-in-Some-clause-ran
@@ -36,9 +35,7 @@ returns-in-Some-clause-partly g c =
     let place = place_of c.in-Some.capture in
     let found = ap capture_at (sym c.first.ensures) ∙ sym c.of_first.ensures ∙ ap (option_map place_of) c.in-Some.is in
     IfErr-weaker c.show_capture.result _ _
-    (λ stop h not.
-    let x = h not in
-    (x.0, capture_begins_with header (rest_of c.args.input.now) file place c.args.packets.now.count x.0 found c.requires x.1, x.2))
+    (λ stop h. capture_halts stop header (rest_of c.args.input.now) file place c.args.packets.now.count _ _ _ _ found c.requires h)
     c.show_capture.ensures.stopped
 
 pub returns-then-not-is_hex_text-clause-partly : goal.returns-then-not-is_hex_text-clause-partly
@@ -51,7 +48,5 @@ returns-else-not-is_hex_text-clause-partly g c =
     let found = ap capture_at (sym c.first.ensures) ∙ sym c.of_first.ensures ∙ ap (option_map place_of) c.in-None.is in
     let hex = ap is_hex_text (sym c.first-in-None.ensures) ∙ sym c.is_hex_text.ensures ∙ c.if-not-is_hex_text.false in
     IfErr-weaker c.show_lines.result _ _
-    (λ stop h not.
-    let x = h not in
-    (x.0, text_begins_with header (rest_of c.args.input.now) file x.0 found hex x.1, x.2))
+    (λ stop h. text_halts stop header (rest_of c.args.input.now) file _ _ _ _ found hex h)
     c.show_lines.ensures.stopped
