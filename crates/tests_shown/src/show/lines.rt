@@ -66,7 +66,7 @@ struct Said {
     sender: &'static str,
 }
 
-fn said(kind: u16, flags: u16, port: u16, verb: &'static str, sender: &'static str) -> Said {
+fn row(kind: u16, flags: u16, port: u16, verb: &'static str, sender: &'static str) -> Said {
     Said {
         kind,
         flags,
@@ -79,28 +79,28 @@ fn said(kind: u16, flags: u16, port: u16, verb: &'static str, sender: &'static s
 // Commands of iproute2 with the flags that `strace tc` shows, then messages of the kernel.
 fn alone() -> [Said; 22] {
     [
-        said(36, 0x605, 0, "add", ""),
-        said(36, 0x505, 0, "replace", ""),
-        said(36, 5, 0, "change", ""),
-        said(36, 0x105, 0, "send flags 0x105", ""),
-        said(36, 0x405, 0, "send flags 0x405", ""),
-        said(37, 5, 0, "del", ""),
-        said(38, 1, 0, "get", ""),
-        said(38, 0x301, 0, "dump", ""),
-        said(40, 0x605, 0, "add", ""),
-        said(40, 0x405, 0, "replace", ""),
-        said(40, 5, 0, "change", ""),
-        said(44, 0x60d, 0, "add", ""),
-        said(44, 0x405, 0, "replace", ""),
-        said(45, 5, 0, "del", ""),
-        said(36, 2, 0, "is", ""),
-        said(38, 2, 77, "is", ""),
-        said(36, 0, 77, "new", " by 77"),
-        said(36, 0x600, 0, "new", ""),
-        said(37, 0, 77, "gone", " by 77"),
-        said(44, 0x605, 77, "new", " by 77"),
-        said(45, 5, 77, "gone", " by 77"),
-        said(46, 2, 77, "is", ""),
+        row(36, 0x605, 0, "add", ""),
+        row(36, 0x505, 0, "replace", ""),
+        row(36, 5, 0, "change", ""),
+        row(36, 0x105, 0, "send flags 0x105", ""),
+        row(36, 0x405, 0, "send flags 0x405", ""),
+        row(37, 5, 0, "del", ""),
+        row(38, 1, 0, "get", ""),
+        row(38, 0x301, 0, "dump", ""),
+        row(40, 0x605, 0, "add", ""),
+        row(40, 0x405, 0, "replace", ""),
+        row(40, 5, 0, "change", ""),
+        row(44, 0x60d, 0, "add", ""),
+        row(44, 0x405, 0, "replace", ""),
+        row(45, 5, 0, "del", ""),
+        row(36, 2, 0, "is", ""),
+        row(38, 2, 77, "is", ""),
+        row(36, 0, 77, "new", " by 77"),
+        row(36, 0x600, 0, "new", ""),
+        row(37, 0, 77, "gone", " by 77"),
+        row(44, 0x605, 77, "new", " by 77"),
+        row(45, 5, 77, "gone", " by 77"),
+        row(46, 2, 77, "is", ""),
     ]
 }
 
@@ -146,12 +146,12 @@ fn are_said(alloc: Global, format: Format, time: &str, all: &[Said]) -> Result<b
 // A request with a port id, the kernel's copy of it, a get, its answer, and a request of the same number by another.
 fn in_packets() -> [Said; 6] {
     [
-        said(44, 0x605, 77, "add", ""),
-        said(44, 0x605, 77, "new", " by 77"),
-        said(46, 5, 0, "get", ""),
-        said(44, 5, 78, "is", ""),
-        said(36, 0x605, 78, "add", ""),
-        said(36, 0x605, 79, "add", ""),
+        row(44, 0x605, 77, "add", ""),
+        row(44, 0x605, 77, "new", " by 77"),
+        row(46, 5, 0, "get", ""),
+        row(44, 5, 78, "is", ""),
+        row(36, 0x605, 78, "add", ""),
+        row(36, 0x605, 79, "add", ""),
     ]
 }
 
