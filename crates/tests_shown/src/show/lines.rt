@@ -124,12 +124,10 @@ fn object_of(kind: u16) -> &'static str {
     }
 }
 
-// True if the messages of a capture have these verbs and senders, after this time.
-fn are_said(alloc: Global, format: Format, time: &str, all: &[Said]) -> Result<bool, Fail> {
-    let mut messages = Vec::new(alloc);
+// True if the messages of an input have these verbs and senders, after this time.
+fn are_said(alloc: Global, input: &[u8], time: &str, all: &[Said]) -> Result<bool, Fail> {
     let mut lines = String::new(alloc);
     for one in all {
-        messages.push(message_of(alloc, one)?)?;
         let line = format!(in alloc;
             "{time}{} {}{}\n",
             one.verb,
@@ -138,9 +136,17 @@ fn are_said(alloc: Global, format: Format, time: &str, all: &[Said]) -> Result<b
         )?;
         lines.push_str(line.as_str())?;
     }
-    let file = file_of(alloc, format, false, &messages)?;
-    let run = shown(alloc, &all_in(OutputFormat::Brief(false)), &file);
+    let run = shown(alloc, &all_in(OutputFormat::Brief(false)), input);
     Ok(run.written.as_slice() == lines.as_bytes())
+}
+
+// A file with these messages.
+fn file_with(alloc: Global, format: Format, all: &[Said]) -> Result<Vec<u8>, Fail> {
+    let mut messages = Vec::new(alloc);
+    for one in all {
+        messages.push(message_of(alloc, one)?)?;
+    }
+    Ok(file_of(alloc, format, false, &messages)?)
 }
 
 // A request with a port id, the kernel's copy of it, a get, its answer, and a request of the same number by another.
@@ -155,24 +161,27 @@ fn in_packets() -> [Said; 6] {
     ]
 }
 
+// The time of each packet.
+const TIME: &str = "22:13:20.123456 ";
+
 #[test]
 fn verbs_are_known(rt: HostRuntime) -> Result<(), Fail> {
     let alloc = rt.alloc();
     for one in &alone() {
+        let message = message_of(alloc, one)?;
         assert!(rt;
-            are_said(alloc, Format::Stream, "", &[*one])?,
+            are_said(alloc, &message, "", &[*one])?,
             "{} {}",
             one.kind,
             one.flags
         );
     }
-    assert!(rt;
-        are_said(
-            alloc,
-            Format::Microseconds,
-            "22:13:20.123456 ",
-            &in_packets()
-        )?
-    );
+    let packets = in_packets();
+    let capture = file_with(alloc, Format::Microseconds, &packets)?;
+    assert!(rt; are_said(alloc, &capture, TIME, &packets)?);
+    // all in a file of rtmon is the kernel's
+    let noted = [row(36, 0x605, 0, "new", ""), row(38, 0x301, 77, "is", "")];
+    let file = file_with(alloc, Format::Stream, &noted)?;
+    assert!(rt; are_said(alloc, &file, TIME, &noted)?);
     Ok(())
 }
