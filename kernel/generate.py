@@ -392,7 +392,7 @@ class Interface:
         if some and self.likely(0.5):
             return self.chance.choice(some)
         number = self.chance.choice([it for it in range(1, 60) if it not in own])
-        if kind == "u32" and self.likely(0.95):  # u32 mixes the tables of one priority on both sides of clsact, and in all chains
+        if kind == "u32" and self.likely(0.5):  # else the kernel shows the tables of one priority with those of other chains and of the other side
             number += 1000 + 100 * sorted(self.priorities).index(place)
         own[number] = kind, protocol
         return number

@@ -259,6 +259,29 @@ static int asked_link;
 static __u32 asked_parent;
 static unsigned char tree[1 << 19]; // the link's qdiscs and classes, whole messages
 static size_t tree_length;
+static struct {
+    struct tcmsg header;
+    __u32 chain;
+} priorities[1024]; // of u32, that were dumped last
+static size_t priority_count;
+
+// Keeps a priority of u32, which is dumped without a handle before its filters.
+static void keep_priority(struct nlmsghdr *h) {
+    unsigned char *p = (unsigned char *)NLMSG_DATA(h) + sizeof(struct tcmsg);
+    int left = h->nlmsg_len - NLMSG_LENGTH(sizeof(struct tcmsg)), is_u32 = 0;
+    __u32 chain = 0;
+
+    FOR_EACH(a, p, left) {
+        if (TYPE(a) == TCA_KIND)
+            is_u32 = !strncmp((char *)PAYLOAD(a), "u32", LENGTH(a));
+        if (TYPE(a) == TCA_CHAIN)
+            memcpy(&chain, PAYLOAD(a), sizeof chain);
+    }
+    if (is_u32 && priority_count < sizeof priorities / sizeof *priorities) {
+        priorities[priority_count].header = *(struct tcmsg *)NLMSG_DATA(h);
+        priorities[priority_count++].chain = chain;
+    }
+}
 
 // Writes what belongs to the link, or to a shared block, as it came, and keeps its qdiscs and classes. A chain's dump names the
 // qdisc; the parent that was asked for distinguishes the sides of clsact.
@@ -273,7 +296,34 @@ static void write_of_link(struct nlmsghdr *h) {
         memcpy(tree + tree_length, h, h->nlmsg_len);
         tree_length += NLMSG_ALIGN(h->nlmsg_len);
     }
+    if (h->nlmsg_type == RTM_NEWTFILTER && !header->tcm_handle)
+        keep_priority(h);
     write_got(h);
+}
+
+// Writes the root table of a priority of u32, with the type of the request.
+static void write_root(struct nlmsghdr *h) {
+    h->nlmsg_type = RTM_GETTFILTER;
+    write_got(h);
+}
+
+// Asks for the root table of each priority that was dumped: a dump shows the tables of the same priority elsewhere below the qdisc too.
+static void ask_for_roots(void) {
+    for (size_t i = 0; i < priority_count; i++) {
+        struct {
+            struct tcmsg header;
+            struct nlattr kind;
+            char text[4];
+            struct nlattr chain;
+            __u32 number;
+        } m = {.header = priorities[i].header,
+               .kind = {NLA_HDRLEN + 4, TCA_KIND},
+               .text = "u32",
+               .chain = {NLA_HDRLEN + 4, TCA_CHAIN},
+               .number = priorities[i].chain};
+        m.header.tcm_handle = TC_U32_ROOT;
+        ask(RTM_GETTFILTER, NLM_F_REQUEST | NLM_F_ACK, &m, sizeof m, write_root);
+    }
 }
 
 // A qdisc without classes refuses to be asked for them, and what can't have filters for those.
@@ -317,7 +367,9 @@ static int is_clsact(struct nlmsghdr *h) {
 
 static void dump_block(__u32 parent) {
     dump_tc(RTM_GETCHAIN, parent);
+    priority_count = 0;
     dump_tc(RTM_GETTFILTER, parent);
+    ask_for_roots();
 }
 
 // Writes all actions of the namespace, the qdiscs and classes of a link, and the chains and filters of each of these.

@@ -2,10 +2,12 @@
 
 import collections
 import concurrent.futures
+import ctypes
 import errno
 import os
 import shutil
 import signal
+import struct
 import subprocess
 import sys
 import time
@@ -51,6 +53,28 @@ def linux():
     return path
 
 
+# Instructions of a filter of system calls (linux/filter.h, linux/seccomp.h): code, jumps if true and if false, operand. On x86-64 ptrace (101) of PTRACE_GETREGSET
+# ends with EIO, all else is allowed.
+NO_REGSETS = [(0x20, 0, 0, 4), (0x15, 0, 5, 0xC000003E), (0x20, 0, 0, 0), (0x15, 0, 3, 101), (0x20, 0, 0, 16), (0x15, 0, 1, 0x4204), (6, 0, 0, 0x50005), (6, 0, 0, 0x7FFF0000)]
+PR_SET_SECCOMP, PR_SET_NO_NEW_PRIVS = 22, 38
+
+
+def has_large_registers():
+    """Whether the processor has AMX: all its registers are more than this kernel has room for, so that it can't set those of a process."""
+    with open("/proc/cpuinfo") as file:
+        return "amx_tile" in file.read().split()
+
+
+def forbid_regsets():
+    """Makes this process, and those that it starts, set registers by the older calls of ptrace, which have only those of SSE."""
+    filter_ = b"".join(struct.pack("<HBBI", *it) for it in NO_REGSETS)
+    code = ctypes.create_string_buffer(filter_)
+    program = ctypes.create_string_buffer(struct.pack("<HxxxxxxQ", len(NO_REGSETS), ctypes.addressof(code)))
+    prctl = ctypes.CDLL(None, use_errno=True).prctl
+    if prctl(PR_SET_NO_NEW_PRIVS, 1, 0, 0, 0) or prctl(PR_SET_SECCOMP, 2, program, 0, 0):
+        raise OSError(ctypes.get_errno(), "prctl")
+
+
 # How a request ended, and the (type, bytes) that came back before that; `offset` is None if the kernel names no
 # attribute.
 Answer = collections.namedtuple("Answer", "got error offset sentence")
@@ -86,6 +110,7 @@ class Guest:
         began = time.monotonic()
         with open(f"{self.folder}/console", "w") as console:
             how = {"stdin": subprocess.DEVNULL, "stdout": console, "stderr": console, "start_new_session": True}
+            how["preexec_fn"] = forbid_regsets if has_large_registers() else None
             guest = subprocess.Popen(words, env={**os.environ, "TMPDIR": OUT}, **how)
             try:
                 self.wait(guest)

@@ -7,6 +7,7 @@ import struct
 from messages import mode_of, shown
 
 QDISC, CLASS, FILTER, CHAIN, ACTIONS = 36, 40, 44, 100, (48, 49, 50)  # message types; a dump of actions is RTM_GETACTION
+ROOT_OF_U32 = 46  # RTM_GETTFILTER: the answer to a question for the root table of a priority
 
 # Attributes of a message and of an action that say what was counted, or are padding.
 COUNTED = {3, 4, 6, 7, 9}  # TCA_STATS, TCA_XSTATS, TCA_FCNT, TCA_STATS2, TCA_PAD
@@ -25,7 +26,7 @@ COUNTS, COUNTS_OF_POLICE = (0, 12, 16), (0, 44, 48)
 
 HEAD_OF = {"netem": 24}  # the bytes of a record before the attributes of its options (struct tc_netem_qopt)
 
-ROOT_TABLE = 0x80000000  # the first of u32's root tables; the kernel numbers them in the order in which priorities are made
+ROOT_TABLE, TABLE = 0x80000000, 0xFFF00000  # the first of u32's root tables, which the kernel numbers as it makes priorities; a table in a handle
 IN_ORDER = {"basic", "bpf", "flow"}  # of these filters the order within a priority counts; others are found by their handle
 
 Action = collections.namedtuple("Action", "kind number held bound config has_estimator")
@@ -102,6 +103,11 @@ class Object:
     def block(self):
         return self.index, self.parent, self.chain
 
+    def place_of_tables(self):
+        """A priority of u32; and what has the tables that the kernel shows with it: the qdisc or the shared block, and the number."""
+        place = self.index, self.parent, self.info, self.chain
+        return place, (self.index, self.parent if self.index == -1 else self.parent & 0xFFFF0000, self.info >> 16)
+
     def is_root_table(self):
         divisor = int.from_bytes(dict(self.options).get(4, b""), "little")
         return self.kind == "u32" and self.handle >= ROOT_TABLE and self.handle & 0xFFFFF == 0 and divisor == 1
@@ -126,30 +132,43 @@ class Object:
         return self.type, self.index, self.handle, self.parent, info, others, options, tuple(it.config for it in self.actions)
 
 
-def root_tables(objects):
-    """The tables of each priority of u32 that can be its root."""
+def root_tables(objects, asked):
+    """The root table of each priority of u32: as the kernel says, or the only one that can be it."""
     roots = collections.defaultdict(list)
     for it in objects:
         if it.type == FILTER and it.is_root_table():
-            roots[it.block(), it.info].append(it.handle)
-    return roots
+            roots[it.place_of_tables()[0]].append(it.handle)
+    return {place: asked.get(place, set(some).pop() if len(set(some)) == 1 else None) for place, some in roots.items()}
 
 
-def renumbered(objects):
+def own_tables(objects, asked):
+    """Leaves out tables of u32 and their keys that belong elsewhere below their qdisc. One that is no root belongs to all: it stays in the first place."""
+    roots, first = root_tables(objects, asked), {}
+    tables = [it for it in objects if it.type == FILTER and it.kind == "u32" and it.handle]
+    for it in tables:
+        place, group = it.place_of_tables()
+        first[group, it.handle & TABLE] = min(place, first.get((group, it.handle & TABLE), place))
+    group_of = {it.place_of_tables()[0]: it.place_of_tables()[1] for it in tables}
+    first.update({(group_of[place], root): place for place, root in roots.items()})
+    is_own = lambda place, group, table: first[group, table] == place
+    return [it for it in objects if it not in tables or is_own(*it.place_of_tables(), it.handle & TABLE)], roots
+
+
+def renumbered(objects, asked=None):
     """Renumbers the root table of each priority of u32 to 800:, and filters below ingress one parent: the kernel dumps
     them with that of the last request."""
     ingress = {it.index for it in objects if it.type == QDISC and it.kind == "ingress"}
+    objects, roots = own_tables(objects, asked or {})
     for it in objects:
-        if it.type in (FILTER, CHAIN) and it.index in ingress and it.parent >> 16 == 0xFFFF:
-            it.parent = 0xFFFFFFF2
-    roots = root_tables(objects)
-    for it in objects:
-        own = roots.get((it.block(), it.info), [])
-        if it.type == FILTER and it.kind == "u32" and len(own) == 1:
-            turned = lambda number: number & 0xFFFFF | ROOT_TABLE if number & 0xFFF00000 == own[0] else number
+        own = roots.get(it.place_of_tables()[0])
+        if it.type == FILTER and it.kind == "u32" and own is not None:
+            turned = lambda number: number & 0xFFFFF | ROOT_TABLE if number & TABLE == own else number
             it.handle = turned(it.handle)
             tables = {2, 3}  # TCA_U32_HASH, TCA_U32_LINK
             it.options = [(n, turned(int.from_bytes(x, "little")).to_bytes(4, "little") if n in tables else x) for n, x in it.options]
+    for it in objects:
+        if it.type in (FILTER, CHAIN) and it.index in ingress and it.parent >> 16 == 0xFFFF:
+            it.parent = 0xFFFFFFF2
     return objects
 
 
@@ -179,7 +198,8 @@ class State:
 
     def __init__(self, names, messages):
         self.names = names
-        self.objects = renumbered([Object(*it) for it in messages if it[0] in (QDISC, CLASS, FILTER, CHAIN)])
+        asked = {it.place_of_tables()[0]: it.handle for it in (Object(*it) for it in messages if it[0] == ROOT_OF_U32)}
+        self.objects = renumbered([Object(*it) for it in messages if it[0] in (QDISC, CLASS, FILTER, CHAIN)], asked)
         lists = [some for type_, data in messages if type_ in ACTIONS for number, some in attributes(data[4:]) if number == 1]
         self.actions = [action_of(it) for some in lists for _, it in attributes(some)]
         self.places = collections.OrderedDict((it.place(), it) for it in self.objects)
@@ -246,6 +266,7 @@ class State:
         for it in self.all_actions():
             if it.has_estimator:
                 out.add("estimator, of which only statistics are dumped")
-        if any(len(set(it)) > 1 for it in root_tables(self.objects).values()):
+        roots = collections.Counter(it.place_of_tables()[0] for it in self.objects if it.type == FILTER and it.is_root_table())
+        if any(count > 1 for count in roots.values()):
             out.add("two root tables of u32 in one priority")
         return out

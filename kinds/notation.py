@@ -267,7 +267,7 @@ def check_all():
 
 def read_all():
     paths = sorted(os.path.relpath(os.path.join(folder, name), HERE) for folder, _, names in os.walk(HERE) for name in names)
-    for path in [p for p in paths if p not in ('generate', 'notation.py', 'prove', 'columns', 'words', 'changes', 'wireshark', 'README.md')]:
+    for path in [p for p in paths if p not in ('generate', 'notation.py', 'prove', 'columns', 'words', 'changes', 'interfaces', 'wireshark', 'README.md')]:
         read(path)
     if not faults:
         check_all()

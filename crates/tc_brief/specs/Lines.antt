@@ -6,7 +6,7 @@ use Rattle.tc_brief.specs.Leaves.{Leaf, Value}
 use Rattle.tc_brief.specs.Numbers as numbers
 use Rattle.tc_brief.specs.Parts.{Around, bare, is_in, section_words}
 use Rattle.tc_brief.specs.Values.{interface_text, is_left_out, number_in, value_text}
-use Rattle.tc_brief.specs.Words.{word, written}
+use Rattle.tc_brief.specs.Words.{written}
 use Rattle.tc_brief.specs.declared.leaf.Section.{Section}
 use Rattle.tc_brief.specs.declared.leaf.Section.TheVariants as section
 use Rattle.tc_brief.specs.declared.line.Object.{Object}
@@ -189,13 +189,15 @@ actions stats p (l ∷ ls) =
 
 -- ---- the line
 
--- what is known of a message beside its bytes: what it does, its object, whether statistics are written, and the port id
--- of a notification's sender, if it isn't 0
+-- what is known of a message beside its bytes: the text that each of its lines begins with, as the time and what it does,
+-- its object, whether statistics are written, the port id of a notification's sender, if it isn't 0, and the text that
+-- each of its lines ends with, as what is malformed in it
 pub record Said : Type 0 where
-  pub verb : List ℕ
+  pub begin : List ℕ
   pub object : Object
   pub statistics : Bool
   pub port : ℕ
+  pub end : List ℕ
 
 abbrev pub by_words : ℕ → List (List ℕ)
 by_words n = unless_zero n (codes "by" ∷ decimal n ∷ [])
@@ -259,14 +261,14 @@ own_action_words said all l c =
     codes "action" ∷ value_text l l.value ∷ codes "-" ∷ (action_words c ++ (section_words c section.Words 0 None all ++ (by_words said.port
     ++ after_semicolon said.statistics c section.ActionStatistics)))
 
--- a line: its words, one blank between, and a line feed
-abbrev pub line : List ℕ → List (List ℕ) → List ℕ
-line verb words = word verb ++ (written words ++ codes "\n")
+-- a line: its words, a blank before each, between its begin and its end, and a line feed
+abbrev pub line : Said → List (List ℕ) → List ℕ
+line said words = said.begin ++ (written words ++ (said.end ++ codes "\n"))
 
 abbrev pub own_actions : Said → List Leaf → List Leaf → List ℕ
 own_actions said all [] = []
 own_actions said all (l ∷ ls) =
-    (if is_action l then line said.verb (own_action_words said all l (record { leaves = one_action ls; protocol = 0 })) else []) ++ own_actions said all ls
+    (if is_action l then line said (own_action_words said all l (record { leaves = one_action ls; protocol = 0 })) else []) ++ own_actions said all ls
 
 abbrev pub has_action : List Leaf → Bool
 has_action [] = false
@@ -278,9 +280,9 @@ is_of_actions o = false
 
 -- the lines of a message: one for each action of an action message, else one
 abbrev pub message_lines : Said → List Leaf → List ℕ
-message_lines said ls = if has_action ls && is_of_actions said.object then own_actions said ls ls else line said.verb (object_words said ls)
+message_lines said ls = if has_action ls && is_of_actions said.object then own_actions said ls ls else line said (object_words said ls)
 
 -- ---- abstract values of the code's types
 
 abbrev pub said_view : CodeSaid → Said
-said_view s = record { verb = s.verb.now; object = s.object; statistics = s.statistics; port = s.port }
+said_view s = record { begin = s.begin.now; object = s.object; statistics = s.statistics; port = s.port; end = s.end.now }

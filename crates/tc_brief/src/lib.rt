@@ -27,4 +27,4 @@ mod words;
 pub use error::BriefError;
 pub use line::{Object, Said, lines_of};
 pub use row::{LeftOut, Row, RowOf, Style, Words};
-pub use words::word_is_a_word;
+pub use words::{put_first, put_word, word_is_a_word};

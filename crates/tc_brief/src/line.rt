@@ -25,7 +25,6 @@ use crate::row::{Style, Words};
 use crate::tape::tokens_of;
 use crate::values::{is_left_out, number_in, put_interface};
 use crate::walk::leaves_of;
-use crate::words::put_first;
 use forms_json::{Form, Tables};
 use std::alloc::{AllocError, Global};
 use tc_lines::{Columns, Display, InfoOf};
@@ -45,13 +44,15 @@ pub enum Object {
 /// What is known of a message beside its bytes.
 #[derive(Clone, Copy, Drop)]
 pub struct Said<'v> {
-    /// What the message does, such as `add`, `is` or `gone`.
-    pub verb: &'v str,
+    /// The text that each of its lines begins with: what the message does, such as `add`, `is` or `gone`, perhaps after its time.
+    pub begin: &'v [u8],
     pub object: Object,
     /// True if statistics are written.
     pub statistics: bool,
     /// The port id of a notification's sender; 0 for none.
     pub port: u64,
+    /// The text that each of its lines ends with; mostly empty.
+    pub end: &'v [u8],
 }
 
 fn object_text(object: Object) -> &'static str
@@ -591,8 +592,9 @@ impl Line {
                     leaves: one_action(rest),
                     protocol: 0,
                 };
-                put_first(&mut self.text, said.verb.as_bytes())?;
+                self.text.extend_from_slice(said.begin)?;
                 self.own_action(said, leaves, leaf, &scope)?;
+                self.text.extend_from_slice(said.end)?;
                 self.text.extend_from_slice(b"\n")?;
             }
             left = rest;
@@ -607,8 +609,9 @@ impl Line {
         if has_action(leaves) && is_of_actions(said.object) {
             return self.own_actions(said, leaves);
         }
-        put_first(&mut self.text, said.verb.as_bytes())?;
+        self.text.extend_from_slice(said.begin)?;
         self.object(said, leaves)?;
+        self.text.extend_from_slice(said.end)?;
         self.text.extend_from_slice(b"\n")?;
         Ok(())
     }

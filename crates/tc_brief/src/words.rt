@@ -34,7 +34,7 @@ fn put_bytes(out: &mut Vec<u8>, raw: &[u8]) -> Result<(), AllocError>
 }
 
 /// Appends a word after a blank.
-pub(crate) fn put_word(out: &mut Vec<u8>, raw: &[u8]) -> Result<(), AllocError>
+pub fn put_word(out: &mut Vec<u8>, raw: &[u8]) -> Result<(), AllocError>
     ensures { OnOk result (out.new.items ≡ out.old.items ++ spaced raw.now) }
 {
     out.extend_from_slice(b" ")?;
@@ -42,7 +42,7 @@ pub(crate) fn put_word(out: &mut Vec<u8>, raw: &[u8]) -> Result<(), AllocError>
 }
 
 /// Appends the first word of a line.
-pub(crate) fn put_first(out: &mut Vec<u8>, raw: &[u8]) -> Result<(), AllocError>
+pub fn put_first(out: &mut Vec<u8>, raw: &[u8]) -> Result<(), AllocError>
     ensures { OnOk result (out.new.items ≡ out.old.items ++ word raw.now) }
 {
     if raw.is_empty() {

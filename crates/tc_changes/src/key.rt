@@ -1,4 +1,4 @@
-//! What objects are called.
+//! The keys of objects.
 
 /// The name of an object. No two objects of a state have the same.
 #[derive(Clone, Copy, PartialEq, Eq, Hash, Drop, Debug)]
@@ -38,7 +38,7 @@ pub enum Key {
         priority: u32,
         handle: u32,
     },
-    /// An action, by its kind, padded with zeros, and its index among those of that kind.
+    /// An action, by its kind, padded with zeros, and its index in that kind.
     Action {
         kind: [u8; 16],
         index: u32,

@@ -1,4 +1,4 @@
-//! What a kernel has.
+//! The objects of a kernel.
 
 ghost use Rattle.std.specs.Prelude.{◌≡◌};
 ghost use Rattle.tc_changes.specs.Objects.{thing, alike};
@@ -10,9 +10,9 @@ use std::alloc::Allocator;
 #[derive(Drop, Debug)]
 pub struct Object<A: Allocator> {
     pub key: Key,
-    /// What it is under: it is deleted with each of these.
+    /// The objects that it is under: it is deleted with each of these.
     pub under: Vec<Key, A>,
-    /// What it only refers to: none of these can be deleted before it.
+    /// The objects that it only refers to: they can't be deleted before it.
     pub refers: Vec<Key, A>,
     /// Everything else in which two equal objects don't differ: the bytes of the request that makes it.
     pub config: Vec<u8, A>,

@@ -1,4 +1,4 @@
-//! Objects in an order in which each comes after all that it needs.
+//! Objects in order: each after all that it needs.
 
 ghost use Rattle.std.specs.Prelude.{◌≡◌, [], List, IfOk};
 ghost use Rattle.tc_changes.specs.Model.{ready, is_next};

@@ -1,4 +1,4 @@
-//! What goes of a state, and what stays.
+//! The objects of a state that go, and the others, which stay.
 
 ghost use Rattle.std.specs.Prelude.{◌≡◌, [], ◌∷◌, ◌++◌, IfOk, reverse, is_some, option_map, if◌then◌else◌};
 ghost use Rattle.std.specs.HashMap as hash;

@@ -1,4 +1,4 @@
-//! What a kernel changes in place, and what it makes.
+//! The rules of a kernel.
 
 ghost use Rattle.std.specs.Prelude.{◌≡◌, Bool};
 ghost use Rattle.tc_changes.specs.Objects.{thing, KernelThing};
@@ -6,7 +6,7 @@ ghost use Rattle.tc_changes.specs.Objects.{thing, KernelThing};
 use crate::object::Object;
 use std::alloc::Allocator;
 
-/// What a kernel changes in place, and what it makes.
+/// The objects that a kernel makes, and the changes that it makes in place.
 pub trait Rules<A: Allocator> {
     ghost takes: { Self → KernelThing → KernelThing → Bool };
 

@@ -1,4 +1,4 @@
-//! What plans look like.
+//! Plans of small states.
 
 ghost use Rattle.std.specs.Prelude.{true, false, not, nat_eq, slice_index};
 

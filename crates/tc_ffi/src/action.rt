@@ -79,7 +79,8 @@ pub extern "C" fn vtc_action_make(
     why: &mut [u8],
     why_length: &mut usize,
 ) -> u32
-    ensures { IsMade action_message (IsCanonical action_words) (IsMadeOf action_words action_message) json.now buffer.old buffer.new length.new why.old why.new why_length.new result }
+    ensures { IsMade action_message (IsCanonical action_words) (IsMadeOf action_words action_message) json.now buffer.old buffer.new length.new
+        why.old why.new why_length.new result }
 {
     make::make::<TcActionMessage>(alloc, json, buffer, length, why, why_length)
 }

@@ -79,7 +79,8 @@ pub extern "C" fn vtc_make(
     why: &mut [u8],
     why_length: &mut usize,
 ) -> u32
-    ensures { IsMade tc_message (IsCanonical tc_words) (IsMadeOf tc_words tc_message) json.now buffer.old buffer.new length.new why.old why.new why_length.new result }
+    ensures { IsMade tc_message (IsCanonical tc_words) (IsMadeOf tc_words tc_message) json.now buffer.old buffer.new length.new
+        why.old why.new why_length.new result }
 {
     make::make::<TcMessage>(alloc, json, buffer, length, why, why_length)
 }

@@ -1,4 +1,4 @@
-//! Known answers of the exports. The JSON is that of `model/`, which shares nothing with the crates.
+//! Known answers of the exports. The JSON is written by `model/`, which shares nothing with the crates.
 
 use crate::action::{
     vtc_action_check, vtc_action_json, vtc_action_make, vtc_action_make_as_given,

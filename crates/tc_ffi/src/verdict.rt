@@ -28,7 +28,7 @@ pub struct VtcVerdict {
 #[repr(C)]
 #[derive(Clone, Copy)]
 pub struct VtcFault {
-    /// Its numbers; 0 for those that it doesn't have.
+    /// Its numbers, or 0 if it doesn't have them.
     pub first: usize,
     pub second: usize,
     /// Its offset in the bytes.

@@ -1,5 +1,5 @@
--- The configuration of an object: what a kernel does with it, and after their lengths the types of the options that stay as they are, what a change
--- can't alter, the message that changes another one into it, and the message that makes it.
+-- The configuration of an object: what a kernel does with it, and after their lengths the types of the options that stay as they are (0 for the cookie
+-- of an action), what a change can't alter, the message that changes another one into it, and the message that makes it.
 use Rattle.std.specs.Prelude.{ℕ, Bool, ◌==◌, ◌&&◌, ◌||◌, not, nat_eq, nat_le, List, [], ◌∷◌, length, take, drop, bytes_eq, if◌then◌else◌, true, false}
 use Rattle.std.specs.List.{list_any, list_all}
 use Rattle.std.specs.Cmp.Lexicographic.{pointwise}

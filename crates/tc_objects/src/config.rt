@@ -10,13 +10,13 @@ use std::alloc::{AllocError, Allocator};
 /// A configuration.
 #[derive(Clone, Copy)]
 pub(crate) struct Config<'a> {
-    /// What a kernel does with it: `NEVER`, `MADE` or `CHANGED`.
+    /// How requests make it: `NEVER`, `MADE` or `CHANGED`.
     pub(crate) making: u8,
-    /// The types of the options that stay as they are if a change lacks them.
+    /// The types of the options that stay as they are if a change lacks them. The cookie of an action is 0.
     pub(crate) kept: &'a [u8],
-    /// What two objects have in common if the one is changed into the other.
+    /// The bytes that two objects share if the one is changed into the other.
     pub(crate) fixed: &'a [u8],
-    /// The message of the request that changes another one into it, if it isn't that of the request that makes it.
+    /// The message of the request that changes another one into it. It is empty if that is `message`.
     pub(crate) change: &'a [u8],
     /// The message of the request that makes it; of an object that none makes, its dump.
     pub(crate) message: &'a [u8],

@@ -15,6 +15,12 @@ const ACTION_HEADER: usize = 4;
 // `TCA_OPTIONS` of `linux/rtnetlink.h`, and `TCA_ACT_OPTIONS` of `linux/pkt_cls.h`.
 const OPTIONS: u16 = 2;
 
+// `TCA_ACT_COOKIE` of `linux/pkt_cls.h`.
+const COOKIE: u16 = 6;
+
+// The cookie of an action among the types of its options, which begin at 1.
+const KEPT_COOKIE: u8 = 0;
+
 /// The configuration of an object of this kind, which the request with this message makes.
 pub(crate) fn configured<A: Allocator + Copy>(
     alloc: A,
@@ -27,10 +33,7 @@ pub(crate) fn configured<A: Allocator + Copy>(
         return plain(alloc, MADE, message);
     }
     let options = options_of(alloc, sort, rule.skipped, message)?;
-    let kept = match rule.change {
-        Change::Keeps => types_of(alloc, &options)?,
-        Change::Never | Change::Whole => Vec::new(alloc),
-    };
+    let kept = kept_of(alloc, sort, rule, message, &options)?;
     let fixed = fixed_of(alloc, sort, rule, message, options)?;
     let change = match sort {
         Sort::Action(_) => Vec::new(alloc),
@@ -86,11 +89,7 @@ fn options_of<A: Allocator + Copy>(
     message: &[u8],
 ) -> Result<Vec<DefaultNla<A>, A>, AllocError> {
     let frames = match sort {
-        Sort::Action(_) => {
-            let lists = frames_after(alloc, ACTION_HEADER, message)?;
-            let actions = in_first(alloc, &lists)?;
-            in_first(alloc, &actions)?
-        }
+        Sort::Action(_) => first_action(alloc, message)?,
         _ => frames_after(alloc, HEADER, message)?,
     };
     for frame in &frames {
@@ -99,6 +98,16 @@ fn options_of<A: Allocator + Copy>(
         }
     }
     Ok(Vec::new(alloc))
+}
+
+// The attributes of the first action in a message.
+fn first_action<A: Allocator + Copy>(
+    alloc: A,
+    message: &[u8],
+) -> Result<Vec<DefaultNla<A>, A>, AllocError> {
+    let lists = frames_after(alloc, ACTION_HEADER, message)?;
+    let actions = in_first(alloc, &lists)?;
+    in_first(alloc, &actions)
 }
 
 // The frames in the first of these.
@@ -110,6 +119,30 @@ fn in_first<A: Allocator + Copy>(
         Some(frame) => frames_of(alloc, frame.value()),
         None => Ok(Vec::new(alloc)),
     }
+}
+
+// The types of what stays as it is if a change lacks it: options, if the kind keeps them, and the cookie of an action of any kind.
+fn kept_of<A: Allocator + Copy>(
+    alloc: A,
+    sort: Sort,
+    rule: Rule,
+    message: &[u8],
+    options: &[DefaultNla<A>],
+) -> Result<Vec<u8, A>, AllocError> {
+    let mut kept = match rule.change {
+        Change::Keeps => types_of(alloc, options)?,
+        Change::Never | Change::Whole => Vec::new(alloc),
+    };
+    if let Sort::Action(_) = sort {
+        let attributes = first_action(alloc, message)?;
+        if attributes
+            .iter()
+            .any(|attribute| type_of(attribute) == COOKIE)
+        {
+            kept.push(KEPT_COOKIE)?;
+        }
+    }
+    Ok(kept)
 }
 
 // The types of options, those above 255 as that.

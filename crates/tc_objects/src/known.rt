@@ -1,4 +1,4 @@
-//! What all dumps show, by which one is read.
+//! Facts that need all dumps, for reading one of them.
 
 use crate::dump::Dump;
 use std::alloc::{AllocError, Allocator};
@@ -15,7 +15,7 @@ use tc_restore::{Object, RootTable, root_table};
 /// Hash tables of u32 by their numbers, each with its object if it is one: root tables are none.
 pub(crate) type Tables<A> = HashMap<PlanKey, Option<Key>, BuildHasherDefault<FoldHasher>, A>;
 
-/// What all dumps show.
+/// Facts that need all dumps.
 #[derive(Drop)]
 pub(crate) struct Known<A: Allocator> {
     /// The root tables of u32.
@@ -24,7 +24,7 @@ pub(crate) struct Known<A: Allocator> {
     pub(crate) ingress: Vec<i32, A>,
     /// The hash tables of u32.
     pub(crate) tables: Tables<A>,
-    /// What filters provide: that their chain has one.
+    /// Keys that filters provide: their chain has a filter.
     pub(crate) filled: HashSet<PlanKey, BuildHasherDefault<FoldHasher>, A>,
     /// The actions that only their filters can make.
     pub(crate) by_filters: Vec<PlanKey, A>,
@@ -32,7 +32,7 @@ pub(crate) struct Known<A: Allocator> {
     pub(crate) blocks: Vec<(u32, Key), A>,
 }
 
-/// What these dumps show.
+/// The facts of these dumps.
 pub(crate) fn known_of<A: Allocator + Copy>(
     alloc: A,
     dumps: &[Dump<A>],

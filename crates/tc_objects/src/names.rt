@@ -1,4 +1,4 @@
-//! What a handle names.
+//! The objects that handles name.
 
 ghost use Rattle.std.specs.Prelude.{◌≡◌, IfOk};
 ghost use Rattle.std.specs.HashMap as hash;
@@ -12,7 +12,7 @@ use std::collections::HashMap;
 use std::hash::{BuildHasherDefault, FoldHasher};
 use tc_changes::Key;
 
-/// The objects that a state has: of a handle, as if it were that of a class, the qdisc or the class that has it, and each chain.
+/// The objects of a state by key: the qdisc or class of each handle, under a class's key, and each chain.
 pub type Names<A> = HashMap<Key, Key, BuildHasherDefault<FoldHasher>, A>;
 
 /// The names of what dumps show.

@@ -1,4 +1,4 @@
-//! What single dumps show.
+//! The objects of single dumps.
 
 use crate::classes::{classes_of, kind_of};
 use crate::config::{MADE, NEVER};
@@ -26,7 +26,7 @@ use tc_restore::{
     standalone_index,
 };
 
-/// Where an object comes from.
+/// The origin of an object.
 #[derive(Clone, Copy, PartialEq, Eq, Drop, Debug)]
 pub struct Origin {
     /// The number of its dump, from 0.
@@ -35,7 +35,7 @@ pub struct Origin {
     pub handle: u32,
 }
 
-/// What a dump shows of an object, and where it comes from.
+/// An object as a dump shows it, and its origin.
 #[derive(Drop)]
 pub(crate) struct Reading<A: Allocator> {
     pub(crate) shown: Shown<A>,
@@ -44,7 +44,7 @@ pub(crate) struct Reading<A: Allocator> {
     pub(crate) group: Option<PlanKey>,
 }
 
-/// What dumps show.
+/// The objects of dumps.
 #[derive(Drop)]
 pub(crate) struct Readings<A: Allocator> {
     pub(crate) all: Vec<Reading<A>, A>,
@@ -52,7 +52,7 @@ pub(crate) struct Readings<A: Allocator> {
     pub(crate) seen: HashSet<Key, BuildHasherDefault<FoldHasher>, A>,
 }
 
-/// What these dumps show.
+/// The objects of these dumps.
 pub(crate) fn readings_of<A: Allocator + Copy>(
     alloc: A,
     known: &Known<A>,

@@ -1,4 +1,4 @@
-//! Handles of qdiscs that the kernel chose: wanted ones become those of the same places now.
+//! Handles of qdiscs that the kernel chose: a wanted one becomes the handle that the same place has now.
 
 use crate::classes::classes_of;
 use crate::dump::Dump;

@@ -6,7 +6,8 @@ ghost use Rattle.std.specs.HashMap as hash;
 ghost use Rattle.nla_frames.specs.Value.{le_bytes};
 ghost use Rattle.tc_changes.specs.Objects.{request, same_key};
 ghost use Rattle.tc_changes.specs.declared.key.Key.{Key as KeyModel};
-ghost use Rattle.tc_objects.specs.Sent.{seen, sent, sent_by, new_type, message_by, addressed, front, header_bytes, chain_bytes, chain_if, deleted, action_bytes, frame_bytes, name_in};
+ghost use Rattle.tc_objects.specs.Sent.{seen, sent, sent_by, new_type, message_by, addressed, front, header_bytes, chain_bytes, chain_if, deleted};
+ghost use Rattle.tc_objects.specs.Sent.{action_bytes, frame_bytes, name_in};
 
 use crate::config::{changing, read};
 use crate::frames::framed;

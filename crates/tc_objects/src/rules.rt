@@ -1,4 +1,4 @@
-//! What a kernel changes in place, by the kinds of objects.
+//! The changes that a kernel makes in place, for each kind of object.
 
 ghost use Rattle.std.specs.Prelude.{◌≡◌, nat_eq};
 ghost use Rattle.std.specs.List.{list_all, list_any};
@@ -9,7 +9,7 @@ use crate::config::{CHANGED, MADE, read};
 use std::alloc::Allocator;
 use tc_changes::{Key, Object, Rules};
 
-/// What a kernel changes in place and what it makes, by the kinds of objects.
+/// The objects that a kernel makes, and the changes that it makes in place, for each kind.
 #[derive(Clone, Copy, Drop, Debug)]
 pub struct KindRules;
 

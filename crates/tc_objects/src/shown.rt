@@ -1,9 +1,9 @@
-//! What a dump shows.
+//! Objects as dumps show them.
 
 use std::alloc::Allocator;
 use tc_changes::Key;
 
-/// What a dump describes.
+/// The type of a dumped object.
 #[derive(Clone, Copy, PartialEq, Eq, Drop, Debug)]
 pub enum Sort {
     /// A qdisc.
@@ -22,7 +22,7 @@ pub enum Sort {
     Action([u8; 16]),
 }
 
-/// What a dump shows of an object, as far as it is about others.
+/// An object as its dump shows it: itself, and the numbers by which it names others.
 #[derive(Drop, Debug)]
 pub struct Shown<A: Allocator> {
     pub sort: Sort,
@@ -38,7 +38,7 @@ pub struct Shown<A: Allocator> {
     pub priority: u32,
     /// Handles of the classes that a filter names.
     pub classes: Vec<u32, A>,
-    /// What else it refers to: a filter to actions that it shares and to hash tables of u32; what is in a block that interfaces share, to the
+    /// Other objects that it refers to: a filter to actions that it shares and to hash tables of u32, an object in a shared block to the
     /// qdiscs that have it.
     pub others: Vec<Key, A>,
     /// The bytes of its configuration.

@@ -20,11 +20,11 @@ use tc_changes::{Key, Object, is_ready};
 use tc_order::{Step, ordered};
 use tc_plan::Key as PlanKey;
 
-/// The objects that a kernel has, or is to have, in an order in which each comes after all that it needs.
+/// The objects that a kernel has, or is to have, each after all that it needs.
 #[derive(Drop)]
 pub struct State<A: Allocator> {
     pub objects: Vec<Object<A>, A>,
-    /// Where each comes from.
+    /// The origin of each.
     pub origins: Vec<Origin, A>,
     /// The handles by which the kernel has them.
     pub handles: Handles<A>,
@@ -49,7 +49,7 @@ pub fn state_of<A: Allocator + Copy>(
 }
 
 /// The same of what is wanted instead of a state. Filters that are there come before new ones, since some kinds refuse a filter with the
-/// values that another one still has; and handles of qdiscs that the kernel chose are those of the same places now.
+/// values that another one still has. Qdiscs whose handles the kernel chose get the handles that the same places have now.
 pub fn state_after<A: Allocator + Copy>(
     alloc: A,
     dumps: Vec<Dump<A>, A>,

@@ -21,7 +21,7 @@ pub enum StateError {
     #[error("a second dump of this")]
     Twice { place: usize },
 
-    /// What an object is under, or refers to, is in no dump.
+    /// No dump has an object that another one is under or refers to.
     #[error("what it is under, or an action or a hash table that it shares, is missing")]
     Missing { place: usize },
 

@@ -1,10 +1,12 @@
 //! Objects of what `tc` shows of an interface.
 
+use crate::configured::configured;
 use crate::names::names_of;
 use crate::objects::object_of;
+use crate::rules::KindRules;
 use crate::shown::{Shown, Sort};
 use std::alloc::{AllocError, Global};
-use tc_changes::{Key, Object, is_ready};
+use tc_changes::{Key, Object, Rules, is_ready};
 
 const ROOT: u32 = 0xffff_ffff;
 
@@ -93,5 +95,39 @@ fn needs(rt: HostRuntime) -> Result<(), AllocError> {
     alone.push(shown(alloc, Sort::Class, 0x1_0001, ROOT, &[])?)?;
     let made = objects(alloc, alone)?;
     assert!(rt; !is_ready(alloc, &made)?);
+    Ok(())
+}
+
+// The message of `tc actions add action vlan pop index 7`, and of the same with `cookie aabbccdd`.
+const VLAN: [u8; 56] = [
+    0, 0, 0, 0, 52, 0, 1, 0, 48, 0, 1, 0, 9, 0, 1, 0, 118, 108, 97, 110, 0, 0, 0, 0, 32, 0, 2, 0,
+    28, 0, 2, 0, 7, 0, 0, 0, 0, 0, 0, 0, 3, 0, 0, 0, 0, 0, 0, 0, 0, 0, 0, 0, 1, 0, 0, 0,
+];
+
+const VLAN_WITH_COOKIE: [u8; 64] = [
+    0, 0, 0, 0, 60, 0, 1, 0, 56, 0, 1, 0, 9, 0, 1, 0, 118, 108, 97, 110, 0, 0, 0, 0, 32, 0, 2, 0,
+    28, 0, 2, 0, 7, 0, 0, 0, 0, 0, 0, 0, 3, 0, 0, 0, 0, 0, 0, 0, 0, 0, 0, 0, 1, 0, 0, 0, 8, 0, 6,
+    0, 170, 187, 204, 221,
+];
+
+fn action(alloc: Global, message: &[u8]) -> Result<Object<Global>, AllocError> {
+    let kind = *b"vlan\0\0\0\0\0\0\0\0\0\0\0\0";
+    Ok(Object {
+        key: Key::Action { kind, index: 7 },
+        under: Vec::new(alloc),
+        refers: Vec::new(alloc),
+        config: configured(alloc, Sort::Action(kind), "vlan", message)?,
+    })
+}
+
+// A kernel leaves the cookie of an action if a change has none.
+#[test]
+fn cookies(rt: HostRuntime) -> Result<(), AllocError> {
+    let alloc = rt.alloc();
+    let without = action(alloc, &VLAN)?;
+    let with = action(alloc, &VLAN_WITH_COOKIE)?;
+    assert!(rt; KindRules.takes(&without, &with));
+    assert!(rt; KindRules.takes(&with, &with));
+    assert!(rt; !KindRules.takes(&with, &without));
     Ok(())
 }

@@ -1,5 +1,6 @@
 -- Counts of keys.
-use Rattle.std.proofs.Common.{◌≡◌, ℕ, ◌+◌, ◌-◌, ◌<◌, Bool, true, false, cond, ◌||◌, List, [], ◌∷◌, ◌++◌, nat_lt, count_by, refl, sym, ap, subst, ◌∙◌, arith, zero-add, Some, Option, unwrap_or}
+use Rattle.std.proofs.Common.{◌≡◌, ℕ, ◌+◌, ◌-◌, ◌<◌, Bool, true, false, cond, ◌||◌, List, [], ◌∷◌, ◌++◌, nat_lt, count_by, refl, sym, ap, subst, ◌∙◌, arith}
+use Rattle.std.proofs.Common.{zero-add, Some, Option, unwrap_or}
 use Rattle.std.specs.HashMap as hash
 use Rattle.std.specs.HashMap.{HashMap}
 use Rattle.std.specs.Cmp.{IsEquivalence}
@@ -41,7 +42,8 @@ module _ {T K A : Type 0} where
       → count_by test (provided (stay ++ x ∷ rest)) - count_by test x.provides.items ≡ count_by test (provided (stay ++ rest))
   count_less test stay x rest =
       let all : count_by test (provided (stay ++ x ∷ rest)) ≡ count_by test (provided stay) + (count_by test x.provides.items + count_by test (provided rest)) =
-      ap (count_by test) (provided-append stay (x ∷ rest)) ∙ count-append test (provided stay) (provided (x ∷ rest)) ∙ ap (λ n. count_by test (provided stay) + n) (count-append test x.provides.items (provided rest)) in
+      ap (count_by test) (provided-append stay (x ∷ rest)) ∙ count-append test (provided stay) (provided (x ∷ rest))
+      ∙ ap (λ n. count_by test (provided stay) + n) (count-append test x.provides.items (provided rest)) in
       let less : count_by test (provided (stay ++ rest)) ≡ count_by test (provided stay) + count_by test (provided rest) =
       ap (count_by test) (provided-append stay rest) ∙ count-append test (provided stay) (provided rest) in
       omega (arith, all, less)
@@ -76,7 +78,8 @@ module _ {K S : Type 0} (eq : K → K → Bool) (laws : IsEquivalence eq) (m n :
   abbrev Left : HashMap K ℕ S → List K → List K → Type 0
   Left left all taken = (q : K) → count eq left q ≡ count_by (eq q) all - count_by (eq q) taken
 
-  put_less : (q : K) (b : Bool) (all xs : List K) → eq k q ≡ b → w ≡ count eq m k - 1 → Left m all xs → cond b w (count eq m q) ≡ count_by (eq q) all - (count_by (eq q) xs + cond b 1 0)
+  put_less : (q : K) (b : Bool) (all xs : List K) → eq k q ≡ b → w ≡ count eq m k - 1 → Left m all xs
+      → cond b w (count eq m q) ≡ count_by (eq q) all - (count_by (eq q) xs + cond b 1 0)
   put_less q true all xs same is left = omega (arith, is, left k, alike q same xs, alike q same all)
   put_less q false all xs same is left = omega (arith, left q)
 
@@ -85,7 +88,8 @@ module _ {K S : Type 0} (eq : K → K → Bool) (laws : IsEquivalence eq) (m n :
   counts_less all xs is left = λ q. count_put q ∙ put_less q (eq k q) all xs refl is left ∙ ap (λ j. count_by (eq q) all - j) (sym (one_more q xs))
 
 -- a step waits for the keys that are still to be provided
-pub waits_by_counts : {T K A S : Type 0} (eq : K → K → Bool) (counts : HashMap K ℕ S) (left : List (Step T K A)) (x : Step T K A) → Counts eq counts (provided left)
+pub waits_by_counts : {T K A S : Type 0} (eq : K → K → Bool) (counts : HashMap K ℕ S) (left : List (Step T K A)) (x : Step T K A)
+    → Counts eq counts (provided left)
     → (x.cannot_run || list_any (λ key. nat_lt 0 (count eq counts key)) x.needs.items) ≡ waits eq left x
 waits_by_counts eq counts left x is =
     ap (λ b. x.cannot_run || b) (same_any _ _ (λ key. ap (nat_lt 0) (is key) ∙ any_counted (eq key) (provided left)) x.needs.items)

@@ -1,5 +1,6 @@
 -- Passes that take the steps that are ready.
-use Rattle.std.proofs.Common.{◌≡◌, ℕ, ◌+◌, ◌≤◌, ◌<◌, Bool, true, false, not, cond, ◌||◌, ◌&&◌, List, [], ◌∷◌, ◌++◌, All, IsPermutation, length, refl, sym, ap, subst, ◌∙◌, append_assoc, append-nil, ⊎_elim, length-append, arith}
+use Rattle.std.proofs.Common.{◌≡◌, ℕ, ◌+◌, ◌≤◌, ◌<◌, Bool, true, false, not, cond, ◌||◌, ◌&&◌, List, [], ◌∷◌, ◌++◌, All, IsPermutation, length, refl, sym}
+use Rattle.std.proofs.Common.{ap, subst, ◌∙◌, append_assoc, append-nil, ⊎_elim, length-append, arith}
 use Rattle.std.specs.List.{list_any, Contains, AllByRecursion}
 use Rattle.std.proofs.lemmas.List.Folds.{list_any-append}
 use Rattle.std.proofs.lemmas.List.Elements.{All-contains, All-from_recursion, recursion_from_All}
@@ -39,7 +40,8 @@ module _ {K : Type 0} (eq : K → K → Bool) where
 
 module _ {T K A : Type 0} (eq : K → K → Bool) where
   -- a step that needs no key that these provide depends on none of them
-  none_needed : (step : Step T K A) (left : List (Step T K A)) → list_any (λ key. list_any (eq key) (provided left)) step.needs.items ≡ false → AllByRecursion (λ other. depends_on eq step other ≡ false) left
+  none_needed : (step : Step T K A) (left : List (Step T K A)) → list_any (λ key. list_any (eq key) (provided left)) step.needs.items ≡ false
+      → AllByRecursion (λ other. depends_on eq step other ≡ false) left
   none_needed step [] is = tt
   none_needed step (x ∷ left) is =
       let two = split_any eq step.needs.items x.provides.items (provided left) is in
@@ -53,14 +55,18 @@ module _ {T K A : Type 0} (eq : K → K → Bool) where
       let two = or_false x.cannot_run _ free in
       let apart = All-from_recursion (λ y. depends_on eq x y ≡ false) left (none_needed x left two.1) in (
         subst (IsPermutation steps) (sym (append_assoc order (x ∷ []) (stay ++ rest)))
-            (IsPermutation-trans steps (order ++ left) (order ++ (x ∷ (stay ++ rest))) is.0 (IsPermutation-append_right order left (x ∷ (stay ++ rest)) (IsPermutation-middle stay x rest))),
-        next order x is.1 (λ other among needed. ⊎_elim (λ found. found) (λ found. absurd (cc (needed, All-contains (λ y. depends_on eq x y ≡ false) left other apart found)))
+            (IsPermutation-trans steps (order ++ left) (order ++ (x ∷ (stay ++ rest))) is.0
+            (IsPermutation-append_right order left (x ∷ (stay ++ rest)) (IsPermutation-middle stay x rest))),
+        next order x is.1 (λ other among needed. ⊎_elim (λ found. found)
+            (λ found. absurd (cc (needed, All-contains (λ y. depends_on eq x y ≡ false) left other apart found)))
             (Contains-append_cases order left other (Contains-permutation steps (order ++ left) other is.0 among))),
-        All-from_recursion (λ s. s.cannot_run ≡ false) (order ++ x ∷ []) (all_more (λ s. s.cannot_run ≡ false) order x (recursion_from_All (λ s. s.cannot_run ≡ false) order is.2) two.0),
+        All-from_recursion (λ s. s.cannot_run ≡ false) (order ++ x ∷ [])
+            (all_more (λ s. s.cannot_run ≡ false) order x (recursion_from_All (λ s. s.cannot_run ≡ false) order is.2) two.0),
       )
 
   -- a pass keeps an order
-  pub behind_taken : (steps order stay rest : List (Step T K A)) → IsSplit eq steps order (stay ++ rest) → IsSplit eq steps (take_ready eq order stay rest).0 (take_ready eq order stay rest).1
+  pub behind_taken : (steps order stay rest : List (Step T K A)) → IsSplit eq steps order (stay ++ rest)
+      → IsSplit eq steps (take_ready eq order stay rest).0 (take_ready eq order stay rest).1
   behind_taken steps order stay [] is = subst (IsSplit eq steps order) (append-nil stay) is
   behind_taken steps order stay (x ∷ rest) is =
       pick {X = List (Step T K A) × List (Step T K A)} (λ r. IsSplit eq steps r.0 r.1) (waits eq (stay ++ x ∷ rest) x) _ _
@@ -77,14 +83,17 @@ module _ {T K A : Type 0} (eq : K → K → Bool) where
 
   -- if a pass takes no step, all that are left wait for one another
   pub stuck_taken : (order stay rest : List (Step T K A)) → length stay + length rest ≤ length (take_ready eq order stay rest).1
-      → AllByRecursion (λ step. waits eq (stay ++ rest) step ≡ true) stay → All (λ step. waits eq (take_ready eq order stay rest).1 step ≡ true) (take_ready eq order stay rest).1
+      → AllByRecursion (λ step. waits eq (stay ++ rest) step ≡ true) stay
+      → All (λ step. waits eq (take_ready eq order stay rest).1 step ≡ true) (take_ready eq order stay rest).1
   stuck_taken order stay [] = λ many wait.
       All-from_recursion (λ step. waits eq stay step ≡ true) stay (subst (λ l. AllByRecursion (λ step. waits eq l step ≡ true) stay) (append-nil stay) wait)
   stuck_taken order stay (x ∷ rest) =
-      pick {X = List (Step T K A) × List (Step T K A)} (λ r. length stay + length (x ∷ rest) ≤ length r.1 → AllByRecursion (λ step. waits eq (stay ++ x ∷ rest) step ≡ true) stay → All (λ step. waits eq r.1 step ≡ true) r.1)
+      pick {X = List (Step T K A) × List (Step T K A)} (λ r. length stay + length (x ∷ rest) ≤ length r.1 → AllByRecursion
+      (λ step. waits eq (stay ++ x ∷ rest) step ≡ true) stay → All (λ step. waits eq r.1 step ≡ true) r.1)
       (waits eq (stay ++ x ∷ rest) x) _ _
       (λ waiting many wait. stuck_taken order (stay ++ x ∷ []) rest (omega (arith, many, length-append stay (x ∷ [])))
-      (subst (λ l. AllByRecursion (λ step. waits eq l step ≡ true) (stay ++ x ∷ [])) (sym (append_assoc stay (x ∷ []) rest)) (all_more (λ step. waits eq (stay ++ x ∷ rest) step ≡ true) stay x wait waiting)))
+      (subst (λ l. AllByRecursion (λ step. waits eq l step ≡ true) (stay ++ x ∷ [])) (sym (append_assoc stay (x ∷ []) rest))
+      (all_more (λ step. waits eq (stay ++ x ∷ rest) step ≡ true) stay x wait waiting)))
       (λ free many wait. absurd (omega (arith, many, length_taken (order ++ x ∷ []) stay rest)))
 
   -- steps that are in order are taken as they are
@@ -92,7 +101,8 @@ module _ {T K A : Type 0} (eq : K → K → Bool) where
   same_taken order [] is = ap (λ l. (l, [])) (sym (append-nil order))
   same_taken order (x ∷ rest) is =
       let two = and_true (waits eq (x ∷ rest) x) (is_in_order eq rest) is in
-      let first : take_ready eq order [] (x ∷ rest) ≡ take_ready eq (order ++ x ∷ []) [] rest = ap (λ b. cond b (take_ready eq order (x ∷ []) rest) (take_ready eq (order ++ x ∷ []) [] rest)) two.0 in
+      let first : take_ready eq order [] (x ∷ rest) ≡ take_ready eq (order ++ x ∷ []) [] rest =
+      ap (λ b. cond b (take_ready eq order (x ∷ []) rest) (take_ready eq (order ++ x ∷ []) [] rest)) two.0 in
       first ∙ same_taken (order ++ x ∷ []) rest two.1 ∙ ap (λ l. (l, [])) (append_assoc order (x ∷ []) rest)
 
   -- one step of a pass
@@ -113,7 +123,8 @@ module _ {T K A : Type 0} (eq : K → K → Bool) where
       let P : List (Step T K A) × List (Step T K A) → Type 0 = λ r. IsSplit eq steps r.0 r.1 in
       subst P (sym is) (behind_taken steps [] [] steps start)
 
-  pub first_same : (steps order left : List (Step T K A)) → (order, left) ≡ take_ready eq [] [] steps → is_in_order eq steps ≡ true → (order ≡ steps) × (left ≡ [])
+  pub first_same : (steps order left : List (Step T K A)) → (order, left) ≡ take_ready eq [] [] steps → is_in_order eq steps ≡ true
+      → (order ≡ steps) × (left ≡ [])
   first_same steps order left is already =
       let all : (order, left) ≡ (steps, []) = is ∙ same_taken [] steps already in
       (ap (λ r. r.0) all, ap (λ r. r.1) all)
@@ -122,7 +133,12 @@ module _ {T K A : Type 0} (eq : K → K → Bool) where
   module _ (order left steps more stay : List (Step T K A)) (same : IsPermutation left steps) (is : (more, stay) ≡ take_ready eq order [] steps) where
     pub later_taken : (all : List (Step T K A)) → IsSplit eq all order left → IsSplit eq all more stay
     later_taken all behind =
-        let start : IsSplit eq all order steps = (IsPermutation-trans all (order ++ left) (order ++ steps) behind.0 (IsPermutation-append_right order left steps same), behind.1, behind.2) in
+        let start : IsSplit eq all order steps = (
+          IsPermutation-trans all (order ++ left) (order ++ steps) behind.0
+              (IsPermutation-append_right order left steps same),
+          behind.1,
+          behind.2,
+        ) in
         let P : List (Step T K A) × List (Step T K A) → Type 0 = λ r. IsSplit eq all r.0 r.1 in
         subst P (sym is) (behind_taken all order [] steps start)
 

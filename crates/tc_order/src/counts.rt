@@ -1,4 +1,4 @@
-//! How many times steps provide each key.
+//! The number of times that steps provide each key.
 
 ghost use Rattle.std.specs.Prelude.{◌≡◌, ◌-◌, List, nat_lt, count_by, IfOk};
 ghost use Rattle.std.specs.List.{list_any};

@@ -26,7 +26,7 @@ pub struct Step<T, K, A: Allocator> {
 /// The result of sorting steps.
 #[derive(Drop, Debug)]
 pub struct Order<T, K, A: Allocator> {
-    /// Steps that can run, each after those that it depends on.
+    /// Steps that can run, each after the steps that it depends on.
     pub sorted: Vec<Step<T, K, A>, A>,
     /// Steps that can't run or depend on one another in a circle, and steps that depend on such.
     pub unordered: Vec<Step<T, K, A>, A>,

@@ -13,7 +13,8 @@ use Rattle.tc_plan.specs.declared.entry.Item.{Item}
 use Rattle.tc_plan.specs.declared.key.Key.{Key}
 
 -- an order among steps is one among the same steps, whatever the order of these
-pub order_again : {T K A : Type 0} (eq : K → K → Bool) (xs ys : List (Step T K A)) → IsPermutation xs ys → (order : List (Step T K A)) → IsOrder eq xs order → IsOrder eq ys order
+pub order_again : {T K A : Type 0} (eq : K → K → Bool) (xs ys : List (Step T K A)) → IsPermutation xs ys → (order : List (Step T K A))
+    → IsOrder eq xs order → IsOrder eq ys order
 order_again eq xs ys same _ none = none
 order_again eq xs ys same _ (next before step is finds) =
     next before step (order_again eq xs ys same before is)
@@ -57,9 +58,11 @@ module _ {A : Type 0} where
       flat_map-append (λ (e : Entry A). e.objects.items) entries (entry ∷ []) ∙ ap (λ l. objects entries ++ l) (append-nil entry.objects.items)
 
   -- one more step, freed
-  pub needs_more : (old : List (Step ℕ Key A)) (front : List (Step Item Key A)) (new : List (Step ℕ Key A)) (more : List (Step Item Key A)) (step : Step ℕ Key A) (x : Step Item Key A)
+  pub needs_more : (old : List (Step ℕ Key A)) (front : List (Step Item Key A)) (new : List (Step ℕ Key A)) (more : List (Step Item Key A))
+      (step : Step ℕ Key A) (x : Step Item Key A)
       → new ≡ old ++ step ∷ [] → more ≡ front ++ x ∷ [] → map (λ s. links_of s.item s) old ≡ map (λ s. links_of s.item.place s) front
       → links_of step.item step ≡ links_of x.item.place x → map (λ s. links_of s.item s) new ≡ map (λ s. links_of s.item.place s) more
   needs_more old front new more step x pushed is same one =
       ap (map (λ s. links_of s.item s)) pushed ∙ map-append (λ s. links_of s.item s) old (step ∷ []) ∙ ap (λ l. l ++ links_of step.item step ∷ []) same
-      ∙ ap (λ p. map (λ s. links_of s.item.place s) front ++ p ∷ []) one ∙ sym (map-append (λ s. links_of s.item.place s) front (x ∷ [])) ∙ ap (map (λ s. links_of s.item.place s)) (sym is)
+      ∙ ap (λ p. map (λ s. links_of s.item.place s) front ++ p ∷ []) one ∙ sym (map-append (λ s. links_of s.item.place s) front (x ∷ []))
+      ∙ ap (map (λ s. links_of s.item.place s)) (sym is)

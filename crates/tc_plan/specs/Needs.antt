@@ -1,5 +1,6 @@
 -- Keys that the request which restores a dump provides and needs.
-use Rattle.std.specs.Prelude.{ℕ, ℤ, negsuc, ◌*◌, ◌-◌, ◌/◌, ◌%◌, Bool, true, false, not, ◌==◌, ◌&&◌, ◌||◌, nat_le, List, [], ◌∷◌, ◌++◌, length, replicate, Option, Some, None, if◌then◌else◌, bytes_eq, codes, string_bytes}
+use Rattle.std.specs.Prelude.{ℕ, ℤ, negsuc, ◌*◌, ◌-◌, ◌/◌, ◌%◌, Bool, true, false, not, ◌==◌, ◌&&◌, ◌||◌, nat_le, List, [], ◌∷◌, ◌++◌, length, replicate}
+use Rattle.std.specs.Prelude.{Option, Some, None, if◌then◌else◌, bytes_eq, codes, string_bytes}
 use Rattle.std.specs.List.{flat_map, list_any}
 use Rattle.std.specs.Ordering.{int_eq}
 use Rattle.nla_frames.specs.DefaultNla.{kept_frame}
@@ -18,6 +19,7 @@ use Rattle.tc_messages.specs.declared.message.TcMessage.{TcMessage}
 use Rattle.tc_options.specs.declared.options.TcOption.{TcOption}
 use Rattle.tc_options.specs.declared.options.TcOption.TheVariants as option
 use Rattle.tc_restore.specs.RestoredActions.{kind_of_action}
+use Rattle.tc_restore.specs.RootTables.{chain_number}
 use Rattle.tc_restore.specs.Standalone.{standalone_index}
 use Rattle.tc_restore.specs.declared.restore_messages.Object.{Object}
 use Rattle.tc_restore.specs.declared.restore_messages.Object.TheVariants.{Qdisc, Class, Filter, Chain}
@@ -25,12 +27,6 @@ use Rattle.tc_plan.specs.declared.fate.Fate.{Fate}
 use Rattle.tc_plan.specs.Fates.{is_refused}
 use Rattle.tc_plan.specs.declared.key.Key.{Key}
 use Rattle.tc_plan.specs.declared.key.Key.TheVariants as key
-
--- the number of the chain that a message names first, 0 if it names no chain
-abbrev pub chain_number : {A : Type 0} → List (TcAttribute A) → ℕ
-chain_number [] = 0
-chain_number (attribute.Chain n ∷ xs) = n
-chain_number (x ∷ xs) = chain_number xs
 
 -- the block that an attribute names: `TCA_INGRESS_BLOCK` (13), `TCA_EGRESS_BLOCK` (14)
 abbrev pub block_of : {A : Type 0} → TcAttribute A → List Key

@@ -1,11 +1,12 @@
-//! What the request of a dump provides and needs, and which other dumps must or must not exist.
+//! The keys that the request of a dump provides and needs, and the dumps that must or must not exist for it.
 
 ghost use Rattle.std.specs.Prelude.{◌≡◌, ◌∷◌, ◌++◌, [], codes, IfOk, if◌then◌else◌};
 ghost use Rattle.std.specs.List.{flat_map, list_any};
 ghost use Rattle.std.specs.Option.{option_to_list};
 ghost use Rattle.std.specs.Ordering.{int_eq};
 ghost use Rattle.tc_records.specs.Header.{handle_number};
-ghost use Rattle.tc_plan.specs.Needs.{chain_number, block_of, node, provides, needs, parents, object, must, must_not, made_by, is_kind, is_named, is_of, has_kind, provides_actions, class_of, chain_of, in_chain};
+ghost use Rattle.tc_plan.specs.Needs.{block_of, node, provides, needs, parents, object, must, must_not, made_by, is_kind};
+ghost use Rattle.tc_plan.specs.Needs.{is_named, is_of, has_kind, provides_actions, class_of, chain_of, in_chain};
 ghost use Rattle.tc_plan.specs.Needs.{ingress_of, is_side, parent_of, tables_of, table_by, table_of, in_table, link_of, links_in, options_of, newest_first};
 ghost use Rattle.tc_plan.specs.Needs.{name_of, action_by, standalone_action, actions_in, standalone_in, standalone_objects, major};
 ghost use Rattle.tc_restore.specs.declared.restore_messages.Object.TheVariants as kinds;
@@ -20,7 +21,7 @@ use tc_actions::TcAction;
 use tc_messages::{TcAttribute, TcMessage};
 use tc_options::{TcFilterU32Option, TcOption};
 use tc_records::TcHeader;
-use tc_restore::{Object, kind_of_action, standalone_index};
+use tc_restore::{Object, chain_number, kind_of_action, standalone_index};
 
 /// A dumped object in a plan, and whether it gets a request.
 #[derive(Drop, Debug)]
@@ -291,7 +292,7 @@ pub fn ingress_of<A: Allocator>(kind: Object, dump: &TcMessage<A>) -> Option<i32
     }
 }
 
-/// The key of the filters of basic or bpf that are in one chain and have one priority: that of a filter without a handle. The kernel
+/// The key of the filters of basic or bpf of one chain and priority, which is the key of one without a handle. The kernel
 /// puts a new one before the others, and dumps the newest first; packets come to the first that matches.
 pub fn newest_first<A: Allocator>(kind: Object, ingress: &[i32], dump: &TcMessage<A>) -> Option<Key>
     ensures { option_to_list result ≡ newest_first ingress.now kind dump.now }
@@ -593,18 +594,6 @@ fn block_of<A: Allocator>(attribute: &TcAttribute<A>) -> Option<Key>
         }
         _ => None,
     }
-}
-
-// The number of the chain that a message names first; 0 if it names no chain.
-fn chain_number<A: Allocator>(attributes: &[TcAttribute<A>]) -> u32
-    ensures { result ≡ chain_number attributes.now }
-{
-    for attribute in attributes {
-        if let TcAttribute::Chain(number) = attribute {
-            return *number;
-        }
-    }
-    0
 }
 
 fn needed<A: Allocator + Copy>(

@@ -39,7 +39,7 @@ impl Fate {
 pub struct Named {
     /// The kind, padded with zeros.
     pub kind: [u8; 16],
-    /// The number among those of its kind.
+    /// Its number in its kind.
     pub index: u32,
 }
 

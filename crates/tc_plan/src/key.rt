@@ -8,7 +8,7 @@ ghost use Rattle.tc_plan.specs.Fates.{is_shared};
 pub enum Key {
     /// All standalone actions; a filter may share one by its index.
     Actions,
-    /// An action: its kind, padded with zeros, and its index among those of that kind.
+    /// An action: its kind, padded with zeros, and its index in that kind.
     Action {
         kind: [u8; 16],
         index: u32,

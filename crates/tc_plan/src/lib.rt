@@ -1,5 +1,5 @@
-//! Plans of the requests that restore dumps: which objects each provides and needs, the fate of each dump, and an order in which each
-//! request comes after those that it needs.
+//! Plans of the requests that restore dumps: which objects each provides and needs, the fate of each dump, and an order with each
+//! request after the requests that it needs.
 //!
 //! ```
 //! let mut ingress = Vec::new(alloc);
@@ -12,7 +12,7 @@
 //! }
 //! let plan = plan(alloc, entries)?;
 //! for step in &plan.sorted {
-//!     // those of these dumps that it needs are before it; another request makes one with `Fate::Made`
+//!     // the dumps that it needs are before it; another request makes one with `Fate::Made`
 //!     if step.item.fate == Fate::Request {
 //!         send(step.item.place)?;
 //!     }

@@ -3,7 +3,8 @@
 ghost use Rattle.std.specs.List.{list_any};
 ghost use Rattle.std.specs.Prelude.{◌≡◌, ◌++◌, List, [], true, false, All, map, IfOk, IsPermutation};
 ghost use Rattle.tc_order.specs.Order.{waits, IsOrder};
-ghost use Rattle.tc_plan.specs.Fates.{parts_of, parts_among, links_of, all_provided, same_key, is_refused, IsSetOf, among, any_among, lacks, again, fate_by, provides_by, is_shared};
+ghost use Rattle.tc_plan.specs.Fates.{parts_of, parts_among, links_of, all_provided, same_key, is_refused, IsSetOf, among, any_among};
+ghost use Rattle.tc_plan.specs.Fates.{lacks, again, fate_by, provides_by, is_shared};
 
 use crate::entry::{Entry, Item};
 use crate::fate::{Fate, Reason};

@@ -1,9 +1,10 @@
-//! Actions that filters share, of which one has an offload flag: a request of its own doesn't restore such an action.
+//! Actions shared by filters, one of them with an offload flag: a request of its own doesn't restore such an action.
 
 ghost use Rattle.std.specs.Prelude.{◌≡◌, IfOk};
 ghost use Rattle.std.specs.List.{list_any};
 ghost use Rattle.std.specs.Option.{option_to_list};
-ghost use Rattle.tc_plan.specs.SharedActions.{skips, option_skips, attribute_skips, has_offload_flag, Offloaded, is_of_filters, shared_action, is_among, made_by_filters};
+ghost use Rattle.tc_plan.specs.SharedActions.{skips, option_skips, attribute_skips, has_offload_flag, Offloaded, is_of_filters};
+ghost use Rattle.tc_plan.specs.SharedActions.{shared_action, is_among, made_by_filters};
 ghost use Rattle.tc_plan.specs.Now.{key_of};
 
 use crate::entry::{options_of, standalone_action};
@@ -100,7 +101,7 @@ fn is_of_filters(found: Option<Use>) -> bool
     }
 }
 
-/// The actions that only their filters can make: those of `shared` (`shared_action` of each dumped action) that are in `offloaded`
+/// The actions that only their filters can make: the keys in `shared` (`shared_action` of each dumped action) and in `offloaded`
 /// (`offloaded_by` of each dumped filter).
 pub fn made_by_filters<A: Allocator>(shared: Vec<Key, A>, offloaded: &[Key]) -> Vec<Key, A>
     ensures { result.items ≡ made_by_filters shared.items offloaded.now }

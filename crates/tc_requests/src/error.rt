@@ -22,7 +22,7 @@ pub enum RequestError {
     #[error("two actions at place {0}")]
     SamePlace(u16),
 
-    /// Options of an action are raw, and those of its kind have types.
+    /// Options of an action are raw, though options of its kind have types.
     #[error("raw options under a kind whose options are known")]
     KnownKind,
 

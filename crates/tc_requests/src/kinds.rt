@@ -15,7 +15,7 @@ use tc_actions::{
 use tc_options::{
     TcFilterBpf, TcFilterBpfOption, TcFilterFlower, TcFilterFlowerOption, TcFilterMatchAll,
     TcFilterMatchAllOption, TcFilterU32, TcFilterU32Option, TcOption, TcQdiscFqCodel,
-    TcQdiscFqCodelOption, TcQdiscIngress, TcQdiscIngressOption,
+    TcQdiscFqCodelOption, TcQdiscIngressOption,
 };
 
 /// An option of one kind, which can be wrapped in `T`, the options of all kinds.
@@ -86,7 +86,7 @@ impl<A: Allocator> OfKind<TcOption<A>> for TcQdiscIngressOption<A> {
     ghost name = { codes "ingress" };
 
     fn kind() -> &'static str {
-        TcQdiscIngress::KIND
+        tc_options::TcQdiscIngress::KIND
     }
 }
 

@@ -39,6 +39,6 @@ pub use restore_error::RestoreError;
 pub use restore_messages::{
     NEW_FLAGS, Object, RTM_NEWACTION, Request, request_of, request_of_actions,
 };
-pub use root_tables::{RootTable, root_table};
+pub use root_tables::{RootTable, chain_number, root_table};
 pub use standalone::{kind_of_action, standalone_index, use_of_action};
 pub use uses::Use;

@@ -45,8 +45,8 @@ pub enum RestoreError {
     #[error("a terse dump: keys are missing")]
     Terse,
 
-    /// Two hash tables of u32 in one priority have a number of 0x800 or above and one bucket, so that the root table, which the
-    /// kernel makes, can't be distinguished from the other.
+    /// Two hash tables of u32 in one priority of a chain have a number of 0x800 or above and one bucket, so that the root table,
+    /// which the kernel makes, can't be distinguished from the other.
     #[error("two root tables of u32 in one priority")]
     RootTables,
 

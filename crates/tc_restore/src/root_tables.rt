@@ -4,23 +4,24 @@ ghost use Rattle.std.specs.Prelude.{◌≡◌, bytes_eq, codes};
 ghost use Rattle.std.specs.List.{list_any};
 ghost use Rattle.tc_restore.specs.RestoredMessages.{kind_of_message};
 ghost use Rattle.tc_restore.specs.RestoredOptions.{within_table};
-ghost use Rattle.tc_restore.specs.RootTables.{table_number, has_such, any_option, is_u32, is_single, is_root, root_of, root_table};
+ghost use Rattle.tc_restore.specs.RootTables.{chain_number, table_number, has_such, any_option, is_u32, is_single, is_root, root_of, root_table};
 ghost use Rattle.tc_restore.specs.RootTables.{is_of_block, is_of_priority, is_that, is_another, is_at_root, is_in_root, has_two_roots, is_linked, is_root_link, links_to_root};
 
 use crate::restore_messages::{Object, kind_of_message};
 use std::alloc::Allocator;
 use tc_messages::{TcAttribute, TcMessage};
 use tc_options::{TcFilterU32Option, TcOption};
-use tc_records::TcHeader;
 use tc_texts::info_priority;
 
-/// A root table of u32 in a dump: the table of a block and a priority that has a number of 0x800 or above and one bucket.
+/// A root table of u32 in a dump: the table of a block, a chain and a priority that has a number of 0x800 or above and one bucket.
 #[derive(Clone, Copy, PartialEq, Eq, Debug)]
 pub struct RootTable {
     /// The index of the interface; -1 if interfaces share the block.
     pub index: i32,
     /// The parent, or the number of the shared block.
     pub parent: u32,
+    /// The number of the chain.
+    pub chain: u32,
     /// The priority.
     pub priority: u16,
     /// The table's number, the upper 12 bits of its handle.
@@ -32,10 +33,22 @@ pub fn root_table<A: Allocator>(object: Object, dump: &TcMessage<A>) -> Option<R
     ensures { result ≡ root_table object dump.now }
 {
     if is_root(object, dump) {
-        Some(root_of(&dump.header))
+        Some(root_of(dump))
     } else {
         None
     }
+}
+
+/// The number of the chain that a message names first; 0 if it names no chain.
+pub fn chain_number<A: Allocator>(attributes: &[TcAttribute<A>]) -> u32
+    ensures { result ≡ chain_number attributes.now }
+{
+    for attribute in attributes {
+        if let TcAttribute::Chain(number) = attribute {
+            return *number;
+        }
+    }
+    0
 }
 
 // The number of the table in a handle.
@@ -52,13 +65,15 @@ pub(crate) fn within_table(handle: u32) -> u32
     handle % 0x10_0000
 }
 
-// The block and the priority of a message, and the number of its table.
-fn root_of(header: &TcHeader) -> RootTable
-    ensures { result ≡ root_of header.now }
+// The block, the chain and the priority of a message, and the number of its table.
+fn root_of<A: Allocator>(dump: &TcMessage<A>) -> RootTable
+    ensures { result ≡ root_of dump.now }
 {
+    let header = &dump.header;
     RootTable {
         index: header.index,
         parent: u32::from(header.parent),
+        chain: chain_number(&dump.attributes),
         priority: info_priority(header.info),
         number: table_number(u32::from(header.handle)),
     }
@@ -138,7 +153,7 @@ fn is_of_block(table: RootTable, root: &RootTable) -> bool
 fn is_of_priority(table: RootTable, root: &RootTable) -> bool
     ensures { result ≡ is_of_priority table root.now }
 {
-    is_of_block(table, root) && root.priority == table.priority
+    is_of_block(table, root) && root.chain == table.chain && root.priority == table.priority
 }
 
 fn is_that(table: RootTable, root: &RootTable) -> bool
@@ -157,7 +172,7 @@ fn is_another(table: RootTable, root: &RootTable) -> bool
 fn is_at_root<A: Allocator>(roots: &[RootTable], object: Object, dump: &TcMessage<A>) -> bool
     ensures { result ≡ is_at_root roots.now object dump.now }
 {
-    let table = root_of(&dump.header);
+    let table = root_of(dump);
     is_u32(object, dump) && has_that(roots, table)
 }
 
@@ -192,7 +207,7 @@ pub(crate) fn has_two_roots<A: Allocator>(
 ) -> bool
     ensures { result ≡ has_two_roots roots.now object dump.now }
 {
-    let table = root_of(&dump.header);
+    let table = root_of(dump);
     is_at_root(roots, object, dump) && has_another(roots, table)
 }
 
@@ -204,7 +219,7 @@ pub(crate) fn links_to_root<A: Allocator>(
 ) -> bool
     ensures { result ≡ links_to_root roots.now object dump.now }
 {
-    let table = root_of(&dump.header);
+    let table = root_of(dump);
     is_u32(object, dump) && any_root_link(roots, table, dump)
 }
 

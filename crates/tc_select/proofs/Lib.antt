@@ -1,3 +1,4 @@
 pub mod Frames
+pub mod Listed
 pub mod Pushing
 pub mod Years

@@ -1,5 +1,5 @@
 -- Filters of messages.
-use Rattle.std.specs.Prelude.{ℕ, ◌+◌, ◌*◌, ◌==◌, ◌&&◌, ◌||◌, Bool, true, false, List, [], ◌∷◌, Option, Some, None, bytes_eq, nat_le, not}
+use Rattle.std.specs.Prelude.{ℕ, ◌+◌, ◌*◌, ◌==◌, ◌&&◌, ◌||◌, Bool, true, false, List, [], ◌∷◌, length, Option, Some, None, option_map, bytes_eq, nat_le, not}
 use Rattle.std.specs.Borrow.{Bor}
 use Rattle.std.specs.List.{list_any}
 use Rattle.tc_capture.specs.declared.kind.MessageType.{MessageType}
@@ -23,6 +23,11 @@ allows (x ∷ xs) found = found
 abbrev pub is_among : List ℕ → Option ℕ → Bool
 is_among values None = false
 is_among values (Some n) = list_any (λ one. one == n) values
+
+-- a name that is there, and one of these
+abbrev pub is_called : List (Bor (List ℕ)) → Option (List ℕ) → Bool
+is_called values None = false
+is_called values (Some name) = is_kind values name
 
 -- a message type that is there, and in one of these ranges
 abbrev pub is_in : List Types → Option ℕ → Bool
@@ -53,16 +58,18 @@ is_within since until time = is_since since time && is_until until time
 
 -- ---- each option, of a message
 
--- a message: its time of capture, its nlmsg_type if it has a netlink header, the type of message, and its payload
+-- a message: its time of capture, its nlmsg_type if it has a netlink header, the type of message, its payload, and the name of its interface if it
+-- is known
 pub record Message : Type 0 where
   pub time : Option Time
   pub rtm : Option ℕ
   pub holds : MessageType
   pub payload : List ℕ
+  pub name : Option (List ℕ)
 
 -- its abstract value
 abbrev pub message_view : CodeMessage → Message
-message_view m = record { time = m.time; rtm = m.rtm; holds = m.holds; payload = m.payload.now }
+message_view m = record { time = m.time; rtm = m.rtm; holds = m.holds; payload = m.payload.now; name = option_map (λ n. n.now) m.name }
 
 abbrev pub matches_kind : Filter → Message → Bool
 matches_kind c m = allows c.kinds.now (list_any (is_kind c.kinds.now) (kinds_in m.holds m.payload))
@@ -70,9 +77,15 @@ matches_kind c m = allows c.kinds.now (list_any (is_kind c.kinds.now) (kinds_in 
 abbrev pub matches_type : Filter → Message → Bool
 matches_type c m = allows c.types.now (is_in c.types.now m.rtm)
 
+-- an interface with one of the numbers or one of the names; without either every message
+abbrev pub matches_interface : Filter → Message → Bool
+matches_interface c m =
+    (length c.interfaces.now == 0 && length c.names.now == 0) || is_among c.interfaces.now (interface_in m.holds m.payload)
+    || is_called c.names.now m.name
+
 abbrev pub matches_header : Filter → Message → Bool
 matches_header c m =
-    allows c.interfaces.now (is_among c.interfaces.now (interface_in m.holds m.payload))
+    matches_interface c m
     && allows c.handles.now (is_among c.handles.now (handle_in m.holds m.payload))
     && allows c.parents.now (is_among c.parents.now (parent_in m.holds m.payload))
 

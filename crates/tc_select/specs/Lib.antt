@@ -10,4 +10,5 @@ pub mod Dump
 pub mod DumpView
 pub mod Pasted
 pub mod Links
+pub mod Names
 pub mod LinkView

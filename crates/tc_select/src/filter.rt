@@ -1,10 +1,10 @@
 //! Filters of messages.
 
-ghost use Rattle.std.specs.Prelude.{◌≡◌};
-ghost use Rattle.tc_select.specs.Filter.{allows, is_among, is_in, is_by, is_since, is_until, is_within, nanoseconds};
+ghost use Rattle.std.specs.Prelude.{◌≡◌, option_map};
+ghost use Rattle.tc_select.specs.Filter.{allows, is_among, is_called, is_in, is_by, is_since, is_until, is_within, nanoseconds};
 
 use crate::header::{chain_in, handle_in, interface_in, parent_in, priority_in};
-use crate::kinds::has_kind;
+use crate::kinds::{has_kind, is_kind};
 use crate::types::Types;
 use tc_capture::{MessageType, Time};
 
@@ -18,6 +18,8 @@ pub struct Filter<'a> {
     pub types: &'a [Types],
     /// Interface numbers.
     pub interfaces: &'a [u32],
+    /// Names of interfaces; an interface with one of the numbers or one of the names matches.
+    pub names: &'a [&'a str],
     /// Handles.
     pub handles: &'a [u32],
     /// Parents.
@@ -45,17 +47,20 @@ pub struct Message<'a> {
     pub holds: MessageType,
     /// The bytes after the netlink header.
     pub payload: &'a [u8],
+    /// The name of its interface, if it is known.
+    pub name: Option<&'a str>,
 }
 
 impl<'a> Filter<'a> {
     ghost use Rattle.std.specs.Prelude.{◌≡◌, ◌&&◌, ◌||◌};
-    ghost use Rattle.tc_select.specs.Filter.{message_view, matches_kind, matches_type, matches_header, matches_chain, matches, matches_verdict};
+    ghost use Rattle.tc_select.specs.Filter.{message_view, matches_kind, matches_type, matches_interface, matches_header, matches_chain, matches, matches_verdict};
 
     /// A filter that every message matches.
     pub const ALL: Filter<'static> = Filter {
         kinds: &[],
         types: &[],
         interfaces: &[],
+        names: &[],
         handles: &[],
         parents: &[],
         chains: &[],
@@ -95,11 +100,22 @@ impl<'a> Filter<'a> {
         self.types.is_empty() || is_in(self.types, message.rtm)
     }
 
+    fn matches_interface(&self, message: &Message<'_>) -> bool
+        ensures { result ≡ matches_interface self.now (message_view message.now) }
+    {
+        (self.interfaces.is_empty() && self.names.is_empty())
+            || is_among(
+                self.interfaces,
+                interface_in(message.holds, message.payload),
+            )
+            || is_called(self.names, message.name)
+    }
+
     fn matches_header(&self, message: &Message<'_>) -> bool
         ensures { result ≡ matches_header self.now (message_view message.now) }
     {
         let (holds, payload) = (message.holds, message.payload);
-        allows(self.interfaces, interface_in(holds, payload))
+        self.matches_interface(message)
             && allows(self.handles, handle_in(holds, payload))
             && allows(self.parents, parent_in(holds, payload))
     }
@@ -133,6 +149,16 @@ fn is_among(values: &[u32], number: Option<u32>) -> bool
         }
     }
     false
+}
+
+// True if one of the values is the name.
+fn is_called(values: &[&str], name: Option<&str>) -> bool
+    ensures { result ≡ is_called values.now (option_map (λ n. n.now) name.entry) }
+{
+    match name {
+        Some(name) => is_kind(values, name.as_bytes()),
+        None => false,
+    }
 }
 
 // True if the message type is in one of these ranges.

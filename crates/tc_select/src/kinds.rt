@@ -200,8 +200,8 @@ fn in_action(values: &[&str], bytes: &[u8]) -> bool
     false
 }
 
-// True if this is one of these kinds.
-fn is_kind(values: &[&str], kind: &[u8]) -> bool
+/// True if this is one of these kinds.
+pub(crate) fn is_kind(values: &[&str], kind: &[u8]) -> bool
     ensures { result ≡ is_kind values.now kind.now }
 {
     for one in values {

@@ -1,6 +1,11 @@
 //! Files of interface names.
 
-use crate::links::link_of_line;
+ghost use Rattle.std.specs.Prelude.{◌≡◌, Err, List, ℕ, Some, Result, if◌then◌else◌, map, option_map, IfOk};
+ghost use Rattle.tc_select.specs.Links.{Link};
+ghost use Rattle.tc_select.specs.LinkView.{link_view};
+ghost use Rattle.tc_select.specs.Names.{before_comment, content_of, if_utf8, index_in, name_view, named_in, names_in, names_view, listed, with_line};
+
+use crate::links::{NamedLink, link_of_line};
 use std::alloc::{AllocError, Allocator};
 use std::str;
 
@@ -9,48 +14,89 @@ use std::str;
 pub fn names_in<'a, A: Allocator>(
     alloc: A,
     text: &'a str,
-) -> Result<Result<Vec<(u32, &'a str), A>, u64>, AllocError> {
+) -> Result<Result<Vec<(u32, &'a str), A>, u64>, AllocError>
+    ensures { IfOk result (λ names. names_view names ≡ names_in text.now) }
+{
     let mut names = Vec::new(alloc);
-    match put_names(text, &mut names)? {
-        Some(line) => Ok(Err(line)),
-        None => Ok(Ok(names)),
-    }
-}
-
-// Appends the names up to the first line that can't be parsed, and returns its number.
-fn put_names<'a, A: Allocator>(
-    text: &'a str,
-    names: &mut Vec<(u32, &'a str), A>,
-) -> Result<Option<u64>, AllocError> {
-    let mut count = 0u64;
+    let mut number = 0u64;
     for line in text.lines() {
-        count = count.saturating_add(1);
-        let line = without_comment(line).trim();
-        if !line.is_empty() {
-            match name_in(line) {
-                Some(named) => names.push(named)?,
-                None => return Ok(Some(count)),
-            }
+        number = number.saturating_add(1);
+        let is_right = put_line(line, &mut names)?;
+        if !is_right {
+            return Ok(Err(number));
         }
     }
-    Ok(None)
+    Ok(Ok(names))
 }
 
-// A comment begins at the front of the line or after a blank; within a name, `#` is an ordinary character.
-fn without_comment(line: &str) -> &str {
+// Appends the name on a line, if the line has content. False if that isn't a name.
+fn put_line<'a, A: Allocator>(
+    line: &'a str,
+    names: &mut Vec<(u32, &'a str), A>,
+) -> Result<bool, AllocError>
+    ensures { IfOk result (λ is_right. (number : ℕ) (later : Result (List Link) ℕ) →
+        listed (map name_view names.old.items) (with_line number (content_of line.now) later)
+        ≡ (if is_right then listed (map name_view names.new.items) later else Err number)) }
+{
+    let content = content_of(line);
+    if content.is_empty() {
+        return Ok(true);
+    }
+    match named_in(content) {
+        Some(named) => {
+            names.push(named)?;
+            Ok(true)
+        }
+        None => Ok(false),
+    }
+}
+
+// A line without its comment, and without white space around the rest.
+fn content_of(line: &str) -> &str
+    ensures { result.now ≡ content_of line.now }
+{
     if line.trim().starts_with('#') {
         return "";
     }
+    before_comment(line).trim()
+}
+
+// A comment begins at the front of the line or after a blank; within a name, `#` is an ordinary character.
+fn before_comment(line: &str) -> &str
+    ensures { result.now ≡ before_comment line.now }
+{
     match line.split_once(" #") {
         Some((front, _)) => front,
         None => line,
     }
 }
 
-fn name_in(line: &str) -> Option<(u32, &str)> {
-    let link = link_of_line(line.as_bytes())?;
+fn named_in(content: &str) -> Option<(u32, &str)>
+    ensures { option_map name_view result ≡ named_in content.now }
+{
+    match link_of_line(content.as_bytes()) {
+        Some(link) => if_utf8(link),
+        None => None,
+    }
+}
+
+// A name is UTF-8.
+fn if_utf8(link: NamedLink<'_>) -> Option<(u32, &str)>
+    ensures { option_map name_view result ≡ if_utf8 (Some (link_view link.entry)) }
+{
     match str::from_utf8(link.name) {
         Ok(name) => Some((link.index, name)),
         Err(_) => None,
+    }
+}
+
+/// The index of the first of these interfaces that has this name.
+pub fn index_in(names: &[(u32, &str)], name: &str) -> Option<u32>
+    ensures { result ≡ index_in (map name_view names.now) name.now }
+{
+    match names.split_first() {
+        Some((first, _)) if first.1 == name => Some(first.0),
+        Some((_, later)) => index_in(later, name),
+        None => None,
     }
 }

@@ -1,4 +1,4 @@
-//! Whether messages, attributes and options are what they have to be. A use of a trait at a type as wide as a message is the dear part of a test's
+//! Comparisons of messages, attributes and options with what they have to be. A use of a trait at a type as wide as a message is the dear part of a test's
 //! proof, as is each place where such a value is dropped; so tests go through these few functions, which are passed what was made and return a truth
 //! value.
 

@@ -1,4 +1,4 @@
-//! Flower's options: the known answer of each, those that are written as other bytes, and filters as the kernel and tc send them.
+//! Flower's options: the known answer of each, options that are written as other bytes, and filters as the kernel and tc send them.
 
 use crate::row_kinds::{Says, are_right};
 use crate::tables::{are_known, are_written, bytes_of, is_attribute, or_same, pair, settles};

@@ -49,7 +49,7 @@ fn of_options(rt: HostRuntime) {
     );
 }
 
-/// How many bytes a message has with an option of so many, if it fits.
+/// The length of a message with an option of this length, if it fits.
 fn length_with(alloc: Global, length: usize) -> Option<usize> {
     let made = with_option(alloc, "fq_codel", fq_codel(alloc, length));
     length_of(alloc, made.ok())

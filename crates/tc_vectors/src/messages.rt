@@ -26,12 +26,12 @@ fn with_two_nuls() -> [u8; 48] {
     bytes
 }
 
-/// What `Debug` shows of it before its attributes.
+/// The text of `Debug` before its attributes.
 pub(crate) static FRONT: &str =
     "TcMessage { header: TcHeader { family: Unspec, index: 2, handle: TcHandle { major: 1, minor: 0 }, \
 parent: TcHandle { major: 65535, minor: 65535 }, info: 0 }, attributes: ";
 
-/// What the attributes of these two are.
+/// The attributes of these two, as text.
 static LIMITED: &str = "[Kind(\"fq_codel\"), Options([FqCodel(Limit(10240))])]";
 
 static LIMITED_RAW: &str =

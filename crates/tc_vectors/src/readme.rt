@@ -1,4 +1,4 @@
-//! What README and docs/CRATES.md show.
+//! Samples of README and docs/CRATES.md.
 
 use std::alloc::{AllocError, Global};
 use std::string::String;

@@ -1,4 +1,4 @@
-//! Messages rewritten and settled, those that can't be, and warnings, which lose one NUL a rewrite.
+//! Messages rewritten and settled, messages that can't be, and warnings, which lose one NUL a rewrite.
 
 use crate::calls::{is_canonical, rewrite, settle};
 use crate::tables::bytes_of;
@@ -128,7 +128,7 @@ static WARNINGS: [(&str, &str, usize); 6] = [
     ("08000380 06000000 07000500 61000000", "08000300 06000000 05000500 61000000", 2),
 ];
 
-/// What rewriting makes of a message until it is canonical, and after how many rewrites, of at most so many.
+/// A message rewritten until it is canonical, and the number of rewrites, at most `most`.
 pub(crate) fn rewritten(
     alloc: Global,
     form: Form,

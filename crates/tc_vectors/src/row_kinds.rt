@@ -6,22 +6,22 @@ use std::alloc::Global;
 use std::test::Fail;
 use tests_data::Form;
 
-/// What a row says.
+/// The claim of a row.
 #[derive(Clone, Copy)]
 pub(crate) enum Says {
-    /// Whether a message is canonical.
+    /// A message is canonical, or isn't.
     Canonical(Form),
-    /// What a message is read and written as, and in the table whether it is settled.
+    /// A message's value and its bytes when written, and in the table a mark if it is settled.
     Message(Form, bool),
     /// Why a message is refused.
     Refused(Form),
-    /// What an attribute is read and written as.
+    /// An attribute's value and its bytes when written.
     Attribute,
-    /// What an option is read and written as under a kind, in the variant of this name.
+    /// An option's value under a kind, in the variant of this name, and its bytes when written.
     Option(&'static str, &'static str),
     /// Why an option is refused.
     RefusedOption,
-    /// What options of flower are written as.
+    /// The bytes of options of flower when written.
     Flower,
 }
 

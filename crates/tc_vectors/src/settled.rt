@@ -229,7 +229,7 @@ fn of_action_messages(rt: HostRuntime) {
     }
 }
 
-/// What `Debug` shows before the attributes of a message of a family, by its name.
+/// The text of `Debug` before the attributes of a message of a family, by its name.
 static INET: &str =
     "TcMessage { header: TcHeader { family: Inet, index: 0, handle: TcHandle { major: 0, minor: 0 }, \
 parent: TcHandle { major: 0, minor: 0 }, info: 0 }, attributes: ";

@@ -1,4 +1,4 @@
-//! How many bytes of memory a value takes: a list has a place of this size for each element.
+//! The sizes of values in memory: a list has a place of this size for each element.
 
 use std::mem::size_of;
 use tc_wire::{

@@ -42,7 +42,7 @@ fn digit(letter: u8) -> u8
     }
 }
 
-/// The bytes of frames in hex, in which spaces may stand between bytes, after those of a header.
+/// The bytes of a header and of frames. The frames are in hex, with spaces between bytes or without.
 pub(crate) fn bytes_of(alloc: Global, header: &[u8], frames: &str) -> Result<Vec<u8>, AllocError> {
     let mut bytes = header.to_vec(alloc)?;
     for word in frames.split(' ') {
@@ -71,7 +71,7 @@ pub(crate) fn is_hex(bytes: &[u8], frames: &str) -> bool {
     left.is_empty()
 }
 
-/// What is written: what was read, where the row has nothing else.
+/// The text that is written: the one that was read if the row has no other.
 pub(crate) fn or_same<'a>(read: &'a str, written: &'a str) -> &'a str {
     if written.is_empty() { read } else { written }
 }

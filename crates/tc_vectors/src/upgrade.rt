@@ -29,7 +29,7 @@ static WITHOUT_KIND_BYTES: [u8; 32] = [
 pub(crate) const SFQ: Row =
     ("sfq", &[(0x8002, &[1, 2, 3, 4])], "[Kind(\"sfq\"), OptionsRaw(DefaultNla { word: 32770, value: [1, 2, 3, 4] })]");
 
-/// What changes: one option alone, of type 2 with any flags, under a kind that isn't known.
+/// Messages that change: one option only, of type 2 with any flags, under a kind that isn't known.
 #[rattlefmt::skip]
 static ROWS: [Row; 8] = [
     WITHOUT_KIND,
@@ -67,7 +67,7 @@ pub(crate) fn made<A: Allocator + Copy>(alloc: A, row: &Row) -> Result<TcMessage
     message(pushed(first(alloc, row.0), unknown(alloc, row.1)))
 }
 
-/// What a message is upgraded to.
+/// A message after `upgrade`.
 fn upgraded<A: Allocator>(
     made: Result<TcMessage<A>, AllocError>,
 ) -> Result<TcMessage<A>, AllocError> {

@@ -98,7 +98,7 @@ pub(crate) static ACTION_FAULTS: &str = r#"
 08000300 06000000 0000 | FrameHeaderShort { left: 2 }
 "#;
 
-/// What `Debug` shows before the attributes of a message with an empty header.
+/// The text of `Debug` before the attributes of a message with an empty header.
 pub(crate) static NO_HEADER: &str = "TcMessage { header: TcHeader { family: Unspec, index: 0, \
 handle: TcHandle { major: 0, minor: 0 }, parent: TcHandle { major: 0, minor: 0 }, info: 0 }, attributes: ";
 
@@ -119,7 +119,7 @@ pub(crate) fn is_message(
         && is_rewritten(alloc, form, bytes, written)
 }
 
-/// What `Debug` shows before the attributes of a message of this form with an empty header.
+/// The text of `Debug` before the attributes of a message of this form with an empty header.
 pub(crate) fn front_of(form: Form) -> &'static str {
     match form {
         Form::Tc => NO_HEADER,

@@ -36,7 +36,8 @@ same_truth true false h k = sym (k.1 (h.0 refl))
 same_truth false true h k = h.1 (k.0 refl)
 same_truth false false h k = refl
 
-some_bool : (name : List ℕ) (json : Data) (o : Option Bool) (b c : Bool) → get name json ≡ Some (boolean b) → IsBoolIf name json o → b ≡ c → IfSome o (λ x. x ≡ c)
+some_bool : (name : List ℕ) (json : Data) (o : Option Bool) (b c : Bool) → get name json ≡ Some (boolean b) → IsBoolIf name json o → b ≡ c
+    → IfSome o (λ x. x ≡ c)
 some_bool name json None b c at is same = tt
 some_bool name json (Some x) b c at is same =
     let held : Some b ≡ Some x = sym (ap (option_and_then as_bool) at) ∙ is in sym (some_is b x held) ∙ same
@@ -48,7 +49,8 @@ missing name json o d at is none = none_not_some d (sym (subst (IsBoolIf name js
 
 module _ (w : Words Meaning) (bytes : List ℕ) (laws : Correspond w bytes) (json : Data) (m : Meaning) (reads : w.Reads bytes m) (f s c : Bool)
     (fits : IsTrue f ↔ w.Fits m) (settled : IsTrue s ↔ w.Settled m) (canonical : IsTrue c ↔ w.Canonical bytes)
-    (no_fault : get (codes "refused") json ≡ None) (at_fits : get (codes "fits") json ≡ Some (boolean f)) (at_settled : get (codes "settled") json ≡ Some (boolean s))
+    (no_fault : get (codes "refused") json ≡ None) (at_fits : get (codes "fits") json ≡ Some (boolean f))
+    (at_settled : get (codes "settled") json ≡ Some (boolean s))
     (at_canonical : get (codes "canonical") json ≡ Some (boolean c)) where
   pub says_read : Says json (said.Read (Some f) (Some s) (Some c))
   says_read = (no_fault, ap (option_and_then as_bool) at_fits, ap (option_and_then as_bool) at_settled, ap (option_and_then as_bool) at_canonical)
@@ -99,21 +101,25 @@ same_fault json (fault.BufferTooSmall len needed) d ne t same =
     faults.is_BufferTooSmall (λ x. HasNumbers json x → x ≡ fault.BufferTooSmall len needed)
     (λ a b has i. fault.BufferTooSmall (one_number (codes "len") json len a t.len has.0 i) (one_number (codes "needed") json needed b t.needed has.1 i)) d same
 same_fault json (fault.FrameHeaderShort left) d ne t same =
-    faults.is_FrameHeaderShort (λ x. HasNumbers json x → x ≡ fault.FrameHeaderShort left) (λ a has i. fault.FrameHeaderShort (one_number (codes "left") json left a t.left has i)) d same
+    faults.is_FrameHeaderShort (λ x. HasNumbers json x → x ≡ fault.FrameHeaderShort left)
+    (λ a has i. fault.FrameHeaderShort (one_number (codes "left") json left a t.left has i)) d same
 same_fault json (fault.FrameTooLong length left) d ne t same =
     faults.is_FrameTooLong (λ x. HasNumbers json x → x ≡ fault.FrameTooLong length left)
     (λ a b has i. fault.FrameTooLong (one_number (codes "length") json length a t.length has.0 i) (one_number (codes "left") json left b t.left has.1 i)) d same
 same_fault json (fault.FrameTooShort length) d ne t same =
-    faults.is_FrameTooShort (λ x. HasNumbers json x → x ≡ fault.FrameTooShort length) (λ a has i. fault.FrameTooShort (one_number (codes "length") json length a t.length has i)) d same
+    faults.is_FrameTooShort (λ x. HasNumbers json x → x ≡ fault.FrameTooShort length)
+    (λ a has i. fault.FrameTooShort (one_number (codes "length") json length a t.length has i)) d same
 same_fault json (fault.WrongLength expected got) d ne t same =
     faults.is_WrongLength (λ x. HasNumbers json x → x ≡ fault.WrongLength expected got)
-    (λ a b has i. fault.WrongLength (one_number (codes "expected") json expected a t.expected has.0 i) (one_number (codes "got") json got b t.got has.1 i)) d same
+    (λ a b has i. fault.WrongLength (one_number (codes "expected") json expected a t.expected has.0 i) (one_number (codes "got") json got b t.got has.1 i))
+    d same
 same_fault json fault.NotUtf8 d ne t same = faults.is_NotUtf8 (λ x. HasNumbers json x → x ≡ fault.NotUtf8) (λ has. refl) d same
 same_fault json (fault.SelectorShort len needed) d ne t same =
     faults.is_SelectorShort (λ x. HasNumbers json x → x ≡ fault.SelectorShort len needed)
     (λ a b has i. fault.SelectorShort (one_number (codes "len") json len a t.len has.0 i) (one_number (codes "needed") json needed b t.needed has.1 i)) d same
 same_fault json (fault.XstatsShort len) d ne t same =
-    faults.is_XstatsShort (λ x. HasNumbers json x → x ≡ fault.XstatsShort len) (λ a has i. fault.XstatsShort (one_number (codes "len") json len a t.len has i)) d same
+    faults.is_XstatsShort (λ x. HasNumbers json x → x ≡ fault.XstatsShort len)
+    (λ a has i. fault.XstatsShort (one_number (codes "len") json len a t.len has i)) d same
 same_fault json fault.MissingKind d ne t same = faults.is_MissingKind (λ x. HasNumbers json x → x ≡ fault.MissingKind) (λ has. refl) d same
 same_fault json fault.DuplicateKind d ne t same = faults.is_DuplicateKind (λ x. HasNumbers json x → x ≡ fault.DuplicateKind) (λ has. refl) d same
 same_fault json fault.OutOfMemory d ne t same = absurd (ne refl)

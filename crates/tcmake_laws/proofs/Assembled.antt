@@ -27,7 +27,8 @@ use Rattle.tcshow_json.specs.Line.{form_of, time_of, line_events, read_events, f
 use Rattle.tcshow_json.specs.Grammars.{grammar_of, IsLineOf}
 use Rattle.tcmake_laws.specs.Shown.{IsFound, IsTaken, AreSmall}
 use Rattle.tcmake_laws.proofs.Slots.{Slots, members_of, value_at, are_distinct}
-use Rattle.tcmake_laws.proofs.Told.{a_number, if_number, if_text, if_port, place_slots, header_slots, read_slots, numbers_of, number_slots, fault_slots, line_slots}
+use Rattle.tcmake_laws.proofs.Told.{a_number, if_number, if_text, if_port, place_slots, header_slots, read_slots, numbers_of, number_slots, fault_slots}
+use Rattle.tcmake_laws.proofs.Told.{line_slots}
 use Rattle.tcmake_messages.specs.Line.{IsOneOf, members, fault_members, is_of_refused}
 use Rattle.tcmake_messages.specs.Verdict.{words_of, Says, Agrees, IsVerdictOn}
 use Rattle.tcmake_messages.specs.declared.verdict.Said.{Said}
@@ -91,8 +92,13 @@ module _ (m : Message) (h : Header) (found : IsFound m h) where
     line_readable : Readable (object (members_of (slots verdict))) 50
     unfolding shown_of
     line_readable =
-        let place : AreReadable (place_slots m) 49 =
-        (text_readable (time_of m) 49, (number_readable m.origin.packet 49 found.packet, (number_readable m.origin.packet_type 49 (wider m.origin.packet_type found.packet_type), tt))) in
+        let place : AreReadable (place_slots m) 49 = (
+          text_readable (time_of m) 49,
+          (
+            number_readable m.origin.packet 49 found.packet,
+            (number_readable m.origin.packet_type 49 (wider m.origin.packet_type found.packet_type), tt),
+          ),
+        ) in
         let header : AreReadable (header_slots h) 49 =
         (tt, (omega (arith, found.flags), (omega (arith, found.sequence), (port_readable h.port 49 (omega (arith, found.port)), tt)))) in
         let last : Slots = (codes "message", Some (shown_of tc_tables (form_of m.holds) m.payload)) ∷ [] in
@@ -110,12 +116,14 @@ module _ (m : Message) (h : Header) (found : IsFound m h) where
             (subst (λ (es : List Event). AreTokensOf false (Some es) (tokens line)) (sym (line_sent m h found.header verdict sent same)) is_text.0),
       )
 
-      module _ (utf8 : IsUtf8 text) (at_message : value_at (codes "message") (slots verdict) ≡ Some shown) (at_type : value_at (codes "type") (slots verdict) ≡ Some (string h.name))
+      module _ (utf8 : IsUtf8 text) (at_message : value_at (codes "message") (slots verdict) ≡ Some shown)
+          (at_type : value_at (codes "type") (slots verdict) ≡ Some (string h.name))
           (known : (name : List ℕ) → IsTrue (is_some (get name (ordered (object (members_of (slots verdict))))))
           → IsOneOf name members ⊎ (IsTrue (is_of_refused (ordered (object (members_of (slots verdict))))) × IsOneOf name fault_members))
           (made : made_of tc_tables (form_of m.holds) (ordered shown) ≡ Some m.payload)
           (says : (x : Said) × Says (ordered (object (members_of (slots verdict)))) x)
-          (agrees : (x : Said) → Says (ordered (object (members_of (slots verdict)))) x → (v : Verdict) → IsVerdictOn (words_of m.holds) m.payload v → Agrees x v) where
+          (agrees : (x : Said) → Says (ordered (object (members_of (slots verdict)))) x → (v : Verdict) → IsVerdictOn (words_of m.holds) m.payload v
+          → Agrees x v) where
         taken : IsTaken text m.payload
         taken =
             let reads = text_read (object (members_of (slots verdict))) 50 text line_readable (omega arith) json_text in
@@ -142,9 +150,13 @@ module _ (m : Message) (h : Header) (found : IsFound m h) (laws : Correspond (wo
       let at : (name : List ℕ) → get name (ordered (object (members_of all))) ≡ option_map ordered (value_at name all) = λ name. found_in_order name all refl in
       taken m h found verdict refl (tt, (tt, (tt, tt))) (read_events f s c) (read_sent f s c) line text is_text same_tokens utf8 refl refl
       (λ name some. inl (named name all members refl (subst (λ o. IsTrue (is_some o)) (at name) some)))
-      made
-      (said.Read (Some f) (Some s) (Some c), says_read (words_of m.holds) m.payload laws (ordered (object (members_of all))) x reads f s c fits settled canonical (at (codes "refused")) (at (codes "fits")) (at (codes "settled")) (at (codes "canonical")))
-      (agrees_read (words_of m.holds) m.payload laws (ordered (object (members_of all))) x reads f s c fits settled canonical (at (codes "refused")) (at (codes "fits")) (at (codes "settled")) (at (codes "canonical")))
+      made (
+        said.Read (Some f) (Some s) (Some c),
+        says_read (words_of m.holds) m.payload laws (ordered (object (members_of all))) x reads f s c fits settled
+            canonical (at (codes "refused")) (at (codes "fits")) (at (codes "settled")) (at (codes "canonical")),
+      )
+      (agrees_read (words_of m.holds) m.payload laws (ordered (object (members_of all))) x reads f s c fits settled canonical (at (codes "refused"))
+      (at (codes "fits")) (at (codes "settled")) (at (codes "canonical")))
 
   refused : (e : DecodeError) → AreSmall e → (words_of m.holds).Fault m.payload e → IsRefused m e line → IsTaken text m.payload
   refused e small faulty (offset, within, path, is_text) =

@@ -9,7 +9,8 @@ use Rattle.nla_frames.specs.declared.error.DecodeError.TheVariants as fault
 other : {P : Type 0} (a b : List ℕ) → bytes_eq a b ≡ false → a ≡ b → P
 other a b e same = absurd (true≢false (sym ((bytes_eq-Decides a b).1 same) ∙ e))
 
-pub is_BufferTooSmall : (P : DecodeError → Type 0) → ((len needed : ℕ) → P (fault.BufferTooSmall len needed)) → (e : DecodeError) → codes "BufferTooSmall" ≡ name_of e → P e
+pub is_BufferTooSmall : (P : DecodeError → Type 0) → ((len needed : ℕ) → P (fault.BufferTooSmall len needed)) → (e : DecodeError)
+    → codes "BufferTooSmall" ≡ name_of e → P e
 is_BufferTooSmall P one (fault.BufferTooSmall len needed) same = one len needed
 is_BufferTooSmall P one (fault.FrameHeaderShort left) same = other (codes "BufferTooSmall") (codes "FrameHeaderShort") refl same
 is_BufferTooSmall P one (fault.FrameTooLong length left) same = other (codes "BufferTooSmall") (codes "FrameTooLong") refl same
@@ -22,7 +23,8 @@ is_BufferTooSmall P one fault.MissingKind same = other (codes "BufferTooSmall") 
 is_BufferTooSmall P one fault.DuplicateKind same = other (codes "BufferTooSmall") (codes "DuplicateKind") refl same
 is_BufferTooSmall P one fault.OutOfMemory same = other (codes "BufferTooSmall") (codes "OutOfMemory") refl same
 
-pub is_FrameHeaderShort : (P : DecodeError → Type 0) → ((left : ℕ) → P (fault.FrameHeaderShort left)) → (e : DecodeError) → codes "FrameHeaderShort" ≡ name_of e → P e
+pub is_FrameHeaderShort : (P : DecodeError → Type 0) → ((left : ℕ) → P (fault.FrameHeaderShort left)) → (e : DecodeError)
+    → codes "FrameHeaderShort" ≡ name_of e → P e
 is_FrameHeaderShort P one (fault.BufferTooSmall len needed) same = other (codes "FrameHeaderShort") (codes "BufferTooSmall") refl same
 is_FrameHeaderShort P one (fault.FrameHeaderShort left) same = one left
 is_FrameHeaderShort P one (fault.FrameTooLong length left) same = other (codes "FrameHeaderShort") (codes "FrameTooLong") refl same
@@ -35,7 +37,8 @@ is_FrameHeaderShort P one fault.MissingKind same = other (codes "FrameHeaderShor
 is_FrameHeaderShort P one fault.DuplicateKind same = other (codes "FrameHeaderShort") (codes "DuplicateKind") refl same
 is_FrameHeaderShort P one fault.OutOfMemory same = other (codes "FrameHeaderShort") (codes "OutOfMemory") refl same
 
-pub is_FrameTooLong : (P : DecodeError → Type 0) → ((length left : ℕ) → P (fault.FrameTooLong length left)) → (e : DecodeError) → codes "FrameTooLong" ≡ name_of e → P e
+pub is_FrameTooLong : (P : DecodeError → Type 0) → ((length left : ℕ) → P (fault.FrameTooLong length left)) → (e : DecodeError)
+    → codes "FrameTooLong" ≡ name_of e → P e
 is_FrameTooLong P one (fault.BufferTooSmall len needed) same = other (codes "FrameTooLong") (codes "BufferTooSmall") refl same
 is_FrameTooLong P one (fault.FrameHeaderShort left) same = other (codes "FrameTooLong") (codes "FrameHeaderShort") refl same
 is_FrameTooLong P one (fault.FrameTooLong length left) same = one length left
@@ -48,7 +51,8 @@ is_FrameTooLong P one fault.MissingKind same = other (codes "FrameTooLong") (cod
 is_FrameTooLong P one fault.DuplicateKind same = other (codes "FrameTooLong") (codes "DuplicateKind") refl same
 is_FrameTooLong P one fault.OutOfMemory same = other (codes "FrameTooLong") (codes "OutOfMemory") refl same
 
-pub is_FrameTooShort : (P : DecodeError → Type 0) → ((length : ℕ) → P (fault.FrameTooShort length)) → (e : DecodeError) → codes "FrameTooShort" ≡ name_of e → P e
+pub is_FrameTooShort : (P : DecodeError → Type 0) → ((length : ℕ) → P (fault.FrameTooShort length)) → (e : DecodeError) → codes "FrameTooShort" ≡ name_of e
+    → P e
 is_FrameTooShort P one (fault.BufferTooSmall len needed) same = other (codes "FrameTooShort") (codes "BufferTooSmall") refl same
 is_FrameTooShort P one (fault.FrameHeaderShort left) same = other (codes "FrameTooShort") (codes "FrameHeaderShort") refl same
 is_FrameTooShort P one (fault.FrameTooLong length left) same = other (codes "FrameTooShort") (codes "FrameTooLong") refl same
@@ -61,7 +65,8 @@ is_FrameTooShort P one fault.MissingKind same = other (codes "FrameTooShort") (c
 is_FrameTooShort P one fault.DuplicateKind same = other (codes "FrameTooShort") (codes "DuplicateKind") refl same
 is_FrameTooShort P one fault.OutOfMemory same = other (codes "FrameTooShort") (codes "OutOfMemory") refl same
 
-pub is_WrongLength : (P : DecodeError → Type 0) → ((expected got : ℕ) → P (fault.WrongLength expected got)) → (e : DecodeError) → codes "WrongLength" ≡ name_of e → P e
+pub is_WrongLength : (P : DecodeError → Type 0) → ((expected got : ℕ) → P (fault.WrongLength expected got)) → (e : DecodeError)
+    → codes "WrongLength" ≡ name_of e → P e
 is_WrongLength P one (fault.BufferTooSmall len needed) same = other (codes "WrongLength") (codes "BufferTooSmall") refl same
 is_WrongLength P one (fault.FrameHeaderShort left) same = other (codes "WrongLength") (codes "FrameHeaderShort") refl same
 is_WrongLength P one (fault.FrameTooLong length left) same = other (codes "WrongLength") (codes "FrameTooLong") refl same
@@ -87,7 +92,8 @@ is_NotUtf8 P one fault.MissingKind same = other (codes "NotUtf8") (codes "Missin
 is_NotUtf8 P one fault.DuplicateKind same = other (codes "NotUtf8") (codes "DuplicateKind") refl same
 is_NotUtf8 P one fault.OutOfMemory same = other (codes "NotUtf8") (codes "OutOfMemory") refl same
 
-pub is_SelectorShort : (P : DecodeError → Type 0) → ((len needed : ℕ) → P (fault.SelectorShort len needed)) → (e : DecodeError) → codes "SelectorShort" ≡ name_of e → P e
+pub is_SelectorShort : (P : DecodeError → Type 0) → ((len needed : ℕ) → P (fault.SelectorShort len needed)) → (e : DecodeError)
+    → codes "SelectorShort" ≡ name_of e → P e
 is_SelectorShort P one (fault.BufferTooSmall len needed) same = other (codes "SelectorShort") (codes "BufferTooSmall") refl same
 is_SelectorShort P one (fault.FrameHeaderShort left) same = other (codes "SelectorShort") (codes "FrameHeaderShort") refl same
 is_SelectorShort P one (fault.FrameTooLong length left) same = other (codes "SelectorShort") (codes "FrameTooLong") refl same
@@ -140,7 +146,9 @@ is_DuplicateKind P one fault.DuplicateKind same = one
 is_DuplicateKind P one fault.OutOfMemory same = other (codes "DuplicateKind") (codes "OutOfMemory") refl same
 
 -- no other fault has a name
-pub has_no_fault : (name : List ℕ) → name ≢ codes "BufferTooSmall" → name ≢ codes "FrameHeaderShort" → name ≢ codes "FrameTooLong" → name ≢ codes "FrameTooShort" → name ≢ codes "WrongLength" → name ≢ codes "NotUtf8" → name ≢ codes "SelectorShort" → name ≢ codes "XstatsShort" → name ≢ codes "MissingKind" → name ≢ codes "DuplicateKind" → (e : DecodeError) → e ≢ fault.OutOfMemory → name ≢ name_of e
+pub has_no_fault : (name : List ℕ) → name ≢ codes "BufferTooSmall" → name ≢ codes "FrameHeaderShort" → name ≢ codes "FrameTooLong"
+    → name ≢ codes "FrameTooShort" → name ≢ codes "WrongLength" → name ≢ codes "NotUtf8" → name ≢ codes "SelectorShort" → name ≢ codes "XstatsShort"
+    → name ≢ codes "MissingKind" → name ≢ codes "DuplicateKind" → (e : DecodeError) → e ≢ fault.OutOfMemory → name ≢ name_of e
 has_no_fault name a b c d e f g h i j (fault.BufferTooSmall u0 u1) given = a
 has_no_fault name a b c d e f g h i j (fault.FrameHeaderShort u0) given = b
 has_no_fault name a b c d e f g h i j (fault.FrameTooLong u0 u1) given = c

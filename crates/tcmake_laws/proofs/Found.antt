@@ -1,5 +1,6 @@
 -- What a reader finds on the line of a message.
-use Rattle.std.proofs.Common.{◌≡◌, ◌≢◌, ℕ, suc, Bool, true, false, List, [], ◌∷◌, ◌++◌, Option, Some, None, refl, sym, ap, ◌∙◌, subst, inl, inr, ◌⊎◌, arith, ◌≤◌, ◌<◌, ◌+◌}
+use Rattle.std.proofs.Common.{◌≡◌, ◌≢◌, ℕ, suc, Bool, true, false, List, [], ◌∷◌, ◌++◌, Option, Some, None, refl, sym, ap, ◌∙◌, subst, inl, inr, ◌⊎◌, arith}
+use Rattle.std.proofs.Common.{◌≤◌, ◌<◌, ◌+◌}
 use Rattle.std.specs.Prelude.{codes, bytes_eq, ◌||◌, option_map, option_and_then, unwrap_or, is_some, IsTrue, IfSome, ◌==◌, if◌then◌else◌, ◌^◌}
 use Rattle.std.proofs.lemmas.Bool.{cases_lt, eqb-true, ne_eqb, true≢false}
 use Rattle.std.specs.Str.Parse.{digits_value}
@@ -41,7 +42,8 @@ pub a_number_or : (name : List ℕ) (most default : ℕ) (json : Data) (o : Opti
     → IsNumberOr name most default json (unwrap_or o default)
 a_number_or name most default json o at h = (o, a_number_if name most json o at h, refl)
 
-port_or : (json : Data) (port : ℕ) → get (codes "portid") json ≡ option_map ordered (if_port port) → port < 2 ^ 32 → IsNumberOr (codes "portid") 4294967295 0 json port
+port_or : (json : Data) (port : ℕ) → get (codes "portid") json ≡ option_map ordered (if_port port) → port < 2 ^ 32
+    → IsNumberOr (codes "portid") 4294967295 0 json port
 port_or json port at h = go (port == 0) refl at
   where
     go : (b : Bool) → (port == 0) ≡ b → get (codes "portid") json ≡ option_map ordered (if b then None else Some (a_number port))
@@ -95,7 +97,8 @@ Told n = (named_holds n.name ≡ n.holds) × (bytes_eq n.name (codes "NLMSG_ERRO
 
 step : (b : Bool) (x : Named) (rest : Option Named) → (named_holds x.name ≡ x.holds) × (bytes_eq x.name (codes "NLMSG_ERROR") ≡ false)
     → ((n : Named) → rest ≡ Some n → Told n) → (n : Named) → (if b then Some x else rest) ≡ Some n → Told n
-step true x rest good later n e = let same : x ≡ n = some_is x n e in subst (λ y. (named_holds y.name ≡ y.holds) × (bytes_eq y.name (codes "NLMSG_ERROR") ≡ false)) same good
+step true x rest good later n e = let same : x ≡ n = some_is x n e in
+    subst (λ y. (named_holds y.name ≡ y.holds) × (bytes_eq y.name (codes "NLMSG_ERROR") ≡ false)) same good
 step false x rest good later n e = later n e
 
 pub told : (kind : ℕ) (n : Named) → rtm_at kind ≡ Some n → Told n
@@ -118,7 +121,8 @@ told kind =
     (step (kind == 102) (record { holds = Tc; name = codes "RTM_GETCHAIN" }) _ (refl, refl)
     (λ n e. absurd (none_not_some n e)))))))))))))))))
 
-pub same_holds : (j k : ℕ) (a b : MessageType) (name : List ℕ) → rtm_at j ≡ Some (record { holds = a; name = name }) → rtm_at k ≡ Some (record { holds = b; name = name }) → a ≡ b
+pub same_holds : (j k : ℕ) (a b : MessageType) (name : List ℕ) → rtm_at j ≡ Some (record { holds = a; name = name })
+    → rtm_at k ≡ Some (record { holds = b; name = name }) → a ≡ b
 same_holds j k a b name one other = sym (told j (record { holds = a; name = name }) one).0 ∙ (told k (record { holds = b; name = name }) other).0
 
 pub no_answer : (kind : ℕ) (n : Named) → rtm_at kind ≡ Some n → n.name ≡ codes "NLMSG_ERROR" → ⊥
@@ -141,7 +145,8 @@ given m h = record {
   packet = record { number = m.origin.packet; time = read_time m.origin.time; packet_type = unwrap_or m.origin.packet_type 4 };
 }
 
-time_read : (json : Data) (m : Message) → get (codes "time") json ≡ if_text (time_of m) → IfSome m.origin.time (λ t. t.seconds < 2 ^ 64) → IsTime json (read_time m.origin.time)
+time_read : (json : Data) (m : Message) → get (codes "time") json ≡ if_text (time_of m) → IfSome m.origin.time (λ t. t.seconds < 2 ^ 64)
+    → IsTime json (read_time m.origin.time)
 time_read json m at h = go m.origin.time at h
   where
     go : (o : Option Time) → get (codes "time") json ≡ if_text (option_map time_text o) → IfSome o (λ t. t.seconds < 2 ^ 64) → IsTime json (read_time o)
@@ -170,7 +175,11 @@ module _ (m : Message) (h : Header) (verdict : Slots) (shown : Data) (found : Is
         subst (λ (line : Data). IsBeside line (message_in json) (given m h)) (sym here) (record {
           typed = (h.name, ap (option_and_then as_str) (got (codes "type")), within.0, within.1, found.rtm);
           flags = (Some h.flags, (ap (λ d. option_and_then as_u64 (option_and_then as_number d)) (got (codes "flags")), omega (arith, found.flags)), refl);
-          sequence = (Some h.sequence, (ap (λ d. option_and_then as_u64 (option_and_then as_number d)) (got (codes "seq")), omega (arith, found.sequence)), refl);
+          sequence = (
+            Some h.sequence,
+            (ap (λ d. option_and_then as_u64 (option_and_then as_number d)) (got (codes "seq")), omega (arith, found.sequence)),
+            refl,
+          );
           port = port_or json h.port (got (codes "portid")) found.port;
           packet = record {
             number = a_number_if (codes "packet") 18446744073709551615 json m.origin.packet (got (codes "packet") ∙ kept_number m.origin.packet)

@@ -1,5 +1,6 @@
 -- The line of a message, as JSON.
-use Rattle.std.proofs.Common.{◌≡◌, ℕ, suc, Bool, true, false, List, [], ◌∷◌, ◌++◌, Option, Some, None, refl, sym, ap, ◌∙◌, subst, inl, inr, ◌⊎◌, append_assoc, append-nil, arith, ◌≤◌, ◌<◌}
+use Rattle.std.proofs.Common.{◌≡◌, ℕ, suc, Bool, true, false, List, [], ◌∷◌, ◌++◌, Option, Some, None, refl, sym, ap, ◌∙◌, subst, inl, inr, ◌⊎◌}
+use Rattle.std.proofs.Common.{append_assoc, append-nil, arith, ◌≤◌, ◌<◌}
 use Rattle.std.specs.Prelude.{codes, option_map, ◌==◌, if◌then◌else◌}
 use Rattle.nla_frames.specs.Fault.{name_of}
 use Rattle.nla_frames.specs.declared.error.DecodeError.{DecodeError}
@@ -10,9 +11,11 @@ use Rattle.forms_values.specs.Sent.{events, members_events}
 use Rattle.forms_json.specs.Shown.{shown_of}
 use Rattle.forms_kinds.specs.Table.{tc_tables}
 use Rattle.tcshow_json.specs.Messages.{Header, Message}
-use Rattle.tcshow_json.specs.Line.{form_of, number_if, text_if, port_events, header_events, header_if, origin_events, read_events, fault_numbers, fault_events, body_events, line_events, time_of, message_events, place_in_capture}
+use Rattle.tcshow_json.specs.Line.{form_of, number_if, text_if, port_events, header_events, header_if, origin_events, read_events, fault_numbers}
+use Rattle.tcshow_json.specs.Line.{fault_events, body_events, line_events, time_of, message_events, place_in_capture}
 use Rattle.tcmake_laws.proofs.Slots.{Slots, members_of}
-use Rattle.tcmake_laws.proofs.Told.{a_number, if_number, if_text, place_slots, if_port, header_slots, read_slots, numbers_of, number_slots, fault_slots, line_slots}
+use Rattle.tcmake_laws.proofs.Told.{a_number, if_number, if_text, place_slots, if_port, header_slots, read_slots, numbers_of, number_slots, fault_slots}
+use Rattle.tcmake_laws.proofs.Told.{line_slots}
 use Rattle.tcmake_laws.proofs.SlotsFound.{slots_events, slots_sent, two_slots, held_events}
 
 number_sent : (name : List ℕ) (o : Option ℕ) → held_events name (if_number o) ≡ number_if name o
@@ -33,7 +36,8 @@ port_sent port = go (port == 0)
 place_sent : (m : Message) → slots_events (place_slots m) ≡ place_in_capture (time_of m) m.origin.packet m.origin.packet_type
 place_sent m =
     λ i. text_sent (codes "time") (time_of m) i
-    ++ (number_sent (codes "packet") m.origin.packet i ++ (append-nil (held_events (codes "packet_type") (if_number m.origin.packet_type)) ∙ number_sent (codes "packet_type") m.origin.packet_type) i)
+    ++ (number_sent (codes "packet") m.origin.packet i ++ (append-nil (held_events (codes "packet_type") (if_number m.origin.packet_type)) ∙ number_sent
+    (codes "packet_type") m.origin.packet_type) i)
 
 header_sent : (h : Header) → slots_events (header_slots h) ≡ header_events h
 header_sent h =

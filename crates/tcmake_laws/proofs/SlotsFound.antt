@@ -1,5 +1,6 @@
 -- An object with members that may be missing: what is found by a name.
-use Rattle.std.proofs.Common.{◌≡◌, ℕ, suc, Bool, true, false, not, ◌&&◌, List, [], ◌∷◌, ◌++◌, Option, Some, None, refl, sym, ap, ◌∙◌, subst, inl, inr, ◌⊎◌, append_assoc}
+use Rattle.std.proofs.Common.{◌≡◌, ℕ, suc, Bool, true, false, not, ◌&&◌, List, [], ◌∷◌, ◌++◌, Option, Some, None, refl, sym, ap, ◌∙◌, subst, inl, inr, ◌⊎◌}
+use Rattle.std.proofs.Common.{append_assoc}
 use Rattle.std.specs.Prelude.{bytes_eq, option_map, if◌then◌else◌}
 use Rattle.std.proofs.lemmas.Bool.{cases_Bool, and_parts, not-true, true≢false}
 use Rattle.std.proofs.lemmas.Slice.Eq.{bytes_eq-Decides}
@@ -55,7 +56,8 @@ slots_distinct (slot ∷ slots) h = go slot.1 (slots_distinct slots (and_parts _
     go (Some d) later = (free_none slot.0 slots (and_parts _ _ h).0, later)
 
 -- what a reader finds
-pub found_in_order : (k : List ℕ) (slots : Slots) → are_distinct slots ≡ true → get k (ordered (object (members_of slots))) ≡ option_map ordered (value_at k slots)
+pub found_in_order : (k : List ℕ) (slots : Slots) → are_distinct slots ≡ true
+    → get k (ordered (object (members_of slots))) ≡ option_map ordered (value_at k slots)
 found_in_order k slots h = in_order.found (members_of slots) k (slots_distinct slots h) ∙ ap (option_map ordered) (found_at k slots h)
 
 -- ---- each value is readable

@@ -1,5 +1,6 @@
 -- No line of a message is refused.
-use Rattle.std.proofs.Common.{◌≡◌, ◌≢◌, ℕ, suc, Bool, true, false, List, [], ◌∷◌, ◌++◌, Option, Some, None, refl, sym, ap, ◌∙◌, subst, inl, inr, ◌⊎◌, arith, ◌<◌}
+use Rattle.std.proofs.Common.{◌≡◌, ◌≢◌, ℕ, suc, Bool, true, false, List, [], ◌∷◌, ◌++◌, Option, Some, None, refl, sym, ap, ◌∙◌, subst, inl, inr, ◌⊎◌, arith}
+use Rattle.std.proofs.Common.{◌<◌}
 use Rattle.std.specs.Prelude.{codes, bytes_eq, option_map, option_and_then, unwrap_or, is_some, IsTrue, IfSome, IsUtf8, ◌&&◌, ◌||◌, if◌then◌else◌}
 use Rattle.std.proofs.lemmas.Bool.{and_parts, or_cases, cases_Bool, true≢false}
 use Rattle.std.proofs.lemmas.Slice.Eq.{bytes_eq-Decides}
@@ -27,7 +28,8 @@ use Rattle.tcshow_json.specs.Line as show
 use Rattle.tcmake_laws.specs.Shown.{IsFound}
 use Rattle.tcmake_laws.proofs.Slots.{Slots, members_of, value_at, are_distinct}
 use Rattle.tcmake_laws.proofs.Told.{line_slots}
-use Rattle.tcmake_messages.specs.Line.{IsGiven, IsTyped, IsOneOf, HasUnknown, IsUnknown, IsRemark, IsOfKernel, IsOfSave, members, fault_members, is_of_refused, message_in, beside}
+use Rattle.tcmake_messages.specs.Line.{IsGiven, IsTyped, IsOneOf, HasUnknown, IsUnknown, IsRemark, IsOfKernel, IsOfSave, members, fault_members}
+use Rattle.tcmake_messages.specs.Line.{is_of_refused, message_in, beside}
 use Rattle.tcmake_messages.specs.Verdict.{words_of, IsVerdictOn, Says, Agrees}
 use Rattle.tcmake_messages.specs.Made.{form_of, StandsFor, IsMade, IsUnmade, IsDenied}
 use Rattle.tcmake_messages.specs.Answer.{IsAnswer, IsMessage, IsWrong, IsRefused}
@@ -43,18 +45,21 @@ is_in name (known ∷ names) = bytes_eq name known || is_in name names
 in_one_of : (name : List ℕ) (names : List (List ℕ)) → is_in name names ≡ true → IsOneOf name names
 in_one_of name [] h = absurd (true≢false (sym h))
 in_one_of name (known ∷ names) h =
-    elim (or_cases (bytes_eq name known) (is_in name names) h) [ inl same ↦ inl ((bytes_eq-Decides name known).0 same) | inr later ↦ inr (in_one_of name names later) ]
+    elim (or_cases (bytes_eq name known) (is_in name names) h)
+    [ inl same ↦ inl ((bytes_eq-Decides name known).0 same) | inr later ↦ inr (in_one_of name names later) ]
 
 -- the names of all members that there may be are among these
 abbrev pub all_in : Slots → List (List ℕ) → Bool
 all_in [] names = true
 all_in (slot ∷ slots) names = is_in slot.0 names && all_in slots names
 
-pub named : (name : List ℕ) (slots : Slots) (names : List (List ℕ)) → all_in slots names ≡ true → IsTrue (is_some (option_map ordered (value_at name slots))) → IsOneOf name names
+pub named : (name : List ℕ) (slots : Slots) (names : List (List ℕ)) → all_in slots names ≡ true
+    → IsTrue (is_some (option_map ordered (value_at name slots))) → IsOneOf name names
 named name [] names h some = absurd (true≢false (sym some))
 named name (slot ∷ slots) names h some = go (cases_Bool (bytes_eq name slot.0)) (named name slots names (and_parts _ _ h).1)
   where
-    go : (bytes_eq name slot.0 ≡ true) ⊎ (bytes_eq name slot.0 ≡ false) → (IsTrue (is_some (option_map ordered (value_at name slots))) → IsOneOf name names) → IsOneOf name names
+    go : (bytes_eq name slot.0 ≡ true) ⊎ (bytes_eq name slot.0 ≡ false)
+        → (IsTrue (is_some (option_map ordered (value_at name slots))) → IsOneOf name names) → IsOneOf name names
     go (inl same) later = subst (λ (n : List ℕ). IsOneOf n names) (sym ((bytes_eq-Decides name slot.0).0 same)) (in_one_of slot.0 names (and_parts _ _ h).0)
     go (inr other) later = later (subst (λ b. IsTrue (is_some (option_map ordered (if b then slot.1 else value_at name slots)))) other some)
 
@@ -103,7 +108,8 @@ module _ (m : Message) (h : Header) (verdict : Slots) (found : IsFound m h) wher
     -- the line says what its message is
     holds_so : (g : NetlinkHeader) → IsGiven json g → g.holds ≡ m.holds
     holds_so g is =
-        let typed : IsTyped json (message_in json) g.kind g.holds = subst (λ (line : Data). IsTyped line (message_in json) g.kind g.holds) beside_line is.typed in
+        let typed : IsTyped json (message_in json) g.kind g.holds = subst (λ (line : Data). IsTyped line (message_in json) g.kind g.holds) beside_line
+        is.typed in
         go g.kind typed
       where
         go : (k : Option ℕ) → IsTyped json (message_in json) k g.holds → g.holds ≡ m.holds
@@ -115,7 +121,8 @@ module _ (m : Message) (h : Header) (verdict : Slots) (found : IsFound m h) wher
             same_holds k h.kind g.holds m.holds h.name row found.rtm
 
     -- of the bytes that its message stands for
-    one_made : (g : NetlinkHeader) (bytes : List ℕ) → g.holds ≡ m.holds → StandsFor tc_tables (form_of tc_message action_message g.holds) (message_in json) bytes → bytes ≡ m.payload
+    one_made : (g : NetlinkHeader) (bytes : List ℕ) → g.holds ≡ m.holds
+        → StandsFor tc_tables (form_of tc_message action_message g.holds) (message_in json) bytes → bytes ≡ m.payload
     one_made g bytes same stands =
         let form : form_of tc_message action_message g.holds ≡ show.form_of m.holds = ap (form_of tc_message action_message) same ∙ same_form m.holds in
         let these : made_of tc_tables (show.form_of m.holds) (ordered shown) ≡ Some bytes =
@@ -132,11 +139,13 @@ module _ (m : Message) (h : Header) (verdict : Slots) (found : IsFound m h) wher
     denied_not : (holds : MessageType) (bytes : List ℕ) → holds ≡ m.holds → bytes ≡ m.payload → IsDenied holds json bytes → ⊥
     denied_not holds bytes same these (inl nothing) = nothing says.0 says.1
     denied_not holds bytes same these (inr (x, told, v, on, not)) =
-        not (agrees x told v (subst (λ (b : List ℕ). IsVerdictOn (words_of m.holds) b v) these (subst (λ (t : MessageType). IsVerdictOn (words_of t) bytes v) same on)))
+        not (agrees x told v (subst (λ (b : List ℕ). IsVerdictOn (words_of m.holds) b v) these
+        (subst (λ (t : MessageType). IsVerdictOn (words_of t) bytes v) same on)))
 
     wrong_not : IsWrong tc_tables tc_message action_message Checked json → ⊥
     wrong_not (inl remark) = no_message remark.0
-    wrong_not (inr (inl (name, unknown))) = elim (known name unknown.held) [ inl member ↦ unknown.not_member member | inr fault ↦ unknown.not_of_fault fault.0 fault.1 ]
+    wrong_not (inr (inl (name, unknown))) = elim (known name unknown.held)
+        [ inl member ↦ unknown.not_member member | inr fault ↦ unknown.not_of_fault fault.0 fault.1 ]
     wrong_not (inr (inr (inl ungiven))) = ungiven (given m h) (line_given m h verdict shown found distinct message)
     wrong_not (inr (inr (inr (g, is, inl none)))) = none m.payload found.payload (stands_so g (holds_so g is))
     wrong_not (inr (inr (inr (g, is, inr (bytes, stands, denied))))) =

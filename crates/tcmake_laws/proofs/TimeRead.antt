@@ -1,5 +1,6 @@
 -- The text of a time is read as a time.
-use Rattle.std.proofs.Common.{◌≡◌, ℕ, zero, suc, ◌+◌, ◌<◌, ◌≤◌, Bool, true, false, cond, List, [], ◌∷◌, ◌++◌, length, take, drop, refl, sym, ap, ◌∙◌, subst, arith}
+use Rattle.std.proofs.Common.{◌≡◌, ℕ, zero, suc, ◌+◌, ◌<◌, ◌≤◌, Bool, true, false, cond, List, [], ◌∷◌, ◌++◌, length, take, drop, refl, sym, ap, ◌∙◌, subst}
+use Rattle.std.proofs.Common.{arith}
 use Rattle.std.proofs.lemmas.Bool.{ne_eqb}
 use Rattle.std.proofs.lemmas.Fmt.{decimal_is_IsNumeral}
 use Rattle.std.proofs.lemmas.Int.Digits.{digits_value-lt}
@@ -44,7 +45,10 @@ before ds r h = ap (λ n. take n (ds ++ 46 ∷ r)) (position ds r h) ∙ take_at
 after : (ds r : List ℕ) → AllDigits 10 ds → after_first point (ds ++ 46 ∷ r) ≡ r
 after ds r h = ap (λ n. drop (n + 1) (ds ++ 46 ∷ r)) (position ds r h) ∙ drop-append-add ds (46 ∷ r) 1
 
-pub times : (t : Time) → t.seconds < 2 ^ 64 → IsTimeText (time_text t) (record { seconds = t.seconds; nanoseconds = digits_value 10 (last_digits 9 t.nanoseconds) })
+pub times : (t : Time) → t.seconds < 2 ^ 64 → IsTimeText (time_text t) (record {
+  seconds = t.seconds;
+  nanoseconds = digits_value 10 (last_digits 9 t.nanoseconds);
+})
 unfolding time_text
 times t h =
     let numeral = decimal_is_IsNumeral t.seconds h in

@@ -64,7 +64,8 @@ number_slots n =
 
 abbrev pub fault_slots : DecodeError → ℕ → List ℕ → Slots
 fault_slots e offset path =
-    (codes "refused", Some (string (name_of e))) ∷ (number_slots (numbers_of e) ++ (codes "offset", Some (a_number offset)) ∷ (codes "path", Some (string path)) ∷ [])
+    (codes "refused", Some (string (name_of e))) ∷ (number_slots (numbers_of e) ++ (codes "offset", Some (a_number offset)) ∷
+    (codes "path", Some (string path)) ∷ [])
 
 abbrev pub line_slots : Message → Header → Slots → Data → Slots
 line_slots m h verdict shown = place_slots m ++ (header_slots h ++ (verdict ++ (codes "message", Some shown) ∷ []))

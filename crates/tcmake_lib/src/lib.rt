@@ -10,6 +10,7 @@
 
 pub mod arguments;
 mod complaint;
+pub mod interfaces;
 pub mod lines;
 mod names;
 mod now;

@@ -1,6 +1,7 @@
 //! Interfaces of a save by their names: indices of then become those of now.
 
 use crate::complaint::Complaint;
+use crate::interfaces::{META_NUMBER, MetaValue, OF_ATTRIBUTES, OF_HEADERS, OF_META, Side};
 use crate::save::Names;
 use std::alloc::{AllocError, Global};
 use std::str;
@@ -38,27 +39,15 @@ impl<'a> Interfaces<'a> {
     }
 }
 
-// The members whose numbers are indices of interfaces: the columns with the unit `ifindex` of mirred and route, and that of a header. The names
-// of interfaces (`InDev`, `Indev`) stay as they are.
-const COLUMNS: [&[u8]; 2] = [b"\"ifindex\":", b"\"Iif\":"];
-
-const IN_HEADER: &[u8] = b"\"index\":";
-
+// The header of a message. The names of interfaces that filters have as text (`InDev`, `Indev`) stay as they are.
 const HEADER: &[u8] = b"\"header\":{";
 
-// An extended match of the kind meta, what its sides are, and their values in hex.
+// An extended match of the kind meta, and what its sides are.
 const META: &[u8] = b"\"Meta\":{";
 
 const LEFT: &[u8] = b"\"left\":{\"kind\":";
 
 const RIGHT: &[u8] = b"\"right\":{\"kind\":";
-
-const LEFT_VALUE: &[u8] = b"\"Lvalue\":\"";
-
-const RIGHT_VALUE: &[u8] = b"\"Rvalue\":\"";
-
-// `TCF_META_ID_DEV`, `TCF_META_ID_RTIIF` and `TCF_META_ID_SK_BOUND_IF` of `linux/tc_ematch/tc_em_meta.h`, each with the type of a number.
-const INTERFACES: [u32; 3] = [0x1005, 0x100F, 0x1013];
 
 // What is around a place of a text.
 #[derive(Clone, Copy)]
@@ -127,24 +116,44 @@ fn front_of(text: &[u8], around: Around) -> Result<(Front, usize), Complaint> {
         };
         return Ok((Front::Other(new), HEADER.len()));
     }
-    if let Some(name) = column_at(text, around.is_header) {
-        return Ok((Front::Index, name.len()));
+    if let Some(len) = column_at(text, around.is_header) {
+        return Ok((Front::Index, len));
     }
     meta_at(text, around)
 }
 
-// The member at the front of a text, if its number is the index of an interface.
-fn column_at(text: &[u8], is_header: bool) -> Option<&'static [u8]> {
+// How long the name of the member at the front of a text is, if its number is the index of an interface.
+fn column_at(text: &[u8], is_header: bool) -> Option<usize> {
     if is_header {
-        text.strip_prefix(IN_HEADER)?;
-        return Some(IN_HEADER);
+        member_among(text, &OF_HEADERS)
+    } else {
+        member_among(text, &OF_ATTRIBUTES)
     }
-    for name in COLUMNS {
-        if text.strip_prefix(name).is_some() {
-            return Some(name);
+}
+
+// How long the name of the member at the front of a text is, if it is one of these.
+fn member_among(text: &[u8], names: &[&'static str]) -> Option<usize> {
+    for name in names {
+        if behind_name(text, name).is_some() {
+            return Some(name.len() + 3);
         }
     }
     None
+}
+
+// What is behind this name of a member at the front of a text.
+fn behind_name<'a>(text: &'a [u8], name: &str) -> Option<&'a [u8]> {
+    let text = text.strip_prefix(b"\"")?;
+    let text = text.strip_prefix(name.as_bytes())?;
+    text.strip_prefix(b"\":")
+}
+
+// True if the member of this name is at the front of a text, and is a text itself.
+fn is_text(text: &[u8], name: &str) -> bool {
+    match behind_name(text, name) {
+        Some(behind) => behind.first() == Some(&b'"'),
+        None => false,
+    }
 }
 
 // The same of an extended match of the kind meta. Its values are after what says what they are.
@@ -166,21 +175,24 @@ fn meta_at(text: &[u8], around: Around) -> Result<(Front, usize), Complaint> {
         };
         return Ok((Front::Other(new), RIGHT.len()));
     }
-    if text.strip_prefix(LEFT_VALUE).is_some() {
-        return Ok((value_of(around.right, around)?, LEFT_VALUE.len()));
-    }
-    if text.strip_prefix(RIGHT_VALUE).is_some() {
-        return Ok((value_of(around.left, around)?, RIGHT_VALUE.len()));
+    for value in &OF_META {
+        if is_text(text, value.name) {
+            return Ok((value_of(value, around)?, value.name.len() + 4));
+        }
     }
     Ok((Front::Other(around), 1))
 }
 
-// What the value of one side is, by the kind of the other.
-fn value_of(other: Option<u32>, around: Around) -> Result<Front, Complaint> {
-    match other {
-        Some(kind) if INTERFACES.contains(&kind) => Ok(Front::Word),
-        Some(_) => Ok(Front::Other(around)),
-        None => Err(Complaint::Line(LineError::Member {
+// What the value of one side is, by the kinds of both.
+fn value_of(value: &MetaValue, around: Around) -> Result<Front, Complaint> {
+    let (own, other) = match value.other {
+        Side::Left => (around.right, around.left),
+        Side::Right => (around.left, around.right),
+    };
+    match (own, other) {
+        (Some(META_NUMBER), Some(kind)) if value.kinds.contains(&kind) => Ok(Front::Word),
+        (Some(_), Some(_)) => Ok(Front::Other(around)),
+        _ => Err(Complaint::Line(LineError::Member {
             name: "Hdr",
             found: Found::Nothing,
             wanted: "left and right, each with a number for its kind, before Lvalue and Rvalue",

@@ -14,6 +14,7 @@ use std::io::{BufRead, Write};
 use tc_action_messages::{TcActionMessage, TcActionMessageAttribute};
 use tc_actions::{TcAction, TcActionAttribute};
 use tc_messages::TcMessage;
+use tc_objects::KindRules;
 use tc_plan::{
     Entry, Fate, Item, Key, Named, Now, Order, Reason, Step, circle, entry_of, entry_of_actions,
     fate_of_action, has_action, ingress_of, made_by_filters, name_of_action, newest_first,
@@ -319,7 +320,7 @@ pub fn requests_of<T: Tables, R: BufRead>(
         Some(text) => {
             if asked.plans {
                 let there = lines_of_now(alloc, forms, asked.index, text)?;
-                return plan_by(alloc, there, lines);
+                return plan_by(alloc, &KindRules, there, lines);
             }
             let mut there = lines_of_now(alloc, forms, None, text)?;
             let now = now_of(alloc, &mut there)?;

@@ -15,10 +15,10 @@ use std::collections::HashMap;
 use std::hash::{BuildHasherDefault, FoldHasher};
 use tc_action_messages::TcActionMessage;
 use tc_capture::{MessageType, Time};
-use tc_changes::{Key, Plan};
+use tc_changes::{Key, Plan, Rules};
 use tc_messages::TcMessage;
 use tc_objects::{
-    DELETE_FLAGS, Dump as Shown, KindRules, PlanRequest, Planned, State, StateError, plan_between,
+    DELETE_FLAGS, Dump as Shown, PlanRequest, Planned, State, StateError, plan_between,
     state_after, state_of,
 };
 use tc_restore::RTM_NEWACTION;
@@ -36,15 +36,16 @@ struct Parsed {
 }
 
 /// The requests that lead from the dumps of what there is now to those of what is wanted, each dump with its netlink header; the numbers of
-/// lines are from 1. There are none if something is wrong with a dump, or if something can't be made.
-pub fn plan_of_dumps(
+/// lines are from 1. `rules` has what the kernel changes in place. There are none if something is wrong with a dump, or if something can't be made.
+pub fn plan_of_dumps<R: Rules<Global>>(
     alloc: Global,
+    rules: &R,
     now: Vec<(NetlinkHeader, Vec<u8>)>,
     want: Vec<(NetlinkHeader, Vec<u8>)>,
 ) -> Result<Restored, Stop> {
     let now = lines_of(alloc, now)?;
     let want = lines_of(alloc, want)?;
-    plan_by(alloc, now, want)
+    plan_by(alloc, rules, now, want)
 }
 
 // Dumps as lines.
@@ -66,8 +67,13 @@ fn lines_of(alloc: Global, dumps: Vec<(NetlinkHeader, Vec<u8>)>) -> Result<Lines
     Ok(lines)
 }
 
-/// The requests that lead from the lines of now to those that are wanted.
-pub(crate) fn plan_by(alloc: Global, now: Lines, want: Lines) -> Result<Restored, Stop> {
+/// The requests that lead from the lines of now to those that are wanted, by what the kernel changes in place.
+pub(crate) fn plan_by<R: Rules<Global>>(
+    alloc: Global,
+    rules: &R,
+    now: Lines,
+    want: Lines,
+) -> Result<Restored, Stop> {
     let mut remarks = Lines::new(alloc);
     let now = state_in(alloc, Source::Now, None, now, &mut remarks)?;
     let there = match &now {
@@ -77,7 +83,7 @@ pub(crate) fn plan_by(alloc: Global, now: Lines, want: Lines) -> Result<Restored
     let want = state_in(alloc, Source::Wanted, there, want, &mut remarks)?;
     let requests = match (&now, want) {
         (Some((now, was)), Some((want, is))) => {
-            let plan = plan_between(alloc, &KindRules, now, want)?;
+            let plan = plan_between(alloc, rules, now, want)?;
             line_requests(alloc, plan, was, &is, &mut remarks)?
         }
         _ => Vec::new(alloc),

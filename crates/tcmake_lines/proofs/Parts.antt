@@ -176,7 +176,8 @@ puts_line Makes Passes Refuses line g bytes true old new made h = (complaint, in
 puts_line Makes Passes Refuses line g bytes false old new made h = (message (record { given = g; bytes = bytes }), (made, h.0), refl, h.1)
 
 -- a line that is there
-pub puts_whole : (Makes : List ℕ → NetlinkHeader → List ℕ → Type 0) (Passes Refuses : List ℕ → Type 0) (found : LineStatus) (line kept : List ℕ) (wrong : Bool) (old new : State)
+pub puts_whole : (Makes : List ℕ → NetlinkHeader → List ℕ → Type 0) (Passes Refuses : List ℕ → Type 0) (found : LineStatus) (line kept : List ℕ)
+    (wrong : Bool) (old new : State)
     → found ≡ Whole → IsFound found line kept → PutsLine Makes Passes Refuses kept wrong old new → PutsLine Makes Passes Refuses line wrong old new
 puts_whole Makes Passes Refuses found line kept wrong old new is h p =
     let here = subst (λ f. IsFound f line kept) is h in

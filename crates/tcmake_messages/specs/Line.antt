@@ -1,5 +1,6 @@
 -- What a line of JSON says of its message.
-use Rattle.std.specs.Prelude.{◌≡◌, ◌⊎◌, ◌<◌, ◌≤◌, ◌^◌, ℕ, Bool, List, [], ◌∷◌, length, Option, Some, None, is_some, codes, IsTrue, ◌==◌, if◌then◌else◌, option_and_then, unwrap_or}
+use Rattle.std.specs.Prelude.{◌≡◌, ◌⊎◌, ◌<◌, ◌≤◌, ◌^◌, ℕ, Bool, List, [], ◌∷◌, length, Option, Some, None, is_some, codes, IsTrue, ◌==◌, if◌then◌else◌}
+use Rattle.std.specs.Prelude.{option_and_then, unwrap_or}
 use Rattle.std.specs.List.{before_first, after_first}
 use Rattle.std.specs.Str.Parse.{IsNumeral, digits_value}
 use Rattle.serde_json.specs.Data.{Data, object, no_members}

@@ -35,21 +35,21 @@ pub enum LineError {
     },
     /// A member isn't one of a line.
     Unknown(String),
-    /// Its message stands for no bytes.
+    /// There are no bytes for its message.
     Make(MakeError),
     /// An attribute isn't one of the table of a kind, or of any if there is no kind.
     Attribute {
-        /// Where it is, as a JSON pointer.
+        /// The place of the mistake, as a JSON pointer.
         path: String,
         /// Its name, as an error shows it.
         found: String,
         kind: Option<String>,
     },
-    /// What is shown of the bytes that its message stands for is something else.
+    /// The bytes of its message are shown as something else.
     Shown(Difference),
     /// The codec refuses the bytes.
     Unreadable {
-        /// Where the fault is, as a JSON pointer.
+        /// The place of the fault, as a JSON pointer.
         path: String,
         error: DecodeError,
     },
@@ -70,7 +70,7 @@ pub enum LineError {
     NoMemory,
 }
 
-/// What was found instead of what is expected.
+/// A difference: the text that was found and the one that was expected.
 #[derive(Drop)]
 pub enum Found {
     /// Nothing.

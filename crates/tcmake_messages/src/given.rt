@@ -1,4 +1,4 @@
-//! What a line says of its message.
+//! The facts that a line states about its message.
 
 ghost use Rattle.std.specs.Prelude.{◌≡◌, ◌≢◌, ◌⊎◌, ◌≤◌, ◌<◌, ◌^◌, ℕ, false, Option, Some, None, IfErr, IfNone, IfOk, IfSome, IsTrue, OnErr, OnSome, codes};
 ghost use Rattle.std.specs.List.{after_first, before_first};
@@ -42,7 +42,7 @@ const NO_TIME: Time = Time {
     nanoseconds: 0,
 };
 
-/// What a line says of its message.
+/// The facts that a line states about its message.
 pub(crate) fn given_of(alloc: Global, json: &Value) -> Result<NetlinkHeader, LineError>
     ensures given { IfOk result (IsGiven (view json.now)) }
     ensures wrong { IfErr result (λ e. (e ≡ NoMemory) ⊎ IsRemark (view json.now) ⊎ HasUnknown (view json.now)

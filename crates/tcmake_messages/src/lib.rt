@@ -1,6 +1,6 @@
 //! Messages of lines of JSON, as `tcshow --json` writes them.
 //!
-//! [`made_of`] makes the message of a line, and [`MessageMaker`] those of all lines of an input. A line that no message is
+//! [`made_of`] makes the message of a line, and [`MessageMaker`] the messages of all lines of an input. A line that no message is
 //! made of has a [`LineError`], which says where the mistake is.
 //!
 //! Calls that take an allocator fail with `LineError::NoMemory` or `AllocError` if it fails.

@@ -17,7 +17,7 @@ pub struct MessageMaker<T> {
     pub alloc: Global,
     /// The table, and the forms of both messages.
     pub forms: Forms<T>,
-    /// What is made of a line.
+    /// How a line is made into a message.
     pub making: Making,
 }
 

@@ -1,6 +1,6 @@
-//! What is made of a line.
+//! How a line is made into a message.
 
-/// What is made of a line.
+/// How a line is made into a message.
 #[derive(Clone, Copy, PartialEq, Eq, Debug)]
 pub enum Making {
     /// The bytes that it shows, if the codec finds of them what the line says; if the line says nothing, they have to be

@@ -45,7 +45,7 @@ impl<T: Copy> Forms<T> {
     }
 }
 
-/// The bytes of a message, and where they are other than the JSON stands for.
+/// The bytes of a message, and the first place at which the JSON shows others.
 #[derive(Drop)]
 pub(crate) struct Message {
     pub(crate) bytes: Vec<u8>,
@@ -62,7 +62,8 @@ pub(crate) fn message_of<T: Tables>(
     line: &Value,
     json: &Value,
 ) -> Result<Message, LineError>
-    ensures made { IfOk result (λ m. IsMade (T.parts_of forms.table) (form_of forms.tc forms.action holds) making holds (view line.now) (view json.now) m.bytes.items) }
+    ensures made { IfOk result (λ m. IsMade (T.parts_of forms.table) (form_of forms.tc forms.action holds) making holds (view line.now) (view json.now)
+        m.bytes.items) }
     ensures unmade { IfErr result (λ e. (e ≡ NoMemory)
         ⊎ IsUnmade (T.parts_of forms.table) (form_of forms.tc forms.action holds) making holds (view line.now) (view json.now)) }
 {

@@ -1,4 +1,4 @@
-//! What the codec finds of bytes, and what a line says of it.
+//! The codec's verdict on bytes, and the verdict that a line states.
 
 ghost use Rattle.std.specs.Prelude.{◌≡◌, ◌≢◌, ℕ, Some, IfOk, IfSome, OnErr, OnOk};
 ghost use Rattle.nla_frames.specs.Fault.{name_of};
@@ -20,7 +20,7 @@ use tc_canon::{is_canonical_action, is_canonical_tc};
 use tc_capture::MessageType;
 use tc_messages::TcMessage;
 
-/// What the codec finds of bytes.
+/// The codec's verdict on bytes.
 #[derive(Drop)]
 pub enum Verdict {
     /// It refuses them.
@@ -31,12 +31,12 @@ pub enum Verdict {
         fits: bool,
         /// Writing and reading don't change it.
         settled: bool,
-        /// The bytes are those that it is written as.
+        /// The bytes are its own bytes when written.
         canonical: bool,
     },
 }
 
-/// What a line says of it.
+/// The verdict that a line states.
 #[derive(Drop)]
 pub enum Said {
     /// It is refused.
@@ -49,7 +49,7 @@ pub enum Said {
     },
 }
 
-/// What the codec finds of bytes.
+/// The codec's verdict on bytes.
 pub(crate) fn verdict_on(
     alloc: Global,
     holds: MessageType,
@@ -97,7 +97,7 @@ fn verdict_on_action(alloc: Global, bytes: &[u8]) -> Result<Verdict, AllocError>
     }
 }
 
-/// What a line says of it.
+/// The verdict that a line states.
 pub(crate) fn said_in(alloc: Global, json: &Value) -> Result<Said, LineError>
     ensures says { IfOk result (Says (view json.now)) }
     ensures wrong { OnErr result ((said : SaidType) → ¬ Says (view json.now) said) }

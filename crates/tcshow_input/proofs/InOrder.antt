@@ -99,7 +99,8 @@ module _ (header : Option MessageType) (dump : Dump) (line : List ℕ) where
   pub last_gives : (before : Option (List ℕ)) → Gives (lines_left before) (line ∷ []) (Some [])
       → Gives (text_left header dump before) (things_at header dump line ++ things_dumped header (dump_after dump line).bytes) (Some [])
   last_gives None h = tt
-  last_gives (Some b) h = ap (things_on_lines header dump) h ∙ sym (append-nil (things_at header dump line ++ things_dumped header (dump_after dump line).bytes))
+  last_gives (Some b) h = ap (things_on_lines header dump) h
+      ∙ sym (append-nil (things_at header dump line ++ things_dumped header (dump_after dump line).bytes))
 
   -- a line that is too long is no line of a dump
   module _ (long : most_line < length line) where
@@ -114,7 +115,8 @@ module _ (header : Option MessageType) (dump : Dump) (line : List ℕ) where
     long_goes_on : (next : Dump) (before after : Option (List ℕ)) → Gives (lines_left before) (line ∷ []) (lines_left after) → next ≡ no_dump
         → Gives (text_left header dump before) (things_dumped header dump.bytes ++ (hole false ∷ [])) (text_left header next after)
     long_goes_on next before after h none =
-        subst (λ (d : Dump). Gives (text_left header dump before) (things_dumped header dump.bytes ++ (hole false ∷ [])) (text_left header d after)) (no_dump_after ∙ sym none)
+        subst (λ (d : Dump). Gives (text_left header dump before) (things_dumped header dump.bytes ++ (hole false ∷ [])) (text_left header d after))
+        (no_dump_after ∙ sym none)
         (subst (λ xs. Gives (text_left header dump before) xs (text_left header (dump_after dump line) after)) long_things (first_gives before after h))
 
     long_ends : (before : Option (List ℕ)) → Gives (lines_left before) (line ∷ []) (Some [])

@@ -71,7 +71,15 @@ progress_more xs a b s m n h p = progress_then [] xs a b b s m n h (progress_put
 pub emptied : (s : State) (json : Bool) (text : List ℕ) → json ≡ s.json → text ≡ []
     → record { json = json; view = s.view; header = s.header; filter = s.filter; summary = s.summary; text = text; bad = s.bad } ≡ record s { text = [] }
 emptied s json text j t =
-    let with : Bool → List ℕ → State = λ j t. record { json = j; view = s.view; header = s.header; filter = s.filter; summary = s.summary; text = t; bad = s.bad } in
+    let with : Bool → List ℕ → State = λ j t. record {
+      json = j;
+      view = s.view;
+      header = s.header;
+      filter = s.filter;
+      summary = s.summary;
+      text = t;
+      bad = s.bad;
+    } in
     ap (λ j. with j text) j ∙ ap (λ t. with s.json t) t
 
 -- all appended text is written

@@ -7,7 +7,8 @@ use Rattle.tcshow_json.specs.Messages.{Header, Message, Reason, Thing, message, 
 use Rattle.tcshow_json.specs.Safe.{safe_text}
 use Rattle.tc_select.specs.declared.filter.Filter.{Filter}
 use Rattle.tcshow_input.specs.Selection.{is_matched, is_included}
-use Rattle.tcshow_input.specs.Shown.{ended, IsEscaped, IsPage, IsOutline, IsViewOf, View, has_fault, lines_with, IfTaken, Nothing, Shows, ShowsEach, ShowsMessage, ShowsAnswer, ShowsNotice, ShowsSummary}
+use Rattle.tcshow_input.specs.Shown.{ended, IsEscaped, IsPage, IsOutline, IsViewOf, View, has_fault, lines_with, IfTaken, Nothing, Shows, ShowsEach}
+use Rattle.tcshow_input.specs.Shown.{ShowsMessage, ShowsAnswer, ShowsNotice, ShowsSummary}
 use Rattle.tc_outline.specs.declared.page.Page.{Page}
 use Rattle.tc_outline.specs.Text.{Continues, is_in_lines, text_on}
 use Rattle.tcshow_input.specs.declared.options.OutputFormat.{OutputFormat}
@@ -134,7 +135,8 @@ page_counted format all m b page s a n shown view put e counted = (
   grows_counted (laid_out format page) b s a n put counted,
 )
 
-pub each_append : (json : Bool) (view : View) (filter : Filter) (xs ys : List Thing) (t u : List ℕ) (b c : Bool) → ShowsEach json view filter xs t b → ShowsEach json view filter ys u c
+pub each_append : (json : Bool) (view : View) (filter : Filter) (xs ys : List Thing) (t u : List ℕ) (b c : Bool) → ShowsEach json view filter xs t b
+    → ShowsEach json view filter ys u c
     → ShowsEach json view filter (xs ++ ys) (t ++ u) (b || c)
 each_append json view filter [] ys t u b c h k =
     subst (λ x. ShowsEach json view filter ys (x ++ u) (b || c)) (sym h.no_text) (subst (λ x. ShowsEach json view filter ys u (x || c)) (sym h.no_fault) k)
@@ -168,7 +170,8 @@ pub puts_message : (m : Message) (t : List ℕ) (b taken : Bool) (s n : State) �
 puts_message m t b taken s n is h shown g =
     puts_one (message m) t b s n (subst (λ x. IfTaken x (ShowsMessage s.json s.view m t b) t b) (sym is ∙ h) shown) g
 
-pub puts_no_message : (m : Message) (taken : Bool) (s n : State) → taken ≡ false → taken ≡ is_included s.filter m → Grows [] false s n → Puts (message m ∷ []) s n
+pub puts_no_message : (m : Message) (taken : Bool) (s n : State) → taken ≡ false → taken ≡ is_included s.filter m → Grows [] false s n
+    → Puts (message m ∷ []) s n
 puts_no_message m taken s n is_not h g =
     puts_one (message m) [] false s n (subst (λ x. IfTaken x (ShowsMessage s.json s.view m [] false) [] false) (sym is_not ∙ h) nothing) g
 

@@ -10,7 +10,8 @@ pub answered : (h : Header) (r : Reason) (m : Message) (path said : Option (List
 unfolding IsAnswered
 answered h r m path said errno offset line e s o text = (
   path,
-  subst (λ (x : Option ℕ). IsTextOf (Some (answered_events (time_of m) h (error_events (errno_text r.error) (some_text (escaped_text r.text)) x path) r.is_capped m)) line) o
+  subst (λ (x : Option ℕ). IsTextOf (Some (answered_events (time_of m) h (error_events (errno_text r.error) (some_text (escaped_text r.text)) x path)
+      r.is_capped m)) line) o
       (subst (λ (x : Option (List ℕ)). IsTextOf (Some (answered_events (time_of m) h (error_events (errno_text r.error) x offset path) r.is_capped m)) line) s
       (subst (λ (x : List ℕ). IsTextOf (Some (answered_events (time_of m) h (error_events x said offset path) r.is_capped m)) line) e text)),
 )

@@ -45,7 +45,8 @@ safe_char_clean c rest ok clean = go (cases_Bool (is_hidden c))
   where
     go : (is_hidden c ≡ true) ⊎ (is_hidden c ≡ false) → IsClean (safe_char c ++ rest)
     go (inl h) =
-        subst (λ b. IsClean ((if b then escape_of c else encode_utf8 c) ++ rest)) (sym h) (bytes_clean (escape_of c) rest (escape_below c (hidden_low c h)) clean)
+        subst (λ b. IsClean ((if b then escape_of c else encode_utf8 c) ++ rest)) (sym h)
+        (bytes_clean (escape_of c) rest (escape_below c (hidden_low c h)) clean)
     go (inr h) =
         subst (λ b. IsClean ((if b then escape_of c else encode_utf8 c) ++ rest)) (sym h)
         (char_clean c rest (IsUtf8-encode c (and_parts _ _ ok).0) h clean)

@@ -1,5 +1,6 @@
 -- A string of JSON in which characters are escaped is read as before.
-use Rattle.std.proofs.Common.{◌≡◌, ℕ, zero, suc, ◌+◌, ◌*◌, ◌<◌, ◌≤◌, Bool, true, false, cond, ◌&&◌, List, [], ◌∷◌, ◌++◌, length, get_or, Option, Some, None, option_and_then, inl, inr, ◌⊎◌, refl, sym, ap, ◌∙◌, subst, arith, append_assoc, append-nil, IsUtf8}
+use Rattle.std.proofs.Common.{◌≡◌, ℕ, zero, suc, ◌+◌, ◌*◌, ◌<◌, ◌≤◌, Bool, true, false, cond, ◌&&◌, List, [], ◌∷◌, ◌++◌, length, get_or, Option, Some, None}
+use Rattle.std.proofs.Common.{option_and_then, inl, inr, ◌⊎◌, refl, sym, ap, ◌∙◌, subst, arith, append_assoc, append-nil, IsUtf8}
 use Rattle.std.proofs.lemmas.Bool.{cases_eq, cases_lt, cases_Bool, ne_eqb, le-ltb, lt-ltb, lt-leb, and_parts, ltb-true}
 use Rattle.std.proofs.lemmas.List.{length-append}
 use Rattle.std.proofs.lemmas.Str.{IsUtf8-append, IsUtf8-nil, IsUtf8-encode, encode_ascii, inside_one, digit_value-digit_char, length-encode, len_utf8_bounds}
@@ -173,7 +174,8 @@ byte_stands x small = go (cases_eq x 34) (cases_eq x 92) (cases_lt x 32) (cases_
     go (inr q) (inr b) (inl c) (inr d) (inr e) (inr f) (inl is) h = subst (λ y. Stands (y ∷ []) (escape_byte y)) (sym is) short.5
     go (inr q) (inr b) (inl c) (inr d) (inr e) (inr f) (inr g) (inl is) = subst (λ y. Stands (y ∷ []) (escape_byte y)) (sym is) short.6
     go (inr q) (inr b) (inl c) (inr d) (inr e) (inr f) (inr g) (inr h) =
-        subst (λ p. Stands (x ∷ []) p) (sym (control_escape x c d e f g h)) (subst (λ b. Stands b (escape_of x)) (encode_ascii x small) (escape_stands x (omega arith)))
+        subst (λ p. Stands (x ∷ []) p) (sym (control_escape x c d e f g h))
+        (subst (λ b. Stands b (escape_of x)) (encode_ascii x small) (escape_stands x (omega arith)))
 
 -- ---- a character of a string
 
@@ -236,7 +238,8 @@ high_safe c ok big = go (cases_Bool (is_hidden c))
     go : (is_hidden c ≡ true) ⊎ (is_hidden c ≡ false) → Safe c
     go (inl h) = hidden_safe c ok same h
     go (inr h) =
-        let text : safe_text (escape (encode_utf8 c)) ≡ encode_utf8 c = ap safe_text same ∙ safe_one c ok ∙ ap (λ b. if b then escape_of c else encode_utf8 c) h in
+        let text : safe_text (escape (encode_utf8 c)) ≡ encode_utf8 c = ap safe_text same ∙ safe_one c ok
+        ∙ ap (λ b. if b then escape_of c else encode_utf8 c) h in
         record {
           utf8 = subst IsUtf8 (sym same) (IsUtf8-encode c ok);
           stands = subst (Stands (encode_utf8 c)) (sym text) (high_stand (encode_utf8 c) (encoded_high c big));
@@ -267,7 +270,8 @@ chars_stand [] ok = subst (Stands []) (sym safe_nil) stand_none
 chars_stand (c ∷ cs) ok =
     let p = and_parts _ _ ok in
     let one = char_safe c p.0 in
-    let text = ap safe_text (escape_append (encode_utf8 c) (encode_utf8_all cs)) ∙ safe_append (escape (encode_utf8 c)) (escape (encode_utf8_all cs)) one.utf8 in
+    let text = ap safe_text (escape_append (encode_utf8 c) (encode_utf8_all cs))
+    ∙ safe_append (escape (encode_utf8 c)) (escape (encode_utf8_all cs)) one.utf8 in
     subst (Stands (encode_utf8 c ++ encode_utf8_all cs)) (sym text) (stand_both (encode_utf8 c) (encode_utf8_all cs) _ _ one.stands (chars_stand cs p.1))
 
 -- ---- a string whose escaped form is UTF-8 is UTF-8
@@ -311,7 +315,8 @@ unescaped n [] h u = IsUtf8-nil
 unescaped zero (x ∷ s) h u = absurd (omega (arith, h))
 unescaped (suc n) (x ∷ s) h u = go (λ t within v. unescaped n t within v) (cases_lt x 128) u
   where
-    beyond : ((t : List ℕ) → length t ≤ n → IsUtf8 (escape t) → IsUtf8 t) → 128 ≤ x → (cs : List ℕ) → all_scalars cs ≡ true → encode_utf8_all cs ≡ escape (x ∷ s) → IsUtf8 (x ∷ s)
+    beyond : ((t : List ℕ) → length t ≤ n → IsUtf8 (escape t) → IsUtf8 t) → 128 ≤ x → (cs : List ℕ) → all_scalars cs ≡ true
+        → encode_utf8_all cs ≡ escape (x ∷ s) → IsUtf8 (x ∷ s)
     beyond later big [] ok e = let no : [] ≡ x ∷ escape s = e ∙ high_first x s big in absurd (cc no)
     beyond later big (c ∷ cs) ok e =
         let p = and_parts _ _ ok in

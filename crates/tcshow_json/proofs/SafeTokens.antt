@@ -1,5 +1,6 @@
 -- The tokens of a text of JSON whose characters are escaped.
-use Rattle.std.proofs.Common.{◌≡◌, ℕ, ◌<◌, Bool, true, false, cond, ◌&&◌, ◌||◌, List, [], ◌∷◌, ◌++◌, inl, inr, refl, sym, ap, ap₂, ◌∙◌, subst, arith, append_assoc, IsUtf8}
+use Rattle.std.proofs.Common.{◌≡◌, ℕ, ◌<◌, Bool, true, false, cond, ◌&&◌, ◌||◌, List, [], ◌∷◌, ◌++◌, inl, inr, refl, sym, ap, ap₂, ◌∙◌, subst, arith}
+use Rattle.std.proofs.Common.{append_assoc, IsUtf8}
 use Rattle.std.proofs.lemmas.Bool.{cases_lt, ne_eqb, false≢true}
 use Rattle.json.specs.Token.{Token, begin_object, end_object, begin_array, end_array, key, string, number, boolean, null, bad}
 use Rattle.json.specs.Word.{ends_word, is_operator, is_space, word}
@@ -95,7 +96,8 @@ null_lexed : (r : List ℕ) → ends_word r ≡ true → lex between (110 ∷ 11
 unfolding lex word
 null_lexed r ended = ap₂ (λ b l. token (cond b null bad) ∷ l) ended (in_word-ended r ended)
 
-operators : ((r : List ℕ) → lex between (123 ∷ r) ≡ token begin_object ∷ lex between r) × ((r : List ℕ) → lex between (125 ∷ r) ≡ token end_object ∷ lex between r)
+operators : ((r : List ℕ) → lex between (123 ∷ r) ≡ token begin_object ∷ lex between r)
+    × ((r : List ℕ) → lex between (125 ∷ r) ≡ token end_object ∷ lex between r)
     × ((r : List ℕ) → lex between (91 ∷ r) ≡ token begin_array ∷ lex between r) × ((r : List ℕ) → lex between (93 ∷ r) ≡ token end_array ∷ lex between r)
     × ((r : List ℕ) → lex between (58 ∷ r) ≡ colon ∷ lex between r) × ((r : List ℕ) → lex between (44 ∷ r) ≡ comma ∷ lex between r)
 unfolding lex

@@ -7,7 +7,8 @@ use tc_brief::{Object, Said, lines_of};
 use tc_columns::{KindColumns, Root};
 use tc_words::TcWords;
 
-/// A message: its object, what it does and who sent it, its bytes in hex, and its lines without and with statistics; the latter may be empty, and isn't tested then.
+/// A message: its object, what it does and who sent it, its bytes in hex, and its lines without and with statistics.
+/// Lines with statistics that are empty aren't tested.
 pub(crate) struct Known {
     pub(crate) root: Root,
     pub(crate) object: Object,
@@ -36,10 +37,11 @@ fn text_of(alloc: Global, known: &Known, statistics: bool) -> Result<Vec<u8>, Al
         all: false,
     };
     let said = Said {
-        verb: known.verb,
+        begin: known.verb.as_bytes(),
         object: known.object,
         statistics,
         port: known.port,
+        end: &[],
     };
     let digits = joined(alloc, known.digits, "")?;
     let bytes = match hex::decode(alloc, digits.as_slice()) {

@@ -103,7 +103,7 @@ static SECTIONS: [[u8; 60]; 2] = [
     ],
 ];
 
-/// What a file has before its packets.
+/// The bytes of a file before its packets.
 pub fn beginning(alloc: Global, format: Format, is_big: bool) -> Result<Vec<u8>, AllocError> {
     match format {
         Format::Stream => Ok(Vec::new(alloc)),
@@ -167,7 +167,7 @@ fn put_block(
     put_numbers(file, is_big, &[length])
 }
 
-/// Appends a packet, of which the capture holds the first bytes.
+/// Appends a packet whose first bytes are in the capture.
 pub fn put_packet(
     file: &mut Vec<u8>,
     format: Format,

@@ -6,7 +6,7 @@ ghost use Rattle.tests_data.specs.Inputs.{header_len, after_zeros};
 
 use std::alloc::{AllocError, Global};
 
-/// Which of the two messages bytes are taken for.
+/// The message type that bytes are taken for.
 #[derive(Clone, Copy, Debug)]
 pub enum Form {
     /// A traffic control message.

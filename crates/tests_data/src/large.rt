@@ -4,16 +4,16 @@ use crate::input::{Form, Input};
 use crate::row::{Expected, Row};
 use std::alloc::{AllocError, Global};
 
-/// How many attributes the list has.
+/// The number of attributes in the list.
 pub const MANY_ATTRIBUTES: u32 = 4096;
 
-/// How many keys the selector has, and counts in `nkeys`.
+/// The number of keys in the selector, also its `nkeys`.
 pub const MANY_KEYS: u8 = 255;
 
-/// How many letters the text has.
+/// The number of letters in the text.
 pub const MANY_LETTERS: usize = 60_000;
 
-/// How many NULs the warning ends in.
+/// The number of NULs at the end of the warning.
 pub const MANY_NULS: usize = 300;
 
 // The message of these attributes, which is canonical.

@@ -4,7 +4,7 @@ use crate::input::{Form, Input};
 use std::alloc::{AllocError, Global};
 use std::test::Fail;
 
-/// What the calls have to return for a message.
+/// The results that the calls have to return for a message.
 #[derive(Drop)]
 pub enum Expected {
     /// It fails with the fault of this name.

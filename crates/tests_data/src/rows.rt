@@ -7,7 +7,7 @@ use crate::row::{Row, row_of};
 use std::alloc::Global;
 use std::test::Fail;
 
-/// The messages that were made by hand; the first is that of the program's stored run.
+/// The hand-written messages. The first one is also in the program's stored run.
 pub fn made(alloc: Global) -> Result<Vec<Row>, Fail>
     ensures { IfOk result (λ rows. vec_len rows ≡ 69) }
 {

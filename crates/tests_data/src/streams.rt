@@ -48,7 +48,7 @@ impl<T: Write> Write for Slow<T> {
     }
 }
 
-/// How many calls succeed, how often each is interrupted before, and how the stream fails after them.
+/// The number of calls that succeed, the interruptions before each, and the error after them.
 pub type Stream = (usize, usize, ErrorKind);
 
 /// `count` calls, each after `interruptions` interruptions; then the stream times out.

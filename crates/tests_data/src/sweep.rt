@@ -1,4 +1,4 @@
-//! Attributes of all types and many lengths, and the messages in which they may stand.
+//! Attributes of all types and many lengths, and the messages that may have them.
 
 ghost use Rattle.std.specs.Prelude.{◌≡◌, ◌≤◌, ◌<◌, IfOk, length, replicate, vec_len};
 ghost use Rattle.tests_data.specs.Inputs.{attribute};
@@ -9,7 +9,7 @@ use std::alloc::{AllocError, Global};
 /// The last type that is swept over, from 0 on: after all known ones.
 pub const LAST_TYPE: u16 = 110;
 
-/// How many bytes a swept attribute has.
+/// The lengths of swept attributes.
 pub const LENGTHS: [usize; 10] = [0, 1, 2, 4, 6, 8, 16, 24, 36, 40];
 
 /// The kinds of a message whose options are known.
@@ -78,7 +78,7 @@ fn around(alloc: Global, place: usize) -> Result<Input, AllocError>
     placed(alloc, place % 11, &swept)
 }
 
-/// The messages in which an attribute of each type and each length is alone, and the one option of each known kind.
+/// Messages with one attribute, of each type and each length, also as the only option of each known kind.
 pub fn all_around(alloc: Global) -> Result<Vec<Input>, AllocError>
     ensures { IfOk result (λ inputs. vec_len inputs ≡ 12210) }
 {

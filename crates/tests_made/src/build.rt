@@ -1,4 +1,4 @@
-//! JSON of which no message is made.
+//! JSON that makes no message.
 
 mod broken;
 mod wrong;

@@ -1,5 +1,5 @@
-//! Requests that are built, with their bytes; parts that aren't settled; dumps made into requests, and the order in which these
-//! work; actions that stand alone or share a place.
+//! Requests that are built, with their bytes; parts that aren't settled; dumps made into requests, and the order that
+//! works; standalone actions, and actions that share a place.
 
 mod actions;
 mod built;

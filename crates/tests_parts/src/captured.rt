@@ -1,6 +1,6 @@
 //! Actions as `tc` of iproute2 sends them, and as Linux reports them.
 
-/// What `tc` sends to make an action `mirred`.
+/// The message that `tc` sends to make an action `mirred`.
 #[rattlefmt::skip]
 pub(crate) static MIRRED_SENT: [u8; 52] = [
     0x34, 0, 1, 0, 0x0b, 0, 1, 0, 0x6d, 0x69, 0x72, 0x72, 0x65, 0x64, 0, 0, 0x24, 0, 2, 0x80,
@@ -8,7 +8,7 @@ pub(crate) static MIRRED_SENT: [u8; 52] = [
     0, 0, 0, 0, 2, 0, 0, 0, 6, 0, 0, 0,
 ];
 
-/// What `tc` sends to make an action `tunnel_key`.
+/// The message that `tc` sends to make an action `tunnel_key`.
 #[rattlefmt::skip]
 pub(crate) static TUNNEL_KEY_SENT: [u8; 60] = [
     0x3c, 0, 1, 0, 0x0f, 0, 1, 0, 0x74, 0x75, 0x6e, 0x6e, 0x65, 0x6c, 0x5f, 0x6b, 0x65, 0x79, 0, 0,
@@ -16,7 +16,7 @@ pub(crate) static TUNNEL_KEY_SENT: [u8; 60] = [
     0, 0, 0, 0, 3, 0, 0, 0, 0, 0, 0, 0, 0, 0, 0, 0, 2, 0, 0, 0,
 ];
 
-/// What Linux reports of an action `nat`, with a cookie.
+/// Linux's message about an action `nat` with a cookie.
 #[rattlefmt::skip]
 pub(crate) static NAT_TOLD: [u8; 112] = [
     0x70, 0, 3, 0, 8, 0, 1, 0, 0x6e, 0x61, 0x74, 0, 4, 0, 5, 0, 0x50, 0, 4, 0,
@@ -27,7 +27,7 @@ pub(crate) static NAT_TOLD: [u8; 112] = [
     0x21, 0, 0, 0, 6, 0, 6, 0, 0xca, 0xfe, 0, 0,
 ];
 
-/// What Linux reports of an action `gact`, of which no options are known. Their word has no nested flag.
+/// Linux's message about an action `gact`, whose options aren't known. Their word has no nested flag.
 #[rattlefmt::skip]
 pub(crate) static GACT_TOLD: [u8; 176] = [
     0xb0, 0, 1, 0, 9, 0, 1, 0, 0x67, 0x61, 0x63, 0x74, 0, 0, 0, 0, 4, 0, 5, 0,
@@ -41,7 +41,7 @@ pub(crate) static GACT_TOLD: [u8; 176] = [
     0, 0, 0, 0, 0, 0, 0, 0, 0, 0, 0, 0, 0, 0, 0, 0,
 ];
 
-/// What Linux reports of an action `mirred`. The word of its options has no nested flag.
+/// Linux's message about an action `mirred`. The word of its options has no nested flag.
 #[rattlefmt::skip]
 pub(crate) static MIRRED_TOLD: [u8; 180] = [
     0xb4, 0, 1, 0, 0x0b, 0, 1, 0, 0x6d, 0x69, 0x72, 0x72, 0x65, 0x64, 0, 0, 0x50, 0, 4, 0,

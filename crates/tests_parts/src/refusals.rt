@@ -1,4 +1,4 @@
-//! Which requests the failing allocator refuses. No clause can say it, since a clause sees nothing of what a cell holds.
+//! The requests that the failing allocator refuses. No clause can say it, since a clause sees nothing of what a cell holds.
 
 use failing_alloc::Failing;
 use std::alloc::{AllocError, Allocator, Global};

@@ -5,7 +5,7 @@ use std::alloc::{AllocError, Global};
 use std::test::Fail;
 use tc_records::{TcU32Key, TcU32Selector, TcU32SelectorFlags};
 
-/// One key: every bit of the word at byte 16 is that of 10.0.0.1.
+/// One key: the word at byte 16 is 10.0.0.1.
 const KEY: TcU32Key = TcU32Key {
     mask: 0xffff_ffff,
     val: 0x0a00_0001,

@@ -46,7 +46,7 @@ fn short_statistics(rt: HostRuntime) -> Result<(), Fail> {
     Ok(())
 }
 
-/// True if statistics are those of a class, all zero, and written so.
+/// True if statistics are of a class, all zero, and written so.
 fn are_of_a_class(read: &TcFqCodelXstats) -> bool {
     let class: TcFqCodelXstats = TcFqCodelXstats::Class(TcFqCodelClStats::default());
     if *read != class || !read.is_settled() || !read.fits() || read.buffer_len() != 28 {

@@ -1,8 +1,9 @@
 //! The interfaces that a line of JSON names by their indices: in each column with the unit `ifindex`, so that a kind that comes later needs nothing
-//! here; and in the ematch `meta`, whose values are an index or something else by what they are compared with.
+//! here. Those of the extended match `meta` are under a condition, so they are no columns: `tcmake --names` has a list of them.
 
 use crate::tc_columns::{KindColumns, Root};
 use crate::tc_lines::{Column, Columns, Display};
+use crate::tcmake_lib::interfaces::{META_NUMBER, OF_META, Side};
 use ::serde_json::Value;
 use std::collections::BTreeSet;
 
@@ -78,26 +79,21 @@ fn index_in(value: &Value) -> Option<u32> {
 
 // ---- The ematch meta
 
-/// `TCF_META_TYPE_INT`, in bits 12 to 15 of a kind.
-const TCF_META_TYPE_INT: u64 = 1;
-/// `TCF_META_ID_VALUE`: what the other side is compared with.
-const TCF_META_ID_VALUE: u64 = 0;
-/// `TCF_META_ID_DEV`, `TCF_META_ID_RTIIF` and `TCF_META_ID_SK_BOUND_IF`: interfaces.
-const INTERFACES: [u64; 3] = [5, 15, 19];
-
 // The value that a list of `em_meta` compares an interface with.
 fn take_meta(items: &[Value], found: &mut BTreeSet<u32>) {
     let member = |name: &str| items.iter().rev().find_map(|item| item.get(name));
     let Some(header) = member("Hdr") else { return };
-    let kinds = ["left", "right"].map(|side| header.get(side)?.get("kind").and_then(number_in));
-    let [Some(left), Some(right)] = kinds else { return };
-    let is_value = |kind: u64| kind >> 12 == TCF_META_TYPE_INT && kind & 0xfff == TCF_META_ID_VALUE;
-    let is_interface = |kind: u64| kind >> 12 == TCF_META_TYPE_INT && INTERFACES.contains(&(kind & 0xfff));
-    if is_interface(left) && is_value(right) {
-        found.extend(member("Rvalue").and_then(word_in));
-    }
-    if is_value(left) && is_interface(right) {
-        found.extend(member("Lvalue").and_then(word_in));
+    let kind_of = |side: &str| header.get(side)?.get("kind").and_then(number_in);
+    let (left, right) = (kind_of("left"), kind_of("right"));
+    for value in &OF_META {
+        let (own, other) = match value.other {
+            Side::Left => (right, left),
+            Side::Right => (left, right),
+        };
+        let is_among = |kind: u64| value.kinds.iter().any(|it| u64::from(*it) == kind);
+        if own == Some(META_NUMBER.into()) && other.is_some_and(is_among) {
+            found.extend(member(value.name).and_then(word_in));
+        }
     }
 }
 
@@ -210,6 +206,7 @@ mod tests {
             assert_eq!(found(0x1000 | id, 0x1000, number(3, 4)), [4, 7], "{id}");
             assert_eq!(found(0x1000, 0x1000 | id, number(2, 4)), [4, 7], "{id} on the right");
             assert_eq!(found(0x1000 | id, 0x1000, number(2, 4)), [7], "the mask of {id}");
+            assert_eq!(found(0x1000 | id, 0x1005, number(3, 4)), [7], "the mask of another interface");
         }
         assert_eq!(found(0x1000 | 5, 0x1000, (3, 4u64.to_ne_bytes().to_vec())), [4, 7], "of eight bytes");
         assert_eq!(found(0x1000 | 6, 0x1000, number(3, 4)), [7], "a priority");

@@ -26,6 +26,11 @@ fn names_of(saved: &[&Device], devices: &Devices, lines: &str) -> Result<BTreeMa
     Ok(indices.into_iter().filter_map(|index| Some((index, devices.at(index)?.name.clone()))).collect())
 }
 
+/// The kernel's release.
+pub fn release() -> String {
+    nix::sys::utsname::uname().map(|name| name.release().to_string_lossy().into_owned()).unwrap_or_default()
+}
+
 // The first line, with its members in this order.
 struct Head<'a> {
     saved: &'a [&'a Device],
@@ -34,13 +39,11 @@ struct Head<'a> {
 
 impl Serialize for Head<'_> {
     fn serialize<S: Serializer>(&self, to: S) -> Result<S::Ok, S::Error> {
-        let release =
-            nix::sys::utsname::uname().map(|name| name.release().to_string_lossy().into_owned()).unwrap_or_default();
         let mut head = to.serialize_map(None)?;
         head.serialize_entry("save", &VERSION)?;
         head.serialize_entry("devs", &Saved(self.saved))?;
         head.serialize_entry("names", self.names)?;
-        head.serialize_entry("kernel", &release)?;
+        head.serialize_entry("kernel", &release())?;
         head.serialize_entry("by", concat!("tcsave ", env!("CARGO_PKG_VERSION")))?;
         head.serialize_entry("time", &humantime::format_rfc3339_seconds(SystemTime::now()).to_string())?;
         head.end()

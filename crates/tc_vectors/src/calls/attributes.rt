@@ -1,4 +1,4 @@
-//! Whether attributes and options are what they have to be.
+//! Comparisons of attributes and options with what they have to be.
 
 use crate::tables::{is_attribute, is_shown};
 use std::alloc::{AllocError, Global};

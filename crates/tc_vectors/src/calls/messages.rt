@@ -1,4 +1,4 @@
-//! Whether a message is what it has to be: read from bytes, or made by hand. It is `shown` by `Debug` as a front and then its attributes; and
+//! Comparisons of a message, read from bytes or built, with what it has to be. It is `shown` by `Debug` as a front and then its attributes; and
 //! `written` as bytes, and settled or not, or `None` where only its text is looked at.
 
 use std::alloc::{AllocError, Global};
@@ -65,7 +65,7 @@ pub(crate) fn reads_back(alloc: Global, message: Message<'_>, bytes: &[u8]) -> b
     }
 }
 
-/// What `is_settled` returns.
+/// The result of `is_settled`.
 pub(crate) fn is_settled(message: Message<'_>) -> bool {
     match message {
         Message::Tc(message) => message.is_settled(),
@@ -184,7 +184,7 @@ fn length(alloc: Global, message: Message<'_>) -> Option<usize> {
     }
 }
 
-/// How many bytes are emitted of a traffic control message, if it fits.
+/// The length of a traffic control message when emitted, if it fits.
 pub(crate) fn length_of(alloc: Global, message: Option<TcMessage>) -> Option<usize> {
     match &message {
         Some(message) => length(alloc, Message::Tc(message)),

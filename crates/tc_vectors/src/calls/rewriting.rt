@@ -15,7 +15,7 @@ pub(crate) fn is_canonical(form: Form, bytes: &[u8]) -> bool {
     }
 }
 
-/// What bytes are rewritten as.
+/// Bytes rewritten once.
 pub(crate) fn rewrite<A: Allocator + Copy>(
     alloc: A,
     form: Form,
@@ -27,7 +27,7 @@ pub(crate) fn rewrite<A: Allocator + Copy>(
     }
 }
 
-/// What bytes are settled as, and after how many rewrites.
+/// Bytes rewritten until nothing changes, and the number of rewrites.
 pub(crate) fn settle<A: Allocator + Copy>(
     alloc: A,
     form: Form,

@@ -72,7 +72,7 @@ fn had_for_all_under(alloc: Global, frame: &NlaBuffer<'_>, bytes: &[u8], kind: &
         && had::<TcXstats>(TcXstats::parse_with_param(alloc, frame, kind))
 }
 
-/// Whether memory sufficed for the attributes of a message after its header, if that is whole.
+/// True if memory sufficed for the attributes of a message after its header, if the header is whole.
 pub(crate) fn had_for_attributes(alloc: Global, input: &Input) -> bool {
     match (input.form, input.bytes.get(20..)) {
         (Form::Tc, Some(frames)) => had::<VecTcAttribute>(VecTcAttribute::parse(alloc, frames)),

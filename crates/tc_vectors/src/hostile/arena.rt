@@ -14,7 +14,7 @@ fn length_as<'a, M: ParseableBytes<&'a Bump> + Emitable + Drop>(
     Ok(M::parse(arena, bytes)?.checked_len())
 }
 
-/// How many bytes a message has that bytes are parsed as in the arena, or why it isn't parsed.
+/// The length of the message that bytes are parsed as in the arena, or why they aren't parsed.
 fn length_in(arena: &Bump, bytes: &[u8], form: Form) -> Result<Option<usize>, DecodeError> {
     match form {
         Form::Tc => length_as::<TcMessage<&Bump>>(arena, bytes),

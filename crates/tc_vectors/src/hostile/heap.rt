@@ -9,17 +9,17 @@ use std::test::Fail;
 use tc_wire::{DecodeError, ParseableBytes, TcActionMessage, TcAttribute, TcMessage, TcOption};
 use tests_data::{Form, Row, captured, large_messages, made};
 
-/// How many bytes the heap takes for so many: units of 16, and one at least.
+/// The bytes that the heap takes for this size: units of 16, and at least one.
 fn block(size: usize) -> usize {
     size.max(16).saturating_add(15) / 16 * 16
 }
 
-/// How many bytes the heap takes for so many attributes.
+/// The bytes that the heap takes for so many attributes.
 fn attributes(count: usize) -> usize {
     block(count.saturating_mul(size_of::<TcAttribute<&LocalHeap>>()))
 }
 
-/// How many bytes the heap takes for so many options.
+/// The bytes that the heap takes for so many options.
 fn options(count: usize) -> usize {
     block(count.saturating_mul(size_of::<TcOption<&LocalHeap>>()))
 }
@@ -34,7 +34,7 @@ fn held_as<'h, M: ParseableBytes<&'h LocalHeap> + Drop>(
     Ok(held)
 }
 
-/// How many bytes of a heap a message holds that bytes are parsed as, or why it isn't parsed; and how many are taken once it is dropped.
+/// The bytes of a heap that a parsed message holds, or why it isn't parsed, and the bytes that are taken once it is dropped.
 fn held_by(heap: &LocalHeap, form: Form, bytes: &[u8]) -> (Result<usize, DecodeError>, usize) {
     let held = match form {
         Form::Tc => held_as::<TcMessage<&LocalHeap>>(heap, bytes),
@@ -43,7 +43,7 @@ fn held_by(heap: &LocalHeap, form: Form, bytes: &[u8]) -> (Result<usize, DecodeE
     (held, heap.used())
 }
 
-/// How many bytes of a heap of this size the stored message holds, and how many are taken once it is dropped.
+/// The bytes of a heap of this size that the stored message holds, and the bytes that are taken once it is dropped.
 fn held_in(alloc: Global, size: usize) -> Result<(Result<usize, DecodeError>, usize), AllocError> {
     Ok(held_by(&LocalHeap::new(alloc, size)?, Form::Tc, &FQ_CODEL))
 }
@@ -93,7 +93,7 @@ fn a_parse_takes_32_bytes_a_byte(rt: HostRuntime) -> Result<(), Fail> {
     suffice(alloc, &large_messages(alloc)?)
 }
 
-/// How many bytes less a message holds once it is upgraded, if it was made.
+/// The bytes that a message frees when it is upgraded, if it was built.
 fn freed(heap: &LocalHeap, made: Result<TcMessage<&LocalHeap>, AllocError>) -> Option<usize> {
     let before = heap.used();
     match made {

@@ -8,10 +8,10 @@ use std::alloc::Global;
 use tc_wire::{DecodeError, ParseableBytes, RewriteError, TcActionMessage, TcMessage};
 use tests_data::{Form, Input};
 
-/// What is wrong with what a call returned, if anything is.
+/// A fault in the result of a call, if any.
 pub(crate) type Complaint = Option<&'static str>;
 
-/// What is wrong with how a message is refused, or read and written.
+/// A fault in how a message is refused, or read and written.
 pub(crate) fn judge(alloc: Global, input: &Input) -> Complaint {
     match input.form {
         Form::Tc => judge_tc(alloc, &input.bytes),

@@ -7,7 +7,7 @@ use std::test::Fail;
 use tc_wire::{DecodeError, Emitable, ParseableBytes, RewriteError, TcActionMessage, TcMessage};
 use tests_data::{Expected, Form, Row, made};
 
-/// What is wrong with what a call returned.
+/// A fault in the result of a call.
 #[derive(Clone, Copy, Debug)]
 enum Wrong {
     /// A request was refused and the call didn't fail with out of memory, or it did and none was.
@@ -20,13 +20,13 @@ enum Wrong {
     Emitted,
     /// The message or its clone is another.
     Equality,
-    /// What is rewritten or settled is another.
+    /// A message is rewritten or settled to another one.
     Answer,
     /// Each of the first 999 requests was refused in turn, and the call never had its memory.
     Requests,
 }
 
-/// Whether a call was given all its memory, or what is wrong with what it returned.
+/// True if a call was given all its memory, or a fault in its result.
 type Ended = Result<bool, Wrong>;
 
 // A call that failed with out of memory has to have been refused a request.
@@ -198,7 +198,7 @@ fn is_read(failing: &Failing<Global>, row: &Row) -> Ended {
     }
 }
 
-/// What rewriting and settling return of a message with memory enough.
+/// The results of rewriting and settling a message with enough memory.
 #[derive(Drop)]
 struct Wanted {
     rewritten: Result<Vec<u8>, RewriteError>,

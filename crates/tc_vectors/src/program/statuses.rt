@@ -1,4 +1,4 @@
-//! The exit status of the program: that of the report, and 3 only where a stream fails, in both modes.
+//! The exit status of the program in both modes: the report's status, or 3 if a stream fails.
 
 use crate::program::streams::{LIMIT_OF_FQ_CODEL, REPORT_ON_LIMIT, serves};
 use tcrewrite_lib::arguments::Arguments;

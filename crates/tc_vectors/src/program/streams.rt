@@ -181,7 +181,7 @@ fn tries_again(rt: HostRuntime) {
     }
 }
 
-/// Whether the program ends with this status where so many calls of its input, output and error output succeed, and writes these texts to
+/// True if the program ends with this status when so many calls of its input, output and error output succeed, and writes these texts to
 /// the outputs.
 pub(crate) fn serves(
     alloc: Global,

@@ -64,7 +64,7 @@ fn form_of(sent: Sent) -> MessageType {
     }
 }
 
-// The time of each message, and one a nanosecond later.
+// The time of each message, whose interface is "wan", and one a nanosecond later.
 const AT: Time = Time {
     seconds: 1_764_028_801,
     nanoseconds: 250_000_000,
@@ -86,6 +86,7 @@ fn is_taken(alloc: Global, row: &Row) -> Option<bool> {
             rtm: *rtm,
             holds: form_of(*sent),
             payload: &payload,
+            name: Some("wan"),
         })),
         Err(_) => None,
     }
@@ -124,7 +125,7 @@ fn kinds(rt: HostRuntime) {
 }
 
 #[rattlefmt::skip]
-static PLACES: [Row; 13] = [
+static PLACES: [Row; 17] = [
     (Filter { handles: &[0x8008_d000], ..Filter::ALL }, Sent::Flower, Some(44), false),
     (Filter { handles: &[0x8008_d000], ..Filter::ALL }, Sent::Action, Some(48), false),
     (Filter { handles: &[2, 0x80d0_0800], ..Filter::ALL }, Sent::U32, Some(44), true),
@@ -134,6 +135,10 @@ static PLACES: [Row; 13] = [
     (Filter { parents: &[0xffff_fff2], priorities: &[49152], ..Filter::ALL }, Sent::Flower, Some(36), false),
     (Filter { parents: &[0xffff_fff2], priorities: &[49152], interfaces: &[3], ..Filter::ALL }, Sent::Flower, Some(44), true),
     (Filter { parents: &[0xffff_fff2], priorities: &[49152], interfaces: &[4], ..Filter::ALL }, Sent::Flower, Some(44), false),
+    (Filter { interfaces: &[4], names: &["lan", "wan"], ..Filter::ALL }, Sent::Flower, Some(44), true),
+    (Filter { interfaces: &[3], names: &["lan"], ..Filter::ALL }, Sent::Flower, Some(44), true),
+    (Filter { names: &["wa", "wan0"], ..Filter::ALL }, Sent::Qdisc, Some(36), false),
+    (Filter { interfaces: &[4], names: &["lan"], ..Filter::ALL }, Sent::Flower, Some(44), false),
     (Filter { chains: &[7], ..Filter::ALL }, Sent::Chain, Some(100), true),
     (Filter { chains: &[7], ..Filter::ALL }, Sent::Flower, Some(44), false),
     (Filter { chains: &[0], ..Filter::ALL }, Sent::Flower, Some(44), true),

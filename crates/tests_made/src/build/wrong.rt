@@ -1,4 +1,4 @@
-//! JSON that isn't what is shown of the bytes that it stands for: the error names the first place, what was found and what is shown there.
+//! JSON that differs from what its bytes are shown as: the error names the first place, what was found and what is shown there.
 
 use forms_json::Form;
 use forms_kinds::{ACTION_MESSAGE, TC_MESSAGE, TcTables};

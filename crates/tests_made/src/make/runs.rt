@@ -16,7 +16,7 @@ pub(crate) const FORMS: Forms<TcTables> = Forms {
     action: ACTION_MESSAGE,
 };
 
-/// What is asked for without arguments.
+/// The request without arguments.
 pub(crate) const HEX: Request = Request {
     form: OutputFormat::Hex,
     making: Making::Checked,
@@ -54,7 +54,7 @@ pub(crate) fn bare(making: Making) -> Request {
     }
 }
 
-/// What a run wrote, and its status.
+/// The output of a run, and its status.
 #[derive(Drop)]
 pub(crate) struct Outcome {
     pub(crate) status: u8,

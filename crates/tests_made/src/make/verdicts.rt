@@ -1,4 +1,4 @@
-//! What a line says of its message, what the codec finds, and what is made.
+//! Verdicts that lines state, the codec's verdicts, and the messages that are made.
 
 use crate::make::runs::{bare, makes, makes_line};
 use std::alloc::{AllocError, Global};

@@ -1,4 +1,4 @@
-//! Canonical messages, and the bytes that JSON stands for.
+//! Canonical messages, and the bytes of JSON.
 
 use forms_text::read_json;
 use serde_json::Value;

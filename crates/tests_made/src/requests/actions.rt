@@ -1,4 +1,4 @@
-//! Standalone actions and those that are a filter's own; order numbers of actions in their lists.
+//! Standalone actions and a filter's own; order numbers of actions in their lists.
 
 use crate::requests::in_hex::{self, is_written};
 use nla_frames::DefaultNla;

@@ -12,12 +12,14 @@ static ROOTS: [RootTable; 2] = [
     RootTable {
         index: 10,
         parent: 0x1_0000,
+        chain: 0,
         priority: 1,
         number: 0x801,
     },
     RootTable {
         index: 10,
         parent: 0x1_0000,
+        chain: 0,
         priority: 2,
         number: 0x800,
     },
@@ -42,6 +44,16 @@ static USER_TABLES: [&str; 3] = [
 #[rattlefmt::skip]
 static ANOTHER_ROOT: &str =
 "000000000a000000000030800000010008000100080001007533320008000b00000000000c0002000800040001000000";
+
+// The root table of the first priority in chain 7, and a key in it, with the request that restores it.
+#[rattlefmt::skip]
+static ANOTHER_CHAIN: [&str; 3] = [
+"000000000a000000000030800000010008000100080001007533320008000b00070000000c0002000800040001000000",
+"000000000a000000000830800000010008000100080001007533320008000b00070000003000020024000500010001000000\
+00000000000000000000ffffffff0a0900070c000000000000000800020000003080",
+"000000000a000000000800000000010008000100080001007533320008000b00070000003000020024000500010001000000\
+00000000000000000000ffffffff0a0900070c00000000000000080002000000f0ff",
+];
 
 // Dumps of filters, and the requests that restore them.
 #[rattlefmt::skip]
@@ -241,5 +253,23 @@ fn two_root_tables(rt: HostRuntime) -> Result<(), Fail> {
         );
     }
     assert!(rt; is_restored(alloc, &roots, RESTORED[3].0, RESTORED[3].1)?);
+    Ok(())
+}
+
+// A priority has a root table in each chain.
+#[test]
+fn root_tables_of_chains(rt: HostRuntime) -> Result<(), Fail> {
+    let alloc = rt.alloc();
+    let [dump, key, request] = ANOTHER_CHAIN;
+    let another = RootTable {
+        chain: 7,
+        number: 0x803,
+        ..ROOTS[0]
+    };
+    assert!(rt; root_in(alloc, dump)? == Some(another));
+    let roots = [ROOTS[0], ROOTS[1], another];
+    assert!(rt; refusal(alloc, &roots, dump)? == Some(RestoreError::MadeByKernel));
+    assert!(rt; is_restored(alloc, &roots, key, request)?);
+    assert!(rt; is_restored(alloc, &roots, RESTORED[2].0, RESTORED[2].1)?);
     Ok(())
 }

@@ -1,4 +1,4 @@
-//! Dumps that need one another, by the places in which their requests come. The attributes that need nothing are left out.
+//! Dumps that need one another, by the places of their requests. The attributes that need nothing are left out.
 
 use crate::requests::in_hex::{action_message, tc_message};
 use std::alloc::{AllocError, Global};

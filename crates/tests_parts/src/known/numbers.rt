@@ -34,7 +34,7 @@ static DIRECTIONS: [(i32, TcMirrorActionType); 4] = [
     (4, TcMirrorActionType::IngressMirror),
 ];
 
-/// What a number is by its table; without a row there it is `other`.
+/// The value of a number in its table, or `other` if no row has it.
 fn named<N: PartialEq + Copy, T: Copy>(rows: &[(N, T)], number: N, other: T) -> T {
     for (row, name) in rows {
         if *row == number {

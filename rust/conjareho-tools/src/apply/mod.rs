@@ -13,7 +13,7 @@ mod trial;
 mod wanted;
 
 use arguments::{Arguments, arguments_of};
-use plan::{Fault, plan};
+use plan::{Fault, plan, plan_anew};
 use prepare::{Planned, Prepared, planned, prepare, without};
 use wanted::{Wanted, wanted_of};
 
@@ -25,6 +25,7 @@ use crate::restore::sending::Sending;
 use crate::restore::status::Status;
 use crate::restore::world::{Stop, World, what_of};
 use crate::restore::{Signals, hardware, open_kernel, read, same, say_all};
+use crate::save::release;
 use crate::shown::lines_of;
 use std::io::{self, Write as _};
 use std::process::ExitCode;
@@ -168,13 +169,48 @@ fn carried_out<T: Transport, L: Transport>(
 ) -> Result<(), Stop> {
     let wanted = &prepared.wanted;
     sending.carry_out(&prepared.steps)?;
-    // Actions belong to no interface.
-    let after = same(sending, &wanted.objects, by_place, |key, _| key.is_action())?;
-    check_after(&without(&after, &prepared.others), wanted)?;
+    let after = match reached(prepared, sending) {
+        Err(stop @ Stop::Differs(_)) => {
+            made_anew(prepared, sending, stop, said)?;
+            reached(prepared, sending)?
+        }
+        after => after?,
+    };
     if wanted.in_hardware > 0 {
         said.extend(hardware::lost(wanted.in_hardware, hardware::count(lines_of(&after)?.text.lines())));
     }
     if prepared.steps.is_empty() { Ok(()) } else { hold() }
+}
+
+// What is there, as it is dumped; an error if it isn't what is wanted.
+fn reached<T: Transport, L: Transport>(
+    prepared: &Prepared,
+    sending: &mut Sending<'_, '_, T, L>,
+) -> Result<Vec<Vec<u8>>, Stop> {
+    // Actions belong to no interface.
+    let after = same(sending, &prepared.wanted.objects, by_place, |key, _| key.is_action())?;
+    check_after(&without(&after, &prepared.others), &prepared.wanted)?;
+    Ok(after)
+}
+
+// Plans once more, without changes in place, if the kernel took a change and didn't make it.
+fn made_anew<T: Transport, L: Transport>(
+    prepared: &Prepared,
+    sending: &mut Sending<'_, '_, T, L>,
+    stop: Stop,
+    said: &mut Vec<String>,
+) -> Result<(), Stop> {
+    let wanted = &prepared.wanted;
+    let dump = sending.world.dump(&prepared.place.indices())?;
+    let now = without(&dump.messages, &prepared.others);
+    let unmade = outline::unmade(&prepared.steps, &now, &wanted.messages, &dump.devices);
+    if unmade.is_empty() {
+        return Err(stop);
+    }
+    let warning = |what| format!("Linux {} took a change and didn't make it, so this is made anew: {what}", release());
+    said.extend(unmade.into_iter().map(warning));
+    let steps = plan_anew(&now, &wanted.messages).map_err(|faults| Stop::Unplanned(wanted.said_of(&faults)))?;
+    sending.carry_out(&steps)
 }
 
 /// An error if there is still a plan to what is wanted.

@@ -34,6 +34,19 @@ pub(crate) fn lines(steps: &[Vec<u8>], now: &[Vec<u8>], wanted: &[Vec<u8>], devi
     [counted(steps, &wanted)].into_iter().chain(steps.iter().map(line)).collect()
 }
 
+/// The changes among these requests that weren't made, each with the values that differ, those of now and those that are wanted.
+pub(crate) fn unmade(steps: &[Vec<u8>], now: &[Vec<u8>], wanted: &[Vec<u8>], devices: &Devices) -> Vec<String> {
+    let now = objects_of(&requests_of_dump(now).requests);
+    let wanted = objects_of(&requests_of_dump(wanted).requests);
+    let values = |step: &Vec<u8>| {
+        let (key, _) = objects_of(&[step.to_vec()]).into_iter().find(|(key, _)| !key.is_order())?;
+        let values = differing(&old_of(&key, &now)?.normal(), &old_of(&key, &wanted)?.normal());
+        Some(values).filter(|values| !values.is_empty())
+    };
+    let line = |step: &Vec<u8>| Some(format!("{}:{}", name_of(step, devices), values(step)?));
+    steps.iter().filter(|step| replaces(step)).filter_map(line).collect()
+}
+
 // True for the dump of what a request deletes by its own handle, or a qdisc by its place.
 fn is_deleted(dump: &[u8], step: &[u8]) -> bool {
     let (Some(own), Some(deleted)) = (tcmsg_of(dump), tcmsg_of(step)) else { return false };

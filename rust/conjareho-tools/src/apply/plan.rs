@@ -7,7 +7,9 @@ use crate::restore::compare::{Key, key_of};
 use crate::restore::messages::{actions_of, payload_of, type_of};
 use crate::restore::plan::dumps_of;
 use crate::tc_action_messages::TcActionMessage;
+use crate::tc_changes::{self, Rules};
 use crate::tc_messages::TcMessage;
+use crate::tc_objects::KindRules;
 use crate::tc_restore::{Object, request_of, request_of_actions};
 use crate::tcmake_lib::lines::{Remark, RemarkKind, Source};
 use crate::tcmake_lib::plans::plan_of_dumps;
@@ -56,14 +58,36 @@ fn unmade(dump: &[u8]) -> Option<String> {
 /// The plan from what is there to what is wanted, both as dumps. Of actions, which belong to no interface, those that are wanted are made or
 /// changed; of others only those for which `may_go` is true are deleted.
 pub(crate) fn plan(now: &[Vec<u8>], wanted: &[Vec<u8>], may_go: impl Fn(&Key) -> bool) -> Plan {
+    plan_by(&KindRules, now, wanted, may_go)
+}
+
+/// The same without changes in place: what differs is deleted and made. No other action is deleted.
+pub(crate) fn plan_anew(now: &[Vec<u8>], wanted: &[Vec<u8>]) -> Plan {
+    plan_by(&NoChanges, now, wanted, |_| false)
+}
+
+// Nothing is changed in place.
+struct NoChanges;
+
+impl Rules for NoChanges {
+    fn takes(&self, _old: &tc_changes::Object, _new: &tc_changes::Object) -> bool {
+        false
+    }
+
+    fn can_make(&self, object: &tc_changes::Object) -> bool {
+        KindRules.can_make(object)
+    }
+}
+
+fn plan_by(rules: &impl Rules, now: &[Vec<u8>], wanted: &[Vec<u8>], may_go: impl Fn(&Key) -> bool) -> Plan {
     let mut all = wanted.to_vec();
     all.extend(others(now, wanted, may_go));
-    requests(now, &all)
+    requests(rules, now, &all)
         .unwrap_or_else(|_| Err(vec![Fault { is_of_now: true, place: None, text: "out of memory".to_string() }]))
 }
 
-fn requests(now: &[Vec<u8>], wanted: &[Vec<u8>]) -> Result<Plan, Stop> {
-    let planned = plan_of_dumps(dumps_of(now), dumps_of(wanted))?;
+fn requests(rules: &impl Rules, now: &[Vec<u8>], wanted: &[Vec<u8>]) -> Result<Plan, Stop> {
+    let planned = plan_of_dumps(rules, dumps_of(now), dumps_of(wanted))?;
     let complaints = planned.remarks.iter().filter(|remark| remark.kind == RemarkKind::Complaint);
     let faults: Vec<Fault> = complaints.map(|remark| Fault::of(remark, now, wanted)).collect();
     if planned.is_void || !faults.is_empty() {

@@ -77,6 +77,19 @@ fn a_changed_class_takes_one_request() {
 }
 
 #[test]
+fn a_change_that_isnt_made_is_made_anew() {
+    let mut wanted = tree(1000);
+    wanted[1] = of(RTM_NEWTCLASS, 0x1_0010, 0x1_0000, "drr", &[(1, 77)]);
+    let fake = Fake::new(taking());
+    fake.state.borrow_mut().ignores_changes = true;
+    let ran = run(&saved(wanted.clone()), tree(1000), &fake);
+    assert_eq!(ran.status, Status::Restored, "{}", ran.said);
+    assert_eq!(plain(&ran.objects).len(), plain(&wanted).len());
+    assert!(plain(&wanted).iter().all(|it| plain(&ran.objects).contains(it)), "{}", ran.said);
+    assert!(ran.said.starts_with("Linux ") && ran.said.contains(" drr: Drr/Quantum 1000 -> 77"), "{}", ran.said);
+}
+
+#[test]
 fn what_isnt_wanted_is_deleted() {
     let ran = run(&saved(Vec::new()), tree(1), &Fake::new(taking()));
     assert_eq!((ran.status, ran.objects.len()), (Status::Restored, 0), "{}", ran.said);

@@ -37,6 +37,8 @@ pub(crate) struct State {
     /// The requests that changed something, or were refused.
     pub(crate) sent: Vec<Vec<u8>>,
     pub(crate) signal: Option<&'static str>,
+    /// It takes changes, and doesn't make them.
+    pub(crate) ignores_changes: bool,
     /// What is called when interfaces are asked for, with the number of the call.
     pub(crate) on_links: Option<LinksHook>,
     links_asked: usize,
@@ -184,6 +186,7 @@ impl State {
             let mut made = message.to_vec();
             made[6..8].copy_from_slice(&2u16.to_ne_bytes());
             match at.filter(|_| header.flags & NLM_F_REPLACE != 0) {
+                Some(_) if self.ignores_changes => {}
                 Some(at) => self.objects[at] = made,
                 None => self.objects.push(made),
             }

@@ -1,6 +1,6 @@
 use Rattle.std.proofs.Common.{◌≡◌, drop}
-use Rattle.tc_plan.specs.Needs.{chain_number}
-use Rattle.tc_plan.proofs.entry.chain_number.Given as goal
+use Rattle.tc_restore.specs.RootTables.{chain_number}
+use Rattle.tc_restore.proofs.root_tables.chain_number.Given as goal
 
 -- the first of those to come is the first of all
 abbrev pub invariant-loop-attribute : goal.invariant-loop-attribute
