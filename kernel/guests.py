@@ -2,12 +2,10 @@
 
 import collections
 import concurrent.futures
-import ctypes
 import errno
 import os
 import shutil
 import signal
-import struct
 import subprocess
 import sys
 import time
@@ -35,7 +33,7 @@ def error_name(number):
 
 
 def compile_guest():
-    """Compiles the guest's first process."""
+    """Compiles the guest's first process, and on a processor with AMX what its kernel needs there."""
     compiler = shutil.which("gcc")
     if not compiler:
         lacks("The package gcc is not installed, which compiles the guest.")
@@ -43,6 +41,9 @@ def compile_guest():
     flags = ["-O2", "-Wall", "-Wextra", "-static"]
     if subprocess.run([compiler, *flags, "-o", f"{OUT}/guest", f"{HERE}/guest.c"]).returncode:
         lacks("guest.c was not compiled: it takes the packages gcc, libc6-dev and linux-libc-dev.")
+    with open("/proc/cpuinfo") as file:
+        if "amx_tile" in file.read().split():
+            subprocess.run([compiler, *flags[:3], "-shared", "-fPIC", "-o", f"{OUT}/registers.so", f"{HERE}/registers.c"], check=True)
 
 
 def linux():
@@ -53,26 +54,12 @@ def linux():
     return path
 
 
-# Instructions of a filter of system calls (linux/filter.h, linux/seccomp.h): code, jumps if true and if false, operand. On x86-64 ptrace (101) of PTRACE_GETREGSET
-# ends with EIO, all else is allowed.
-NO_REGSETS = [(0x20, 0, 0, 4), (0x15, 0, 5, 0xC000003E), (0x20, 0, 0, 0), (0x15, 0, 3, 101), (0x20, 0, 0, 16), (0x15, 0, 1, 0x4204), (6, 0, 0, 0x50005), (6, 0, 0, 0x7FFF0000)]
-PR_SET_SECCOMP, PR_SET_NO_NEW_PRIVS = 22, 38
-
-
-def has_large_registers():
-    """Whether the processor has AMX: all its registers are more than this kernel has room for, so that it can't set those of a process."""
-    with open("/proc/cpuinfo") as file:
-        return "amx_tile" in file.read().split()
-
-
-def forbid_regsets():
-    """Makes this process, and those that it starts, set registers by the older calls of ptrace, which have only those of SSE."""
-    filter_ = b"".join(struct.pack("<HBBI", *it) for it in NO_REGSETS)
-    code = ctypes.create_string_buffer(filter_)
-    program = ctypes.create_string_buffer(struct.pack("<HxxxxxxQ", len(NO_REGSETS), ctypes.addressof(code)))
-    prctl = ctypes.CDLL(None, use_errno=True).prctl
-    if prctl(PR_SET_NO_NEW_PRIVS, 1, 0, 0, 0) or prctl(PR_SET_SECCOMP, 2, program, 0, 0):
-        raise OSError(ctypes.get_errno(), "prctl")
+def environment():
+    """The environment of a kernel: on a processor with AMX it needs the calls of registers.c."""
+    own = {**os.environ, "TMPDIR": OUT}
+    if os.path.exists(f"{OUT}/registers.so"):
+        own["LD_PRELOAD"] = f"{OUT}/registers.so"
+    return own
 
 
 # How a request ended, and the (type, bytes) that came back before that; `offset` is None if the kernel names no
@@ -110,8 +97,7 @@ class Guest:
         began = time.monotonic()
         with open(f"{self.folder}/console", "w") as console:
             how = {"stdin": subprocess.DEVNULL, "stdout": console, "stderr": console, "start_new_session": True}
-            how["preexec_fn"] = forbid_regsets if has_large_registers() else None
-            guest = subprocess.Popen(words, env={**os.environ, "TMPDIR": OUT}, **how)
+            guest = subprocess.Popen(words, env=environment(), **how)
             try:
                 self.wait(guest)
             finally:

@@ -7,25 +7,25 @@ use std::convert::AsStr;
 use tcmake_lines::OutputFormat;
 use tcmake_messages::Making;
 
-/// What the arguments say.
+/// The parsed arguments.
 #[derive(Clone, Copy, Debug)]
 pub struct Request {
     /// How messages are written.
     pub form: OutputFormat,
-    /// What is made of a line.
+    /// How a line is made into a message.
     pub making: Making,
     /// True if requests keep the order of the lines.
     pub in_order: bool,
-    /// The interface of requests, instead of that of the dumps.
+    /// The interface of requests, instead of the dumps' own.
     pub index: Option<i32>,
     /// True if what needs no request is named.
     pub verbose: bool,
 }
 
-/// What the arguments say, and the files that they name.
+/// The parsed arguments, and the files that they name.
 #[derive(Clone, Copy, Debug)]
 pub struct Arguments<'a> {
-    /// What is made.
+    /// The messages to make.
     pub request: Request,
     /// The file with what the kernel has now.
     pub now: Option<&'a str>,
@@ -265,7 +265,7 @@ fn request_in(matches: &ArgMatches<'_>) -> Request {
     }
 }
 
-/// What the arguments say, the program's name first. The error is a mistake in them, a request for help or for the version, or that
+/// Parses the arguments, the program's name first. The error is a mistake in them, a request for help or for the version, or that
 /// memory ran out.
 pub fn arguments_of<'a, S: AsStr>(alloc: Global, words: &'a [S]) -> Result<Arguments<'a>, Error> {
     let matches = command(alloc)?.try_get_matches_from(words)?;
@@ -278,7 +278,7 @@ pub fn arguments_of<'a, S: AsStr>(alloc: Global, words: &'a [S]) -> Result<Argum
     })
 }
 
-/// What is made, without the files that the arguments name.
+/// The messages to make, without the files that the arguments name.
 pub fn request_of<'a, S: AsStr>(alloc: Global, words: &'a [S]) -> Result<Request, Error> {
     let arguments = arguments_of(alloc, words)?;
     Ok(arguments.request)

@@ -15,16 +15,16 @@ use tcmake_messages::{
     Forms, Found, LineError, Made, Making, is_answer, is_of_save, made_of_json, unread,
 };
 
-/// Where a line is.
+/// The input of a line.
 #[derive(Clone, Copy, PartialEq, Eq, Debug)]
 pub enum Source {
-    /// Among those of what is wanted.
+    /// The lines of what is wanted.
     Wanted,
-    /// Among those of what there is now.
+    /// The lines of what there is now.
     Now,
 }
 
-/// What kind of a remark it is.
+/// The type of a remark.
 #[derive(Clone, Copy, PartialEq, Eq, Debug)]
 pub enum RemarkKind {
     /// Something is wrong.
@@ -35,7 +35,7 @@ pub enum RemarkKind {
     Made,
 }
 
-/// What is said of a line.
+/// A remark on a line.
 #[derive(Drop)]
 pub struct Remark {
     pub source: Source,
@@ -52,7 +52,7 @@ pub(crate) struct Dumped {
     pub(crate) made: Made,
 }
 
-/// What lines hold, and what is said of them.
+/// The messages of lines, and remarks on them.
 #[derive(Drop)]
 pub(crate) struct Lines {
     pub(crate) dumps: Vec<Dumped>,

@@ -1,4 +1,4 @@
-//! Interfaces of a save by their names: indices of then become those of now.
+//! Interfaces of a save by their names: the save's indices become the present ones.
 
 use crate::complaint::Complaint;
 use crate::interfaces::{META_NUMBER, MetaValue, OF_ATTRIBUTES, OF_HEADERS, OF_META, Side};
@@ -76,7 +76,7 @@ enum Front {
     Other(Around),
 }
 
-/// The compact text of a message, with the indices of now instead of those of then. 0 and -1 are no interfaces.
+/// The compact text of a message, with the present indices instead of the save's. 0 and -1 are no interfaces.
 pub(crate) fn mapped(
     alloc: Global,
     text: &[u8],

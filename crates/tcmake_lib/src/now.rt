@@ -1,4 +1,4 @@
-//! What the kernel has now, by the lines of a dump of it.
+//! The kernel's present objects, from the lines of a dump.
 
 use crate::complaint::Complaint;
 use crate::lines::{Dumped, Lines, Source};
@@ -26,11 +26,11 @@ pub(crate) struct Single {
     pub(crate) made: Made,
     /// Its kind and its index, if it has one.
     pub(crate) name: Option<Named>,
-    /// How many filters hold it.
+    /// The number of filters that hold it.
     pub(crate) filters: usize,
 }
 
-/// Whether actions are as they are held.
+/// A comparison of actions with the kernel's.
 #[derive(Clone, Copy, PartialEq, Eq)]
 pub(crate) enum Counts {
     /// With their counts, so that a filter's own is one.
@@ -111,7 +111,7 @@ fn single_of(
     })
 }
 
-/// What the kernel has now.
+/// The kernel's present objects.
 pub(crate) fn now_of(alloc: Global, lines: &mut Lines) -> Result<Now<Global>, AllocError> {
     let mut found = Now {
         actions: Vec::new(alloc),
@@ -192,8 +192,8 @@ fn keep_filter(
     Ok(())
 }
 
-/// Why a filter can't be made beside the actions of now: it shares one that is there and is another one, and no dump has that action by
-/// itself (`listed` are those that one has), by which it could be changed.
+/// Why a filter can't be made with the present actions: it shares one that differs, and no dump has that action by itself
+/// (`listed` has all that one has), so that no request changes it.
 pub(crate) fn unlisted_in(
     alloc: Global,
     now: &Now<Global>,

@@ -1,4 +1,4 @@
-//! Requests in an order in which each finds what it needs.
+//! Requests in order: each after all that it needs.
 
 use crate::arguments::Request;
 use crate::complaint::Complaint;
@@ -25,12 +25,12 @@ use tcmake_lines::run::put_message;
 use tcmake_lines::{NetlinkHeader, Output, OutputFormat};
 use tcmake_messages::{Forms, Made};
 
-/// What requests are made by, beside the lines of what is wanted.
+/// Options for making requests from lines.
 #[derive(Clone, Copy)]
 pub struct Asked<'a> {
-    /// The interface of requests, instead of that of the dumps.
+    /// The interface of requests, instead of the dumps' own.
     pub index: Option<i32>,
-    /// What the kernel has now, as lines of JSON.
+    /// The kernel's present objects, as lines of JSON.
     pub now: Option<&'a [u8]>,
     /// True if requests lead from that to what is wanted, and delete and change what has to be.
     pub plans: bool,
@@ -45,14 +45,14 @@ pub struct Asked<'a> {
 pub struct LineRequest {
     /// The number of the line, from 1.
     pub number: u64,
-    /// What goes into its netlink header.
+    /// The values of its netlink header.
     pub given: NetlinkHeader,
     /// The message after that.
     pub bytes: Vec<u8>,
 }
 
 impl LineRequest {
-    /// The netlink message, with zeros up to a multiple of four. Fails where memory runs out, or with `Stop::Write` of one that is too long.
+    /// The netlink message, with zeros up to a multiple of four. Fails if memory runs out, or with `Stop::Write` if it is too long.
     pub fn netlink(&self, alloc: Global) -> Result<Vec<u8>, Stop> {
         let mut output = Output::new(alloc, OutputFormat::Stream);
         let mut errors = Vec::new(alloc);
@@ -76,9 +76,9 @@ impl LineRequest {
 /// The requests that lines become.
 #[derive(Drop)]
 pub struct Restored {
-    /// The requests, each after those that it needs.
+    /// The requests, each after the requests that it needs.
     pub requests: Vec<LineRequest>,
-    /// What is said of the lines.
+    /// Remarks on the lines.
     pub remarks: Vec<Remark>,
     /// True if something is wrong with all of them, so that there are no requests.
     pub is_void: bool,
@@ -262,8 +262,8 @@ fn fate_by_now(known: Known<'_>, name: Option<Named>, made: Made) -> (Fate, Opti
     }
 }
 
-// The fate of an action that a request would make or change, or that is there: it is refused if only its filters can make it. One that is
-// there has the offload flag of the filter that has it, and Linux refuses the filters without that flag.
+// The fate of an action that is to be made or changed, or is there already. An action that only its filters can make is refused: one that is
+// there has the offload flag of its filter, and Linux refuses it in a filter without the flag.
 fn fate_by_filters(known: Known<'_>, name: Option<Named>, fate: Fate) -> Fate {
     match name {
         Some(name) if has_action(known.by_filters, name) => Fate::Refused(Reason::Offload(name)),
@@ -301,8 +301,7 @@ fn fate_of(made: Result<Made, Complaint>) -> Result<(Fate, Option<Made>), Compla
     }
 }
 
-/// Makes the requests of all lines of an input, in an order in which each finds what it needs. Fails only where the input does, or where
-/// memory runs out.
+/// Makes the requests of all lines of an input, each after all that it needs. Fails only if the input fails or memory runs out.
 pub fn requests_of<T: Tables, R: BufRead>(
     alloc: Global,
     forms: Forms<T>,
@@ -330,7 +329,7 @@ pub fn requests_of<T: Tables, R: BufRead>(
     }
 }
 
-/// The requests of dumps, each with its netlink header: those that `requests_of` makes of their lines, whose numbers are from 1.
+/// The requests of dumps, each with its netlink header, as `requests_of` makes them from lines. Lines are numbered from 1.
 pub fn requests_of_dumps(
     alloc: Global,
     dumps: Vec<(NetlinkHeader, Vec<u8>)>,

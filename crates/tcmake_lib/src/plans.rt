@@ -35,8 +35,8 @@ struct Parsed {
     numbers: Vec<u64>,
 }
 
-/// The requests that lead from the dumps of what there is now to those of what is wanted, each dump with its netlink header; the numbers of
-/// lines are from 1. `rules` has what the kernel changes in place. There are none if something is wrong with a dump, or if something can't be made.
+/// The requests that lead from the present dumps to the wanted ones, each dump with its netlink header. Lines are numbered from 1. `rules` has
+/// the changes that the kernel makes in place. There are no requests if something is wrong with a dump, or if something can't be made.
 pub fn plan_of_dumps<R: Rules<Global>>(
     alloc: Global,
     rules: &R,
@@ -67,7 +67,7 @@ fn lines_of(alloc: Global, dumps: Vec<(NetlinkHeader, Vec<u8>)>) -> Result<Lines
     Ok(lines)
 }
 
-/// The requests that lead from the lines of now to those that are wanted, by what the kernel changes in place.
+/// The requests that lead from the present lines to the wanted ones, using the changes that the kernel makes in place.
 pub(crate) fn plan_by<R: Rules<Global>>(
     alloc: Global,
     rules: &R,

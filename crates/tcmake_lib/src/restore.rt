@@ -18,7 +18,7 @@ use tc_restore::{Object, RTM_NEWACTION, Request, RootTable, request_of, request_
 use tcmake_lines::{NetlinkHeader, packet_at};
 use tcmake_messages::{Found, LineError, Made};
 
-/// What is dumped.
+/// The type of a dumped object.
 #[derive(Clone, Copy, PartialEq, Eq)]
 pub(crate) enum Dump {
     /// A qdisc, a class, a filter or a chain.
@@ -86,7 +86,7 @@ fn request_for(
     }
 }
 
-/// What is dumped under a message type.
+/// The type of the object that a message type dumps.
 pub(crate) fn dump_of(kind: Option<u16>) -> Result<Dump, Complaint>
     ensures { IfOk result (IsDumpOf kind) }
 {

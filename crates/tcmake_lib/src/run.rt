@@ -3,11 +3,11 @@
 ghost use Rattle.std.specs.Prelude.{⊤, ◌≡◌, ◌≢◌, Err, IfErr, OnOk};
 ghost use Rattle.std.specs.Io.Buffered.{reader_inner};
 ghost use Rattle.program_io.specs.Streams.{Shows, read_failure, write_failure, writer_inside};
-ghost use Rattle.program_io.specs.declared.stop.Stop.TheVariants.{Closed};
+ghost use Rattle.program_io.specs.declared.stop.Stop.TheVariants.{Closed, NoMemory};
 ghost use Rattle.tcmake_messages.specs.Answer.{IsAnswer, IsMessage, IsRefused};
 ghost use Rattle.tcmake_messages.specs.declared.making.Making.TheVariants.{Restored};
 ghost use Rattle.tcmake_lines.specs.Lines.{left_in};
-ghost use Rattle.tcmake_lines.specs.Parts.{Ran, RanOn};
+ghost use Rattle.tcmake_lines.specs.Parts.{Ran, RanOn, RanPartly};
 
 use crate::arguments::Request;
 use crate::complaint::Complaint;
@@ -41,6 +41,10 @@ pub fn run<T: Tables, R: Read, W: Write, E: Write>(
         (IsMessage (T.parts_of forms.table) forms.tc forms.action request.now.making) IsAnswer
         (IsRefused (T.parts_of forms.table) forms.tc forms.action request.now.making) request.now.form result.has_refused
         (left_in R.remaining reader.old) (left_in R.remaining reader.new) }
+    ensures partly { request.now.making ≢ Restored → IfErr result.outcome (λ stop. stop ≢ NoMemory → RanPartly
+        (IsMessage (T.parts_of forms.table) forms.tc forms.action request.now.making) IsAnswer
+        (IsRefused (T.parts_of forms.table) forms.tc forms.action request.now.making) request.now.form result.has_refused
+        (left_in R.remaining reader.old) (W.contents (writer_inside writer.old)) (W.contents (writer_inside writer.new))) }
     ensures stopped { IfErr result.outcome (Shows (read_failure (reader_inner reader.new)) (write_failure writer.new)) }
 {
     if request.making == Making::Restored {

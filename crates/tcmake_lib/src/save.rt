@@ -69,7 +69,7 @@ impl Save {
         }
     }
 
-    /// The names in the first line, if it is that of a save.
+    /// The names in the first line of a save.
     pub(crate) fn names(&self) -> Option<&Names> {
         self.names.as_ref()
     }

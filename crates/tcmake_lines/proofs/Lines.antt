@@ -3,7 +3,7 @@ use Rattle.std.proofs.Common.{◌≡◌, ◌≢◌, ℕ, ◌≤◌, true, false,
 use Rattle.std.proofs.Common.{refl, sym, ap, subst, ◌∙◌, append_assoc, append-nil, eq-eqb, ne_eqb, arith}
 use Rattle.std.proofs.lemmas.List.Elements.{All-head, All-tail, All-append}
 use Rattle.std.proofs.BufReadLemmas.{Consumes_shown}
-use Rattle.std.proofs.KnownBytes.{Consumes-trans, Consumes-nil, Consumes-kept}
+use Rattle.std.proofs.KnownBytes.{Consumes-trans}
 use Rattle.std.specs.Prelude.{⊤, Option, OnSome, IfSome, take}
 use Rattle.std.specs.Io.{StartsWith}
 use Rattle.std.specs.Io.BufRead.{DropsConsumable}

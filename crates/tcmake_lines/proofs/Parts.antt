@@ -1,14 +1,17 @@
 -- Parts of a run, one after the other.
-use Rattle.std.proofs.Common.{◌≡◌, inr, ℕ, Bool, true, false, List, [], ◌∷◌, ◌++◌, None, Some, refl, sym, ap, subst, ◌∙◌, append_assoc, append-nil}
+use Rattle.std.proofs.Common.{◌≡◌, ◌≢◌, ◌⊎◌, inl, inr, ℕ, Bool, true, false, List, [], ◌∷◌, ◌++◌, None, Some, refl, sym, ap, subst, ◌∙◌, append_assoc, append-nil}
 use Rattle.std.proofs.KnownBytes.{Appends-trans, Appends-nil}
 use Rattle.std.specs.List.{flat_map}
-use Rattle.std.specs.Prelude.{Option, ◌||◌, if◌then◌else◌}
+use Rattle.std.specs.Prelude.{Option, Result, Ok, Err, IfErr, ◌||◌, if◌then◌else◌}
 use Rattle.std.specs.Io.KnownBytes.{Appends}
+use Rattle.program_io.specs.Written.{GrowsByFront}
+use Rattle.program_io.specs.declared.stop.Stop.{Stop}
+use Rattle.program_io.specs.declared.stop.Stop.TheVariants.{NoMemory}
 use Rattle.tcmake_lines.specs.declared.format.OutputFormat.{OutputFormat}
 use Rattle.tcmake_lines.specs.declared.format.OutputFormat.TheVariants.{Hex, Bare, Stream, Capture}
 use Rattle.tcmake_lines.specs.declared.netlink.NetlinkHeader.{NetlinkHeader}
-use Rattle.tcmake_lines.specs.Parts.{Part, message, nothing, complaint, messages_of, is_complaint, has_complaint, Becomes, BecomeEach, Ran, RanOn}
-use Rattle.tcmake_lines.specs.Lines.{AreLines, IsFound, Reads}
+use Rattle.tcmake_lines.specs.Parts.{Part, message, nothing, complaint, messages_of, is_complaint, has_complaint, Becomes, BecomeEach, Ran, RanOn, RanPartly}
+use Rattle.tcmake_lines.specs.Lines.{AreFirstLines, AreLines, IsFound, Reads, lines_of}
 use Rattle.tcmake_lines.specs.declared.input.LineStatus.{LineStatus}
 use Rattle.tcmake_lines.specs.declared.input.LineStatus.TheVariants.{Whole}
 use Rattle.tcmake_lines.specs.State.{State, PutsPart, PutsLine, PutsOrNot, brought, held_then, ended}
@@ -165,6 +168,69 @@ module _ (Makes : List ℕ → NetlinkHeader → List ℕ → Type 0) (Passes Re
   pub until_closed : (a b input left : Option (List ℕ)) (s : State) (bad : Bool) (lines : List (List ℕ)) → Until a b s bad lines → Reads input left lines
       → RanOn Makes Passes Refuses form bad input left
   until_closed a b input left s bad lines h read = record { lines = lines; parts = h.parts; read = read; become = h.become; said = h.said }
+
+  -- when the run ends before
+  pub until_partly : (a b c input : Option (List ℕ)) (s : State) (bad : Bool) (lines : List (List ℕ)) (rest : List ℕ) → Until a b s bad lines
+      → AreFirstLines input lines → GrowsByFront b c s.text rest → RanPartly Makes Passes Refuses form bad input a c
+  until_partly a b c input s bad lines rest h first w =
+      let later = text_after form s.held [] in
+      let none = ap (λ ms. header_of form ++ text_after form None ms) (sym (append-nil (messages_of h.parts))) in
+      let whole : header_of form ++ text_after form None (messages_of h.parts) ≡ (h.bytes ++ w.0) ++ (rest ++ later) =
+      none ∙ h.written [] ∙ append_assoc h.bytes s.text later ∙ ap (λ t. h.bytes ++ (t ++ later)) w.1
+      ∙ ap (λ t. h.bytes ++ t) (append_assoc w.0 rest later) ∙ sym (append_assoc h.bytes w.0 (rest ++ later)) in
+      record {
+        lines = lines;
+        parts = h.parts;
+        out = h.bytes ++ w.0;
+        rest = rest ++ later;
+        first = first;
+        become = h.become;
+        output = Appends-trans a b c h.bytes w.0 h.output w.2;
+        front = whole;
+        said = h.said;
+      }
+
+  -- when the last text isn't written, or not all of it
+  pub until_cut : (a b c input : Option (List ℕ)) (s n : State) (bad : Bool) (lines : List (List ℕ)) (rest : List ℕ) → Until a b s bad lines
+      → AreFirstLines input lines → n.text ≡ s.text ++ ended s.form s.held → GrowsByFront b c n.text rest → RanPartly Makes Passes Refuses form bad input a c
+  until_cut a b c input s n bad lines rest h first last w =
+      let e = ended s.form s.held in
+      let last_is : text_after form s.held [] ≡ e = text_end form s.held ∙ ap (λ f. ended f s.held) (sym h.is_form) in
+      let none = ap (λ ms. header_of form ++ text_after form None ms) (sym (append-nil (messages_of h.parts))) in
+      let whole : header_of form ++ text_after form None (messages_of h.parts) ≡ (h.bytes ++ w.0) ++ rest =
+      none ∙ h.written [] ∙ ap (λ t. (h.bytes ++ s.text) ++ t) last_is ∙ append_assoc h.bytes s.text e
+      ∙ ap (λ t. h.bytes ++ t) (sym last ∙ w.1) ∙ sym (append_assoc h.bytes w.0 rest) in
+      record {
+        lines = lines;
+        parts = h.parts;
+        out = h.bytes ++ w.0;
+        rest = rest;
+        first = first;
+        become = h.become;
+        output = Appends-trans a b c h.bytes w.0 h.output w.2;
+        front = whole;
+        said = h.said;
+      }
+
+-- nothing is written
+pub front_none : (a : Option (List ℕ)) (text : List ℕ) → GrowsByFront a a text text
+front_none a text = ([], refl, Appends-nil a)
+
+-- the lines that were read come first
+pub first_lines : (input left : Option (List ℕ)) (lines : List (List ℕ)) → Reads input left lines → AreFirstLines input lines
+first_lines None left lines h = tt
+first_lines (Some xs) None lines h = absurd h
+first_lines (Some xs) (Some ys) lines h = (lines_of ys, h)
+
+-- however a run ends
+pub always : {T : Type 0} (r : Result T Stop) (P : Type 0) → P → IfErr r (λ stop. stop ≢ NoMemory → P)
+always (Ok x) P p = tt
+always (Err e) P p = λ not. p
+
+-- what streams don't show is that memory ran out
+pub if_shown : (shown stop : Stop) (P : Type 0) → (shown ≡ stop) ⊎ (shown ≡ NoMemory) → (stop ≢ NoMemory → P) → shown ≢ NoMemory → P
+if_shown shown stop P (inl same) h not = h (λ none. not (same ∙ none))
+if_shown shown stop P (inr none) h not = absurd (not none)
 
 -- ---- a line
 

@@ -32,6 +32,11 @@ abbrev pub AreLines : Option (List ℕ) → List (List ℕ) → Type 0
 AreLines None lines = ⊤
 AreLines (Some xs) lines = lines ≡ lines_of xs
 
+-- these are the first lines of an input, if its bytes are known
+abbrev pub AreFirstLines : Option (List ℕ) → List (List ℕ) → Type 0
+AreFirstLines None lines = ⊤
+AreFirstLines (Some xs) lines = (later : List (List ℕ)) × (lines_of xs ≡ lines ++ later)
+
 -- the longest line that is read, in bytes
 abbrev pub most_line : ℕ
 most_line = 4194304

@@ -1,11 +1,11 @@
 -- The results for lines.
-use Rattle.std.specs.Prelude.{◌≡◌, ◌⊎◌, ⊤, ℕ, Bool, true, false, ◌||◌, List, [], ◌∷◌, Option}
+use Rattle.std.specs.Prelude.{◌≡◌, ◌⊎◌, ⊤, ℕ, Bool, true, false, ◌||◌, List, [], ◌∷◌, ◌++◌, Option}
 use Rattle.std.specs.Io.KnownBytes.{Appends}
 use Rattle.tcmake_lines.specs.declared.format.OutputFormat.{OutputFormat}
 use Rattle.tcmake_lines.specs.declared.netlink.NetlinkHeader.{NetlinkHeader}
 use Rattle.tcmake_lines.specs.declared.maker.Answer.{Answer}
 use Rattle.tcmake_lines.specs.declared.maker.Answer.TheVariants as answered
-use Rattle.tcmake_lines.specs.Lines.{AreLines, IsBlank, IsTooLong, Reads}
+use Rattle.tcmake_lines.specs.Lines.{AreFirstLines, AreLines, IsBlank, IsTooLong, Reads}
 use Rattle.tcmake_lines.specs.Written.{Message, IsWritable, written}
 
 -- a message, nothing, or a complaint
@@ -72,4 +72,17 @@ module _ (Makes : List ℕ → NetlinkHeader → List ℕ → Type 0) (Passes Re
     pub parts : List Part
     pub read : Reads input left lines
     pub become : BecomeEach form lines parts
+    pub said : bad ≡ has_complaint parts
+
+  -- a run that ends early: these are the first lines of its input, a front of the output for their messages is written, and `bad` says whether there
+  -- is a complaint about one of them
+  pub record RanPartly (form : OutputFormat) (bad : Bool) (input old new : Option (List ℕ)) : Type 0 where
+    pub lines : List (List ℕ)
+    pub parts : List Part
+    pub out : List ℕ
+    pub rest : List ℕ
+    pub first : AreFirstLines input lines
+    pub become : BecomeEach form lines parts
+    pub output : Appends old new out
+    pub front : written form (messages_of parts) ≡ out ++ rest
     pub said : bad ≡ has_complaint parts

@@ -27,7 +27,8 @@ pub struct Output {
 }
 
 impl Output {
-    ghost use Rattle.std.specs.Prelude.{◌≡◌, ◌≤◌, ◌+◌, ◌++◌, [], true, None, Some, OnOk, nat_le, length};
+    ghost use Rattle.program_io.specs.Written.{GrowsByFront};
+    ghost use Rattle.std.specs.Prelude.{◌≡◌, ◌≤◌, ◌+◌, ◌++◌, List, ℕ, [], true, None, Some, OnOk, nat_le, length};
     ghost use Rattle.std.specs.Io.KnownBytes.{Appends};
     ghost use Rattle.tcmake_lines.specs.State.{brought, ended, ended_by, is_taken, held_in, held_then, held_with};
     ghost use Rattle.tcmake_lines.specs.declared.format.OutputFormat.TheVariants.{Capture};
@@ -166,6 +167,7 @@ impl Output {
         ensures form { self.new.form ≡ self.old.form }
         ensures held { held_in self.new ≡ held_in self.old }
         ensures text { self.new.text.items ≡ [] }
+        ensures front { (rest : List ℕ) × GrowsByFront (W.contents writer.old) (W.contents writer.new) self.old.text.items rest }
         ensures written { OnOk result (Appends (W.contents writer.old) (W.contents writer.new) self.old.text.items) }
     {
         let outcome = write_all(writer, &self.text);

@@ -1,11 +1,11 @@
 //! A run over an input.
 
-ghost use Rattle.std.specs.Prelude.{◌≡◌, ◌||◌, ℕ, Err, true, false, List, IfErr, IfOk, OnOk};
+ghost use Rattle.std.specs.Prelude.{◌≡◌, ◌≢◌, ◌||◌, ℕ, Err, true, false, List, IfErr, IfOk, OnOk};
 ghost use Rattle.std.specs.Io.Buffered.{reader_inner};
 ghost use Rattle.program_io.specs.Streams.{Shows, read_failure, write_failure, writer_inside};
-ghost use Rattle.program_io.specs.declared.stop.Stop.TheVariants.{Closed};
+ghost use Rattle.program_io.specs.declared.stop.Stop.TheVariants.{Closed, NoMemory};
 ghost use Rattle.tcmake_lines.specs.Lines.{IsFound, is_end, left_in};
-ghost use Rattle.tcmake_lines.specs.Parts.{Ran, RanOn};
+ghost use Rattle.tcmake_lines.specs.Parts.{Ran, RanOn, RanPartly};
 ghost use Rattle.tcmake_lines.specs.State.{PutsLine, PutsOrNot, state_of};
 
 use crate::format::{OutputFormat, check};
@@ -32,13 +32,16 @@ pub fn run<M: Maker, R: Read, W: Write, E: Write>(
     writer: &mut Writer<W>,
     errors: &mut E,
 ) -> Ended
-    // It comes to the end of its input.
+    // At the end of the input all messages are written.
     ensures ran { OnOk result.outcome (Ran (M.Makes maker.now) (M.Passes maker.now) (M.Refuses maker.now) form result.has_refused
         (left_in R.remaining reader.old) (W.contents (writer_inside writer.old)) (W.contents (writer_inside writer.new))) }
-    // Or its output is closed.
+    // When the output is closed, the lines that were read are those that became parts.
     ensures closed { result.outcome ≡ Err Closed → RanOn (M.Makes maker.now) (M.Passes maker.now) (M.Refuses maker.now) form result.has_refused
         (left_in R.remaining reader.old) (left_in R.remaining reader.new) }
-    // A stream that failed shows why it ends early; otherwise memory ran out.
+    // A run that ends early has written a front of the output for the first lines.
+    ensures partly { IfErr result.outcome (λ stop. stop ≢ NoMemory → RanPartly (M.Makes maker.now) (M.Passes maker.now) (M.Refuses maker.now) form
+        result.has_refused (left_in R.remaining reader.old) (W.contents (writer_inside writer.old)) (W.contents (writer_inside writer.new))) }
+    // A stream that failed shows why the run ends early; otherwise memory ran out.
     ensures stopped { IfErr result.outcome (Shows (read_failure (reader_inner reader.new)) (write_failure writer.new)) }
 {
     let mut has_refused = false;
@@ -66,6 +69,8 @@ fn make_all<M: Maker, R: BufRead, W: Write, E: Write>(
         (R.remaining reader.old) (W.contents writer.old) (W.contents writer.new)) }
     ensures closed { result ≡ Err Closed → RanOn (M.Makes maker.now) (M.Passes maker.now) (M.Refuses maker.now) form has_refused.new
         (R.remaining reader.old) (R.remaining reader.new) }
+    ensures partly { IfErr result (λ stop. stop ≢ NoMemory → RanPartly (M.Makes maker.now) (M.Passes maker.now) (M.Refuses maker.now) form
+        has_refused.new (R.remaining reader.old) (W.contents writer.old) (W.contents writer.new)) }
 {
     let mut output = Output::new(alloc, form);
     output.begin()?;

@@ -11,7 +11,7 @@ type_in (Some h) = Some h.kind
 
 -- the properties of a message that filters look at
 abbrev pub properties_of : Message → Properties
-properties_of m = record { time = m.origin.time; rtm = type_in m.header; holds = m.holds; payload = m.payload }
+properties_of m = record { time = m.origin.time; rtm = type_in m.header; holds = m.holds; payload = m.payload; name = None }
 
 -- whether the filter matches a message, whether or not the codec refuses it; this decides about answers to it too
 abbrev pub is_matched : Filter → Message → Bool

@@ -19,6 +19,7 @@ fn properties_of<'a>(found: &Message<'a>) -> Properties<'a>
         rtm: type_in(&found.header),
         holds: found.holds,
         payload: found.payload,
+        name: None,
     }
 }
 

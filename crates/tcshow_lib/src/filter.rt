@@ -120,6 +120,7 @@ impl<'r, 'a> FilterValues<'r, 'a> {
             kinds: self.arguments.kinds.as_slice(),
             types: self.types.as_slice(),
             interfaces: self.interfaces.as_slice(),
+            names: &[],
             handles: self.handles.as_slice(),
             parents: self.parents.as_slice(),
             chains: self.arguments.chains.as_slice(),

@@ -51,18 +51,28 @@ numbers! {
     NLM_F_ECHO = 0x8,
     /// What is dumped changed meanwhile, so the dump may be inconsistent.
     NLM_F_DUMP_INTR = 0x10,
+    /// The dump was filtered, as the request asked.
+    NLM_F_DUMP_FILTERED = 0x20,
     /// Of a request that asks: everything.
     NLM_F_ROOT = 0x100,
     /// Of a request that asks: all that match.
     NLM_F_MATCH = 0x200,
     /// `NLM_F_ROOT` and `NLM_F_MATCH`.
     NLM_F_DUMP = 0x300,
+    /// Of a request that asks: a snapshot.
+    NLM_F_ATOMIC = 0x400,
     /// Of a request that makes something: replaces what is there.
     NLM_F_REPLACE = 0x100,
     /// Of a request that makes something: fails if it is there.
     NLM_F_EXCL = 0x200,
     /// Of a request that makes something: makes it if it isn't there.
     NLM_F_CREATE = 0x400,
+    /// Of a request that makes something: adds it at the end.
+    NLM_F_APPEND = 0x800,
+    /// Of a request that deletes: not what is below it.
+    NLM_F_NONREC = 0x100,
+    /// Of a request that deletes: all that match.
+    NLM_F_BULK = 0x200,
     /// Of an answer: it has the header of the request, not all of it.
     NLM_F_CAPPED = 0x100,
     /// Of an answer: attributes follow, such as a text.

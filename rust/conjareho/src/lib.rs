@@ -84,13 +84,6 @@ pub mod tc {
         parse_mac, parse_string, parse_u8, parse_u16, parse_u16_be, parse_u32, parse_u32_be, put_list, rewrite_action,
         rewrite_tc, settle_action, settle_tc,
     };
-    // Former paths of what stands in the root, until 0.4.
-    #[doc(hidden)]
-    pub use crate::{
-        AddressFamily, DecodeError, DefaultNla, Emitable, NLA_F_NESTED, NLA_F_NET_BYTEORDER, NLA_HEADER_SIZE,
-        NLA_TYPE_MASK, Nla, NlaBuffer, NlasIterator, Parseable, ParseableBytes, ParseableParametrized, RewriteError,
-        Settle, SettleBytes,
-    };
 }
 
 /// Requests built from typed parts, and dumps made into the requests that restore them.
@@ -104,12 +97,6 @@ pub mod requests {
         request_of, request_of_actions, root_table, standalone_index, use_of_action,
     };
     pub use crate::verb::Verb;
-
-    /// The old name of [`standalone_index`].
-    #[deprecated(since = "0.3.0", note = "renamed to `standalone_index`")]
-    pub fn standing_index(action: &crate::tc::TcAction) -> Option<u32> {
-        standalone_index(action)
-    }
 }
 
 /// All attributes of a message, each before those in it, without memory.
@@ -128,10 +115,6 @@ pub mod capture {
     pub use crate::tc_capture::{
         message::next_message, order::Order, pcap::Pcap, pcap::Variant, pcapng::section::Section,
     };
-
-    /// The former name of [`MessageType`].
-    #[deprecated(since = "0.3.0", note = "it is called `MessageType`")]
-    pub type Holds = MessageType;
 }
 
 /// Any bytes as JSON and back, without loss, by the tables of all kinds that Linux has.

@@ -38,7 +38,8 @@ fn locate(bytes: &[u8], what: What) -> Option<Located> {
     Some(Located { path: text_of(&fault.path), offset: fault.offset, error: fault.error })
 }
 
-/// The first fault of a message without its netlink header: why [`TcMessage::parse`](crate::ParseableBytes::parse) refuses it, and where. `None` if it can be read.
+/// The first fault of a message without its netlink header: why [`TcMessage::parse`](crate::ParseableBytes::parse) refuses it, and where.
+/// `None` if it can be read.
 #[must_use]
 pub fn locate_tc(bytes: &[u8]) -> Option<Located> {
     locate(bytes, What::Qdisc)

@@ -187,8 +187,21 @@ fn lengths_of_almost_4_gib_are_too_long() {
 }
 
 #[test]
-#[allow(deprecated)]
-fn former_names_are_there_for_a_release() {
-    assert_eq!(conjareho::capture::Holds::Tc, conjareho::capture::MessageType::Tc);
-    assert_eq!(conjareho::tc::DecodeError::MissingKind, DecodeError::MissingKind);
+fn types_have_the_traits_that_one_expects() {
+    use conjareho::AddressFamily;
+    use conjareho::tc::TcHeader;
+    use std::error::Error;
+    use std::fmt::{Debug, Display};
+    use std::hash::Hash;
+    use std::str::FromStr;
+    fn is_value<T: Clone + Eq + Hash + Debug>() {}
+    fn is_error<T: Clone + Eq + Hash + Error + Send + Sync + 'static>() {}
+    fn is_text<T: FromStr + Display>() {}
+    fn is_ordered<T: Copy + Ord + Hash>() {}
+    fn has_default<T: Default>() {}
+    (is_value::<TcMessage>(), is_value::<TcActionMessage>(), is_value::<TcHeader>(), is_value::<TcOption>());
+    (is_value::<AddressFamily>(), is_value::<TcActionType>(), is_value::<Target>(), is_value::<Netlink>());
+    (is_error::<DecodeError>(), is_error::<RewriteError>(), is_error::<NetlinkError>(), is_error::<CaptureError>());
+    (is_text::<TcHandle>(), is_text::<TcActionType>(), is_ordered::<TcHandle>(), is_ordered::<Verb>());
+    (is_value::<Object>(), has_default::<Netlink>(), has_default::<TcMessage>(), has_default::<Target>());
 }

@@ -1,6 +1,7 @@
 //! Collections whose growth can fail, over `try_reserve`.
 #![allow(dead_code, unused_imports)] // each erased crate uses some of it
 
+use crate::nla_frames::{Emitable, ParseableBytes};
 use prelude::{String, Vec};
 
 /// What each erased module imports.
@@ -44,6 +45,13 @@ pub(crate) fn text(text: &str) -> Result<String, AllocError> {
     let mut copy = String::new();
     copy.try_reserve_exact(text.len()).map_err(|_| AllocError)?;
     Ok(copy + text)
+}
+
+/// A copy of a message that is read as it was written, by its bytes, since `clone` can't fail in Rust.
+pub(crate) fn copied<M: Emitable + ParseableBytes>(message: &M) -> Result<M, AllocError> {
+    let mut bytes = filled(0, message.checked_len().ok_or(AllocError)?)?;
+    message.emit(&mut bytes);
+    M::parse(&bytes).map_err(|_| AllocError)
 }
 
 pub(crate) trait Fallible<T> {

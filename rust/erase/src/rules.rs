@@ -176,6 +176,7 @@ pub(crate) const RULES: &[Rule] = &[
     ("# [ rattlefmt :: skip ]", "#[rustfmt::skip]"),
     // Calls of std that Rust has under another name, or had later.
     ("parse_ascii ( $x . as_bytes ( ) )", "from_str($x)"),
+    ("( $*x ) . is_multiple_of ( $*n )", "(($*x) % ($*n) == 0)"),
     (". cast_signed ( )", ".as_signed()"),
     (". cast_unsigned ( )", ".as_unsigned()"),
     ("std :: str :: from_utf8 (", "str::from_utf8("),
@@ -190,6 +191,8 @@ pub(crate) const RULES: &[Rule] = &[
     ("read_u16 ::", "u16::"),
     ("read_u32 ::", "u32::"),
     ("read_u64 ::", "u64::"),
+    // A request is settled before it is copied.
+    ("let copy = request . clone ( ) ? ;", "let copy = fallible::copied(request)?;"),
     // What can't fail in Rust.
     (". append ( $*x ) ?", ".append($*x)"),
     (". clone ( ) ?", ".clone()"),

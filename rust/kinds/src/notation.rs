@@ -96,8 +96,6 @@ pub(crate) const NUMBERS: &[(&str, &str)] = &[
 pub(crate) const LEAVES: &[&str] = &["kind", "handle", "flag", "bool", "text", "bare", "hex", "mac", "ipv4", "ipv6"];
 pub(crate) const KINDS: &[&str] = &["qdisc", "filter", "action"];
 const BLOCKS: &[&str] = &["struct", "list", "enum", "bits", "names", "choice"];
-/// Words behind a form, each with a name behind it.
-const COLUMNS: &[&str] = &["names", "mask", "end", "as", "tc", "normal", "when"];
 
 /// The words of a line that are left.
 struct Words<'a>(&'a [&'a str]);
@@ -128,6 +126,30 @@ fn number(text: &str) -> Result<i64, Fault> {
 
 fn count(text: &str) -> Result<usize, Fault> {
     usize::try_from(number(text)?).map_err(|e| format!("{text}: {e}"))
+}
+
+/// The columns of a line: words and their values, beside `=N`. `None` if a word has no value.
+fn columns<'a>(mut words: &[&'a str]) -> Option<Vec<(&'a str, &'a str)>> {
+    let mut found = Vec::new();
+    while let [word, rest @ ..] = words {
+        words = rest;
+        if !word.starts_with('=') {
+            let (value, rest) = rest.split_first().filter(|(value, _)| !value.starts_with('='))?;
+            found.push((*word, *value));
+            words = rest;
+        }
+    }
+    Some(found)
+}
+
+impl Line {
+    /// Reads the words after the form: columns, of which `names` is used, after a unit if the words don't pair without it.
+    fn read_columns(&mut self, words: &[&str]) {
+        let (unit, after) = words.split_first().unwrap_or((&"", &[]));
+        let (unit, found) = columns(words).map_or_else(|| (*unit, columns(after).unwrap_or_default()), |found| ("", found));
+        let names = found.iter().find(|(word, _)| *word == "names");
+        (self.unit, self.names) = (unit.to_string(), names.map_or("", |(_, value)| value).to_string());
+    }
 }
 
 /// Reads all blocks of the files.
@@ -228,24 +250,8 @@ impl Tables {
             line.length = Some(count(words.next()?)?);
         }
         line.form = Some(self.form(words)?);
-        self.read_columns(words, &mut line);
+        line.read_columns(words.0);
         Ok(Some(line))
-    }
-
-    /// The unit behind a form and the columns behind that, of which `names` is used; `=N` is one word.
-    fn read_columns(&self, words: &mut Words<'_>, line: &mut Line) {
-        let mut is_first = true;
-        while let Ok(word) = words.next() {
-            if COLUMNS.contains(&word) {
-                let name = words.next().unwrap_or("");
-                if word == "names" {
-                    line.names = name.to_string();
-                }
-            } else if is_first && !word.starts_with('=') {
-                line.unit = word.to_string();
-            }
-            is_first = false;
-        }
     }
 
     /// The form at the front of the words.

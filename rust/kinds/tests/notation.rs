@@ -38,9 +38,13 @@ const SHORT: &str = "# Example\n\nqdisc example\n  options  list example in Exam
 #[test]
 fn what_is_not_known_is_skipped() {
     let more = SHORT.replace("in Example\n", "in Example  change keeps\n  change  whole\n  leaves  out\n");
-    let more = more.replace("bytes/s\n", "bytes/s  tc rate  =0  # the rate\n") + "\nplans example\n  1  Something  else\n";
+    let more = more.replace("bytes/s\n", "bytes/s  tc rate  shade dark  =0  # the rate\n") + "\nplans example\n  1  Something  else\n";
     let (short, more) = (written("qdiscs/example", SHORT).expect("types"), written("qdiscs/example", &more).expect("types"));
     assert_eq!(more.replace(", the rate", ""), short);
+    // Without a unit, and with a value that is also a column's name.
+    let bare = SHORT.replace("  bytes/s", "");
+    let shaded = bare.replace("u64\n", "u64  shade names  depth 7\n");
+    assert_eq!(written("qdiscs/example", &shaded), written("qdiscs/example", &bare));
 }
 
 #[test]

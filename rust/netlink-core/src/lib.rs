@@ -1,5 +1,6 @@
 #![doc = include_str!("../README.md")]
 
+use conjareho::constants::{RTM_GETACTION, RTM_NEWACTION};
 use conjareho::kinds::{ActionMessage, Message};
 use conjareho::requests::{Object, Verb};
 use conjareho::{DecodeError, RewriteError};
@@ -86,9 +87,8 @@ impl NetlinkDeserializable for Packet {
 
     fn deserialize(header: &NetlinkHeader, payload: &[u8]) -> Result<Self, DecodeError> {
         let packet = Packet { message_type: header.message_type, bytes: payload.to_vec() };
-        // RTM_NEWACTION, RTM_DELACTION and RTM_GETACTION.
         match header.message_type {
-            48..=50 => packet.action_message().map(drop)?,
+            RTM_NEWACTION..=RTM_GETACTION => packet.action_message().map(drop)?,
             _ => packet.message().map(drop)?,
         }
         Ok(packet)

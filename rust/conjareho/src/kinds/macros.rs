@@ -60,6 +60,7 @@ macro_rules! attrs {
         impl $name {
             /// An empty list.
             #[inline]
+            #[must_use]
             pub fn list() -> Attrs<$name> {
                 Attrs::default()
             }
@@ -69,6 +70,7 @@ macro_rules! attrs {
             $(
                 #[doc = concat!("The last [`", stringify!($name), "::", stringify!($variant), "`]. The kernel uses the last one as well.")]
                 #[inline]
+                #[must_use]
                 pub fn $get(&self) -> Option<&$value> {
                     self.iter().rev().find_map(|it| if let $name::$variant(value) = it { Some(value) } else { None })
                 }
@@ -332,6 +334,7 @@ macro_rules! by_kind {
 
         impl $name {
             /// The kind that has these; the first, if several have. `None` for those of unknown kinds.
+            #[must_use]
             pub fn kind(&self) -> Option<&'static str> {
                 match self {
                     $($name::$variant(_) => Some($first),)*
@@ -403,6 +406,7 @@ macro_rules! actions {
     ($name:ident { $($variant:ident $get:ident,)* }) => {
         impl $name {
             /// The actions of a filter, if it has any.
+            #[must_use]
             pub fn actions(&self) -> Option<&Indexed<Attrs<ActionAttr>>> {
                 match self {
                     $($name::$variant(list) => list.$get(),)*

@@ -2,8 +2,8 @@
 //!
 //! [`Message`] and [`ActionMessage`] are whole messages. Each file of the tables has a module, such as [`qdiscs::htb`], with a struct
 //! for each record, an enum for each list of attributes, each named number and each choice, and a set of flags for each flag word.
-//! [`Options`], [`ActionOptions`] and [`Statistics`] are enums by kind, and [`table`] lists all kinds with their types. Names are the kernel's in Rust's case, and the search finds
-//! the kernel's own, such as `TCA_HTB_RATE64`.
+//! [`Options`], [`ActionOptions`] and [`Statistics`] are enums by kind, and [`table`] lists all kinds with their types. Names are the
+//! kernel's in Rust's case, and the search finds the kernel's own, such as `TCA_HTB_RATE64`.
 //!
 //! A generator (`rust/kinds`) writes this module from the tables in `kinds/`. It is tested, and not proved: `rust/check` compares
 //! the JSON of typed values with the JSON of the proved forms on all messages that the repository has, and reads and writes a

@@ -23,16 +23,19 @@ impl Handle {
     pub const EGRESS: Handle = Handle(0xffff_fff3);
 
     /// The handle `major:minor`.
+    #[must_use]
     pub const fn new(major: u16, minor: u16) -> Self {
         Handle((major as u32) << 16 | minor as u32)
     }
 
     /// Its upper half.
+    #[must_use]
     pub const fn major(self) -> u16 {
         (self.0 >> 16) as u16
     }
 
     /// Its lower half.
+    #[must_use]
     pub const fn minor(self) -> u16 {
         self.0 as u16
     }

@@ -13,26 +13,31 @@ use alloc::vec::Vec;
 
 impl Message {
     /// The kind: the last `TCA_KIND`, or nothing.
+    #[must_use]
     pub fn kind(&self) -> &str {
         self.attributes.kind().map_or("", |kind| kind)
     }
 
     /// The options: the last `TCA_OPTIONS`.
+    #[must_use]
     pub fn options(&self) -> Option<&Options> {
         self.attributes.options()
     }
 
     /// The statistics: the last `TCA_STATS2`. `TCA_STATS` is [`Attrs::stats`] of the attributes.
+    #[must_use]
     pub fn stats(&self) -> Option<&Attrs<StatsAttr>> {
         self.attributes.stats2()
     }
 
     /// The statistics of the kind: `TCA_STATS_APP` in `TCA_STATS2`, or else `TCA_XSTATS`.
+    #[must_use]
     pub fn xstats(&self) -> Option<&Statistics> {
         self.stats().and_then(|stats| stats.app()).or_else(|| self.attributes.xstats())
     }
 
     /// The actions of a filter.
+    #[must_use]
     pub fn actions(&self) -> Option<&Indexed<Attrs<ActionAttr>>> {
         self.options().and_then(Options::actions)
     }
@@ -122,6 +127,7 @@ impl<const N: usize> From<[ActionOptions; N]> for Indexed<Attrs<ActionAttr>> {
 
 impl ActionMessage {
     /// The actions: the last `TCA_ACT_TAB`.
+    #[must_use]
     pub fn actions(&self) -> Option<&Indexed<Attrs<ActionAttr>>> {
         self.attributes.actions()
     }

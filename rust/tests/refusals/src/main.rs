@@ -131,11 +131,12 @@ fn main() {
             count("settle", &mut || of_rewrite(tc::settle_tc(&bytes)));
             if let Ok(message) = TcMessage::parse(&bytes) {
                 count("to_bytes", &mut || of_rewrite(message.to_bytes()));
+                let roots = Vec::from_iter(requests::root_table(requests::Object::Filter, &message));
                 count("request_of", &mut || {
                     let granted = GRANTED.replace(None);
                     let dump = message.clone();
                     GRANTED.set(granted);
-                    of_request(requests::request_of(requests::Object::Filter, dump))
+                    of_request(requests::request_of(&roots, requests::Object::Filter, dump))
                 });
             }
         } else {

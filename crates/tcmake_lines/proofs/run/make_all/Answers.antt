@@ -3,7 +3,7 @@ use Rattle.tcmake_lines.specs.Lines.{IsFound}
 use Rattle.tcmake_lines.specs.State.{state_of}
 use Rattle.tcmake_lines.specs.Written.{header_of}
 use Rattle.tcmake_lines.proofs.Lines.{at_end, at_end_all, line_found, reads_all, reads_nothing, reads_then}
-use Rattle.tcmake_lines.proofs.Parts.{Until, until_begin, until_write, until_line, until_end, until_closed}
+use Rattle.tcmake_lines.proofs.Parts.{Until, always, first_lines, front_none, until_begin, until_write, until_line, until_end, until_closed, until_cut, until_partly}
 use Rattle.tcmake_lines.proofs.run.make_all.Goals as goal
 
 pub loop-number-init : goal.loop-number-init
@@ -72,3 +72,44 @@ returns-in_err-write-clause-closed g c = λ closed.
     let Refuses = g.M.Maker.Refuses c.args.maker.now in
     let i = c.loop-number.invariant in
     until_closed Makes Passes Refuses c.args.form _ _ _ _ (state_of c.loop-number.output) _ i.0 i.2 i.1
+
+pub returns-in_err-write-clause-partly : goal.returns-in_err-write-clause-partly
+returns-in_err-write-clause-partly g c =
+    let Makes = g.M.Maker.Makes c.args.maker.now in
+    let Passes = g.M.Maker.Passes c.args.maker.now in
+    let Refuses = g.M.Maker.Refuses c.args.maker.now in
+    let i = c.loop-number.invariant in
+    let f = c.write.ensures.front in
+    always _ _ (until_partly Makes Passes Refuses c.args.form _ _ _ _ (state_of c.loop-number.output) _ i.0 f.0 i.2 (first_lines _ _ i.0 i.1) f.1)
+
+pub returns-in_err-found-clause-partly : goal.returns-in_err-found-clause-partly
+returns-in_err-found-clause-partly g c =
+    let Makes = g.M.Maker.Makes c.args.maker.now in
+    let Passes = g.M.Maker.Passes c.args.maker.now in
+    let Refuses = g.M.Maker.Refuses c.args.maker.now in
+    let i = c.loop-number.invariant in
+    let written =
+    until_write Makes Passes Refuses c.args.form _ _ _ (state_of c.loop-number.output) (state_of c.write.new.self) _ i.0 i.2 c.in_ok-write.ensures.written
+    c.write.ensures.form c.write.ensures.held c.write.ensures.text in
+    always _ _ (until_partly Makes Passes Refuses c.args.form _ _ _ _ (state_of c.write.new.self) _ i.0 _ written (first_lines _ _ i.0 i.1) (front_none _ _))
+
+pub returns-in_err-write-2-clause-partly : goal.returns-in_err-write-2-clause-partly
+returns-in_err-write-2-clause-partly g c =
+    let Makes = g.M.Maker.Makes c.args.maker.now in
+    let Passes = g.M.Maker.Passes c.args.maker.now in
+    let Refuses = g.M.Maker.Refuses c.args.maker.now in
+    let i = c.loop-number.invariant in
+    let written =
+    until_write Makes Passes Refuses c.args.form _ _ _ (state_of c.loop-number.output) (state_of c.write.new.self) _ i.0 i.2 c.in_ok-write.ensures.written
+    c.write.ensures.form c.write.ensures.held c.write.ensures.text in
+    let f = c.write-then-is_end.ensures.front in
+    always _ _ (until_cut Makes Passes Refuses c.args.form _ _ _ _ (state_of c.write.new.self) (state_of c.end.new.self) _ i.0 f.0 written (first_lines _ _ i.0 i.1)
+    c.in_ok-end.ensures.text f.1)
+
+pub returns-clause-partly : goal.returns-clause-partly
+returns-clause-partly g c = λ not.
+    let Makes = g.M.Maker.Makes c.args.maker.now in
+    let Passes = g.M.Maker.Passes c.args.maker.now in
+    let Refuses = g.M.Maker.Refuses c.args.maker.now in
+    let i = c.loop-number.invariant in
+    until_partly Makes Passes Refuses c.args.form _ _ _ _ (state_of c.loop-number.output) _ i.0 _ i.2 (first_lines _ _ i.0 i.1) (front_none _ _)
