@@ -39,7 +39,7 @@ _conjareho() {
             --parent) _conjareho_words root ingress clsact; return ;;
             --explain) _conjareho_words $_conjareho_kinds; return ;;
         esac
-        words="-h --help -V --version -r --read --no-header --names --oneline --json --all --color --summary --kind --type --dev --handle --parent --chain --pref --since --until --refused --explain --schema"
+        words="-h --help -V --version -r --read --no-header --names --lines -s --statistics --oneline --json --all --color --summary --kind --type --dev --handle --parent --chain --pref --since --until --refused --explain --schema"
         ;;
     "tcmake")
         case $previous in

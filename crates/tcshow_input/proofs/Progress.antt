@@ -6,11 +6,10 @@ use Rattle.std.specs.Io.KnownBytes.{Appends}
 use Rattle.tcshow_input.specs.declared.options.Options.{Options}
 use Rattle.tcshow_json.specs.Messages.{Thing}
 use Rattle.tcshow_input.specs.Reading.{AreIn}
-use Rattle.tc_select.specs.declared.filter.Filter.{Filter}
-use Rattle.tcshow_input.specs.Shown.{View, ShowsEach, ShowsSummary}
+use Rattle.tcshow_input.specs.Shown.{after_all, ShowsEach, ShowsSummary}
 use Rattle.tcshow_input.specs.State.{State, Puts, Progress, Ends, Completes, Ran, start, is_json, view_of}
 use Rattle.program_io.specs.Written.{GrowsByFront}
-use Rattle.tcshow_input.proofs.Puts.{each_append, or_assoc, or_false, puts_none}
+use Rattle.tcshow_input.proofs.Puts.{after_append, each_append, each_in, or_assoc, or_false, puts_none}
 
 -- appended text that isn't written yet
 pub progress_puts : (a : Option (List ℕ)) (things : List Thing) (s n : State) → Puts things s n → Progress things a a s n
@@ -26,6 +25,7 @@ progress_puts a things s n h = record {
   header = h.3.header;
   filter = h.3.filter;
   summary = h.3.summary;
+  before = h.3.before;
   bad = h.3.bad;
 }
 
@@ -38,11 +38,8 @@ progress_then xs ys a b c s m n h k = record {
   fault = h.fault || k.fault;
   out = h.out ++ k.out;
   shown =
-      let later =
-      subst (λ j. ShowsEach j s.view s.filter ys k.text k.fault) h.json
-      (subst (λ (v : View). ShowsEach m.json v s.filter ys k.text k.fault) h.view
-      (subst (λ (f : Filter). ShowsEach m.json m.view f ys k.text k.fault) h.filter k.shown)) in
-      each_append s.json s.view s.filter xs ys h.text k.text h.fault k.fault h.shown later;
+      let later = each_in s m (after_all s.before xs) ys k.text k.fault h.json h.view h.filter h.before k.shown in
+      each_append s.json s.view s.filter s.before xs ys h.text k.text h.fault k.fault h.shown later;
   written = Appends-trans a b c h.out k.out h.written k.written;
   kept =
       append_assoc h.out k.out n.text ∙ ap (λ l. h.out ++ l) k.kept ∙ sym (append_assoc h.out m.text k.text) ∙ ap (λ l. l ++ k.text) h.kept
@@ -52,6 +49,7 @@ progress_then xs ys a b c s m n h k = record {
   header = k.header ∙ h.header;
   filter = k.filter ∙ h.filter;
   summary = k.summary ∙ h.summary;
+  before = k.before ∙ ap (λ b. after_all b ys) h.before ∙ sym (after_append s.before xs ys);
   bad = k.bad ∙ ap (λ l. l || k.fault) h.bad ∙ or_assoc s.bad h.fault k.fault;
 }
 
@@ -69,17 +67,11 @@ progress_more xs a b s m n h p = progress_then [] xs a b b s m n h (progress_put
 
 -- a state whose text is written
 pub emptied : (s : State) (json : Bool) (text : List ℕ) → json ≡ s.json → text ≡ []
-    → record { json = json; view = s.view; header = s.header; filter = s.filter; summary = s.summary; text = text; bad = s.bad } ≡ record s { text = [] }
+    → record { json = json; view = s.view; header = s.header; filter = s.filter; summary = s.summary; before = s.before; text = text; bad = s.bad }
+    ≡ record s { text = [] }
 emptied s json text j t =
-    let with : Bool → List ℕ → State = λ j t. record {
-      json = j;
-      view = s.view;
-      header = s.header;
-      filter = s.filter;
-      summary = s.summary;
-      text = t;
-      bad = s.bad;
-    } in
+    let with : Bool → List ℕ → State =
+    λ j t. record { json = j; view = s.view; header = s.header; filter = s.filter; summary = s.summary; before = s.before; text = t; bad = s.bad } in
     ap (λ j. with j text) j ∙ ap (λ t. with s.json t) t
 
 -- all appended text is written
@@ -98,6 +90,7 @@ progress_write a b s n rest h none same =
       header = refl;
       filter = refl;
       summary = refl;
+      before = refl;
       bad = sym (or_false s.bad);
     })
 
@@ -126,5 +119,5 @@ pub ran : (options : Options) (file a b : Option (List ℕ)) (s n : State) (faul
 ran options file a b s n fault start same h =
     let begun = subst (λ (x : State). Completes h.0 a b x n) start h.2 in
     let is_fault = same ∙ begun.6 in
-    let shown = subst (λ x. ShowsEach (is_json options.format) (view_of options.format options.all) options.filter h.0 begun.0 x) (sym is_fault) begun.3 in
+    let shown = subst (λ x. ShowsEach (is_json options.format) (view_of options.format options.all) options.filter [] h.0 begun.0 x) (sym is_fault) begun.3 in
     (h.0, begun.0, begun.2, subst (λ (x : State). AreIn file x.header h.0) start h.1, shown, begun.4, begun.5)

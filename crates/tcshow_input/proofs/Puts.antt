@@ -1,19 +1,22 @@
 -- Texts appended to the output, one after the other.
 use Rattle.std.proofs.Common.{◌≡◌, ◌∙◌, ℕ, Bool, true, false, List, [], ◌∷◌, ◌++◌, refl, sym, ap, subst, append_assoc, append-nil, true≢false}
-use Rattle.std.specs.Prelude.{◌||◌, IsTrue}
+use Rattle.std.specs.Prelude.{◌||◌, IsTrue, Option, Some, None}
 use Rattle.std.proofs.lemmas.List.Elements.{All-push}
 use Rattle.tc_outline.specs.Page.{IsShown, is_shown}
 use Rattle.tcshow_json.specs.Messages.{Header, Message, Reason, Thing, message, answer, other}
 use Rattle.tcshow_json.specs.Safe.{safe_text}
 use Rattle.tc_select.specs.declared.filter.Filter.{Filter}
 use Rattle.tcshow_input.specs.Selection.{is_matched, is_included}
-use Rattle.tcshow_input.specs.Shown.{ended, IsEscaped, IsPage, IsOutline, IsViewOf, View, has_fault, lines_with, IfTaken, Nothing, Shows, ShowsEach}
-use Rattle.tcshow_input.specs.Shown.{ShowsMessage, ShowsAnswer, ShowsNotice, ShowsSummary}
+use Rattle.tcshow_input.specs.Shown.{ended, IsEscaped, IsPage, IsOutline, IsViewOf, View, after, after_all, has_fault, lines_with, IfTaken}
+use Rattle.tcshow_input.specs.Shown.{Nothing, Shows, ShowsEach, ShowsMessage, ShowsAnswer, ShowsNotice, ShowsSummary}
 use Rattle.tc_outline.specs.declared.page.Page.{Page}
 use Rattle.tc_outline.specs.Text.{Continues, is_in_lines, text_on}
 use Rattle.tcshow_input.specs.declared.options.OutputFormat.{OutputFormat}
-use Rattle.tcshow_input.specs.declared.options.OutputFormat.TheVariants.{Lines, OneLine, Json}
-use Rattle.tcshow_input.specs.State.{State, Grows, Puts, laid_out, layout_of, view_of}
+use Rattle.tcshow_input.specs.declared.options.OutputFormat.TheVariants.{Brief, Lines, OneLine, Json}
+use Rattle.tcshow_input.specs.State.{State, Grows, Prints, Puts, laid_out, layout_of, noting, statistics_in, view_of}
+use Rattle.tcshow_lines.specs.Lines.{IsLines}
+use Rattle.tcshow_lines.specs.Verbs.{noted_if}
+use Rattle.tcshow_lines.specs.declared.verb.Request.{Request}
 
 pub or_assoc : (a b c : Bool) → ((a || b) || c) ≡ (a || (b || c))
 or_assoc true b c = refl
@@ -29,7 +32,7 @@ nothing = record { no_text = refl; no_fault = refl }
 -- ---- more text
 
 pub grows_none : (s : State) → Grows [] false s s
-grows_none s = record { json = refl; view = refl; header = refl; filter = refl; summary = refl; text = sym (append-nil s.text); bad = sym (or_false s.bad) }
+grows_none s = record { json = refl; view = refl; header = refl; filter = refl; summary = refl; before = refl; text = sym (append-nil s.text); bad = sym (or_false s.bad) }
 
 pub grows_then : (t u : List ℕ) (b c : Bool) (s m n : State) → Grows t b s m → Grows u c m n → Grows (t ++ u) (b || c) s n
 grows_then t u b c s m n g h = record {
@@ -38,6 +41,7 @@ grows_then t u b c s m n g h = record {
   header = h.header ∙ g.header;
   filter = h.filter ∙ g.filter;
   summary = h.summary ∙ g.summary;
+  before = h.before ∙ g.before;
   text = h.text ∙ ap (λ x. x ++ u) g.text ∙ append_assoc s.text t u;
   bad = h.bad ∙ ap (λ x. x || c) g.bad ∙ or_assoc s.bad b c;
 }
@@ -50,33 +54,45 @@ grows_counted t b s m n g h = subst (λ x. Grows x b s n) (append-nil t) (grows_
 
 -- a page more, and the line feed that ends it
 pub page_line : (s : State) (json : Bool) (items before page : List ℕ) → json ≡ s.json → before ≡ s.text ++ page → items ≡ before ++ 10 ∷ []
-    → Grows (ended page) false s (record { json = json; view = s.view; header = s.header; filter = s.filter; summary = s.summary; text = items; bad = s.bad })
+    → Grows (ended page) false s
+    (record { json = json; view = s.view; header = s.header; filter = s.filter; summary = s.summary; before = s.before; text = items; bad = s.bad })
 page_line s json items before page same p fed = record {
   json = same;
   view = refl;
   header = refl;
   filter = refl;
   summary = refl;
+  before = refl;
   text = fed ∙ ap (λ l. l ++ 10 ∷ []) p ∙ append_assoc s.text page (10 ∷ []);
   bad = sym (or_false s.bad);
 }
 
+-- a text more
+pub more_text : (s : State) (json : Bool) (items text : List ℕ) → json ≡ s.json → items ≡ s.text ++ text
+    → Grows text false s
+    (record { json = json; view = s.view; header = s.header; filter = s.filter; summary = s.summary; before = s.before; text = items; bad = s.bad })
+more_text s json items text same put =
+    record { json = same; view = refl; header = refl; filter = refl; summary = refl; before = refl; text = put; bad = sym (or_false s.bad) }
+
 -- a page in the formats that have a line for each message
 pub line_laid_out : (format : OutputFormat) (page : List ℕ) (s n : State) → is_in_lines (layout_of format) ≡ false → Grows (ended page) false s n
     → Grows (laid_out format page) false s n
+line_laid_out (Brief statistics) page s n is put = put
 line_laid_out Lines page s n is put = absurd (true≢false is)
 line_laid_out OneLine page s n is put = put
 line_laid_out Json page s n is put = put
 
 -- one more line feed, which ends a paragraph
 pub paragraph : (s m : State) (json : Bool) (items text : List ℕ) → json ≡ m.json → Grows text false s m → items ≡ m.text ++ 10 ∷ []
-    → Grows (ended text) false s (record { json = json; view = m.view; header = m.header; filter = m.filter; summary = m.summary; text = items; bad = m.bad })
+    → Grows (ended text) false s
+    (record { json = json; view = m.view; header = m.header; filter = m.filter; summary = m.summary; before = m.before; text = items; bad = m.bad })
 paragraph s m json items text same g fed = record {
   json = same ∙ g.json;
   view = g.view;
   header = g.header;
   filter = g.filter;
   summary = g.summary;
+  before = g.before;
   text = fed ∙ ap (λ l. l ++ 10 ∷ []) g.text ∙ append_assoc s.text text (10 ∷ []);
   bad = g.bad;
 }
@@ -85,6 +101,7 @@ with_feed : (page : List ℕ) → IsShown true page → IsShown true (ended page
 with_feed page shown = All-push (λ b. IsTrue (is_shown true b)) page 10 shown refl
 
 pub is_page : (format : OutputFormat) (page : List ℕ) → IsShown true page → IsPage (laid_out format page)
+is_page (Brief statistics) page shown = (page, shown, refl)
 is_page Lines page shown = (ended page, with_feed page shown, refl)
 is_page OneLine page shown = (page, shown, refl)
 is_page Json page shown = (page, shown, refl)
@@ -104,11 +121,20 @@ pub asked_summary : (json asked : Bool) (s n : State) → asked ≡ true → (te
 asked_summary json asked s n is x = (x.0, subst (λ a. ShowsSummary json a x.0) (sym is) x.1, x.2)
 
 -- a page is the outline of a message, if it is laid out in lines
-pub is_view : (format : OutputFormat) (all : Bool) (m : Message) (page : List ℕ)
-    → (is_in_lines (layout_of format) ≡ true → IsOutline all m (ended (ended page))) → IsViewOf (view_of format all) m (laid_out format page)
-is_view Lines all m page h = h refl
-is_view OneLine all m page h = tt
-is_view Json all m page h = tt
+pub is_view : (format : OutputFormat) (all : Bool) (before : List Request) (m : Message) (page : List ℕ) → statistics_in format ≡ None
+    → (is_in_lines (layout_of format) ≡ true → IsOutline all m (ended (ended page))) → IsViewOf (view_of format all) before m (laid_out format page)
+is_view (Brief statistics) all before m page none h = absurd (cc none)
+is_view Lines all before m page none h = h refl
+is_view OneLine all before m page none h = tt
+is_view Json all before m page none h = tt
+
+-- lines for people
+pub is_brief : (format : OutputFormat) (all statistics : Bool) (before : List Request) (m : Message) (text : List ℕ) → statistics_in format ≡ Some statistics
+    → IsLines before statistics m text → IsViewOf (view_of format all) before m text
+is_brief (Brief has) all statistics before m text is h = subst (λ s. IsLines before s m text) (sym (cc is)) h
+is_brief Lines all statistics before m text is h = absurd (cc is)
+is_brief OneLine all statistics before m text is h = absurd (cc is)
+is_brief Json all statistics before m text is h = absurd (cc is)
 
 module _ {A : Type 0} (all : Bool) (m : Message) where
   -- a page that was empty, with a line and then the lines of the message, is its outline
@@ -125,55 +151,103 @@ module _ {A : Type 0} (all : Bool) (m : Message) where
   }
 
 -- a page in the output, and whether it ends with a fault
-pub page_counted : (format : OutputFormat) (all : Bool) (m : Message) (b : Bool) (page : List ℕ) (s a n : State) → IsShown true page
+pub page_counted : (format : OutputFormat) (all : Bool) (before : List Request) (m : Message) (b : Bool) (page : List ℕ) (s a n : State)
+    → statistics_in format ≡ None → IsShown true page
     → (is_in_lines (layout_of format) ≡ true → IsOutline all m (ended (ended page))) → Grows (laid_out format page) false s a → b ≡ has_fault m
-    → Grows [] b a n → (text : List ℕ) × (bad : Bool) × ShowsMessage false (view_of format all) m text bad × Grows text bad s n
-page_counted format all m b page s a n shown view put e counted = (
+    → Grows [] b a n → (text : List ℕ) × (bad : Bool) × ShowsMessage false (view_of format all) before m text bad × Grows text bad s n
+page_counted format all before m b page s a n none shown view put e counted = (
   laid_out format page,
   b,
-  (is_page format page shown, is_view format all m page view, e),
+  (is_page format page shown, is_view format all before m page none view, e),
   grows_counted (laid_out format page) b s a n put counted,
 )
 
-pub each_append : (json : Bool) (view : View) (filter : Filter) (xs ys : List Thing) (t u : List ℕ) (b c : Bool) → ShowsEach json view filter xs t b
-    → ShowsEach json view filter ys u c
-    → ShowsEach json view filter (xs ++ ys) (t ++ u) (b || c)
-each_append json view filter [] ys t u b c h k =
-    subst (λ x. ShowsEach json view filter ys (x ++ u) (b || c)) (sym h.no_text) (subst (λ x. ShowsEach json view filter ys u (x || c)) (sym h.no_fault) k)
-each_append json view filter (x ∷ xs) ys t u b c h k = (
+-- ---- things, one after the other
+
+pub after_append : (before : List Request) (xs ys : List Thing) → after_all before (xs ++ ys) ≡ after_all (after_all before xs) ys
+after_append before [] ys = refl
+after_append before (x ∷ xs) ys = after_append (after before x) xs ys
+
+pub each_append : (json : Bool) (view : View) (filter : Filter) (before : List Request) (xs ys : List Thing) (t u : List ℕ) (b c : Bool)
+    → ShowsEach json view filter before xs t b → ShowsEach json view filter (after_all before xs) ys u c
+    → ShowsEach json view filter before (xs ++ ys) (t ++ u) (b || c)
+each_append json view filter before [] ys t u b c h k =
+    subst (λ x. ShowsEach json view filter before ys (x ++ u) (b || c)) (sym h.no_text)
+    (subst (λ x. ShowsEach json view filter before ys u (x || c)) (sym h.no_fault) k)
+each_append json view filter before (x ∷ xs) ys t u b c h k = (
   h.0,
   h.1 ++ u,
   h.2,
   h.3 || c,
   h.4,
-  each_append json view filter xs ys h.1 u h.3 c h.5 k,
+  each_append json view filter (after before x) xs ys h.1 u h.3 c h.5 k,
   ap (λ l. l ++ u) h.6 ∙ append_assoc h.0 h.1 u,
   ap (λ l. l || c) h.7 ∙ or_assoc h.2 h.3 c,
 )
+
+-- the same texts in a state that is equal but for its text
+pub each_in : (s m : State) (before : List Request) (ys : List Thing) (t : List ℕ) (b : Bool)
+    → m.json ≡ s.json → m.view ≡ s.view → m.filter ≡ s.filter → m.before ≡ before
+    → ShowsEach m.json m.view m.filter m.before ys t b → ShowsEach s.json s.view s.filter before ys t b
+each_in s m before ys t b j v f q k =
+    subst (λ x. ShowsEach x s.view s.filter before ys t b) j
+    (subst (λ (x : View). ShowsEach m.json x s.filter before ys t b) v
+    (subst (λ (x : Filter). ShowsEach m.json m.view x before ys t b) f
+    (subst (λ (x : List Request). ShowsEach m.json m.view m.filter x ys t b) q k)))
 
 pub puts_none : (s : State) → Puts [] s s
 puts_none s = ([], false, nothing, grows_none s)
 
 pub puts_then : (xs ys : List Thing) (s m n : State) → Puts xs s m → Puts ys m n → Puts (xs ++ ys) s n
 puts_then xs ys s m n h k =
-    let later =
-    subst (λ j. ShowsEach j s.view s.filter ys k.0 k.1) h.3.json
-    (subst (λ (v : View). ShowsEach m.json v s.filter ys k.0 k.1) h.3.view (subst (λ (f : Filter). ShowsEach m.json m.view f ys k.0 k.1) h.3.filter k.2)) in
-    (h.0 ++ k.0, h.1 || k.1, each_append s.json s.view s.filter xs ys h.0 k.0 h.1 k.1 h.2 later, grows_then h.0 k.0 h.1 k.1 s m n h.3 k.3)
+    let g = h.3 in
+    let l = k.3 in
+    let later = each_in s m (after_all s.before xs) ys k.0 k.1 g.json g.view g.filter g.before k.2 in (
+      h.0 ++ k.0,
+      h.1 || k.1,
+      each_append s.json s.view s.filter s.before xs ys h.0 k.0 h.1 k.1 h.2 later,
+      record {
+        json = l.json ∙ g.json;
+        view = l.view ∙ g.view;
+        header = l.header ∙ g.header;
+        filter = l.filter ∙ g.filter;
+        summary = l.summary ∙ g.summary;
+        before = l.before ∙ ap (λ b. after_all b ys) g.before ∙ sym (after_append s.before xs ys);
+        text = l.text ∙ ap (λ x. x ++ k.0) g.text ∙ append_assoc s.text h.0 k.0;
+        bad = l.bad ∙ ap (λ x. x || k.1) g.bad ∙ or_assoc s.bad h.1 k.1;
+      },
+    )
 
-pub puts_one : (x : Thing) (t : List ℕ) (b : Bool) (s n : State) → Shows s.json s.view s.filter x t b → Grows t b s n → Puts (x ∷ []) s n
+pub puts_one : (x : Thing) (t : List ℕ) (b : Bool) (s n : State) → Shows s.json s.view s.filter s.before x t b → Grows t b (noting (x ∷ []) s) n
+    → Puts (x ∷ []) s n
 puts_one x t b s n h g = (t, b, (t, [], b, false, h, nothing, sym (append-nil t), sym (or_false b)), g)
 
--- a message that the filter matches, and one that it doesn't match
-pub puts_message : (m : Message) (t : List ℕ) (b taken : Bool) (s n : State) → taken ≡ true → taken ≡ is_included s.filter m
-    → ShowsMessage s.json s.view m t b → Grows t b s n → Puts (message m ∷ []) s n
-puts_message m t b taken s n is h shown g =
-    puts_one (message m) t b s n (subst (λ x. IfTaken x (ShowsMessage s.json s.view m t b) t b) (sym is ∙ h) shown) g
+-- then the requests are noted
+pub puts_noted : (m : Message) (s a n : State) → Prints (message m) s a → n ≡ record a { before = noted_if a.before m.header } → Puts (message m ∷ []) s n
+puts_noted m s a n h same =
+    let g = h.3 in
+    subst (λ (x : State). Puts (message m ∷ []) s x) (sym same)
+    (puts_one (message m) h.0 h.1 s (record a { before = noted_if a.before m.header }) h.2 (record {
+      json = g.json;
+      view = g.view;
+      header = g.header;
+      filter = g.filter;
+      summary = g.summary;
+      before = ap (λ (b : List Request). noted_if b m.header) g.before;
+      text = g.text;
+      bad = g.bad;
+    }))
 
-pub puts_no_message : (m : Message) (taken : Bool) (s n : State) → taken ≡ false → taken ≡ is_included s.filter m → Grows [] false s n
-    → Puts (message m ∷ []) s n
-puts_no_message m taken s n is_not h g =
-    puts_one (message m) [] false s n (subst (λ x. IfTaken x (ShowsMessage s.json s.view m [] false) [] false) (sym is_not ∙ h) nothing) g
+-- a message that the filter matches, and one that it doesn't match
+pub shown_message : (m : Message) (t : List ℕ) (b taken : Bool) (s n : State) → taken ≡ true → taken ≡ is_included s.filter m
+    → ShowsMessage s.json s.view s.before m t b → Grows t b s n → Prints (message m) s n
+shown_message m t b taken s n is h shown g =
+    (t, b, subst (λ x. IfTaken x (ShowsMessage s.json s.view s.before m t b) t b) (sym is ∙ h) shown, g)
+
+pub no_message : (m : Message) (taken : Bool) (s n : State) → taken ≡ false → taken ≡ is_included s.filter m → Grows [] false s n
+    → Prints (message m) s n
+no_message m taken s n is_not h g =
+    ([], false, subst (λ x. IfTaken x (ShowsMessage s.json s.view s.before m [] false) [] false) (sym is_not ∙ h) nothing, g)
 
 pub puts_answer : (h : Header) (r : Reason) (m : Message) (t : List ℕ) (taken : Bool) (s n : State) → taken ≡ true → taken ≡ is_matched s.filter m
     → ShowsAnswer s.json h r m t → Grows t false s n → Puts (answer h r m ∷ []) s n

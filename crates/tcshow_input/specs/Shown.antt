@@ -11,6 +11,9 @@ use Rattle.tcshow_json.specs.Messages.{Header, Message, Reason, Thing, message, 
 use Rattle.tcshow_json.specs.Line.{IsAnswered}
 use Rattle.tcshow_json.specs.Safe.{safe_text}
 use Rattle.tcshow_json.specs.Objects.{root_of}
+use Rattle.tcshow_lines.specs.Lines.{IsLines}
+use Rattle.tcshow_lines.specs.Verbs.{noted_if}
+use Rattle.tcshow_lines.specs.declared.verb.Request.{Request}
 
 -- a line, and the line feed that ends it
 abbrev pub ended : List ℕ → List ℕ
@@ -32,10 +35,12 @@ pub record Nothing (text : List ℕ) (bad : Bool) : Type 0 where
   pub no_text : text ≡ []
   pub no_fault : bad ≡ false
 
--- how messages are shown outside JSON: as outlines with or without padding attributes, or as outlines on one line
+-- how messages are shown outside JSON: as outlines with or without padding attributes, as outlines on one line, or as lines for people
+-- with or without statistics
 pub data View : Type 0 where
   outline : Bool → View
   one_line : View
+  brief : Bool → View
 
 -- whether an outline ends with a fault
 abbrev pub has_fault : Message → Bool
@@ -55,15 +60,16 @@ pub record IsOutline (all : Bool) (m : Message) (text : List ℕ) : Type 0 where
   pub written : text ≡ ended (ended ((head ++ lines_with names all m) ++ fault))
   pub no_fault : has_fault m ≡ false → fault ≡ []
 
--- the text of a message in each view
-abbrev pub IsViewOf : View → Message → List ℕ → Type 0
-IsViewOf (outline all) m text = IsOutline all m text
-IsViewOf one_line m text = ⊤
+-- the text of a message in each view, after these requests
+abbrev pub IsViewOf : View → List Request → Message → List ℕ → Type 0
+IsViewOf (outline all) before m text = IsOutline all m text
+IsViewOf one_line before m text = ⊤
+IsViewOf (brief statistics) before m text = IsLines before statistics m text
 
 -- for a message its JSON line, or a page in this view
-abbrev pub ShowsMessage : Bool → View → Message → List ℕ → Bool → Type 0
-ShowsMessage true view m text bad = (line : List ℕ) × IsLineOf m line × IsEscaped line text × (bad ≡ is_refused m)
-ShowsMessage false view m text bad = IsPage text × IsViewOf view m text × (bad ≡ has_fault m)
+abbrev pub ShowsMessage : Bool → View → List Request → Message → List ℕ → Bool → Type 0
+ShowsMessage true view before m text bad = (line : List ℕ) × IsLineOf m line × IsEscaped line text × (bad ≡ is_refused m)
+ShowsMessage false view before m text bad = IsPage text × IsViewOf view before m text × (bad ≡ has_fault m)
 
 -- for an answer its JSON line, or a page
 abbrev pub ShowsAnswer : Bool → Header → Reason → Message → List ℕ → Type 0
@@ -89,15 +95,25 @@ abbrev pub IfTaken : Bool → Type 0 → List ℕ → Bool → Type 0
 IfTaken true Shown text bad = Shown
 IfTaken false Shown text bad = Nothing text bad
 
-abbrev pub Shows : Bool → View → Filter → Thing → List ℕ → Bool → Type 0
-Shows json view filter (message m) text bad = IfTaken (is_included filter m) (ShowsMessage json view m text bad) text bad
-Shows json view filter (answer h r m) text bad = IfTaken (is_matched filter m) (ShowsAnswer json h r m text × (bad ≡ false)) text bad
-Shows json view filter other text bad = Nothing text bad
-Shows json view filter (hole fault) text bad = ShowsNotice json text × (bad ≡ fault)
+-- the text of a thing after these requests
+abbrev pub Shows : Bool → View → Filter → List Request → Thing → List ℕ → Bool → Type 0
+Shows json view filter before (message m) text bad = IfTaken (is_included filter m) (ShowsMessage json view before m text bad) text bad
+Shows json view filter before (answer h r m) text bad = IfTaken (is_matched filter m) (ShowsAnswer json h r m text × (bad ≡ false)) text bad
+Shows json view filter before other text bad = Nothing text bad
+Shows json view filter before (hole fault) text bad = ShowsNotice json text × (bad ≡ fault)
+
+-- the requests before the next thing; whether a filter matches them doesn't matter
+abbrev pub after : List Request → Thing → List Request
+after before (message m) = noted_if before m.header
+after before thing = before
+
+abbrev pub after_all : List Request → List Thing → List Request
+after_all before [] = before
+after_all before (x ∷ xs) = after_all (after before x) xs
 
 -- for several things one text after the other
-abbrev pub ShowsEach : Bool → View → Filter → List Thing → List ℕ → Bool → Type 0
-ShowsEach json view filter [] text bad = Nothing text bad
-ShowsEach json view filter (x ∷ xs) text bad =
-    (first : List ℕ) × (later : List ℕ) × (b : Bool) × (c : Bool) × Shows json view filter x first b × ShowsEach json view filter xs later c
-    × (text ≡ first ++ later) × (bad ≡ (b || c))
+abbrev pub ShowsEach : Bool → View → Filter → List Request → List Thing → List ℕ → Bool → Type 0
+ShowsEach json view filter before [] text bad = Nothing text bad
+ShowsEach json view filter before (x ∷ xs) text bad =
+    (first : List ℕ) × (later : List ℕ) × (b : Bool) × (c : Bool) × Shows json view filter before x first b
+    × ShowsEach json view filter (after before x) xs later c × (text ≡ first ++ later) × (bad ≡ (b || c))

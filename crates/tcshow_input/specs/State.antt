@@ -1,18 +1,20 @@
 -- The state of a run, and the steps between states.
-use Rattle.std.specs.Prelude.{◌≡◌, ℕ, Bool, true, false, not, [], ◌||◌, ◌==◌, List, ◌++◌, Option}
+use Rattle.std.specs.Prelude.{◌≡◌, ℕ, Bool, true, false, not, [], ◌||◌, ◌==◌, List, ◌++◌, Option, Some, None}
 use Rattle.std.specs.Io.KnownBytes.{Appends}
 use Rattle.tc_capture.specs.declared.kind.MessageType.{MessageType}
 use Rattle.tc_select.specs.declared.filter.Filter.{Filter}
 use Rattle.tcshow_input.specs.declared.options.Options.{Options}
 use Rattle.tcshow_input.specs.declared.options.OutputFormat.{OutputFormat}
-use Rattle.tcshow_input.specs.declared.options.OutputFormat.TheVariants.{Lines, OneLine, Json}
+use Rattle.tcshow_input.specs.declared.options.OutputFormat.TheVariants.{Brief, Lines, OneLine, Json}
 use Rattle.tcshow_input.specs.declared.counts.Counts.{Counts}
 use Rattle.tcshow_input.specs.declared.printer.Printer.{Printer}
 use Rattle.tcshow_json.specs.Messages.{Thing}
 use Rattle.tcshow_input.specs.Reading.{AreIn}
 use Rattle.tc_outline.specs.declared.page.Layout.{Layout}
 use Rattle.tc_outline.specs.declared.page.Layout.TheVariants as layout
-use Rattle.tcshow_input.specs.Shown.{View, outline, one_line, ended, ShowsEach, ShowsSummary}
+use Rattle.tcshow_input.specs.Shown.{View, after_all, brief, outline, one_line, ended, Shows, ShowsEach, ShowsSummary}
+use Rattle.tcshow_lines.specs.Verbs.{requests_view}
+use Rattle.tcshow_lines.specs.declared.verb.Request.{Request}
 
 pub record State : Type 0 where
   -- the output is JSON
@@ -25,30 +27,41 @@ pub record State : Type 0 where
   pub filter : Filter
   -- a summary is asked for
   pub summary : Bool
+  -- the requests so far
+  pub before : List Request
   -- the text that isn't written yet
   pub text : List ℕ
   -- something was refused, broken or cut
   pub bad : Bool
 
 abbrev pub is_json : OutputFormat → Bool
+is_json (Brief statistics) = false
 is_json Lines = false
 is_json OneLine = false
 is_json Json = true
 
 -- the view of each format, with or without padding attributes
 abbrev pub view_of : OutputFormat → Bool → View
+view_of (Brief statistics) all = brief statistics
 view_of Lines all = outline all
 view_of OneLine all = one_line
 view_of Json all = one_line
 
+-- whether lines for people have statistics
+abbrev pub statistics_in : OutputFormat → Option Bool
+statistics_in (Brief statistics) = Some statistics
+statistics_in format = None
+
 -- the layout of pages
 abbrev pub layout_of : OutputFormat → Layout
+layout_of (Brief statistics) = layout.OneLine
 layout_of Lines = layout.Lines
 layout_of OneLine = layout.OneLine
 layout_of Json = layout.OneLine
 
 -- a page in the output: a paragraph, or a line
 abbrev pub laid_out : OutputFormat → List ℕ → List ℕ
+laid_out (Brief statistics) page = ended page
 laid_out Lines page = ended (ended page)
 laid_out OneLine page = ended page
 laid_out Json page = ended page
@@ -63,6 +76,7 @@ state_of s = record {
   header = s.options.now.without_header;
   filter = s.options.now.filter;
   summary = s.options.now.has_summary;
+  before = requests_view s.requests;
   text = s.output.bytes.items;
   bad = is_bad s.counts;
 }
@@ -74,19 +88,29 @@ pub record Grows (more : List ℕ) (fault : Bool) (old new : State) : Type 0 whe
   pub header : new.header ≡ old.header
   pub filter : new.filter ≡ old.filter
   pub summary : new.summary ≡ old.summary
+  pub before : new.before ≡ old.before
   pub text : new.text ≡ old.text ++ more
   pub bad : new.bad ≡ (old.bad || fault)
 
+-- the text of one thing is appended to the output
+abbrev pub Prints : Thing → State → State → Type 0
+Prints x old new = (text : List ℕ) × (bad : Bool) × Shows old.json old.view old.filter old.before x text bad × Grows text bad old new
+
+-- the same state after these things
+abbrev pub noting : List Thing → State → State
+noting things s = record s { before = after_all s.before things }
+
 -- the text of these things is appended to the output
 abbrev pub Puts : List Thing → State → State → Type 0
-Puts things old new = (text : List ℕ) × (bad : Bool) × ShowsEach old.json old.view old.filter things text bad × Grows text bad old new
+Puts things old new =
+    (text : List ℕ) × (bad : Bool) × ShowsEach old.json old.view old.filter old.before things text bad × Grows text bad (noting things old) new
 
 -- a run between two states: the text of these things is appended to the output, of which a part is written
 pub record Progress (things : List Thing) (old new : Option (List ℕ)) (first last : State) : Type 0 where
   pub text : List ℕ
   pub fault : Bool
   pub out : List ℕ
-  pub shown : ShowsEach first.json first.view first.filter things text fault
+  pub shown : ShowsEach first.json first.view first.filter first.before things text fault
   pub written : Appends old new out
   pub kept : out ++ last.text ≡ first.text ++ text
   pub json : last.json ≡ first.json
@@ -94,6 +118,7 @@ pub record Progress (things : List Thing) (old new : Option (List ℕ)) (first l
   pub header : last.header ≡ first.header
   pub filter : last.filter ≡ first.filter
   pub summary : last.summary ≡ first.summary
+  pub before : last.before ≡ after_all first.before things
   pub bad : last.bad ≡ (first.bad || fault)
 
 -- then a summary, if the options ask for it
@@ -104,7 +129,7 @@ Ends things old new first last =
 -- and all of it is written
 abbrev pub Completes : List Thing → Option (List ℕ) → Option (List ℕ) → State → State → Type 0
 Completes things old new first last =
-    (text : List ℕ) × (fault : Bool) × (summary : List ℕ) × ShowsEach first.json first.view first.filter things text fault
+    (text : List ℕ) × (fault : Bool) × (summary : List ℕ) × ShowsEach first.json first.view first.filter first.before things text fault
     × ShowsSummary first.json first.summary summary × Appends old new (first.text ++ (text ++ summary)) × (last.bad ≡ (first.bad || fault))
 
 -- the first state of a run
@@ -115,6 +140,7 @@ start options = record {
   header = options.without_header;
   filter = options.filter;
   summary = options.has_summary;
+  before = [];
   text = [];
   bad = false;
 }
@@ -124,5 +150,5 @@ start options = record {
 abbrev pub Ran : Options → Bool → Option (List ℕ) → Option (List ℕ) → Option (List ℕ) → Type 0
 Ran options fault file old new =
     (things : List Thing) × (text : List ℕ) × (summary : List ℕ) × AreIn file options.without_header things
-    × ShowsEach (is_json options.format) (view_of options.format options.all) options.filter things text fault
+    × ShowsEach (is_json options.format) (view_of options.format options.all) options.filter [] things text fault
     × ShowsSummary (is_json options.format) options.has_summary summary × Appends old new (text ++ summary)

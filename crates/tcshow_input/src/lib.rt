@@ -1,4 +1,4 @@
-//! Reads a capture, or lines of hex, and prints each message as an outline or as a line of JSON.
+//! Reads a capture, or lines of hex, and prints each message as lines for people, as an outline or as a line of JSON.
 //!
 //! The input is read a piece at a time, so a run takes memory for the longest message, not for the whole input. Calls that take an allocator fail
 //! with [`Stop::NoMemory`] or `AllocError` if it fails.

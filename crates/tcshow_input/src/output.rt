@@ -71,6 +71,15 @@ impl<A: Allocator> Output<A> {
         self.bytes.extend_from_slice(page.bytes())
     }
 
+    /// Appends lines for people.
+    pub(crate) fn lines(&mut self, text: &[u8]) -> Result<(), AllocError>
+        requires { IsShown true text.now }
+        ensures form { self.new.is_json ≡ self.old.is_json }
+        ensures put { OnOk result (self.new.bytes.items ≡ self.old.bytes.items ++ text.now) }
+    {
+        self.bytes.extend_from_slice(text)
+    }
+
     /// Appends JSON.
     pub(crate) fn json(&mut self, json: &[u8]) -> Result<(), AllocError>
         requires { self.old.is_json ≡ true }

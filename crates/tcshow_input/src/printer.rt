@@ -1,7 +1,7 @@
 //! Prints messages, notices and the summary.
 
 ghost use Rattle.std.specs.Prelude.{◌≡◌};
-ghost use Rattle.tcshow_input.specs.State.{is_json, layout_of};
+ghost use Rattle.tcshow_input.specs.State.{is_json, layout_of, statistics_in};
 
 use crate::counts::Counts;
 use crate::first_lines::FirstLines;
@@ -14,6 +14,7 @@ use std::alloc::{AllocError, Allocator, Global};
 use std::io::Write;
 use tc_outline::{Layout, Page};
 use tcshow_json::{Message, Notice, NoticeLine, json_of, safe_text, text_of};
+use tcshow_lines::Requests;
 
 // The output is written once it holds this many bytes.
 const MOST_KEPT: usize = 65_536;
@@ -32,6 +33,8 @@ pub struct Printer<'a, A: Allocator> {
     pub counts: Counts,
     /// Names of interfaces in the capture.
     pub(crate) links: Links,
+    /// Requests so far, which tell who speaks.
+    pub(crate) requests: Requests,
     /// Offset in the input of the current dump, in bytes.
     pub(crate) dump_at: u64,
     /// The first lines of a text.
@@ -45,7 +48,17 @@ pub(crate) fn layout_of(form: OutputFormat) -> Layout
 {
     match form {
         OutputFormat::Lines => Layout::Lines,
-        OutputFormat::OneLine | OutputFormat::Json => Layout::OneLine,
+        OutputFormat::Brief(_) | OutputFormat::OneLine | OutputFormat::Json => Layout::OneLine,
+    }
+}
+
+/// Whether lines for people have statistics; `None` for another format.
+pub(crate) fn statistics_in(form: OutputFormat) -> Option<bool>
+    ensures { result ≡ statistics_in form }
+{
+    match form {
+        OutputFormat::Brief(statistics) => Some(statistics),
+        _ => None,
     }
 }
 
@@ -69,19 +82,21 @@ impl<'a, A: Allocator + Copy> Printer<'a, A> {
             output: Output::new(alloc, is_json(options.format)),
             counts: Counts::default(),
             links: Links::new(json),
+            requests: Requests::new(json),
             dump_at: 0,
             first_lines: FirstLines::default(),
             summary: Summary::new(json),
         }
     }
 
-    /// Begins another input: forgets the text that isn't written, and the names of interfaces in the input before.
+    /// Begins another input: forgets the text that isn't written, and the names of interfaces and the requests in the input before.
     pub fn restart(&mut self)
         ensures form { self.new.output.is_json ≡ self.old.output.is_json }
-        ensures empty { state_of self.new ≡ record (state_of self.old) { text = [] } }
+        ensures empty { state_of self.new ≡ record (state_of self.old) { text = []; before = [] } }
     {
         self.output.clear();
         self.links = Links::new(self.json);
+        self.requests = Requests::new(self.json);
         self.first_lines = FirstLines::default();
         self.dump_at = 0;
     }
@@ -109,7 +124,7 @@ impl<'a, A: Allocator + Copy> Printer<'a, A> {
         self.put_page_line()?;
         match format {
             OutputFormat::Lines => self.output.line_feed(),
-            OutputFormat::OneLine | OutputFormat::Json => Ok(()),
+            OutputFormat::Brief(_) | OutputFormat::OneLine | OutputFormat::Json => Ok(()),
         }
     }
 
@@ -254,7 +269,7 @@ fn is_json(form: OutputFormat) -> bool
     ensures { result ≡ is_json form }
 {
     match form {
-        OutputFormat::Lines | OutputFormat::OneLine => false,
+        OutputFormat::Brief(_) | OutputFormat::Lines | OutputFormat::OneLine => false,
         OutputFormat::Json => true,
     }
 }

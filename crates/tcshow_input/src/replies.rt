@@ -1,11 +1,12 @@
 //! Answers of the kernel, printed.
 
 use crate::attributes::show_attributes;
-use crate::printer::{Printer, layout_of};
+use crate::printer::{Printer, layout_of, statistics_in};
 use itoa::Buffer;
 use std::alloc::{AllocError, Allocator};
 use tc_outline::Page;
 use tcshow_json::{Reply, put_request, reply_line, show_netlink, show_reason};
+use tcshow_lines::lines_of_reply;
 
 impl<'a, A: Allocator + Copy> Printer<'a, A> {
     ghost use Rattle.std.specs.Prelude.{◌≡◌, ◌∷◌, [], List, ℕ, true, false, OnOk};
@@ -35,10 +36,30 @@ impl<'a, A: Allocator + Copy> Printer<'a, A> {
     {
         self.count_row("NLMSG_ERROR", reply.errno(&mut Buffer::new()))?;
         if self.output.is_json() {
-            self.put_reply_line(reply)
-        } else {
-            self.put_reply_outline(reply)
+            return self.put_reply_line(reply);
         }
+        match statistics_in(self.options.format) {
+            Some(statistics) => self.put_reply_lines(reply, statistics),
+            None => self.put_reply_outline(reply),
+        }
+    }
+
+    // Prints the error, and the lines of the request.
+    #[tactic(auto, using(tcshow_lines::proofs::Printable::ended_shown))]
+    fn put_reply_lines(&mut self, reply: &Reply<'_>, statistics: bool) -> Result<(), AllocError>
+        ensures form { self.new.output.is_json ≡ self.old.output.is_json }
+        ensures put { OnOk result ((text : List ℕ) × ShowsAnswer false (header_view reply.now.header) (reason_of (answer_of reply.now.answer))
+            (message_view reply.now.request) text × Grows text false (state_of self.old) (state_of self.new)) }
+    {
+        let options = self.options;
+        let text = lines_of_reply(
+            self.json,
+            options.names.names,
+            self.links.names(),
+            statistics,
+            reply,
+        )?;
+        self.output.lines(&text)
     }
 
     fn put_reply_line(&mut self, reply: &Reply<'_>) -> Result<(), AllocError>

@@ -147,7 +147,7 @@ enum Value {
 }
 
 // The options: name, value, heading and text of the help.
-static OPTIONS: [(&str, Value, &str, &str); 19] = [
+static OPTIONS: [(&str, Value, &str, &str); 21] = [
     (
         "no-header",
         Value::Word("WHAT", &["tc", "action"]),
@@ -159,6 +159,18 @@ static OPTIONS: [(&str, Value, &str, &str); 19] = [
         Value::Text("FILE"),
         INPUT,
         "Read interface names from FILE: lines like '7 eth0', or 'ip -o link'",
+    ),
+    (
+        "lines",
+        Value::Nothing,
+        FORMS,
+        "Print a line for each object: time, verb, and the words of tc",
+    ),
+    (
+        "statistics",
+        Value::Nothing,
+        FORMS,
+        "With --lines, print statistics on the same line",
     ),
     (
         "oneline",
@@ -272,7 +284,16 @@ fn option<'a>(
     help: &'a str,
 ) -> Arg<'a> {
     let option = described(alloc, name, heading, help).action(action_of(value));
-    with_form(with_name(option, value), value)
+    with_letter(with_form(with_name(option, value), value), name)
+}
+
+// The letters of options.
+fn with_letter<'a>(option: Arg<'a>, name: &str) -> Arg<'a> {
+    match name {
+        "read" => option.short('r'),
+        "statistics" => option.short('s'),
+        _ => option,
+    }
 }
 
 fn described<'a>(alloc: Global, name: &'a str, heading: &'a str, help: &'a str) -> Arg<'a> {
@@ -334,7 +355,7 @@ fn files<'a>(alloc: Global) -> Result<Arg<'a>, AllocError> {
 }
 
 fn read<'a>(alloc: Global) -> Arg<'a> {
-    option(alloc, "read", Value::Text("FILE"), INPUT, "Same as FILE").short('r')
+    option(alloc, "read", Value::Text("FILE"), INPUT, "Same as FILE")
 }
 
 fn begun<'a>(alloc: Global) -> Result<Command<'a>, AllocError> {
@@ -348,7 +369,10 @@ fn begun<'a>(alloc: Global) -> Result<Command<'a>, AllocError> {
 
 // Output formats, which exclude one another.
 fn form_group<'a>(alloc: Global) -> Result<ArgGroup<'a>, AllocError> {
-    ArgGroup::new(alloc, "forms").arg("oneline")?.arg("json")
+    ArgGroup::new(alloc, "forms")
+        .arg("lines")?
+        .arg("oneline")?
+        .arg("json")
 }
 
 // Options about the tables, which exclude one another.
@@ -377,6 +401,8 @@ fn command<'a>(alloc: Global) -> Result<Command<'a>, AllocError> {
 fn format_of(matches: &ArgMatches<'_>) -> OutputFormat {
     if matches.get_flag("json") {
         OutputFormat::Json
+    } else if matches.get_flag("lines") {
+        OutputFormat::Brief(matches.get_flag("statistics"))
     } else if matches.get_flag("oneline") {
         OutputFormat::OneLine
     } else {

@@ -13,6 +13,7 @@ mod formats;
 mod holes;
 mod inputs;
 mod known;
+mod lines;
 mod memory;
 mod random;
 mod runs;

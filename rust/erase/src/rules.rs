@@ -230,6 +230,9 @@ pub(crate) const USER_RULES: &[Rule] = &[
     ("# [ inline ( always ) ] fn unit ( & mut self ) -> $-r { $;b }", ""),
     ("fn $x ( & mut self $*p ) -> Result < ( ) , LinesError > { Err ( LinesError :: NotJson ) }", ""),
     ("fn key_cased ( $*a , case : Case ) -> $-r { match case { Case :: AsIs => $*x , _ => { $;y } } }", "fn key($*a) -> $-r {$*x}"),
+    ("fn unit ( & mut self ) -> Result < ( ) , BriefError > { $;b }", ""),
+    ("fn $x ( & mut self $*p ) -> Result < ( ) , BriefError > { Err ( BriefError :: NotJson ) }", ""),
+    ("fn key_cased ( $*a , case : Case ) -> $-r { match case { Case :: AsIs => { $;x } _ => $*y , } }", "fn key($*a) -> $-r {$;x}"),
     // What the shims of `clap` and `arrayvec` do without.
     ("value_parser ! ( $t )", "clap::builder::ValueParser(::clap::value_parser!($t).into())"),
     ("handle_text ( $*x ) . as_bytes ( )", "handle_text($*x).as_str().as_bytes()"),

@@ -75,8 +75,16 @@ fn chooses_all(arguments: &Arguments<'_>) -> bool {
 }
 
 // Words, and what they say.
-static WORDS: [(&[&str], &[Part]); 14] = [
+static WORDS: [(&[&str], &[Part]); 16] = [
     (&["tcshow"], &[Part::Defaults]),
+    (
+        &["tcshow", "--lines"],
+        &[Part::Format(OutputFormat::Brief(false))],
+    ),
+    (
+        &["tcshow", "-s", "--lines"],
+        &[Part::Format(OutputFormat::Brief(true))],
+    ),
     (
         &[
             "tcshow", "-r", "a", "--json", "--names", "b", "--kind", "u32",

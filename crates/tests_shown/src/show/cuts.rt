@@ -9,7 +9,7 @@ use tests_data::{FORMATS, Format};
 // What a run says of a place where a capture is cut, up to the numbers.
 fn note_of(form: OutputFormat) -> &'static [u8] {
     match form {
-        OutputFormat::Lines | OutputFormat::OneLine => b"byte ",
+        OutputFormat::Brief(_) | OutputFormat::Lines | OutputFormat::OneLine => b"byte ",
         OutputFormat::Json => b"{\"note\":\"truncated: ",
     }
 }

@@ -12,7 +12,8 @@ use tcshow_lib::program::serve;
 use tests_data::{Format, file_of, messages};
 
 /// The output formats.
-pub(crate) static FORMS: [OutputFormat; 3] = [
+pub(crate) static FORMS: [OutputFormat; 4] = [
+    OutputFormat::Brief(true),
     OutputFormat::Lines,
     OutputFormat::OneLine,
     OutputFormat::Json,

@@ -1,17 +1,16 @@
+use Rattle.std.proofs.Common.{ap}
+use Rattle.std.specs.Prelude.{List}
 use Rattle.std.proofs.lemmas.Result.{on_ok_weaker}
 use Rattle.tcshow_json.specs.Messages.{message_view}
+use Rattle.tcshow_lines.specs.declared.verb.Request.{Request}
 use Rattle.tcshow_input.specs.State.{state_of}
-use Rattle.tcshow_input.proofs.Puts.{grows_none, puts_message, puts_no_message}
+use Rattle.tcshow_input.proofs.Puts.{puts_noted}
 use Rattle.tcshow_input.proofs.printer.Printer.put_message.Goals as goal
 
 pub returns-clause-put : goal.returns-clause-put
 returns-clause-put g c =
-    on_ok_weaker c.show_message.result
-    (λ x. puts_message (message_view c.args.found.now) x.0 x.1 c.in_ok-taken.taken (state_of c.args.self.now) (state_of c.show_message.new.self)
-    c.if-not-taken.false c.in_ok-taken.ensures x.2 x.3)
-    c.show_message.ensures.put
-
-pub returns-then-not-taken-clause-put : goal.returns-then-not-taken-clause-put
-returns-then-not-taken-clause-put g c =
-    let s = state_of c.args.self.now in
-    puts_no_message (message_view c.args.found.now) c.in_ok-taken.taken s s c.if-not-taken.true c.in_ok-taken.ensures (grows_none s)
+    let put = state_of c.put_matched.new.self in
+    on_ok_weaker c.note.result
+    (λ noted. puts_noted (message_view c.args.found.now) (state_of c.args.self.now) put _ c.in_ok-put_matched.ensures.put
+    (ap (λ (b : List Request). record put { before = b }) noted))
+    c.note.ensures

@@ -18,6 +18,6 @@ returns-clause-put g c =
     c.in_ok-begin_message.ensures c.in_ok-name.ensures.fault
     (c.in_ok-name.ensures.text (c.in_ok-begin_message.ensures.form ∙ c.restart.ensures.form ∙ ap is_in_lines c.layout_of.ensures ∙ on)) in
     on_ok_weaker c.count_fault.result
-    (page_counted options.format options.all m (is_some c.in_ok-name.name) page (state_of c.args.self.now) (state_of c.put_page.new.self)
-    (state_of c.count_fault.new.self) c.put_page.ensures.shown view c.in_ok-put_page.ensures.put c.in_ok-name.ensures.fault)
+    (page_counted options.format options.all (state_of c.args.self.now).before m (is_some c.in_ok-name.name) page (state_of c.args.self.now) (state_of c.put_page.new.self)
+    (state_of c.count_fault.new.self) c.requires c.put_page.ensures.shown view c.in_ok-put_page.ensures.put c.in_ok-name.ensures.fault)
     c.count_fault.ensures.counted

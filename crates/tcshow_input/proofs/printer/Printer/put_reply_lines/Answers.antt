@@ -1,0 +1,12 @@
+use Rattle.std.proofs.lemmas.Result.{on_ok_weaker}
+use Rattle.tcshow_input.specs.State.{state_of}
+use Rattle.tcshow_input.proofs.Puts.{more_text}
+use Rattle.tcshow_input.proofs.printer.Printer.put_reply_lines.Goals as goal
+
+pub returns-clause-put : goal.returns-clause-put
+returns-clause-put g c =
+    let text = c.in_ok-text.text.items in
+    let now = c.lines.new.self in
+    on_ok_weaker c.lines.result
+    (λ put. (text, c.in_ok-text.ensures, more_text (state_of c.args.self.now) now.is_json now.bytes.items text c.lines.ensures.form put))
+    c.lines.ensures.put

@@ -1,0 +1,3 @@
+pub mod Verbs
+pub mod Begins
+pub mod Lines

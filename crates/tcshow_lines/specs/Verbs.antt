@@ -1,0 +1,180 @@
+-- What a message does, and who says so: by its netlink header, the requests before it, and the packet that it came in.
+use Rattle.std.specs.Prelude.{Bool, List, None, Option, Some, [], codes, false, if◌then◌else◌, is_some, map, not, true, ℕ, ◌%◌, ◌&&◌, ◌*◌, ◌+◌}
+use Rattle.std.specs.Prelude.{◌++◌, ◌/◌, ◌==◌, ◌||◌, ◌∷◌, drop, length, nat_lt}
+use Rattle.tc_brief.specs.declared.line.Object.{Object}
+use Rattle.tc_brief.specs.declared.line.Object.TheVariants as object
+use Rattle.tc_columns.specs.declared.root.Root.{Root}
+use Rattle.tc_columns.specs.declared.root.Root.TheVariants as root
+use Rattle.tc_units.specs.Numerals.{hex_text}
+use Rattle.tcshow_json.specs.Messages.{Header, Message}
+use Rattle.tcshow_json.specs.Objects.{root_of}
+use Rattle.tcshow_json.specs.declared.message.Origin.{Origin}
+use Rattle.tcshow_lines.specs.declared.verb.Request.{Request}
+use Rattle.tcshow_lines.specs.declared.verb.Requests.{Requests}
+use Rattle.tcshow_lines.specs.declared.verb.Speech.{Speech}
+use Rattle.tcshow_lines.specs.declared.verb.Verb.{Verb}
+use Rattle.tcshow_lines.specs.declared.verb.Verb.TheVariants as verb
+
+-- the object of a message
+abbrev pub object_in : Root → Object
+object_in root.Qdisc = object.Qdisc
+object_in root.Class = object.Class
+object_in root.Filter = object.Filter
+object_in root.U32Filter = object.Filter
+object_in root.Chain = object.Chain
+object_in root.Action = object.Action
+object_in root.Flush = object.Action
+
+-- ---- verbs
+
+-- the word of a verb, and the flags of a request that iproute2 doesn't send
+abbrev pub verb_word : Verb → List ℕ
+verb_word verb.Add = codes "add"
+verb_word verb.Replace = codes "replace"
+verb_word verb.Change = codes "change"
+verb_word verb.Del = codes "del"
+verb_word verb.Flush = codes "flush"
+verb_word verb.Get = codes "get"
+verb_word verb.Dump = codes "dump"
+verb_word (verb.Send flags) = codes "send"
+verb_word verb.Is = codes "is"
+verb_word verb.New = codes "new"
+verb_word verb.Gone = codes "gone"
+verb_word verb.Unsaid = codes "-"
+
+abbrev pub flags_words : Verb → List (List ℕ)
+flags_words (verb.Send flags) = codes "flags" ∷ hex_text flags ∷ []
+flags_words v = []
+
+abbrev pub verb_words : Verb → List (List ℕ)
+verb_words v = verb_word v ∷ flags_words v
+
+-- ---- netlink headers
+
+-- a bit of nlmsg_flags
+abbrev pub has_flag : ℕ → ℕ → Bool
+has_flag flags bit = flags / bit % 2 == 1
+
+-- the four flags whose meaning depends on the type: of RTM_NEW* NLM_F_REPLACE (1), NLM_F_EXCL (2), NLM_F_CREATE (4) and
+-- NLM_F_APPEND (8); of RTM_GET* NLM_F_ROOT (1) and NLM_F_MATCH (2); of RTM_DELACTION NLM_F_ROOT (1)
+abbrev pub modifiers : ℕ → ℕ
+modifiers flags = flags / 0x100 % 0x10
+
+-- types come by fours: RTM_NEW*, RTM_DEL*, RTM_GET*
+abbrev pub is_new : ℕ → Bool
+is_new kind = kind % 4 == 0
+
+abbrev pub is_del : ℕ → Bool
+is_del kind = kind % 4 == 1
+
+abbrev pub get_of : ℕ → ℕ
+get_of kind = kind / 4 * 4 + 2
+
+-- ---- requests
+
+-- iproute2 changes these objects with no flag
+abbrev pub changes : Object → Bool
+changes object.Qdisc = true
+changes object.Class = true
+changes object.Filter = true
+changes o = false
+
+-- with these it replaces: NLM_F_CREATE, of qdiscs and actions with NLM_F_REPLACE; chains aren't replaced
+abbrev pub replaces : Object → ℕ → Bool
+replaces object.Qdisc n = n == 5
+replaces object.Action n = n == 5
+replaces object.Chain n = false
+replaces o n = n == 4
+
+abbrev pub new_verb : Object → ℕ → Verb
+new_verb o flags =
+    if modifiers flags == 6 then verb.Add
+    else if replaces o (modifiers flags) then verb.Replace
+    else if modifiers flags == 0 && changes o then verb.Change
+    else verb.Send flags
+
+-- an action message with NLM_F_ROOT deletes all actions of a kind
+abbrev pub flushes : Object → ℕ → Bool
+flushes object.Action n = n == 1
+flushes o n = false
+
+abbrev pub del_verb : Object → ℕ → Verb
+del_verb o flags =
+    if modifiers flags == 0 then verb.Del else if flushes o (modifiers flags) then verb.Flush else verb.Send flags
+
+abbrev pub get_verb : ℕ → Verb
+get_verb flags = if modifiers flags == 0 then verb.Get else if modifiers flags == 3 then verb.Dump else verb.Send flags
+
+abbrev pub request_verb : Object → Header → Verb
+request_verb o h = if is_new h.kind then new_verb o h.flags else if is_del h.kind then del_verb o h.flags else get_verb h.flags
+
+-- ---- who speaks
+
+-- a request before: it has the message's sequence number, and its port id or 0
+abbrev pub is_before : ℕ → Header → Request → Bool
+is_before kind h r = r.kind == kind && (r.sequence == h.sequence && (r.port == h.port || r.port == 0))
+
+abbrev pub was_sent : List Request → ℕ → Header → Bool
+was_sent [] kind h = false
+was_sent (r ∷ rs) kind h = is_before kind h r || was_sent rs kind h
+
+-- a request of the message's type, or one to get its object
+abbrev pub was_asked : List Request → Header → Bool
+was_asked before h = was_sent before h.kind h || was_sent before (get_of h.kind) h
+
+-- a file of rtmon has times, and no packets
+abbrev pub is_of_rtmon : Origin → Bool
+is_of_rtmon origin = is_some origin.time && not (is_some origin.packet)
+
+-- a request has NLM_F_REQUEST, but the kernel copies the flag and the sequence number of a request into a notification, with
+-- the port id of the requester: so it has port id 0, or is the first of its sequence number and type in a capture of packets;
+-- all in a file of rtmon is the kernel's
+abbrev pub is_request : List Request → Origin → Header → Bool
+is_request before origin h =
+    has_flag h.flags 1 && (not (is_of_rtmon origin) && (h.port == 0 || (is_some origin.packet && not (was_asked before h))))
+
+-- the kernel answers a dump with NLM_F_MULTI, and actions with the type of the request
+abbrev pub kernels_verb : List Request → Header → Verb
+kernels_verb before h =
+    if is_del h.kind then verb.Gone
+    else if is_new h.kind && not (has_flag h.flags 2 || was_sent before (get_of h.kind) h) then verb.New else verb.Is
+
+-- a notification has the port id of who caused it
+abbrev pub port_of : Verb → ℕ → ℕ
+port_of verb.New port = port
+port_of verb.Gone port = port
+port_of v port = 0
+
+abbrev pub said_by_kernel : Verb → ℕ → Speech
+said_by_kernel v port = record { verb = v; port = port_of v port }
+
+abbrev pub speech_by : List Request → Origin → Object → Header → Speech
+speech_by before origin o h =
+    if is_request before origin h then record { verb = request_verb o h; port = 0 } else said_by_kernel (kernels_verb before h) h.port
+
+abbrev pub speech_in : List Request → Origin → Object → Option Header → Speech
+speech_in before origin o None = record { verb = verb.Unsaid; port = 0 }
+speech_in before origin o (Some h) = speech_by before origin o h
+
+-- what a message does, after these requests; without a netlink header nobody says it
+abbrev pub speech_of : List Request → Message → Speech
+speech_of before m = speech_in before m.origin (object_in (root_of m)) m.header
+
+-- ---- the requests before
+
+-- the last 1,024 are kept
+abbrev pub kept : List Request → List Request
+kept before = if nat_lt (length before) 1024 then before else drop 1 before
+
+abbrev pub noted : List Request → Header → List Request
+noted before h =
+    if has_flag h.flags 1 then kept before ++ record { kind = h.kind; sequence = h.sequence; port = h.port } ∷ [] else before
+
+abbrev pub noted_if : List Request → Option Header → List Request
+noted_if before None = before
+noted_if before (Some h) = noted before h
+
+-- ---- abstract values of the code's types
+
+abbrev pub requests_view : Requests → List Request
+requests_view r = r.all.items

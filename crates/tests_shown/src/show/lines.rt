@@ -1,0 +1,167 @@
+//! Lines for people.
+
+use crate::show::runs::{Written, all_in, chosen_in, counted_in, gives, shown, writes};
+use std::alloc::{AllocError, Global};
+use std::test::Fail;
+use tc_outline::Interfaces;
+use tc_select::Filter;
+use tcshow_lib::options::OutputFormat;
+use tests_data::{Format, file_of};
+
+// In hex: a qdisc of fq_codel with a limit of 10240 packets, and of three bytes; a list of actions with an index of 5.
+static TEXT: &str =
+    "40000000 2400 0006 05000000 00000000 000000000200000000000100ffffffff00000000 0d00010066715f636f64656c00000000 0c0002000800020000280000
+40000000 2400 0006 05000000 00000000 000000000200000000000100ffffffff00000000 0d00010066715f636f64656c00000000 0c0002000700020000280000
+14000000 0300 0200 05000000 00000000 00000000
+30000000 3000 0000 07000000 00000000 00000000 1c000100 18000100 08000300 05000000 0b0001006d697272656400 00
+";
+
+static LINES: &str = r"new qdisc fq_codel 1: dev eth0 root limit 10240p
+new qdisc fq_codel 1: dev eth0 root limit {raw=002800} malformed: 3 bytes, 4 expected, at Options/FqCodel/Limit (byte 44)
+new action mirred - index 5
+";
+
+#[test]
+fn lines_are_known(rt: HostRuntime) {
+    let mut options = all_in(OutputFormat::Brief(false));
+    options.names = Interfaces {
+        names: &[(2, "eth0")],
+    };
+    assert!(rt; writes(rt.alloc(), &options, TEXT, 1, LINES));
+    let filter = Filter {
+        refused: true,
+        ..Filter::ALL
+    };
+    let options = chosen_in(OutputFormat::Brief(true), filter);
+    assert!(rt;
+        gives(
+            rt.alloc(),
+            &options,
+            TEXT.as_bytes(),
+            1,
+            Written::Begins("new qdisc fq_codel 1: dev 2 root limit {raw"),
+            ""
+        )
+    );
+    let options = counted_in(OutputFormat::Brief(false));
+    assert!(rt;
+        gives(
+            rt.alloc(),
+            &options,
+            TEXT.as_bytes(),
+            1,
+            Written::Has("\nsummary\n"),
+            ""
+        )
+    );
+}
+
+// nlmsg_type, nlmsg_flags and nlmsg_pid of messages with sequence number 5, and the verb and the sender of each.
+#[derive(Clone, Copy)]
+struct Said {
+    kind: u16,
+    flags: u16,
+    port: u16,
+    verb: &'static str,
+    sender: &'static str,
+}
+
+const fn said(kind: u16, flags: u16, port: u16, verb: &'static str, sender: &'static str) -> Said {
+    Said {
+        kind,
+        flags,
+        port,
+        verb,
+        sender,
+    }
+}
+
+// Commands of iproute2 with the flags that `strace tc` shows, then messages of the kernel.
+static ALONE: [Said; 22] = [
+    said(36, 0x605, 0, "add", ""),
+    said(36, 0x505, 0, "replace", ""),
+    said(36, 5, 0, "change", ""),
+    said(36, 0x105, 0, "send flags 0x105", ""),
+    said(36, 0x405, 0, "send flags 0x405", ""),
+    said(37, 5, 0, "del", ""),
+    said(38, 1, 0, "get", ""),
+    said(38, 0x301, 0, "dump", ""),
+    said(40, 0x605, 0, "add", ""),
+    said(40, 0x405, 0, "replace", ""),
+    said(40, 5, 0, "change", ""),
+    said(44, 0x60d, 0, "add", ""),
+    said(44, 0x405, 0, "replace", ""),
+    said(45, 5, 0, "del", ""),
+    said(36, 2, 0, "is", ""),
+    said(38, 2, 77, "is", ""),
+    said(36, 0, 77, "new", " by 77"),
+    said(36, 0x600, 0, "new", ""),
+    said(37, 0, 77, "gone", " by 77"),
+    said(44, 0x605, 77, "new", " by 77"),
+    said(45, 5, 77, "gone", " by 77"),
+    said(46, 2, 77, "is", ""),
+];
+
+// A netlink message with the header of a message about interface 2, a handle of 1: and the root.
+fn message_of(alloc: Global, said: &Said) -> Result<Vec<u8>, AllocError> {
+    let [a, b] = said.kind.to_le_bytes();
+    let [c, d] = said.flags.to_le_bytes();
+    let [e, f] = said.port.to_le_bytes();
+    let mut bytes = [36, 0, 0, 0, a, b, c, d, 5, 0, 0, 0, e, f, 0, 0].to_vec(alloc)?;
+    bytes.extend_from_slice(&[
+        0, 0, 0, 0, 2, 0, 0, 0, 0, 0, 1, 0, 255, 255, 255, 255, 0, 0, 0, 0,
+    ])?;
+    Ok(bytes)
+}
+
+fn object_of(kind: u16) -> &'static str {
+    match kind {
+        36..=38 => "qdisc - 1: dev 2 root",
+        40..=42 => "class - 1: dev 2 root",
+        _ => "filter - 0x10000 dev 2 root",
+    }
+}
+
+// True if the messages of a capture have these verbs and senders, after this time.
+fn are_said(alloc: Global, format: Format, time: &str, all: &[Said]) -> Result<bool, Fail> {
+    let mut messages = Vec::new(alloc);
+    let mut lines = String::new(alloc);
+    for one in all {
+        messages.push(message_of(alloc, one)?)?;
+        let line = format!(in alloc;
+            "{time}{} {}{}\n",
+            one.verb,
+            object_of(one.kind),
+            one.sender
+        )?;
+        lines.push_str(line.as_str())?;
+    }
+    let file = file_of(alloc, format, false, &messages)?;
+    let run = shown(alloc, &all_in(OutputFormat::Brief(false)), &file);
+    Ok(run.written.as_slice() == lines.as_bytes())
+}
+
+// A request with a port id, the kernel's copy of it, a get, its answer, and a request of the same number by another.
+static IN_PACKETS: [Said; 6] = [
+    said(44, 0x605, 77, "add", ""),
+    said(44, 0x605, 77, "new", " by 77"),
+    said(46, 5, 0, "get", ""),
+    said(44, 5, 78, "is", ""),
+    said(36, 0x605, 78, "add", ""),
+    said(36, 0x605, 79, "add", ""),
+];
+
+#[test]
+fn verbs_are_known(rt: HostRuntime) -> Result<(), Fail> {
+    let alloc = rt.alloc();
+    for one in &ALONE {
+        assert!(rt;
+            are_said(alloc, Format::Stream, "", &[*one])?,
+            "{} {}",
+            one.kind,
+            one.flags
+        );
+    }
+    assert!(rt; are_said(alloc, Format::Microseconds, "22:13:20.123456 ", &IN_PACKETS)?);
+    Ok(())
+}
