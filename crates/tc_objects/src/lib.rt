@@ -9,6 +9,7 @@ pub mod dump;
 mod frames;
 mod kinds;
 mod known;
+mod made;
 pub mod names;
 mod normal;
 pub mod objects;

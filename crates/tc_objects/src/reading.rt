@@ -1,11 +1,31 @@
 //! The objects of single dumps.
 
+ghost use Rattle.std.specs.Prelude.{◌≡◌, ◌∷◌, ◌||◌, [], ℕ, IfOk};
+ghost use Rattle.std.specs.List.{flat_map};
+ghost use Rattle.std.specs.Option.{option_to_list};
+ghost use Rattle.std.specs.HashSet as bag;
+ghost use Rattle.tc_plan.specs.Fates as plan;
+ghost use Rattle.tc_plan.specs.Needs.{made_by, actions_in, object as plan_object};
+ghost use Rattle.tc_restore.specs.RootTables.{chain_number};
+ghost use Rattle.tc_restore.specs.declared.restore_messages.Object.TheVariants as kinds;
+ghost use Rattle.tc_changes.specs.Model.{among};
+ghost use Rattle.tc_changes.specs.Objects.{same_key};
+ghost use Rattle.tc_changes.specs.declared.key.Key.{Key as KeyModel};
+ghost use Rattle.tc_changes.specs.declared.key.Key.TheVariants.{Action as ActionKey, Filter as FilterKey, Priority as PriorityKey};
+ghost use Rattle.tc_objects.specs.Needs.{key_of};
+ghost use Rattle.tc_objects.specs.Put.{key_at, keys_read, Puts};
+ghost use Rattle.tc_objects.specs.States.{keys_by, key_named, handle_named, priority_named, is_by_kernel, is_implied};
+ghost use Rattle.tc_objects.specs.States.{action_named, actions_named};
+ghost use Rattle.tc_objects.specs.declared.dump.Dump.TheVariants.{Of};
+ghost use Rattle.tc_objects.specs.declared.shown.Sort.TheVariants.{Class as ClassSort, Qdisc as QdiscSort};
+
 use crate::classes::{classes_of, kind_of};
 use crate::config::{MADE, NEVER};
 use crate::configured::{configured, plain};
 use crate::dump::Dump;
 use crate::frames::emitted;
 use crate::known::Known;
+use crate::made::{handle_named, is_by_kernel};
 use crate::normal::normal;
 use crate::objects::key_of;
 use crate::shown::{Shown, Sort};
@@ -57,22 +77,83 @@ pub(crate) fn readings_of<A: Allocator + Copy>(
     alloc: A,
     known: &Known<A>,
     dumps: Vec<Dump<A>, A>,
-) -> Result<Vec<Reading<A>, A>, StateError> {
-    let mut readings = Readings {
+) -> Result<Vec<Reading<A>, A>, StateError>
+    ensures { IfOk result (λ made. (k : KeyModel) → among same_key (keys_read made.items) k
+        ≡ among same_key (flat_map (keys_by known.now.roots.items known.now.ingress.items
+        (bag.contains plan.same_key known.now.filled)) dumps.items) k) }
+{
+    let readings = Readings {
         all: Vec::new(alloc),
         seen: HashSet::new(alloc),
     };
+    let made = put_dumps(alloc, known, dumps, readings)?;
+    Ok(made.all)
+}
+
+fn put_dumps<A: Allocator + Copy>(
+    alloc: A,
+    known: &Known<A>,
+    dumps: Vec<Dump<A>, A>,
+    readings: Readings<A>,
+) -> Result<Readings<A>, StateError>
+    ensures { IfOk result (λ made. Puts readings (flat_map (keys_by known.now.roots.items known.now.ingress.items
+        (bag.contains plan.same_key known.now.filled)) dumps.items) made) }
+{
+    let mut readings = readings;
     let mut place = 0;
     for dump in dumps {
-        match dump {
-            Dump::Of(object, message) => {
-                put_object(alloc, known, place, object, message, &mut readings)?;
-            }
-            Dump::Actions(message) => put_actions(alloc, known, place, message, &mut readings)?,
-        }
+        readings = put_dump(alloc, known, place, dump, readings)?;
         place = usize::saturating_add(place, 1);
     }
-    Ok(readings.all)
+    Ok(readings)
+}
+
+fn put_dump<A: Allocator + Copy>(
+    alloc: A,
+    known: &Known<A>,
+    place: usize,
+    dump: Dump<A>,
+    readings: Readings<A>,
+) -> Result<Readings<A>, StateError>
+    ensures { IfOk result (λ made. Puts readings (keys_by known.now.roots.items known.now.ingress.items
+        (bag.contains plan.same_key known.now.filled) dump) made) }
+{
+    match dump {
+        Dump::Of(object, message) => put_object(alloc, known, place, object, message, readings),
+        Dump::Actions(message) => put_actions(alloc, known, place, message, readings),
+    }
+}
+
+// Readings, and one more.
+fn with_reading<A: Allocator>(
+    readings: Readings<A>,
+    reading: Reading<A>,
+) -> Result<Readings<A>, AllocError>
+    ensures { IfOk result (λ made. Puts readings (key_of reading.shown ∷ []) made) }
+{
+    let Readings { all, seen } = readings;
+    let mut all = all;
+    all.push(reading)?;
+    Ok(Readings { all, seen })
+}
+
+// The same, unless it was seen: the priority of a filter, and what is in a block that interfaces share, which each of these dumps.
+fn with_new<A: Allocator + Copy>(
+    readings: Readings<A>,
+    reading: Reading<A>,
+) -> Result<Readings<A>, AllocError>
+    ensures { IfOk result (λ made. Puts readings (key_of reading.shown ∷ []) made) }
+{
+    let key = key_of(&reading.shown);
+    if readings.seen.contains(&key) {
+        return Ok(readings);
+    }
+    let Readings { all, seen } = readings;
+    let mut all = all;
+    let mut seen = seen;
+    seen.insert(key)?;
+    all.push(reading)?;
+    Ok(Readings { all, seen })
 }
 
 // What the keys of a dump say.
@@ -90,24 +171,23 @@ fn whereabouts_of<A: Allocator>(
     object: Object,
     message: &TcMessage<A>,
     entry: &Entry<A>,
-) -> Whereabouts {
+) -> Whereabouts
+    requires { entry.now.objects.items ≡ plan_object known.now.ingress.items object message.now }
+    ensures key { (handle : ℕ) → key_at result.sort result.index result.parent result.chain result.priority handle
+        ≡ key_named known.now.ingress.items object message.now handle }
+    ensures chain { object ≡ kinds.Chain → result.chain ≡ chain_number message.now.attributes.items }
+{
     let index = message.header.index;
-    let parent = u32::from(message.header.parent);
-    let at = |sort| Whereabouts {
-        sort,
-        index,
-        parent,
-        chain: 0,
-        priority: 0,
-    };
     match (object, entry.objects.first()) {
-        (_, Some(PlanKey::Chain { parent, number, .. })) => Whereabouts {
+        (Object::Chain, Some(PlanKey::Chain { parent, number, .. })) => Whereabouts {
+            sort: Sort::Chain,
+            index,
             parent: *parent,
             chain: *number,
-            ..at(Sort::Chain)
+            priority: 0,
         },
         (
-            _,
+            Object::Filter,
             Some(
                 PlanKey::Filter {
                     parent,
@@ -117,18 +197,38 @@ fn whereabouts_of<A: Allocator>(
                 },
             ),
         ) => Whereabouts {
+            sort: sort_of_filter(known, entry),
+            index,
             parent: *parent,
             chain: *number,
             priority: *info / 0x1_0000,
-            ..at(sort_of_filter(known, entry))
         },
-        (Object::Class, _) => at(Sort::Class),
-        _ => at(Sort::Qdisc),
+        _ => Whereabouts {
+            sort: sort_of_node(object),
+            index,
+            parent: u32::from(message.header.parent),
+            chain: 0,
+            priority: 0,
+        },
+    }
+}
+
+// A class, or a qdisc.
+fn sort_of_node(object: Object) -> Sort
+    ensures class { object ≡ kinds.Class → result ≡ ClassSort }
+    ensures qdisc { object ≡ kinds.Qdisc → result ≡ QdiscSort }
+{
+    match object {
+        Object::Class => Sort::Class,
+        _ => Sort::Qdisc,
     }
 }
 
 // A hash table of u32, or a filter.
-fn sort_of_filter<A: Allocator>(known: &Known<A>, entry: &Entry<A>) -> Sort {
+fn sort_of_filter<A: Allocator>(known: &Known<A>, entry: &Entry<A>) -> Sort
+    ensures { (index : _) (parent chain priority handle : ℕ) → key_at result index parent chain priority handle
+        ≡ FilterKey index parent chain priority handle }
+{
     for key in &entry.provides {
         if let Some(Some(_)) = known.tables.get(key) {
             return Sort::Table;
@@ -137,58 +237,87 @@ fn sort_of_filter<A: Allocator>(known: &Known<A>, entry: &Entry<A>) -> Sort {
     Sort::Filter
 }
 
-// Puts what a dump shows, unless the kernel makes it with something else.
+// Puts what a dump shows, unless the kernel makes it itself or with something else.
 fn put_object<A: Allocator + Copy>(
     alloc: A,
     known: &Known<A>,
     place: usize,
     object: Object,
     message: TcMessage<A>,
-    readings: &mut Readings<A>,
-) -> Result<(), StateError> {
+    readings: Readings<A>,
+) -> Result<Readings<A>, StateError>
+    ensures { IfOk result (λ made. Puts readings (keys_by known.now.roots.items known.now.ingress.items
+        (bag.contains plan.same_key known.now.filled) (Of object message)) made) }
+{
     let entry = entry_of(alloc, 0, Fate::Request, object, &known.ingress, &message)?;
     let at = whereabouts_of(known, object, &message, &entry);
+    let before = put_priority(alloc, known, place, object, at, &message, readings)?;
+    if is_left_out(known, object, at.chain, &message, &entry) {
+        return Ok(before);
+    }
+    let reading = reading_of(alloc, known, place, object, at, &entry, message)?;
+    let made = put_reading(before, reading)?;
+    Ok(made)
+}
+
+// Readings, and one more; of what is in a block that interfaces share, only the first.
+fn put_reading<A: Allocator + Copy>(
+    readings: Readings<A>,
+    reading: Reading<A>,
+) -> Result<Readings<A>, AllocError>
+    ensures { IfOk result (λ made. Puts readings (key_of reading.shown ∷ []) made) }
+{
+    if reading.shown.index == SHARED {
+        with_new(readings, reading)
+    } else {
+        with_reading(readings, reading)
+    }
+}
+
+// True if the kernel makes it itself or with something else.
+fn is_left_out<A: Allocator>(
+    known: &Known<A>,
+    object: Object,
+    chain: u32,
+    message: &TcMessage<A>,
+    entry: &Entry<A>,
+) -> bool
+    requires made_by { option_to_list entry.now.made_by ≡ made_by known.now.ingress.items object message.now }
+    requires chain { object ≡ kinds.Chain → chain ≡ chain_number message.now.attributes.items }
+    ensures { result ≡ (is_implied known.now.ingress.items (bag.contains plan.same_key known.now.filled) object message.now
+        || is_by_kernel known.now.roots.items object message.now) }
+{
+    is_implied(known, object, chain, message, entry) || is_by_kernel(&known.roots, object, message)
+}
+
+// The reading of an object that the kernel doesn't make itself.
+fn reading_of<A: Allocator + Copy>(
+    alloc: A,
+    known: &Known<A>,
+    place: usize,
+    object: Object,
+    at: Whereabouts,
+    entry: &Entry<A>,
+    message: TcMessage<A>,
+) -> Result<Reading<A>, StateError>
+    ensures { IfOk result (λ made. key_of made.shown
+        ≡ key_at at.sort at.index at.parent at.chain at.priority (handle_named known.now.roots.items object message)) }
+{
     let origin = Origin {
         place,
         handle: u32::from(message.header.handle),
     };
-    if object == Object::Filter {
-        put_priority(alloc, known, place, at, &message, readings)?;
-    }
-    if is_implied(known, at, &entry) {
-        return Ok(());
-    }
     let group = newest_first(object, &known.ingress, &message);
     let others = match at.sort {
         Sort::Table | Sort::Chain => with_places(Vec::new(alloc), known, at)?,
-        _ => tables_of(alloc, known, &entry)?,
+        _ => tables_of(alloc, known, entry)?,
     };
-    if let Some(shown) = shown_of(alloc, known, place, object, at, others, message)? {
-        if is_first(&shown, readings)? {
-            readings.all.push(Reading {
-                shown,
-                origin,
-                group,
-            })?;
-        }
-    }
-    Ok(())
-}
-
-// True unless it is in a block that interfaces share, and another one of these dumps it too.
-fn is_first<A: Allocator + Copy>(
-    shown: &Shown<A>,
-    readings: &mut Readings<A>,
-) -> Result<bool, AllocError> {
-    if shown.index != SHARED {
-        return Ok(true);
-    }
-    let key = key_of(shown);
-    if readings.seen.contains(&key) {
-        return Ok(false);
-    }
-    readings.seen.insert(key)?;
-    Ok(true)
+    let shown = shown_of(alloc, known, place, object, at, others, message)?;
+    Ok(Reading {
+        shown,
+        origin,
+        group,
+    })
 }
 
 // The interface of what is in a block that interfaces share: `TCM_IFINDEX_MAGIC_BLOCK`.
@@ -217,9 +346,19 @@ fn with_places<A: Allocator>(
 }
 
 // True for chain 0 without a template, and for another one without a template that has a filter: the kernel makes it with the filter.
-fn is_implied<A: Allocator>(known: &Known<A>, at: Whereabouts, entry: &Entry<A>) -> bool {
+fn is_implied<A: Allocator>(
+    known: &Known<A>,
+    object: Object,
+    chain: u32,
+    message: &TcMessage<A>,
+    entry: &Entry<A>,
+) -> bool
+    requires made_by { option_to_list entry.now.made_by ≡ made_by known.now.ingress.items object message.now }
+    requires chain { object ≡ kinds.Chain → chain ≡ chain_number message.now.attributes.items }
+    ensures { result ≡ is_implied known.now.ingress.items (bag.contains plan.same_key known.now.filled) object message.now }
+{
     match &entry.made_by {
-        Some(key) => at.chain == 0 || known.filled.contains(key),
+        Some(key) => chain == 0 || known.filled.contains(key),
         None => false,
     }
 }
@@ -254,29 +393,63 @@ fn tables_of<A: Allocator + Copy>(
     Ok(keys)
 }
 
-// Puts the priority of a filter, if it is the first of it.
+// Puts the priority of a filter.
 fn put_priority<A: Allocator + Copy>(
+    alloc: A,
+    known: &Known<A>,
+    place: usize,
+    object: Object,
+    at: Whereabouts,
+    message: &TcMessage<A>,
+    readings: Readings<A>,
+) -> Result<Readings<A>, AllocError>
+    requires { (handle : ℕ) → key_at at.sort at.index at.parent at.chain at.priority handle
+        ≡ key_named known.now.ingress.items object message.now handle }
+    ensures { IfOk result (λ made. Puts readings (priority_named known.now.ingress.items object message.now) made) }
+{
+    match object {
+        Object::Filter => with_priority(alloc, known, place, at, message, readings),
+        Object::Qdisc => Ok(readings),
+        Object::Class => Ok(readings),
+        Object::Chain => Ok(readings),
+    }
+}
+
+fn with_priority<A: Allocator + Copy>(
     alloc: A,
     known: &Known<A>,
     place: usize,
     at: Whereabouts,
     message: &TcMessage<A>,
-    readings: &mut Readings<A>,
-) -> Result<(), AllocError> {
-    let key = Key::Priority {
-        index: at.index,
-        parent: at.parent,
-        number: at.chain,
-        priority: at.priority,
-    };
-    if readings.seen.contains(&key) {
-        return Ok(());
-    }
-    readings.seen.insert(key)?;
+    readings: Readings<A>,
+) -> Result<Readings<A>, AllocError>
+    ensures { IfOk result (λ made. Puts readings (PriorityKey at.index at.parent at.chain at.priority ∷ []) made) }
+{
     let protocol = message.header.info % 0x1_0000;
     let mut text = Vec::from_slice(alloc, &protocol.to_le_bytes())?;
     text.extend_from_slice(kind_of(message).as_bytes())?;
-    let shown = Shown {
+    let others = with_places(Vec::new(alloc), known, at)?;
+    let config = plain(alloc, MADE, &text)?;
+    let shown = priority_shown(alloc, at, others, config);
+    with_new(
+        readings,
+        Reading {
+            shown,
+            origin: Origin { place, handle: 0 },
+            group: None,
+        },
+    )
+}
+
+fn priority_shown<A: Allocator + Copy>(
+    alloc: A,
+    at: Whereabouts,
+    others: Vec<Key, A>,
+    config: Vec<u8, A>,
+) -> Shown<A>
+    ensures { key_of result ≡ PriorityKey at.index at.parent at.chain at.priority }
+{
+    Shown {
         sort: Sort::Priority,
         index: at.index,
         handle: 0,
@@ -284,18 +457,12 @@ fn put_priority<A: Allocator + Copy>(
         chain: at.chain,
         priority: at.priority,
         classes: Vec::new(alloc),
-        others: with_places(Vec::new(alloc), known, at)?,
-        config: plain(alloc, MADE, &text)?,
-    };
-    readings.all.push(Reading {
-        shown,
-        origin: Origin { place, handle: 0 },
-        group: None,
-    })?;
-    Ok(())
+        others,
+        config,
+    }
 }
 
-// What a dump shows; `None` of what the kernel makes itself.
+// What a dump shows.
 fn shown_of<A: Allocator + Copy>(
     alloc: A,
     known: &Known<A>,
@@ -304,7 +471,11 @@ fn shown_of<A: Allocator + Copy>(
     at: Whereabouts,
     others: Vec<Key, A>,
     message: TcMessage<A>,
-) -> Result<Option<Shown<A>>, StateError> {
+) -> Result<Shown<A>, StateError>
+    ensures { IfOk result (λ made. key_of made
+        ≡ key_at at.sort at.index at.parent at.chain at.priority (handle_named known.now.roots.items object message)) }
+{
+    let handle = handle_named(&known.roots, object, &message);
     let kind = String::from_str(alloc, kind_of(&message))?;
     let classes = match object {
         Object::Filter => classes_of(alloc, &message)?,
@@ -313,12 +484,10 @@ fn shown_of<A: Allocator + Copy>(
     let copy = message.clone()?;
     let (message, can_make) = match request_of(alloc, &known.roots, object, message) {
         Ok(request) => (request.message, true),
-        Err(RestoreError::MadeByKernel) => return Ok(None),
         Err(RestoreError::OutOfMemory) => return Err(StateError::OutOfMemory),
         Err(_) => (without_counts(copy), false),
     };
     let message = settled(object, at, message);
-    let handle = u32::from(message.header.handle);
     let Some(bytes) = emitted(alloc, &message)? else {
         return Err(StateError::TooLong { place });
     };
@@ -332,7 +501,24 @@ fn shown_of<A: Allocator + Copy>(
         Object::Filter => with_shared(others, actions_of_filter(alloc, message)?)?,
         _ => others,
     };
-    Ok(Some(Shown {
+    Ok(shown_at(at, handle, classes, others, config))
+}
+
+fn shown_at<A: Allocator>(
+    at: Whereabouts,
+    handle: u32,
+    classes: Vec<u32, A>,
+    others: Vec<Key, A>,
+    config: Vec<u8, A>,
+) -> Shown<A>
+    ensures sort { result.sort ≡ at.sort }
+    ensures index { result.index ≡ at.index }
+    ensures parent { result.parent ≡ at.parent }
+    ensures chain { result.chain ≡ at.chain }
+    ensures priority { result.priority ≡ at.priority }
+    ensures handle { result.handle ≡ handle }
+{
+    Shown {
         sort: at.sort,
         index: at.index,
         handle,
@@ -342,7 +528,7 @@ fn shown_of<A: Allocator + Copy>(
         classes,
         others,
         config,
-    }))
+    }
 }
 
 // A message with one parent for all that is under ingress, and without the word of a qdisc or a class (`tcm_info`), which isn't
@@ -393,16 +579,53 @@ fn put_actions<A: Allocator + Copy>(
     known: &Known<A>,
     place: usize,
     message: TcActionMessage<A>,
-    readings: &mut Readings<A>,
-) -> Result<(), StateError> {
+    readings: Readings<A>,
+) -> Result<Readings<A>, StateError>
+    ensures { IfOk result (λ made. Puts readings (flat_map actions_named message.attributes.items) made) }
+{
+    let mut readings = readings;
     for attribute in message.attributes {
-        if let TcActionMessageAttribute::Actions(actions) = attribute {
-            for action in actions {
-                put_action(alloc, known, place, action, readings)?;
-            }
-        }
+        readings = put_attribute(alloc, known, place, attribute, readings)?;
     }
-    Ok(())
+    Ok(readings)
+}
+
+fn put_attribute<A: Allocator + Copy>(
+    alloc: A,
+    known: &Known<A>,
+    place: usize,
+    attribute: TcActionMessageAttribute<A>,
+    readings: Readings<A>,
+) -> Result<Readings<A>, StateError>
+    ensures { IfOk result (λ made. Puts readings (actions_named attribute) made) }
+{
+    let actions = actions_of(alloc, attribute);
+    put_all(alloc, known, place, actions, readings)
+}
+
+fn actions_of<A: Allocator>(alloc: A, attribute: TcActionMessageAttribute<A>) -> Vec<TcAction<A>, A>
+    ensures { result.items ≡ actions_in attribute }
+{
+    match attribute {
+        TcActionMessageAttribute::Actions(actions) => actions,
+        _ => Vec::new(alloc),
+    }
+}
+
+fn put_all<A: Allocator + Copy>(
+    alloc: A,
+    known: &Known<A>,
+    place: usize,
+    actions: Vec<TcAction<A>, A>,
+    readings: Readings<A>,
+) -> Result<Readings<A>, StateError>
+    ensures { IfOk result (λ made. Puts readings (flat_map action_named actions.items) made) }
+{
+    let mut readings = readings;
+    for action in actions {
+        readings = put_action(alloc, known, place, action, readings)?;
+    }
+    Ok(readings)
 }
 
 fn put_action<A: Allocator + Copy>(
@@ -410,50 +633,63 @@ fn put_action<A: Allocator + Copy>(
     known: &Known<A>,
     place: usize,
     action: TcAction<A>,
-    readings: &mut Readings<A>,
-) -> Result<(), StateError> {
+    readings: Readings<A>,
+) -> Result<Readings<A>, StateError>
+    ensures { IfOk result (λ made. Puts readings (action_named action) made) }
+{
     let Some(name) = name_of_action(&action) else {
         return Err(StateError::Unnamed { place });
     };
+    let Some(index) = standalone_index(&action) else {
+        return Ok(readings);
+    };
+    let reading = reading_of_action(alloc, known, place, name, index, action)?;
+    let made = with_reading(readings, reading)?;
+    Ok(made)
+}
+
+// The reading of a standalone action with this name.
+fn reading_of_action<A: Allocator + Copy>(
+    alloc: A,
+    known: &Known<A>,
+    place: usize,
+    name: Named,
+    index: u32,
+    action: TcAction<A>,
+) -> Result<Reading<A>, StateError>
+    ensures { IfOk result (λ made. key_of made.shown ≡ ActionKey name.kind index) }
+{
     let kind = String::from_str(alloc, kind_of_action(&action))?;
     let message = alone(alloc, action)?;
     let copy = message.clone()?;
     let (message, can_make) = match request_of_actions(alloc, message) {
         Ok(request) => (request.message, !has_action(&known.by_filters, name)),
-        Err(RestoreError::MadeByKernel) => return Ok(()),
         Err(RestoreError::OutOfMemory) => return Err(StateError::OutOfMemory),
         Err(_) => (copy, false),
     };
     let Some(bytes) = emitted(alloc, &message)? else {
         return Err(StateError::TooLong { place });
     };
-    let Named {
-        kind: padded,
-        index,
-    } = name;
-    let sort = Sort::Action(padded);
+    let sort = Sort::Action(name.kind);
     let config = if can_make {
         configured(alloc, sort, kind.as_str(), &bytes)?
     } else {
         plain(alloc, NEVER, &bytes)?
     };
-    readings.all.push(Reading {
+    Ok(Reading {
         shown: of_action(alloc, sort, index, config),
         origin: Origin {
             place,
             handle: index,
         },
         group: None,
-    })?;
-    Ok(())
+    })
 }
 
-fn of_action<A: Allocator + Copy>(
-    alloc: A,
-    sort: Sort,
-    index: u32,
-    config: Vec<u8, A>,
-) -> Shown<A> {
+fn of_action<A: Allocator + Copy>(alloc: A, sort: Sort, index: u32, config: Vec<u8, A>) -> Shown<A>
+    ensures sort { result.sort ≡ sort }
+    ensures handle { result.handle ≡ index }
+{
     Shown {
         sort,
         index: 0,

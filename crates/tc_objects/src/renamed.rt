@@ -1,5 +1,10 @@
 //! Handles of qdiscs that the kernel chose: a wanted one becomes the handle that the same place has now.
 
+ghost use Rattle.std.specs.Prelude.{◌≡◌, List, ℕ, ℤ, map, true, IfOk, IfSome};
+ghost use Rattle.std.specs.List.{list_all};
+ghost use Rattle.tc_objects.specs.States.{IsRenaming, is_chosen, dump_renamed, header_renamed, handle_renamed};
+ghost use Rattle.tc_objects.specs.Renamings.{major_by, AreChosen};
+
 use crate::classes::classes_of;
 use crate::dump::Dump;
 use crate::requests::Handles;
@@ -28,29 +33,39 @@ pub(crate) fn renamed<A: Allocator + Copy>(
     alloc: A,
     now: &Handles<A>,
     dumps: Vec<Dump<A>, A>,
-) -> Result<Vec<Dump<A>, A>, AllocError> {
+) -> Result<Vec<Dump<A>, A>, AllocError>
+    ensures { IfOk result (λ made. (renaming : ℤ → ℕ → ℕ) × (IsRenaming renaming × (made.items ≡ map (dump_renamed renaming) dumps.items))) }
+{
     let mut dumps = dumps;
     for _ in 0..DEPTH {
         let renamings = renamings_of(alloc, now, &dumps)?;
         if renamings.is_empty() || !are_distinct(alloc, &renamings, &dumps)? {
             return Ok(dumps);
         }
-        let mut made = Vec::with_capacity(alloc, dumps.len())?;
-        for dump in dumps {
-            made.push(renamed_dump(&renamings, dump))?;
-        }
-        dumps = made;
+        dumps = renamed_by(alloc, &renamings, dumps)?;
     }
     Ok(dumps)
 }
 
-// True for a handle that the kernel chooses: 8000: to fffe:.
-fn is_chosen(handle: u32) -> bool {
-    0x8000_0000 <= handle && handle < 0xffff_0000 && handle % 0x1_0000 == 0
+fn renamed_by<A: Allocator + Copy>(
+    alloc: A,
+    renamings: &[Renaming],
+    dumps: Vec<Dump<A>, A>,
+) -> Result<Vec<Dump<A>, A>, AllocError>
+    ensures { IfOk result (λ made. made.items ≡ map (dump_renamed (major_by renamings.now)) dumps.items) }
+{
+    let mut made = Vec::with_capacity(alloc, dumps.len())?;
+    for dump in dumps {
+        made.push(renamed_dump(renamings, dump))?;
+    }
+    Ok(made)
 }
 
-fn upper(handle: u32) -> u16 {
-    TcHandle::from(handle).major
+// True for the handle of a qdisc that the kernel chooses: 8000: to fffe:.
+fn is_chosen(handle: TcHandle) -> bool
+    ensures { result ≡ true → is_chosen handle.major ≡ true }
+{
+    0x8000 <= handle.major && handle.major < 0xffff && handle.minor == 0
 }
 
 // The handles of wanted qdiscs that are others in the same places now.
@@ -58,33 +73,56 @@ fn renamings_of<A: Allocator + Copy>(
     alloc: A,
     now: &Handles<A>,
     dumps: &[Dump<A>],
-) -> Result<Vec<Renaming, A>, AllocError> {
+) -> Result<Vec<Renaming, A>, AllocError>
+    ensures { IfOk result (λ renamings. AreChosen renamings.items) }
+{
     let mut renamings = Vec::new(alloc);
     for dump in dumps {
-        if let Dump::Of(Object::Qdisc, message) = dump {
-            if let Some(renaming) = renaming_of(now, &message.header) {
-                if !is_named(alloc, renaming, dumps)? {
-                    renamings.push(renaming)?;
-                }
-            }
+        if let Some(renaming) = renaming_in(alloc, now, dumps, dump)? {
+            renamings.push(renaming)?;
         }
     }
     Ok(renamings)
 }
 
-fn renaming_of<A: Allocator>(now: &Handles<A>, header: &TcHeader) -> Option<Renaming> {
+// The renaming of a wanted qdisc, unless a filter names a class of it.
+fn renaming_in<A: Allocator + Copy>(
+    alloc: A,
+    now: &Handles<A>,
+    dumps: &[Dump<A>],
+    dump: &Dump<A>,
+) -> Result<Option<Renaming>, AllocError>
+    ensures { IfOk result (λ made. IfSome made (λ renaming. is_chosen renaming.from ≡ true)) }
+{
+    let Dump::Of(Object::Qdisc, message) = dump else {
+        return Ok(None);
+    };
+    let Some(renaming) = renaming_of(now, &message.header) else {
+        return Ok(None);
+    };
+    if is_named(alloc, renaming, dumps)? {
+        return Ok(None);
+    }
+    Ok(Some(renaming))
+}
+
+fn renaming_of<A: Allocator>(now: &Handles<A>, header: &TcHeader) -> Option<Renaming>
+    ensures { IfSome result (λ renaming. is_chosen renaming.from ≡ true) }
+{
     let place = Key::Place {
         index: header.index,
         parent: u32::from(header.parent),
     };
-    let own = u32::from(header.handle);
-    match now.get(&place) {
-        Some(there) if is_chosen(own) && is_chosen(*there) && own != *there => Some(Renaming {
+    let own = header.handle;
+    let there = TcHandle::from(now.get(&place).copied()?);
+    if is_chosen(own) && is_chosen(there) && own.major != there.major {
+        Some(Renaming {
             index: header.index,
-            from: upper(own),
-            to: upper(*there),
-        }),
-        _ => None,
+            from: own.major,
+            to: there.major,
+        })
+    } else {
+        None
     }
 }
 
@@ -97,7 +135,7 @@ fn is_named<A: Allocator + Copy>(
     for dump in dumps {
         if let Dump::Of(Object::Filter, message) = dump {
             for class in classes_of(alloc, message)? {
-                if upper(class) == renaming.from {
+                if TcHandle::from(class).major == renaming.from {
                     return Ok(true);
                 }
             }
@@ -128,7 +166,9 @@ fn are_distinct<A: Allocator + Copy>(
     Ok(true)
 }
 
-fn major_by(renamings: &[Renaming], index: i32, major: u16) -> u16 {
+fn major_by(renamings: &[Renaming], index: i32, major: u16) -> u16
+    ensures { result ≡ major_by renamings.now index major }
+{
     for renaming in renamings {
         if renaming.index == index && renaming.from == major {
             return renaming.to;
@@ -137,7 +177,9 @@ fn major_by(renamings: &[Renaming], index: i32, major: u16) -> u16 {
     major
 }
 
-fn renamed_dump<A: Allocator>(renamings: &[Renaming], dump: Dump<A>) -> Dump<A> {
+fn renamed_dump<A: Allocator>(renamings: &[Renaming], dump: Dump<A>) -> Dump<A>
+    ensures { result ≡ dump_renamed (major_by renamings.now) dump }
+{
     match dump {
         Dump::Of(object, message) => {
             let TcMessage { header, attributes } = message;
@@ -149,12 +191,28 @@ fn renamed_dump<A: Allocator>(renamings: &[Renaming], dump: Dump<A>) -> Dump<A> 
 }
 
 // The handle of a qdisc or a class, and the parent of anything.
-fn renamed_header(renamings: &[Renaming], object: Object, header: TcHeader) -> TcHeader {
-    let mut header = header;
+fn renamed_header(renamings: &[Renaming], object: Object, header: TcHeader) -> TcHeader
+    ensures { result ≡ header_renamed (major_by renamings.now) object header }
+{
     let index = header.index;
-    header.parent.major = major_by(renamings, index, header.parent.major);
-    if object == Object::Qdisc || object == Object::Class {
-        header.handle.major = major_by(renamings, index, header.handle.major);
+    let handle = match object {
+        Object::Qdisc | Object::Class => renamed_handle(renamings, index, header.handle),
+        Object::Filter | Object::Chain => header.handle,
+    };
+    TcHeader {
+        family: header.family,
+        index,
+        handle,
+        parent: renamed_handle(renamings, index, header.parent),
+        info: header.info,
     }
-    header
+}
+
+fn renamed_handle(renamings: &[Renaming], index: i32, handle: TcHandle) -> TcHandle
+    ensures { result ≡ handle_renamed (major_by renamings.now index) handle }
+{
+    TcHandle {
+        major: major_by(renamings, index, handle.major),
+        minor: handle.minor,
+    }
 }

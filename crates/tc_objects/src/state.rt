@@ -1,13 +1,17 @@
 //! States.
 
-ghost use Rattle.std.specs.Prelude.{◌≡◌, [], true, IfOk};
-ghost use Rattle.tc_changes.specs.Model.{ready};
+ghost use Rattle.std.specs.Prelude.{◌≡◌, ◌∷◌, ◌++◌, [], ℕ, ℤ, true, map, IfOk, IfNone};
+ghost use Rattle.tc_changes.specs.Model.{ready, has, among};
+ghost use Rattle.tc_changes.specs.declared.key.Key.{Key as KeyModel};
+ghost use Rattle.tc_objects.specs.Needs.{key_of};
+ghost use Rattle.tc_objects.specs.Put.{key_in, keys_made, keys_read};
+ghost use Rattle.tc_objects.specs.States.{keys_shown, dump_renamed, IsRenaming};
 ghost use Rattle.tc_changes.specs.Objects.{things, same_key};
 
 use crate::dump::Dump;
 use crate::known::known_of;
 use crate::names::names_of;
-use crate::objects::object_of;
+use crate::objects::{key_of, object_of};
 use crate::reading::{Origin, Reading, readings_of};
 use crate::renamed::renamed;
 use crate::requests::Handles;
@@ -43,6 +47,9 @@ pub fn state_of<A: Allocator + Copy>(
     dumps: Vec<Dump<A>, A>,
 ) -> Result<State<A>, StateError>
     ensures ready { IfOk result (λ state. ready same_key [] (things state.objects.items) ≡ true) }
+    // It has an object with a key exactly if a dump shows one.
+    ensures shown { IfOk result (λ state. (k : KeyModel) →
+        has same_key (things state.objects.items) k ≡ among same_key (keys_shown dumps.items) k) }
 {
     let none = HashMap::new(alloc);
     state_by(alloc, dumps, &none, false)
@@ -56,9 +63,13 @@ pub fn state_after<A: Allocator + Copy>(
     now: &State<A>,
 ) -> Result<State<A>, StateError>
     ensures ready { IfOk result (λ state. ready same_key [] (things state.objects.items) ≡ true) }
+    // It has an object with a key exactly if a dump shows one, with handles that the kernel chose as they are now.
+    ensures shown { IfOk result (λ state. (renaming : ℤ → ℕ → ℕ) × (IsRenaming renaming × ((k : KeyModel) →
+        has same_key (things state.objects.items) k ≡ among same_key (keys_shown (map (dump_renamed renaming) dumps.items)) k))) }
 {
-    let dumps = renamed(alloc, &now.handles, dumps)?;
-    state_by(alloc, dumps, &now.handles, true)
+    let wanted = renamed(alloc, &now.handles, dumps)?;
+    let state = state_by(alloc, wanted, &now.handles, true)?;
+    Ok(state)
 }
 
 // The same, with filters that aren't there last, if it sorts.
@@ -69,20 +80,17 @@ fn state_by<A: Allocator + Copy>(
     sorts: bool,
 ) -> Result<State<A>, StateError>
     ensures ready { IfOk result (λ state. ready same_key [] (things state.objects.items) ≡ true) }
+    ensures shown { IfOk result (λ state. (k : KeyModel) →
+        has same_key (things state.objects.items) k ≡ among same_key (keys_shown dumps.items) k) }
 {
     let known = known_of(alloc, &dumps)?;
     let readings = readings_of(alloc, &known, dumps)?;
     let steps = steps_of(alloc, readings)?;
-    let steps = if sorts {
-        new_last(alloc, there, steps)?
-    } else {
-        steps
-    };
-    let order = ordered(alloc, steps)?;
-    if let Some(step) = order.unordered.first() {
-        return Err(StateError::Circle {
-            place: step.item.origin.place,
-        });
+    let last = new_last(alloc, there, sorts, steps)?;
+    let order = ordered(alloc, last)?;
+    match stuck_in(&order.unordered) {
+        None => {}
+        Some(place) => return Err(StateError::Circle { place }),
     }
     let state = in_order(alloc, order.sorted)?;
     let is = is_ready(alloc, &state.objects)?;
@@ -94,12 +102,28 @@ fn state_by<A: Allocator + Copy>(
     }
 }
 
-// These steps, those of filters last that aren't there.
+// The place of the first of steps.
+fn stuck_in<A: Allocator>(steps: &[Step<Item<A>, Key, A>]) -> Option<usize>
+    ensures { IfNone result (steps.now ≡ []) }
+{
+    match steps {
+        [] => None,
+        [step, ..] => Some(step.item.origin.place),
+    }
+}
+
+// These steps; those of filters last that aren't there, if it sorts.
 fn new_last<A: Allocator + Copy>(
     alloc: A,
     there: &Handles<A>,
+    sorts: bool,
     steps: Vec<Step<Item<A>, Key, A>, A>,
-) -> Result<Vec<Step<Item<A>, Key, A>, A>, AllocError> {
+) -> Result<Vec<Step<Item<A>, Key, A>, A>, AllocError>
+    ensures { IfOk result (λ made. (k : KeyModel) → among same_key (keys_made made.items) k ≡ among same_key (keys_made steps.items) k) }
+{
+    if !sorts {
+        return Ok(steps);
+    }
     let mut first = Vec::with_capacity(alloc, steps.len())?;
     let mut last = Vec::new(alloc);
     for step in steps {
@@ -125,7 +149,9 @@ fn is_new<A: Allocator>(there: &Handles<A>, key: Key) -> bool {
 fn in_order<A: Allocator + Copy>(
     alloc: A,
     steps: Vec<Step<Item<A>, Key, A>, A>,
-) -> Result<State<A>, AllocError> {
+) -> Result<State<A>, AllocError>
+    ensures { IfOk result (λ state. map key_in state.objects.items ≡ keys_made steps.items) }
+{
     let mut objects = Vec::with_capacity(alloc, steps.len())?;
     let mut origins = Vec::with_capacity(alloc, steps.len())?;
     let mut handles = HashMap::new(alloc);
@@ -146,41 +172,65 @@ fn in_order<A: Allocator + Copy>(
 fn steps_of<A: Allocator + Copy>(
     alloc: A,
     readings: Vec<Reading<A>, A>,
-) -> Result<Vec<Step<Item<A>, Key, A>, A>, StateError> {
-    let mut shown = Vec::with_capacity(alloc, readings.len())?;
-    let mut rest = Vec::with_capacity(alloc, readings.len())?;
-    for reading in readings {
-        let Reading {
-            shown: one,
-            origin,
-            group,
-        } = reading;
-        shown.push(one)?;
-        rest.push((origin, group))?;
-    }
+) -> Result<Vec<Step<Item<A>, Key, A>, A>, StateError>
+    ensures { IfOk result (λ steps. keys_made steps.items ≡ keys_read readings.items) }
+{
+    let newer = newer_of(alloc, &readings)?;
+    let (shown, origins) = parted(alloc, readings)?;
     let names = names_of(alloc, &shown)?;
-    let mut last = HashMap::new(alloc);
-    let mut steps = Vec::with_capacity(alloc, rest.len())?;
-    let mut after = rest.iter();
+    let mut steps = Vec::with_capacity(alloc, shown.len())?;
     for one in shown {
-        if let Some((origin, group)) = after.next() {
-            let object = object_of(alloc, &names, one)?;
-            let step = step_of(alloc, object, *origin)?;
-            steps = with_step(steps, &mut last, *group, step)?;
-        }
+        let place = steps.len();
+        let origin = origins.get(place).copied().unwrap_or(NOWHERE);
+        let object = object_of(alloc, &names, one)?;
+        let step = step_of(alloc, object, origin, newer.get(&place).copied())?;
+        steps.push(step)?;
     }
     Ok(steps)
 }
 
+const NOWHERE: Origin = Origin {
+    place: 0,
+    handle: 0,
+};
+
+// What readings show, and the origin of each.
+fn parted<A: Allocator + Copy>(
+    alloc: A,
+    readings: Vec<Reading<A>, A>,
+) -> Result<(Vec<Shown<A>, A>, Vec<Origin, A>), AllocError>
+    ensures { IfOk result (λ made. map key_of made.0.items ≡ keys_read readings.items) }
+{
+    let mut shown = Vec::with_capacity(alloc, readings.len())?;
+    let mut origins = Vec::with_capacity(alloc, readings.len())?;
+    for reading in readings {
+        let Reading {
+            shown: one,
+            origin,
+            ..
+        } = reading;
+        shown.push(one)?;
+        origins.push(origin)?;
+    }
+    Ok((shown, origins))
+}
+
+// The step of an object, which waits for a newer filter too, if it is of filters that the kernel keeps newest first.
 fn step_of<A: Allocator + Copy>(
     alloc: A,
     object: Object<A>,
     origin: Origin,
-) -> Result<Step<Item<A>, Key, A>, AllocError> {
+    newer: Option<Key>,
+) -> Result<Step<Item<A>, Key, A>, AllocError>
+    ensures { IfOk result (λ step. step.item.object.key ≡ object.key) }
+{
     let mut provides = Vec::with_capacity(alloc, 1)?;
     provides.push(object.key)?;
     let mut needs = Vec::from_slice(alloc, &object.under)?;
     needs.extend_from_slice(&object.refers)?;
+    if let Some(key) = newer {
+        needs.push(key)?;
+    }
     Ok(Step {
         item: Item { object, origin },
         provides,
@@ -189,27 +239,23 @@ fn step_of<A: Allocator + Copy>(
     })
 }
 
-// Where the last filter of each chain and priority is that the kernel keeps newest first.
-type Last<A> = HashMap<PlanKey, usize, BuildHasherDefault<FoldHasher>, A>;
+// The filter after each, by the places of both, of those of a chain and a priority that the kernel keeps newest first.
+type Newer<A> = HashMap<usize, Key, BuildHasherDefault<FoldHasher>, A>;
 
-// Steps, and one more. Of filters that the kernel keeps newest first the one before waits for this one.
-fn with_step<A: Allocator + Copy>(
-    steps: Vec<Step<Item<A>, Key, A>, A>,
-    last: &mut Last<A>,
-    group: Option<PlanKey>,
-    step: Step<Item<A>, Key, A>,
-) -> Result<Vec<Step<Item<A>, Key, A>, A>, AllocError> {
-    let mut steps = steps;
-    if let Some(group) = group {
-        if let Some(before) = last.get(&group).copied() {
-            if let Some(newer) = steps.get_mut(before) {
-                newer.needs.push(step.item.object.key)?;
+fn newer_of<A: Allocator + Copy>(
+    alloc: A,
+    readings: &[Reading<A>],
+) -> Result<Newer<A>, AllocError> {
+    let mut last: HashMap<PlanKey, usize, BuildHasherDefault<FoldHasher>, A> = HashMap::new(alloc);
+    let mut newer = HashMap::new(alloc);
+    for (place, reading) in readings.iter().enumerate() {
+        if let Some(group) = reading.group {
+            if let Some(before) = last.insert(group, place)? {
+                newer.insert(before, key_of(&reading.shown))?;
             }
         }
-        last.insert(group, steps.len())?;
     }
-    steps.push(step)?;
-    Ok(steps)
+    Ok(newer)
 }
 
 // Why a state isn't one.

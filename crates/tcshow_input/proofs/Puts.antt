@@ -195,8 +195,21 @@ each_in s m before ys t b j v f q k =
     (subst (λ (x : Filter). ShowsEach m.json m.view x before ys t b) f
     (subst (λ (x : List Request). ShowsEach m.json m.view m.filter x ys t b) q k)))
 
+-- more text in a state whose requests are written in another way
+same_requests : (before : List Request) (t : List ℕ) (b : Bool) (s n : State) → before ≡ s.before → Grows t b s n → Grows t b (record s { before = before }) n
+same_requests before t b s n same g = record {
+  json = g.json;
+  view = g.view;
+  header = g.header;
+  filter = g.filter;
+  summary = g.summary;
+  before = g.before ∙ sym same;
+  text = g.text;
+  bad = g.bad;
+}
+
 pub puts_none : (s : State) → Puts [] s s
-puts_none s = ([], false, nothing, grows_none s)
+puts_none s = ([], false, nothing, same_requests (after_all s.before []) [] false s s refl (grows_none s))
 
 pub puts_then : (xs ys : List Thing) (s m n : State) → Puts xs s m → Puts ys m n → Puts (xs ++ ys) s n
 puts_then xs ys s m n h k =
@@ -253,13 +266,15 @@ pub puts_answer : (h : Header) (r : Reason) (m : Message) (t : List ℕ) (taken 
     → ShowsAnswer s.json h r m t → Grows t false s n → Puts (answer h r m ∷ []) s n
 puts_answer h r m t taken s n is k shown g =
     puts_one (answer h r m) t false s n
-    (subst (λ x. IfTaken x (ShowsAnswer s.json h r m t × (false ≡ false)) t false) (sym is ∙ k) (shown, refl)) g
+    (subst (λ x. IfTaken x (ShowsAnswer s.json h r m t × (false ≡ false)) t false) (sym is ∙ k) (shown, refl))
+    (same_requests (after_all s.before (answer h r m ∷ [])) t false s n refl g)
 
 pub puts_no_answer : (h : Header) (r : Reason) (m : Message) (taken : Bool) (s n : State) → taken ≡ false → taken ≡ is_matched s.filter m
     → Grows [] false s n → Puts (answer h r m ∷ []) s n
 puts_no_answer h r m taken s n is_not k g =
     puts_one (answer h r m) [] false s n
-    (subst (λ x. IfTaken x (ShowsAnswer s.json h r m [] × (false ≡ false)) [] false) (sym is_not ∙ k) nothing) g
+    (subst (λ x. IfTaken x (ShowsAnswer s.json h r m [] × (false ≡ false)) [] false) (sym is_not ∙ k) nothing)
+    (same_requests (after_all s.before (answer h r m ∷ [])) [] false s n refl g)
 
 pub puts_other : (s n : State) → Grows [] false s n → Puts (other ∷ []) s n
-puts_other s n g = puts_one other [] false s n nothing g
+puts_other s n g = puts_one other [] false s n nothing (same_requests (after_all s.before (other ∷ [])) [] false s n refl g)

@@ -1,0 +1,15 @@
+-- Handles that become others.
+use Rattle.std.specs.Prelude.{◌≡◌, ℕ, ℤ, ◌==◌, ◌&&◌, true, List, [], ◌∷◌, if◌then◌else◌}
+use Rattle.std.specs.List.{list_all}
+use Rattle.std.specs.Ordering.{int_eq}
+use Rattle.tc_objects.specs.States.{is_chosen}
+use Rattle.tc_objects.specs.declared.renamed.Renaming.{Renaming}
+
+-- the upper half of a handle of an interface, by the first renaming of it
+abbrev pub major_by : List Renaming → ℤ → ℕ → ℕ
+major_by [] index major = major
+major_by (r ∷ renamings) index major = if int_eq r.index index && (r.from == major) then r.to else major_by renamings index major
+
+-- each is of a handle that the kernel chose
+abbrev pub AreChosen : List Renaming → Type 0
+AreChosen renamings = list_all (λ r. is_chosen r.from) renamings ≡ true
