@@ -1,4 +1,4 @@
-use Rattle.std.proofs.Common.{List, subst}
+use Rattle.std.proofs.Common.{◌∙◌, ◌++◌, List, ap, subst}
 use Rattle.std.specs.Prelude.{is_some}
 use Rattle.std.proofs.lemmas.Result.{on_ok_weaker}
 use Rattle.tcshow_json.specs.Messages.{message_view}
@@ -24,6 +24,6 @@ returns-clause-put g c =
       fault,
       (found.ended, is_brief options.format options.all c.args.statistics s.before m text c.requires lines, found.fault),
       grows_counted text fault s (record s { json = now.is_json; text = now.bytes.items }) (state_of c.count_fault.new.self)
-          (more_text s now.is_json now.bytes.items text c.lines.ensures.form c.in_ok-lines-2.ensures.put) counted,
+          (more_text s now.is_json now.bytes.items text c.lines.ensures.form (c.in_ok-lines-2.ensures.put ∙ ap (λ l. s.text ++ l) c.deref.ensures.value)) counted,
     ))
     c.count_fault.ensures.counted
