@@ -2,4 +2,6 @@ pub mod Clean
 pub mod Puts
 pub mod Progress
 pub mod InOrder
+pub mod Halting
+pub mod Breaking
 mod Dumps

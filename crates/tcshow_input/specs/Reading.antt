@@ -134,6 +134,19 @@ AreIn file header things = IfSome file (λ bytes. things_in_file header bytes �
 abbrev pub Begins : List ℕ → Option (List ℕ) → Option MessageType → List Thing → Type 0
 Begins first file header things = IfSome file (λ bytes. take 4 first ≡ take 4 bytes → things_in_file header bytes ≡ Some things)
 
+-- these are the first of all things, of which there may be none
+abbrev pub AreFirst : Option (List Thing) → List Thing → Type 0
+AreFirst None things = things ≡ []
+AreFirst (Some all) things = (later : List Thing) × (all ≡ things ++ later)
+
+-- these are the first things in the file, if the file is known
+abbrev pub AreFirstIn : Option (List ℕ) → Option MessageType → List Thing → Type 0
+AreFirstIn file header things = IfSome file (λ bytes. AreFirst (things_in_file header bytes) things)
+
+-- these are the first things in an input whose first bytes were read, if it is known
+abbrev pub BeginsWith : List ℕ → Option (List ℕ) → Option MessageType → List Thing → Type 0
+BeginsWith first file header things = IfSome file (λ bytes. take 4 first ≡ take 4 bytes → AreFirst (things_in_file header bytes) things)
+
 -- ---- of the rest of an input
 
 abbrev pub capture_left : ℕ → State → Option (List ℕ) → Option (List Thing)
@@ -146,3 +159,7 @@ text_left header dump left = option_map (things_on_lines header dump) (lines_lef
 abbrev pub GivesUpTo : Bool → Option (List Thing) → List Thing → Option (List Thing) → Type 0
 GivesUpTo true before things after = Gives before things after
 GivesUpTo false before things after = Gives before things (Some [])
+
+-- the things come first
+abbrev pub GivesFirst : Option (List Thing) → List Thing → Type 0
+GivesFirst before things = (later : Option (List Thing)) × Gives before things later

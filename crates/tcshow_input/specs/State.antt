@@ -1,15 +1,17 @@
 -- The state of a run, and the steps between states.
-use Rattle.std.specs.Prelude.{◌≡◌, ℕ, Bool, true, false, not, [], ◌||◌, ◌==◌, List, ◌++◌, Option, Some, None}
+use Rattle.std.specs.Prelude.{◌≡◌, ◌≢◌, ℕ, Bool, true, false, not, [], ◌||◌, ◌==◌, List, ◌++◌, Option, Some, None}
 use Rattle.std.specs.Io.KnownBytes.{Appends}
 use Rattle.tc_capture.specs.declared.kind.MessageType.{MessageType}
 use Rattle.tc_select.specs.declared.filter.Filter.{Filter}
 use Rattle.tcshow_input.specs.declared.options.Options.{Options}
 use Rattle.tcshow_input.specs.declared.options.OutputFormat.{OutputFormat}
 use Rattle.tcshow_input.specs.declared.options.OutputFormat.TheVariants.{Brief, Lines, OneLine, Json}
+use Rattle.tcshow_input.specs.declared.stop.Stop.{Stop}
+use Rattle.tcshow_input.specs.declared.stop.Stop.TheVariants.{NoMemory}
 use Rattle.tcshow_input.specs.declared.counts.Counts.{Counts}
 use Rattle.tcshow_input.specs.declared.printer.Printer.{Printer}
 use Rattle.tcshow_json.specs.Messages.{Thing}
-use Rattle.tcshow_input.specs.Reading.{AreIn}
+use Rattle.tcshow_input.specs.Reading.{AreIn, AreFirstIn, GivesFirst}
 use Rattle.tc_outline.specs.declared.page.Layout.{Layout}
 use Rattle.tc_outline.specs.declared.page.Layout.TheVariants as layout
 use Rattle.tcshow_input.specs.Shown.{View, after_all, brief, outline, one_line, ended, Shows, ShowsEach, ShowsSummary}
@@ -121,6 +123,21 @@ pub record Progress (things : List Thing) (old new : Option (List ℕ)) (first l
   pub before : last.before ≡ after_all first.before things
   pub bad : last.bad ≡ (first.bad || fault)
 
+-- a run between two states that may have ended early: of the appended text a part is written, and a part may be lost
+pub record Halts (things : List Thing) (old new : Option (List ℕ)) (first last : State) : Type 0 where
+  pub text : List ℕ
+  pub fault : Bool
+  pub out : List ℕ
+  pub lost : List ℕ
+  pub shown : ShowsEach first.json first.view first.filter first.before things text fault
+  pub written : Appends old new out
+  pub kept : out ++ (last.text ++ lost) ≡ first.text ++ text
+  pub bad : last.bad ≡ (first.bad || fault)
+
+-- a run over the rest of an input that ended for this reason, unless memory ran out
+abbrev pub Stops : Stop → Option (List Thing) → Option (List ℕ) → Option (List ℕ) → State → State → Type 0
+Stops stop before old new first last = stop ≢ NoMemory → (things : List Thing) × GivesFirst before things × Halts things old new first last
+
 -- then a summary, if the options ask for it
 abbrev pub Ends : List Thing → Option (List ℕ) → Option (List ℕ) → State → State → Type 0
 Ends things old new first last =
@@ -131,6 +148,23 @@ abbrev pub Completes : List Thing → Option (List ℕ) → Option (List ℕ) �
 Completes things old new first last =
     (text : List ℕ) × (fault : Bool) × (summary : List ℕ) × ShowsEach first.json first.view first.filter first.before things text fault
     × ShowsSummary first.json first.summary summary × Appends old new (first.text ++ (text ++ summary)) × (last.bad ≡ (first.bad || fault))
+
+-- the text and the summary may be written in part
+pub record Breaks (things : List Thing) (old new : Option (List ℕ)) (first last : State) : Type 0 where
+  pub text : List ℕ
+  pub fault : Bool
+  pub summary : List ℕ
+  pub out : List ℕ
+  pub lost : List ℕ
+  pub shown : ShowsEach first.json first.view first.filter first.before things text fault
+  pub summed : ShowsSummary first.json first.summary summary
+  pub written : Appends old new out
+  pub kept : out ++ (last.text ++ lost) ≡ first.text ++ (text ++ summary)
+  pub bad : last.bad ≡ (first.bad || fault)
+
+-- a run over a file that ended for this reason, unless memory ran out
+abbrev pub BreaksIn : Stop → Option (List ℕ) → Option (List ℕ) → Option (List ℕ) → State → State → Type 0
+BreaksIn stop file old new first last = stop ≢ NoMemory → (things : List Thing) × AreFirstIn file first.header things × Breaks things old new first last
 
 -- the first state of a run
 abbrev pub start : Options → State
@@ -152,3 +186,11 @@ Ran options fault file old new =
     (things : List Thing) × (text : List ℕ) × (summary : List ℕ) × AreIn file options.without_header things
     × ShowsEach (is_json options.format) (view_of options.format options.all) options.filter [] things text fault
     × ShowsSummary (is_json options.format) options.has_summary summary × Appends old new (text ++ summary)
+
+-- a run that ends early: of the text of the first things in its input, and of a summary, a front is written, and the fault says whether one of
+-- these things is refused or broken
+abbrev pub RanOn : Options → Bool → Option (List ℕ) → Option (List ℕ) → Option (List ℕ) → Type 0
+RanOn options fault file old new =
+    (things : List Thing) × (text : List ℕ) × (summary : List ℕ) × (out : List ℕ) × (rest : List ℕ) × AreFirstIn file options.without_header things
+    × ShowsEach (is_json options.format) (view_of options.format options.all) options.filter [] things text fault
+    × ShowsSummary (is_json options.format) options.has_summary summary × Appends old new out × (text ++ summary ≡ out ++ rest)

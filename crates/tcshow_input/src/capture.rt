@@ -1,13 +1,14 @@
 //! Captures, printed packet by packet.
 
-ghost use Rattle.std.specs.Prelude.{◌≡◌, ℕ, false, List, [], Some, Err, take, OnOk, IfOk};
+ghost use Rattle.std.specs.Prelude.{◌≡◌, ◌≢◌, ℕ, false, List, [], Some, Err, take, OnOk, IfOk, IfErr};
+ghost use Rattle.tcshow_input.specs.declared.stop.Stop.TheVariants.{NoMemory};
 ghost use Rattle.tc_capture.specs.Capture.{next_piece};
 ghost use Rattle.tc_capture.specs.Capture.{state_of as place_of};
 ghost use Rattle.tc_input.specs.Left.{rest_of, left_of, Gives};
 ghost use Rattle.tcshow_json.specs.Messages.{Thing};
 ghost use Rattle.tcshow_input.specs.Things.{are_read, other_than_outgoing};
 ghost use Rattle.tcshow_input.specs.Reading.{capture_left, is_passed, GivesUpTo};
-ghost use Rattle.tcshow_input.specs.State.{state_of, Progress, Puts};
+ghost use Rattle.tcshow_input.specs.State.{state_of, Halts, Progress, Puts, Stops};
 ghost use Rattle.tcshow_input.specs.Writing.{GrowsClean};
 
 use crate::packets::Packets;
@@ -33,6 +34,8 @@ pub fn show_capture<A: Allocator + Copy, R: Read, W: Write>(
     ensures ran { OnOk result ((things : List Thing)
         × Progress things (W.contents writer.old) (W.contents writer.new) (state_of printer.old) (state_of printer.new)
         × Gives (capture_left packets.old.count (place_of capture) (left_of input.old (R.remaining reader.old))) things (Some [])) }
+    ensures stopped { IfErr result (λ stop. Stops stop (capture_left packets.old.count (place_of capture) (left_of input.old (R.remaining reader.old)))
+        (W.contents writer.old) (W.contents writer.new) (state_of printer.old) (state_of printer.new)) }
 {
     for _ in 0..u64::MAX {
         let goes_on = show_piece(printer, packets, input, &mut capture, reader, writer)?;
@@ -58,6 +61,8 @@ fn show_piece<A: Allocator + Copy, R: Read, W: Write>(
         × Progress things (W.contents writer.old) (W.contents writer.new) (state_of printer.old) (state_of printer.new)
         × GivesUpTo goes_on (capture_left packets.old.count (place_of capture.old) (left_of input.old (R.remaining reader.old))) things
         (capture_left packets.new.count (place_of capture.new) (left_of input.new (R.remaining reader.new)))) }
+    ensures stopped { IfErr result (λ stop. Stops stop (capture_left packets.old.count (place_of capture.old) (left_of input.old (R.remaining reader.old)))
+        (W.contents writer.old) (W.contents writer.new) (state_of printer.old) (state_of printer.new)) }
 {
     let at = input.offset();
     match next_piece(capture, input) {
@@ -89,6 +94,8 @@ fn goes_on<A: Allocator + Copy, R: Read, W: Write>(
         × Progress things (W.contents writer.old) (W.contents writer.new) (state_of printer.old) (state_of printer.new)
         × ((n : ℕ) → GivesUpTo goes_on (capture_left n (place_of capture.now) (left_of input.old (R.remaining reader.old))) things
         (capture_left n (place_of capture.now) (left_of input.new (R.remaining reader.new))))) }
+    ensures stopped { IfErr result (λ stop. stop ≢ NoMemory
+        → Halts [] (W.contents writer.old) (W.contents writer.new) (state_of printer.old) (state_of printer.new)) }
 {
     let at = input.offset();
     printer.write(writer)?;

@@ -1,13 +1,14 @@
 //! Lines of hex, printed.
 
-ghost use Rattle.std.specs.Prelude.{◌≡◌, false, List, Some, [], take, length, ◌≤◌, OnOk, IfOk};
+ghost use Rattle.std.specs.Prelude.{◌≡◌, ◌≢◌, false, List, Some, [], take, length, ◌≤◌, OnOk, IfOk, IfErr};
+ghost use Rattle.tcshow_input.specs.declared.stop.Stop.TheVariants.{NoMemory};
 ghost use Rattle.tc_input.specs.Dumps.{dump_of, no_dump};
 ghost use Rattle.tc_input.specs.Left.{rest_of, left_of, Gives};
 ghost use Rattle.tc_input.specs.Lines.{HasNoFeed};
 ghost use Rattle.tcshow_json.specs.Messages.{Thing};
 ghost use Rattle.tcshow_input.specs.Things.{is_cooked, after_cooked};
 ghost use Rattle.tcshow_input.specs.Reading.{is_hex_text, is_hex_digit, is_blank, things_at, dump_after, text_left, GivesUpTo};
-ghost use Rattle.tcshow_input.specs.State.{state_of, Progress, Puts};
+ghost use Rattle.tcshow_input.specs.State.{state_of, Halts, Progress, Puts, Stops};
 ghost use Rattle.tcshow_input.specs.Writing.{GrowsClean};
 
 use crate::printer::Printer;
@@ -74,6 +75,8 @@ pub fn show_lines<A: Allocator + Copy, R: Read, W: Write>(
     ensures ran { OnOk result ((things : List Thing)
         × Progress things (W.contents writer.old) (W.contents writer.new) (state_of printer.old) (state_of printer.new)
         × Gives (text_left (state_of printer.old).header no_dump (left_of input.old (R.remaining reader.old))) things (Some [])) }
+    ensures stopped { IfErr result (λ stop. Stops stop (text_left (state_of printer.old).header no_dump (left_of input.old (R.remaining reader.old)))
+        (W.contents writer.old) (W.contents writer.new) (state_of printer.old) (state_of printer.new)) }
 {
     let mut dump = Dump::new(printer.alloc);
     show_lines_after(printer, &mut dump, input, reader, writer)?;
@@ -96,6 +99,9 @@ fn show_lines_after<A: Allocator + Copy, R: Read, W: Write>(
     ensures ran { OnOk result ((things : List Thing)
         × Progress things (W.contents writer.old) (W.contents writer.new) (state_of printer.old) (state_of printer.new)
         × Gives (text_left (state_of printer.old).header (dump_of dump.old) (left_of input.old (R.remaining reader.old))) things (Some [])) }
+    ensures stopped { IfErr result (λ stop. Stops stop
+        (text_left (state_of printer.old).header (dump_of dump.old) (left_of input.old (R.remaining reader.old)))
+        (W.contents writer.old) (W.contents writer.new) (state_of printer.old) (state_of printer.new)) }
 {
     for _ in 0..u64::MAX {
         let goes_on = show_line(printer, dump, input, reader, writer)?;
@@ -120,6 +126,9 @@ fn show_line<A: Allocator + Copy, R: Read, W: Write>(
         × Progress things (W.contents writer.old) (W.contents writer.new) (state_of printer.old) (state_of printer.new)
         × GivesUpTo goes_on (text_left (state_of printer.old).header (dump_of dump.old) (left_of input.old (R.remaining reader.old))) things
         (text_left (state_of printer.old).header (dump_of dump.new) (left_of input.new (R.remaining reader.new)))) }
+    ensures stopped { IfErr result (λ stop. Stops stop
+        (text_left (state_of printer.old).header (dump_of dump.old) (left_of input.old (R.remaining reader.old)))
+        (W.contents writer.old) (W.contents writer.new) (state_of printer.old) (state_of printer.new)) }
 {
     match input.line_end() {
         Some(end) => {
@@ -151,6 +160,8 @@ fn more_of_line<A: Allocator + Copy, R: Read, W: Write>(
         × Progress things (W.contents writer.old) (W.contents writer.new) (state_of printer.old) (state_of printer.new)
         × GivesUpTo goes_on (text_left (state_of printer.old).header (dump_of dump.old) (left_of input.old (R.remaining reader.old))) things
         (text_left (state_of printer.old).header (dump_of dump.new) (left_of input.new (R.remaining reader.new)))) }
+    ensures stopped { IfErr result (λ stop. stop ≢ NoMemory
+        → Halts [] (W.contents writer.old) (W.contents writer.new) (state_of printer.old) (state_of printer.new)) }
 {
     let at = input.offset();
     printer.write_lines(writer)?;

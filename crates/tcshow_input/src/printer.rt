@@ -67,7 +67,7 @@ impl<'a, A: Allocator + Copy> Printer<'a, A> {
     ghost use Rattle.tc_outline.specs.Page.{IsShown};
     ghost use Rattle.tc_outline.specs.Text.{text_on};
     ghost use Rattle.tcshow_input.specs.Shown.{ended, IsEscaped, ShowsName, ShowsNotice, ShowsSummary};
-    ghost use Rattle.tcshow_input.specs.State.{laid_out, start, state_of, Grows, Progress};
+    ghost use Rattle.tcshow_input.specs.State.{laid_out, start, state_of, Grows, Halts, Progress};
     ghost use Rattle.tcshow_input.specs.Writing.{GrowsClean};
     ghost use Rattle.program_io.specs.Written.{GrowsByFront};
 
@@ -233,6 +233,7 @@ impl<'a, A: Allocator + Copy> Printer<'a, A> {
         ensures form { self.new.output.is_json ≡ self.old.output.is_json }
         ensures clean { self.old.output.is_json ≡ false → GrowsClean (W.contents writer.old) (W.contents writer.new) }
         ensures ran { OnOk result (Progress [] (W.contents writer.old) (W.contents writer.new) (state_of self.old) (state_of self.new)) }
+        ensures halts { Halts [] (W.contents writer.old) (W.contents writer.new) (state_of self.old) (state_of self.new) }
     {
         if self.first_lines.are_without_hex() {
             return Ok(());
@@ -245,6 +246,7 @@ impl<'a, A: Allocator + Copy> Printer<'a, A> {
         ensures form { self.new.output.is_json ≡ self.old.output.is_json }
         ensures clean { self.old.output.is_json ≡ false → GrowsClean (W.contents writer.old) (W.contents writer.new) }
         ensures ran { OnOk result (Progress [] (W.contents writer.old) (W.contents writer.new) (state_of self.old) (state_of self.new)) }
+        ensures halts { Halts [] (W.contents writer.old) (W.contents writer.new) (state_of self.old) (state_of self.new) }
     {
         if self.output.len() < MOST_KEPT {
             return Ok(());
@@ -260,6 +262,7 @@ impl<'a, A: Allocator + Copy> Printer<'a, A> {
         ensures empty { state_of self.new ≡ record (state_of self.old) { text = [] } }
         ensures clean { self.old.output.is_json ≡ false → GrowsClean (W.contents writer.old) (W.contents writer.new) }
         ensures ran { OnOk result (Progress [] (W.contents writer.old) (W.contents writer.new) (state_of self.old) (state_of self.new)) }
+        ensures halts { Halts [] (W.contents writer.old) (W.contents writer.new) (state_of self.old) (state_of self.new) }
     {
         self.output.write(writer)
     }

@@ -1,10 +1,11 @@
 //! Several inputs, one after another.
 
-ghost use Rattle.std.specs.Prelude.{◌≡◌, false, max, List, OnOk, IfErr};
+ghost use Rattle.std.specs.Prelude.{◌≡◌, ◌≢◌, false, max, List, OnOk, IfErr};
+ghost use Rattle.tcshow_input.specs.declared.stop.Stop.TheVariants.{NoMemory};
 ghost use Rattle.program_io.specs.Streams.{read_failure, reader_inside, write_failure, writer_inside};
 ghost use Rattle.tcshow_json.specs.Messages.{Thing};
-ghost use Rattle.tcshow_input.specs.Reading.{AreIn};
-ghost use Rattle.tcshow_input.specs.State.{state_of, Progress};
+ghost use Rattle.tcshow_input.specs.Reading.{AreIn, AreFirstIn};
+ghost use Rattle.tcshow_input.specs.State.{state_of, Halts, Progress};
 ghost use Rattle.tcshow_input.specs.Writing.{GrowsClean};
 ghost use Rattle.tcshow_lib.specs.Status.{status_of};
 ghost use Rattle.tcshow_lib.specs.Streams.{ShowsEnd};
@@ -23,10 +24,14 @@ pub fn run_next<A: Allocator + Copy, R: Read, W: Write>(
     reader: &mut Reader<R>,
     writer: &mut Writer<W>,
 ) -> Ended
-    // It comes to the end of its input: the text of all things in it is appended, and perhaps a fault.
+    // At the end of the input the text of all things in it is appended, and a fault if one of them is refused or broken.
     ensures ran { OnOk result.outcome ((things : List Thing) × AreIn (R.remaining (reader_inside reader.old)) (state_of printer.old).header things
         × Progress things (W.contents (writer_inside writer.old)) (W.contents (writer_inside writer.new)) (state_of printer.old) (state_of printer.new)) }
-    // Or its streams show why it ends early.
+    // A run that ends early has read the first things in the input, and appends a front of their text, and a fault if one of them is refused or broken.
+    ensures partly { IfErr result.outcome (λ stop. stop ≢ NoMemory → (things : List Thing)
+        × AreFirstIn (R.remaining (reader_inside reader.old)) (state_of printer.old).header things
+        × Halts things (W.contents (writer_inside writer.old)) (W.contents (writer_inside writer.new)) (state_of printer.old) (state_of printer.new)) }
+    // The errors of its streams show why it ends early.
     ensures stopped { IfErr result.outcome (ShowsEnd (read_failure reader.new) (write_failure writer.new)) }
     // Outlines hold only printable ASCII and line feeds.
     ensures clean { printer.old.output.is_json ≡ false
@@ -53,6 +58,9 @@ fn show_next_to_end<A: Allocator + Copy, R: Read, W: Write>(
         → GrowsClean (W.contents (writer_inside writer.old)) (W.contents (writer_inside writer.new)) }
     ensures ran { OnOk result ((things : List Thing) × AreIn (R.remaining (reader_inside reader.old)) (state_of printer.old).header things
         × Progress things (W.contents (writer_inside writer.old)) (W.contents (writer_inside writer.new)) (state_of printer.old) (state_of printer.new)) }
+    ensures partly { IfErr result (λ stop. stop ≢ NoMemory → (things : List Thing)
+        × AreFirstIn (R.remaining (reader_inside reader.old)) (state_of printer.old).header things
+        × Halts things (W.contents (writer_inside writer.old)) (W.contents (writer_inside writer.new)) (state_of printer.old) (state_of printer.new)) }
     ensures stopped { IfErr result (ShowsEnd (read_failure reader.new) (write_failure writer.new)) }
 {
     match show_next(printer, packets, reader, writer) {
@@ -73,6 +81,8 @@ fn show_next<A: Allocator + Copy, R: Read, W: Write>(
     ensures clean { printer.old.output.is_json ≡ false → GrowsClean (W.contents writer.old) (W.contents writer.new) }
     ensures ran { OnOk result ((things : List Thing) × AreIn (R.remaining reader.old) (state_of printer.old).header things
         × Progress things (W.contents writer.old) (W.contents writer.new) (state_of printer.old) (state_of printer.new)) }
+    ensures partly { IfErr result (λ stop. stop ≢ NoMemory → (things : List Thing) × AreFirstIn (R.remaining reader.old) (state_of printer.old).header things
+        × Halts things (W.contents writer.old) (W.contents writer.new) (state_of printer.old) (state_of printer.new)) }
 {
     let mut input = Input::begin(printer.alloc, reader)?;
     show_input(printer, packets, &mut input, reader, writer)?;

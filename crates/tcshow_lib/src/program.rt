@@ -2,7 +2,8 @@
 
 ghost use Rattle.std.specs.Prelude.{◌≡◌, ◌≢◌, OnOk, IfErr};
 ghost use Rattle.program_io.specs.Streams.{read_failure, reader_inside, write_failure, writer_inside};
-ghost use Rattle.tcshow_input.specs.State.{Ran};
+ghost use Rattle.tcshow_input.specs.State.{Ran, RanOn};
+ghost use Rattle.tcshow_input.specs.declared.stop.Stop.TheVariants.{NoMemory};
 ghost use Rattle.tcshow_input.specs.Writing.{GrowsClean};
 ghost use Rattle.tcshow_input.specs.declared.options.OutputFormat.TheVariants.{Json};
 ghost use Rattle.tcshow_lib.specs.Streams.{ShowsEnd};
@@ -394,10 +395,14 @@ pub fn serve<A: Allocator + Copy, R: Read, W: Write, E: Write>(
     writer: &mut Writer<W>,
     errors: &mut E,
 ) -> Ended
-    // It comes to the end of its input: the text of all things in it is written, and has_refused says whether one of them is refused or broken.
+    // At the end of the input the text of all things in it is written, and `has_refused` is true if one of them is refused or broken.
     ensures ran { OnOk result.outcome (Ran options.now result.has_refused (R.remaining (reader_inside reader.old))
         (W.contents (writer_inside writer.old)) (W.contents (writer_inside writer.new))) }
-    // Or its streams show why it ends early.
+    // A run that ends early has read the first things in the input. A front of their text is written, and `has_refused` is true if one of them is
+    // refused or broken.
+    ensures partly { IfErr result.outcome (λ stop. stop ≢ NoMemory → RanOn options.now result.has_refused (R.remaining (reader_inside reader.old))
+        (W.contents (writer_inside writer.old)) (W.contents (writer_inside writer.new))) }
+    // The errors of its streams show why it ends early.
     ensures stopped { IfErr result.outcome (ShowsEnd (read_failure reader.new) (write_failure writer.new)) }
     // Outlines hold only printable ASCII and line feeds.
     ensures clean { options.now.format ≢ Json → GrowsClean (W.contents (writer_inside writer.old)) (W.contents (writer_inside writer.new)) }

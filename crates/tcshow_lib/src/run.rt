@@ -1,13 +1,14 @@
 //! A run over an input.
 
-ghost use Rattle.std.specs.Prelude.{◌≡◌, ◌≢◌, ◌↔◌, false, List, OnOk, IfErr, IsTrue, IsSomeAnd};
+ghost use Rattle.std.specs.Prelude.{◌≡◌, ◌≢◌, ◌⊎◌, ◌↔◌, false, List, [], OnOk, IfErr, IsTrue, IsSomeAnd};
+ghost use Rattle.tcshow_input.specs.declared.stop.Stop.TheVariants.{NoMemory};
 ghost use Rattle.std.specs.IoError.{error_kind};
 ghost use Rattle.program_io.specs.Streams.{read_failure, reader_inside, write_failure, writer_inside};
 ghost use Rattle.tc_input.specs.Left.{rest_of, left_of};
 ghost use Rattle.tcshow_json.specs.Messages.{Thing};
-ghost use Rattle.tcshow_input.specs.Reading.{AreIn, Begins};
+ghost use Rattle.tcshow_input.specs.Reading.{AreIn, Begins, BeginsWith};
 ghost use Rattle.tcshow_input.specs.declared.options.OutputFormat.TheVariants.{Json};
-ghost use Rattle.tcshow_input.specs.State.{state_of, Progress, Ends, Completes, Ran};
+ghost use Rattle.tcshow_input.specs.State.{state_of, Breaks, BreaksIn, Completes, Ends, Halts, Progress, Ran, RanOn};
 ghost use Rattle.tcshow_input.specs.Writing.{GrowsClean};
 ghost use Rattle.tcshow_lib.specs.Streams.{ShowsEnd};
 
@@ -76,10 +77,14 @@ pub fn run<A: Allocator + Copy, R: Read, W: Write>(
     reader: &mut Reader<R>,
     writer: &mut Writer<W>,
 ) -> Ended
-    // It comes to the end of its input: the text of all things in it is written, and has_refused says whether one of them is refused or broken.
+    // At the end of the input the text of all things in it is written, and `has_refused` is true if one of them is refused or broken.
     ensures ran { OnOk result.outcome (Ran options.now result.has_refused (R.remaining (reader_inside reader.old))
         (W.contents (writer_inside writer.old)) (W.contents (writer_inside writer.new))) }
-    // Or its streams show why it ends early.
+    // A run that ends early has read the first things in the input. A front of their text is written, and `has_refused` is true if one of them is
+    // refused or broken.
+    ensures partly { IfErr result.outcome (λ stop. stop ≢ NoMemory → RanOn options.now result.has_refused (R.remaining (reader_inside reader.old))
+        (W.contents (writer_inside writer.old)) (W.contents (writer_inside writer.new))) }
+    // The errors of its streams show why it ends early.
     ensures stopped { IfErr result.outcome (ShowsEnd (read_failure reader.new) (write_failure writer.new)) }
     // Outlines hold only printable ASCII and line feeds.
     ensures clean { options.now.format ≢ Json → GrowsClean (W.contents (writer_inside writer.old)) (W.contents (writer_inside writer.new)) }
@@ -107,6 +112,8 @@ fn show_to_end<A: Allocator + Copy, R: Read, W: Write>(
     ensures ran { OnOk result ((things : List Thing) × AreIn (R.remaining (reader_inside reader.old)) (state_of printer.old).header things
         × Completes things (W.contents (writer_inside writer.old)) (W.contents (writer_inside writer.new)) (state_of printer.old)
         (state_of printer.new)) }
+    ensures partly { IfErr result (λ stop. BreaksIn stop (R.remaining (reader_inside reader.old)) (W.contents (writer_inside writer.old))
+        (W.contents (writer_inside writer.new)) (state_of printer.old) (state_of printer.new)) }
     ensures stopped { IfErr result (ShowsEnd (read_failure reader.new) (write_failure writer.new)) }
 {
     match show_and_write(printer, packets, reader, writer) {
@@ -117,7 +124,8 @@ fn show_to_end<A: Allocator + Copy, R: Read, W: Write>(
 
 // The reason for an early end, if the streams show it; otherwise memory ran out.
 pub(crate) fn shown_end<R, W>(reader: &Reader<R>, writer: &Writer<W>, stop: Stop) -> Stop
-    ensures { ShowsEnd (read_failure reader.now) (write_failure writer.now) result }
+    ensures shown { ShowsEnd (read_failure reader.now) (write_failure writer.now) result }
+    ensures one { (result ≡ stop) ⊎ (result ≡ NoMemory) }
 {
     match stop {
         Stop::NoCapture => Stop::NoCapture,
@@ -149,6 +157,8 @@ fn show_and_write<A: Allocator + Copy, R: Read, W: Write>(
     ensures clean { printer.old.output.is_json ≡ false → GrowsClean (W.contents writer.old) (W.contents writer.new) }
     ensures ran { OnOk result ((things : List Thing) × AreIn (R.remaining reader.old) (state_of printer.old).header things
         × Completes things (W.contents writer.old) (W.contents writer.new) (state_of printer.old) (state_of printer.new)) }
+    ensures partly { IfErr result (λ stop. BreaksIn stop (R.remaining reader.old) (W.contents writer.old) (W.contents writer.new)
+        (state_of printer.old) (state_of printer.new)) }
 {
     match show(printer, packets, reader, writer) {
         Ok(()) => printer.write(writer),
@@ -160,17 +170,19 @@ fn show_and_write<A: Allocator + Copy, R: Read, W: Write>(
 }
 
 // Writes the rest of the text of a run that ended early; of an input that is no capture and no hex nothing.
-#[tactic(auto, using(tcshow_input::proofs::Clean::clean_none))]
+#[tactic(auto, using(tcshow_input::proofs::Clean::clean_none, tcshow_input::proofs::Halting::halts_none))]
 fn write_rest<A: Allocator + Copy, W: Write>(
     printer: &mut Printer<'_, A>,
     writer: &mut W,
     stop: Stop,
 )
     ensures clean { printer.old.output.is_json ≡ false → GrowsClean (W.contents writer.old) (W.contents writer.new) }
+    ensures halts { Halts [] (W.contents writer.old) (W.contents writer.new) (state_of printer.old) (state_of printer.new) }
 {
-    if stop != Stop::NoCapture {
-        let _ = printer.write(writer);
+    if stop == Stop::NoCapture {
+        return;
     }
+    let _ = printer.write(writer);
 }
 
 // Prints all messages and the summary.
@@ -186,6 +198,8 @@ fn show<A: Allocator + Copy, R: Read, W: Write>(
     ensures clean { printer.old.output.is_json ≡ false → GrowsClean (W.contents writer.old) (W.contents writer.new) }
     ensures ran { OnOk result ((things : List Thing) × AreIn (R.remaining reader.old) (state_of printer.old).header things
         × Ends things (W.contents writer.old) (W.contents writer.new) (state_of printer.old) (state_of printer.new)) }
+    ensures partly { IfErr result (λ stop. BreaksIn stop (R.remaining reader.old) (W.contents writer.old) (W.contents writer.new)
+        (state_of printer.old) (state_of printer.new)) }
 {
     let mut input = Input::begin(printer.alloc, reader)?;
     show_all(printer, packets, &mut input, reader, writer)
@@ -206,6 +220,9 @@ fn show_all<A: Allocator + Copy, R: Read, W: Write>(
     ensures ran { OnOk result ((things : List Thing)
         × Begins (rest_of input.old) (left_of input.old (R.remaining reader.old)) (state_of printer.old).header things
         × Ends things (W.contents writer.old) (W.contents writer.new) (state_of printer.old) (state_of printer.new)) }
+    ensures partly { IfErr result (λ stop. stop ≢ NoMemory → (things : List Thing)
+        × BeginsWith (rest_of input.old) (left_of input.old (R.remaining reader.old)) (state_of printer.old).header things
+        × Breaks things (W.contents writer.old) (W.contents writer.new) (state_of printer.old) (state_of printer.new)) }
 {
     show_input(printer, packets, input, reader, writer)?;
     printer.put_summary()?;
@@ -230,6 +247,9 @@ pub(crate) fn show_input<A: Allocator + Copy, R: Read, W: Write>(
     ensures ran { OnOk result ((things : List Thing)
         × Begins (rest_of input.old) (left_of input.old (R.remaining reader.old)) (state_of printer.old).header things
         × Progress things (W.contents writer.old) (W.contents writer.new) (state_of printer.old) (state_of printer.new)) }
+    ensures partly { IfErr result (λ stop. stop ≢ NoMemory → (things : List Thing)
+        × BeginsWith (rest_of input.old) (left_of input.old (R.remaining reader.old)) (state_of printer.old).header things
+        × Halts things (W.contents writer.old) (W.contents writer.new) (state_of printer.old) (state_of printer.new)) }
 {
     match Capture::of_first(input.first()) {
         Some(capture) => show_capture(printer, packets, input, capture, reader, writer),

@@ -87,24 +87,24 @@ impl<T> Fallible<T> for Vec<T> {
 /// A number without a sign as one with a sign: `cast_signed`, which numbers have themselves since Rust 1.87.
 pub(crate) trait Unsigned {
     type Signed;
-    fn as_signed(self) -> Self::Signed;
+    fn signed(self) -> Self::Signed;
 }
 
 /// A number with a sign as one without.
 pub(crate) trait Signed {
     type Unsigned;
-    fn as_unsigned(self) -> Self::Unsigned;
+    fn unsigned(self) -> Self::Unsigned;
 }
 
 macro_rules! casts {
     ($($unsigned:ident $signed:ident,)*) => { $(
         impl Unsigned for $unsigned {
             type Signed = $signed;
-            fn as_signed(self) -> $signed { self as $signed }
+            fn signed(self) -> $signed { self as $signed }
         }
         impl Signed for $signed {
             type Unsigned = $unsigned;
-            fn as_unsigned(self) -> $unsigned { self as $unsigned }
+            fn unsigned(self) -> $unsigned { self as $unsigned }
         }
     )* };
 }

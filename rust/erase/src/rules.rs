@@ -177,8 +177,8 @@ pub(crate) const RULES: &[Rule] = &[
     // Calls of std that Rust has under another name, or had later.
     ("parse_ascii ( $x . as_bytes ( ) )", "from_str($x)"),
     ("( $*x ) . is_multiple_of ( $*n )", "(($*x) % ($*n) == 0)"),
-    (". cast_signed ( )", ".as_signed()"),
-    (". cast_unsigned ( )", ".as_unsigned()"),
+    (". cast_signed ( )", ".signed()"),
+    (". cast_unsigned ( )", ".unsigned()"),
     ("std :: str :: from_utf8 (", "str::from_utf8("),
     ("str :: from_utf8 (", "core::str::from_utf8("),
     ("Ipv4Addr :: from_octets (", "Ipv4Addr::from("),

@@ -69,7 +69,8 @@ static JSON: &str =
 {"time":"1700000000.123456000","packet":7,"type":"NLMSG_ERROR","flags":768,"seq":155,"errno":"warning","text":"quantum is big","request":{"type":"RTM_NEWTFILTER","flags":1536,"seq":155}}
 "#;
 
-static BRIEF: &str = r#"22:13:20.123456 refused EINVAL "NLA_F_NESTED is missing" at Options/Flower/Actions (byte 44) add filter flower - dev 3 ingress pref 601 protocol ip ip_proto tcp action gact
+static BRIEF: &str =
+    r#"22:13:20.123456 refused EINVAL "NLA_F_NESTED is missing" at Options/Flower/Actions (byte 44) add filter flower - dev 3 ingress pref 601 protocol ip ip_proto tcp action gact
 22:13:20.123456 refused EINVAL "NLA_F_NESTED is missing" at byte 44 add filter - - raw=
 22:13:20.123456 refused 777 add qdisc - - raw=00000000
 22:13:20.123456 warned "quantum is big" add filter - - raw=

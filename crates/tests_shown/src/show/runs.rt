@@ -118,7 +118,7 @@ fn begin_with(written: &str, fronts: &[&str]) -> bool {
     true
 }
 
-/// How many lines there are.
+/// The number of lines.
 pub(crate) fn lines_of(written: &[u8]) -> usize {
     let mut count = 0usize;
     for byte in written {

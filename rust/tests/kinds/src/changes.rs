@@ -8,7 +8,9 @@ impl Numbers {
         self.0 ^= self.0 << 13;
         self.0 ^= self.0 >> 7;
         self.0 ^= self.0 << 17;
-        usize::try_from(self.0 >> 11).unwrap_or(0) % limit.max(1)
+        // Of 64 bits, also where a usize has 32.
+        let limit = u64::try_from(limit.max(1)).unwrap_or(1);
+        usize::try_from((self.0 >> 11) % limit).unwrap_or(0)
     }
 
     fn octet(&mut self, limit: usize) -> u8 {

@@ -1,6 +1,7 @@
 use Rattle.tc_capture.specs.Capture.{state_of as place_of}
 use Rattle.tc_input.specs.Left.{left_of}
 use Rattle.tcshow_input.specs.Reading.{capture_left, is_passed, things_in_gap}
+use Rattle.tcshow_input.proofs.Halting.{always}
 use Rattle.tcshow_input.proofs.InOrder.{gap_gives, on_is}
 use Rattle.tcshow_input.proofs.Progress.{progress_more}
 use Rattle.tcshow_input.proofs.capture.goes_on.Goals as goal
@@ -16,3 +17,9 @@ returns-clause-ran g c =
       λ n. on_is c.is_passed.result (is_passed gap) (capture_left n place before) (things_in_gap gap) (capture_left n place after) c.is_passed.ensures
           (gap_gives n place gap before after c.in_ok-gap.ensures),
     )
+
+pub returns-in_err-write-clause-stopped : goal.returns-in_err-write-clause-stopped
+returns-in_err-write-clause-stopped g c = always _ _ (c.write.ensures.halts)
+
+pub returns-in_err-gap-clause-stopped : goal.returns-in_err-gap-clause-stopped
+returns-in_err-gap-clause-stopped g c = always _ _ (c.write.ensures.halts)

@@ -5,6 +5,7 @@ use Rattle.tcshow_input.specs.Reading.{capture_left}
 use Rattle.tcshow_input.proofs.Clean.{clean_none, clean_step}
 use Rattle.tcshow_input.proofs.InOrder.{gives_none, gives_then, on_is}
 use Rattle.tcshow_input.proofs.Progress.{progress_none, progress_then}
+use Rattle.tcshow_input.proofs.Halting.{passed, stops_then, stops_at}
 use Rattle.tcshow_input.proofs.capture.show_capture.Goals as goal
 
 pub returns-in_err-goes_on-clause-clean : goal.returns-in_err-goes_on-clause-clean
@@ -46,3 +47,13 @@ returns-then-not-goes_on-clause-ran g c =
 
 pub returns-then-not-goes_on-clause-clean : goal.returns-then-not-goes_on-clause-clean
 returns-then-not-goes_on-clause-clean g c = clean_step _ _ _ _ _ c.loop.invariant.clean c.loop.invariant.form c.show_piece.ensures.clean
+
+pub returns-in_err-goes_on-clause-stopped : goal.returns-in_err-goes_on-clause-stopped
+returns-in_err-goes_on-clause-stopped g c =
+    let before = c.loop.invariant.ran in
+    passed _ _ _ c.from_residual.ensures.1 (stops_then _ before.0 _ _ _ _ _ _ _ _ before.2 before.1 c.in_err-goes_on.ensures.stopped)
+
+pub returns-clause-stopped : goal.returns-clause-stopped
+returns-clause-stopped g c =
+    let before = c.loop.invariant.ran in
+    stops_at _ before.0 _ _ _ _ _ _ before.2 before.1

@@ -8,6 +8,8 @@ use Rattle.tcshow_input.specs.Reading.{capture_left, things_in_piece}
 use Rattle.tcshow_input.proofs.Clean.{clean_none}
 use Rattle.tcshow_input.proofs.InOrder.{piece_gives, same_place}
 use Rattle.tcshow_input.proofs.Progress.{puts_progress}
+use Rattle.std.proofs.lemmas.Result.{IfErr-weaker}
+use Rattle.tcshow_input.proofs.Halting.{always, stops_with, puts_halts, stops_none}
 use Rattle.tcshow_input.proofs.capture.show_piece.Goals as goal
 
 pub returns-in_ok-write_much-in-Ok-clause-ran : goal.returns-in_ok-write_much-in-Ok-clause-ran
@@ -49,3 +51,18 @@ returns-in_err-write_much-in-Ok-clause-clean g c = λ q. c.write_much.ensures.cl
 
 pub returns-in_err-put_piece-in-Ok-clause-clean : goal.returns-in_err-put_piece-in-Ok-clause-clean
 returns-in_err-put_piece-in-Ok-clause-clean g c = λ _. clean_none _
+
+pub returns-in_err-write_much-in-Ok-clause-stopped : goal.returns-in_err-write_much-in-Ok-clause-stopped
+returns-in_err-write_much-in-Ok-clause-stopped g c =
+    let what = read (front_of c.in-Ok.piece).packet in
+    let reader = g.R.Read.remaining c.args.reader.now in
+    let gone = drop c.in-Ok.piece.used (rest_of c.args.input.now) in
+    let things = things_in_piece c.args.packets.now.count what in
+    let given =
+    piece_gives c.args.packets.now.count c.put_piece.new.packets.count what (place_of c.args.capture.now) (place_of c.next_piece.new.capture)
+    (left_of c.args.input.now reader) (rest_of c.use_up.new.self) gone reader (c.in-Ok.ensures.piece reader)
+    c.use_up.ensures c.put_piece.ensures.count in
+    always _ _ (stops_with things _ _ _ _ _ _ given (puts_halts things _ _ _ _ _ c.in_ok-put_piece-in-Ok.ensures.put c.write_much.ensures.halts))
+
+pub returns-in-Err-clause-stopped : goal.returns-in-Err-clause-stopped
+returns-in-Err-clause-stopped g c = IfErr-weaker c.goes_on.result _ _ (λ stop h. stops_none stop _ _ _ _ _ h) c.goes_on.ensures.stopped

@@ -6,6 +6,7 @@ use Rattle.tc_input.specs.Lines.{IsLineGap, lines_left}
 use Rattle.tcshow_json.specs.Messages.{hole}
 use Rattle.tcshow_input.specs.Reading.{things_at, things_dumped, dump_after}
 use Rattle.tcshow_input.specs.State.{state_of, Puts}
+use Rattle.tcshow_input.proofs.Halting.{always}
 use Rattle.tcshow_input.proofs.InOrder.{text_kept, long_gives, last_gives}
 use Rattle.tcshow_input.proofs.Progress.{progress_more}
 use Rattle.tcshow_input.proofs.lines.more_of_line.Goals as goal
@@ -53,3 +54,9 @@ returns-in_ok-put_last-in-Last-clause-ran g c =
       progress_more things _ _ _ _ _ c.in_ok-write_lines.ensures.ran put,
       last_gives header dump line before last,
     )
+
+pub returns-in_err-write_lines-clause-stopped : goal.returns-in_err-write_lines-clause-stopped
+returns-in_err-write_lines-clause-stopped g c = always _ _ (c.write_lines.ensures.halts)
+
+pub returns-in_err-gap-clause-stopped : goal.returns-in_err-gap-clause-stopped
+returns-in_err-gap-clause-stopped g c = always _ _ (c.write_lines.ensures.halts)

@@ -4,7 +4,9 @@ use Rattle.tc_input.specs.Left.{left_of, rest_of}
 use Rattle.tcshow_input.specs.Reading.{things_at}
 use Rattle.tcshow_input.specs.State.{state_of}
 use Rattle.tcshow_input.proofs.InOrder.{line_gives}
-use Rattle.tcshow_input.proofs.Progress.{puts_progress}
+use Rattle.tcshow_input.proofs.Progress.{progress_puts, puts_progress}
+use Rattle.std.proofs.lemmas.Result.{IfErr-weaker}
+use Rattle.tcshow_input.proofs.Halting.{always, stops_with, halts_progress, puts_halts, stops_none}
 use Rattle.tcshow_input.proofs.lines.show_line.Goals as goal
 
 pub returns-in_ok-write_much-in-Some-clause-ran : goal.returns-in_ok-write_much-in-Some-clause-ran
@@ -19,3 +21,32 @@ returns-in_ok-write_much-in-Some-clause-ran g c =
           (rest_of c.use_line.new.self) (drop (c.in-Some.end + 1) rest) reader
           (c.in-Some.ensures.line reader) c.use_line.ensures c.in_ok-put_front-in-Some.ensures.dump,
     )
+
+pub returns-in_err-write_much-in-Some-clause-stopped : goal.returns-in_err-write_much-in-Some-clause-stopped
+returns-in_err-write_much-in-Some-clause-stopped g c =
+    let header = (state_of c.args.printer.now).header in
+    let reader = g.R.Read.remaining c.args.reader.now in
+    let rest = rest_of c.line_end.new.self in
+    let line = take c.in-Some.end rest in
+    let things = things_at header (dump_of c.args.dump.now) line in
+    let given =
+    line_gives header (dump_of c.args.dump.now) line (dump_of c.put_front.new.dump) (left_of c.args.input.now reader)
+    (rest_of c.use_line.new.self) (drop (c.in-Some.end + 1) rest) reader
+    (c.in-Some.ensures.line reader) c.use_line.ensures c.in_ok-put_front-in-Some.ensures.dump in
+    always _ _ (stops_with things _ _ _ _ _ _ given (puts_halts things _ _ _ _ _ c.in_ok-put_front-in-Some.ensures.put c.write_much.ensures.halts))
+
+pub returns-then-are_other_text-clause-stopped : goal.returns-then-are_other_text-clause-stopped
+returns-then-are_other_text-clause-stopped g c = λ not.
+    let header = (state_of c.args.printer.now).header in
+    let reader = g.R.Read.remaining c.args.reader.now in
+    let rest = rest_of c.line_end.new.self in
+    let line = take c.in-Some.end rest in
+    let things = things_at header (dump_of c.args.dump.now) line in
+    let given =
+    line_gives header (dump_of c.args.dump.now) line (dump_of c.put_front.new.dump) (left_of c.args.input.now reader)
+    (rest_of c.use_line.new.self) (drop (c.in-Some.end + 1) rest) reader
+    (c.in-Some.ensures.line reader) c.use_line.ensures c.in_ok-put_front-in-Some.ensures.dump in
+    (things, (_, given), halts_progress things _ _ _ _ (progress_puts _ things _ _ c.in_ok-put_front-in-Some.ensures.put))
+
+pub returns-in-None-clause-stopped : goal.returns-in-None-clause-stopped
+returns-in-None-clause-stopped g c = IfErr-weaker c.more_of_line.result _ _ (λ stop h. stops_none stop _ _ _ _ _ h) c.more_of_line.ensures.stopped

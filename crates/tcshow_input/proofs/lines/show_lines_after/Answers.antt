@@ -6,6 +6,7 @@ use Rattle.tcshow_input.specs.State.{state_of}
 use Rattle.tcshow_input.proofs.Clean.{clean_none, clean_step}
 use Rattle.tcshow_input.proofs.InOrder.{gives_none, gives_then, on_is, same_header}
 use Rattle.tcshow_input.proofs.Progress.{progress_none, progress_then}
+use Rattle.tcshow_input.proofs.Halting.{passed, stops_at, stops_header, stops_then}
 use Rattle.tcshow_input.proofs.lines.show_lines_after.Goals as goal
 
 pub returns-in_err-goes_on-clause-clean : goal.returns-in_err-goes_on-clause-clean
@@ -55,3 +56,17 @@ returns-then-not-goes_on-clause-ran g c =
 
 pub returns-then-not-goes_on-clause-clean : goal.returns-then-not-goes_on-clause-clean
 returns-then-not-goes_on-clause-clean g c = clean_step _ _ _ _ _ c.loop.invariant.clean c.loop.invariant.form c.show_line.ensures.clean
+
+pub returns-in_err-goes_on-clause-stopped : goal.returns-in_err-goes_on-clause-stopped
+returns-in_err-goes_on-clause-stopped g c =
+    let before = c.loop.invariant.ran in
+    let header = (state_of c.args.printer.now).header in
+    let left = left_of c.loop.input (g.R.Read.remaining c.loop.reader) in
+    passed _ _ _ c.from_residual.ensures.1
+    (stops_then _ before.0 _ _ _ _ _ _ _ _ before.2 before.1
+    (stops_header _ (state_of c.loop.printer).header header (dump_of c.loop.dump) left _ _ _ _ before.1.header c.in_err-goes_on.ensures.stopped))
+
+pub returns-clause-stopped : goal.returns-clause-stopped
+returns-clause-stopped g c =
+    let before = c.loop.invariant.ran in
+    stops_at _ before.0 _ _ _ _ _ _ before.2 before.1
