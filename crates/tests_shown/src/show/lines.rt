@@ -66,7 +66,7 @@ struct Said {
     sender: &'static str,
 }
 
-const fn said(kind: u16, flags: u16, port: u16, verb: &'static str, sender: &'static str) -> Said {
+fn said(kind: u16, flags: u16, port: u16, verb: &'static str, sender: &'static str) -> Said {
     Said {
         kind,
         flags,
@@ -77,30 +77,32 @@ const fn said(kind: u16, flags: u16, port: u16, verb: &'static str, sender: &'st
 }
 
 // Commands of iproute2 with the flags that `strace tc` shows, then messages of the kernel.
-static ALONE: [Said; 22] = [
-    said(36, 0x605, 0, "add", ""),
-    said(36, 0x505, 0, "replace", ""),
-    said(36, 5, 0, "change", ""),
-    said(36, 0x105, 0, "send flags 0x105", ""),
-    said(36, 0x405, 0, "send flags 0x405", ""),
-    said(37, 5, 0, "del", ""),
-    said(38, 1, 0, "get", ""),
-    said(38, 0x301, 0, "dump", ""),
-    said(40, 0x605, 0, "add", ""),
-    said(40, 0x405, 0, "replace", ""),
-    said(40, 5, 0, "change", ""),
-    said(44, 0x60d, 0, "add", ""),
-    said(44, 0x405, 0, "replace", ""),
-    said(45, 5, 0, "del", ""),
-    said(36, 2, 0, "is", ""),
-    said(38, 2, 77, "is", ""),
-    said(36, 0, 77, "new", " by 77"),
-    said(36, 0x600, 0, "new", ""),
-    said(37, 0, 77, "gone", " by 77"),
-    said(44, 0x605, 77, "new", " by 77"),
-    said(45, 5, 77, "gone", " by 77"),
-    said(46, 2, 77, "is", ""),
-];
+fn alone() -> [Said; 22] {
+    [
+        said(36, 0x605, 0, "add", ""),
+        said(36, 0x505, 0, "replace", ""),
+        said(36, 5, 0, "change", ""),
+        said(36, 0x105, 0, "send flags 0x105", ""),
+        said(36, 0x405, 0, "send flags 0x405", ""),
+        said(37, 5, 0, "del", ""),
+        said(38, 1, 0, "get", ""),
+        said(38, 0x301, 0, "dump", ""),
+        said(40, 0x605, 0, "add", ""),
+        said(40, 0x405, 0, "replace", ""),
+        said(40, 5, 0, "change", ""),
+        said(44, 0x60d, 0, "add", ""),
+        said(44, 0x405, 0, "replace", ""),
+        said(45, 5, 0, "del", ""),
+        said(36, 2, 0, "is", ""),
+        said(38, 2, 77, "is", ""),
+        said(36, 0, 77, "new", " by 77"),
+        said(36, 0x600, 0, "new", ""),
+        said(37, 0, 77, "gone", " by 77"),
+        said(44, 0x605, 77, "new", " by 77"),
+        said(45, 5, 77, "gone", " by 77"),
+        said(46, 2, 77, "is", ""),
+    ]
+}
 
 // A netlink message with the header of a message about interface 2, a handle of 1: and the root.
 fn message_of(alloc: Global, said: &Said) -> Result<Vec<u8>, AllocError> {
@@ -142,19 +144,21 @@ fn are_said(alloc: Global, format: Format, time: &str, all: &[Said]) -> Result<b
 }
 
 // A request with a port id, the kernel's copy of it, a get, its answer, and a request of the same number by another.
-static IN_PACKETS: [Said; 6] = [
-    said(44, 0x605, 77, "add", ""),
-    said(44, 0x605, 77, "new", " by 77"),
-    said(46, 5, 0, "get", ""),
-    said(44, 5, 78, "is", ""),
-    said(36, 0x605, 78, "add", ""),
-    said(36, 0x605, 79, "add", ""),
-];
+fn in_packets() -> [Said; 6] {
+    [
+        said(44, 0x605, 77, "add", ""),
+        said(44, 0x605, 77, "new", " by 77"),
+        said(46, 5, 0, "get", ""),
+        said(44, 5, 78, "is", ""),
+        said(36, 0x605, 78, "add", ""),
+        said(36, 0x605, 79, "add", ""),
+    ]
+}
 
 #[test]
 fn verbs_are_known(rt: HostRuntime) -> Result<(), Fail> {
     let alloc = rt.alloc();
-    for one in &ALONE {
+    for one in &alone() {
         assert!(rt;
             are_said(alloc, Format::Stream, "", &[*one])?,
             "{} {}",
@@ -162,6 +166,13 @@ fn verbs_are_known(rt: HostRuntime) -> Result<(), Fail> {
             one.flags
         );
     }
-    assert!(rt; are_said(alloc, Format::Microseconds, "22:13:20.123456 ", &IN_PACKETS)?);
+    assert!(rt;
+        are_said(
+            alloc,
+            Format::Microseconds,
+            "22:13:20.123456 ",
+            &in_packets()
+        )?
+    );
     Ok(())
 }
