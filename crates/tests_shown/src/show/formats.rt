@@ -1,6 +1,6 @@
 //! The same messages in each format.
 
-use crate::show::runs::{FORMS, all_in, file_of_first, lines_of, shown};
+use crate::show::runs::{all_in, file_of_first, lines_of, shown};
 use std::alloc::{AllocError, Global};
 use std::str;
 use std::test::Fail;
@@ -76,9 +76,14 @@ fn are_formats_shown(alloc: Global, form: OutputFormat) -> Result<bool, Fail> {
     Ok(lines == 20 || form == OutputFormat::Lines && 20 < lines)
 }
 
+// Lines tell a file of rtmon from a capture.
 #[test]
 fn each_format_is_shown_the_same(rt: HostRuntime) -> Result<(), Fail> {
-    for form in FORMS {
+    for form in [
+        OutputFormat::Lines,
+        OutputFormat::OneLine,
+        OutputFormat::Json,
+    ] {
         assert!(rt; are_formats_shown(rt.alloc(), form)?);
     }
     Ok(())

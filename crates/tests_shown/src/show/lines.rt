@@ -66,7 +66,7 @@ struct Said {
     sender: &'static str,
 }
 
-fn said(kind: u16, flags: u16, port: u16, verb: &'static str, sender: &'static str) -> Said {
+fn row(kind: u16, flags: u16, port: u16, verb: &'static str, sender: &'static str) -> Said {
     Said {
         kind,
         flags,
@@ -79,28 +79,28 @@ fn said(kind: u16, flags: u16, port: u16, verb: &'static str, sender: &'static s
 // Commands of iproute2 with the flags that `strace tc` shows, then messages of the kernel.
 fn alone() -> [Said; 22] {
     [
-        said(36, 0x605, 0, "add", ""),
-        said(36, 0x505, 0, "replace", ""),
-        said(36, 5, 0, "change", ""),
-        said(36, 0x105, 0, "send flags 0x105", ""),
-        said(36, 0x405, 0, "send flags 0x405", ""),
-        said(37, 5, 0, "del", ""),
-        said(38, 1, 0, "get", ""),
-        said(38, 0x301, 0, "dump", ""),
-        said(40, 0x605, 0, "add", ""),
-        said(40, 0x405, 0, "replace", ""),
-        said(40, 5, 0, "change", ""),
-        said(44, 0x60d, 0, "add", ""),
-        said(44, 0x405, 0, "replace", ""),
-        said(45, 5, 0, "del", ""),
-        said(36, 2, 0, "is", ""),
-        said(38, 2, 77, "is", ""),
-        said(36, 0, 77, "new", " by 77"),
-        said(36, 0x600, 0, "new", ""),
-        said(37, 0, 77, "gone", " by 77"),
-        said(44, 0x605, 77, "new", " by 77"),
-        said(45, 5, 77, "gone", " by 77"),
-        said(46, 2, 77, "is", ""),
+        row(36, 0x605, 0, "add", ""),
+        row(36, 0x505, 0, "replace", ""),
+        row(36, 5, 0, "change", ""),
+        row(36, 0x105, 0, "send flags 0x105", ""),
+        row(36, 0x405, 0, "send flags 0x405", ""),
+        row(37, 5, 0, "del", ""),
+        row(38, 1, 0, "get", ""),
+        row(38, 0x301, 0, "dump", ""),
+        row(40, 0x605, 0, "add", ""),
+        row(40, 0x405, 0, "replace", ""),
+        row(40, 5, 0, "change", ""),
+        row(44, 0x60d, 0, "add", ""),
+        row(44, 0x405, 0, "replace", ""),
+        row(45, 5, 0, "del", ""),
+        row(36, 2, 0, "is", ""),
+        row(38, 2, 77, "is", ""),
+        row(36, 0, 77, "new", " by 77"),
+        row(36, 0x600, 0, "new", ""),
+        row(37, 0, 77, "gone", " by 77"),
+        row(44, 0x605, 77, "new", " by 77"),
+        row(45, 5, 77, "gone", " by 77"),
+        row(46, 2, 77, "is", ""),
     ]
 }
 
@@ -124,12 +124,10 @@ fn object_of(kind: u16) -> &'static str {
     }
 }
 
-// True if the messages of a capture have these verbs and senders, after this time.
-fn are_said(alloc: Global, format: Format, time: &str, all: &[Said]) -> Result<bool, Fail> {
-    let mut messages = Vec::new(alloc);
+// True if the messages of an input have these verbs and senders, after this time.
+fn are_said(alloc: Global, input: &[u8], time: &str, all: &[Said]) -> Result<bool, Fail> {
     let mut lines = String::new(alloc);
     for one in all {
-        messages.push(message_of(alloc, one)?)?;
         let line = format!(in alloc;
             "{time}{} {}{}\n",
             one.verb,
@@ -138,41 +136,52 @@ fn are_said(alloc: Global, format: Format, time: &str, all: &[Said]) -> Result<b
         )?;
         lines.push_str(line.as_str())?;
     }
-    let file = file_of(alloc, format, false, &messages)?;
-    let run = shown(alloc, &all_in(OutputFormat::Brief(false)), &file);
+    let run = shown(alloc, &all_in(OutputFormat::Brief(false)), input);
     Ok(run.written.as_slice() == lines.as_bytes())
+}
+
+// A file with these messages.
+fn file_with(alloc: Global, format: Format, all: &[Said]) -> Result<Vec<u8>, Fail> {
+    let mut messages = Vec::new(alloc);
+    for one in all {
+        messages.push(message_of(alloc, one)?)?;
+    }
+    Ok(file_of(alloc, format, false, &messages)?)
 }
 
 // A request with a port id, the kernel's copy of it, a get, its answer, and a request of the same number by another.
 fn in_packets() -> [Said; 6] {
     [
-        said(44, 0x605, 77, "add", ""),
-        said(44, 0x605, 77, "new", " by 77"),
-        said(46, 5, 0, "get", ""),
-        said(44, 5, 78, "is", ""),
-        said(36, 0x605, 78, "add", ""),
-        said(36, 0x605, 79, "add", ""),
+        row(44, 0x605, 77, "add", ""),
+        row(44, 0x605, 77, "new", " by 77"),
+        row(46, 5, 0, "get", ""),
+        row(44, 5, 78, "is", ""),
+        row(36, 0x605, 78, "add", ""),
+        row(36, 0x605, 79, "add", ""),
     ]
 }
+
+// The time of each packet.
+const TIME: &str = "22:13:20.123456 ";
 
 #[test]
 fn verbs_are_known(rt: HostRuntime) -> Result<(), Fail> {
     let alloc = rt.alloc();
     for one in &alone() {
+        let message = message_of(alloc, one)?;
         assert!(rt;
-            are_said(alloc, Format::Stream, "", &[*one])?,
+            are_said(alloc, &message, "", &[*one])?,
             "{} {}",
             one.kind,
             one.flags
         );
     }
-    assert!(rt;
-        are_said(
-            alloc,
-            Format::Microseconds,
-            "22:13:20.123456 ",
-            &in_packets()
-        )?
-    );
+    let packets = in_packets();
+    let capture = file_with(alloc, Format::Microseconds, &packets)?;
+    assert!(rt; are_said(alloc, &capture, TIME, &packets)?);
+    // all in a file of rtmon is the kernel's
+    let noted = [row(36, 0x605, 0, "new", ""), row(38, 0x301, 77, "is", "")];
+    let file = file_with(alloc, Format::Stream, &noted)?;
+    assert!(rt; are_said(alloc, &file, TIME, &noted)?);
     Ok(())
 }

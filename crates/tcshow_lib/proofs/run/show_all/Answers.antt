@@ -11,7 +11,7 @@ returns-clause-ran g c =
 
 pub returns-in_err-show_input-clause-partly : goal.returns-in_err-show_input-clause-partly
 returns-in_err-show_input-clause-partly g c =
-    passed _ _ _ c.from_residual-in_err-show_input.ensures.1 (breaks_begun _ _ _ _ _ _ _ _ c.in_err-show_input.ensures.partly)
+    passed _ _ _ c.from_residual.ensures.1 (breaks_begun _ _ _ _ _ _ _ _ c.in_err-show_input.ensures.partly)
 
 pub returns-then-are_foreign-clause-partly : goal.returns-then-are_foreign-clause-partly
 returns-then-are_foreign-clause-partly g c = λ not.
