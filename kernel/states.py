@@ -151,7 +151,36 @@ def own_tables(objects, asked):
     group_of = {it.place_of_tables()[0]: it.place_of_tables()[1] for it in tables}
     first.update({(group_of[place], root): place for place, root in roots.items()})
     is_own = lambda place, group, table: first[group, table] == place
-    return [it for it in objects if it not in tables or is_own(*it.place_of_tables(), it.handle & TABLE)], roots
+    own = {id(it) for it in tables if is_own(*it.place_of_tables(), it.handle & TABLE)}
+    return [it for it in objects if it.type != FILTER or it.kind != "u32" or not it.handle or id(it) in own], roots
+
+
+def without_empty(objects, roots):
+    """Leaves out priorities of u32 without a filter in their root table: nothing is matched there, and no request makes one."""
+    root_of = lambda it: roots.get(it.place_of_tables()[0])
+    filled = {it.place_of_tables()[0] for it in objects if it.type == FILTER and it.handle & 0xFFFFF and it.handle & TABLE == root_of(it)}
+    is_empty = lambda it: it.type == FILTER and it.kind == "u32" and it.handle in (0, root_of(it)) and it.place_of_tables()[0] not in filled
+    return [it for it in objects if not is_empty(it)]
+
+
+def by_places(objects):
+    """Renumbers qdiscs whose handles the kernel chose (8000: and above) by their places."""
+    is_chosen = lambda number: 0x8000 <= number >> 16 < 0xFFFF
+    left, numbers = [it for it in objects if it.type == QDISC and is_chosen(it.handle)], {}
+    moved = lambda it, number: numbers.get((it.index, number >> 16), number >> 16) << 16 | number & 0xFFFF
+    while left:
+        ready = [it for it in left if (it.index, it.parent >> 16 << 16) not in {(other.index, other.handle) for other in left}] or left
+        for it in sorted(ready, key=lambda it: (it.index, moved(it, it.parent))):
+            numbers[it.index, it.handle >> 16] = 0x8000 + len(numbers)
+        left = [it for it in left if it not in ready]
+    for it in objects:
+        if it.type in (QDISC, CLASS):
+            it.handle = moved(it, it.handle)
+        if it.type == CLASS:
+            it.info = moved(it, it.info)
+        if it.index != -1:
+            it.parent = moved(it, it.parent)
+    return objects
 
 
 def renumbered(objects, asked=None):
@@ -159,6 +188,7 @@ def renumbered(objects, asked=None):
     them with that of the last request."""
     ingress = {it.index for it in objects if it.type == QDISC and it.kind == "ingress"}
     objects, roots = own_tables(objects, asked or {})
+    objects = without_empty(objects, roots)
     for it in objects:
         own = roots.get(it.place_of_tables()[0])
         if it.type == FILTER and it.kind == "u32" and own is not None:
@@ -169,7 +199,7 @@ def renumbered(objects, asked=None):
     for it in objects:
         if it.type in (FILTER, CHAIN) and it.index in ingress and it.parent >> 16 == 0xFFFF:
             it.parent = 0xFFFFFFF2
-    return objects
+    return by_places(objects)
 
 
 # TCA_FLOWER_FLAGS, TCA_U32_FLAGS, TCA_MATCHALL_FLAGS and TCA_BPF_FLAGS_GEN.
