@@ -47,7 +47,7 @@ pub fn state_of<A: Allocator + Copy>(
     dumps: Vec<Dump<A>, A>,
 ) -> Result<State<A>, StateError>
     ensures ready { IfOk result (λ state. ready same_key [] (things state.objects.items) ≡ true) }
-    // It has an object with a key exactly if a dump shows one.
+    // The keys of its objects are the keys that the dumps show.
     ensures shown { IfOk result (λ state. (k : KeyModel) →
         has same_key (things state.objects.items) k ≡ among same_key (keys_shown dumps.items) k) }
 {
@@ -63,7 +63,8 @@ pub fn state_after<A: Allocator + Copy>(
     now: &State<A>,
 ) -> Result<State<A>, StateError>
     ensures ready { IfOk result (λ state. ready same_key [] (things state.objects.items) ≡ true) }
-    // It has an object with a key exactly if a dump shows one, with handles that the kernel chose as they are now.
+    // The keys of its objects are the keys that the dumps show after some renaming, which changes only handles that the kernel chose. The clause
+    // doesn't say which renaming.
     ensures shown { IfOk result (λ state. (renaming : ℤ → ℕ → ℕ) × (IsRenaming renaming × ((k : KeyModel) →
         has same_key (things state.objects.items) k ≡ among same_key (keys_shown (map (dump_renamed renaming) dumps.items)) k))) }
 {
@@ -239,7 +240,7 @@ fn step_of<A: Allocator + Copy>(
     })
 }
 
-// The filter after each, by the places of both, of those of a chain and a priority that the kernel keeps newest first.
+// The next filter of the same chain and priority, by the place of a filter. Only kinds that the kernel keeps newest first are here.
 type Newer<A> = HashMap<usize, Key, BuildHasherDefault<FoldHasher>, A>;
 
 fn newer_of<A: Allocator + Copy>(

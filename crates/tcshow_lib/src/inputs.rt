@@ -24,10 +24,10 @@ pub fn run_next<A: Allocator + Copy, R: Read, W: Write>(
     reader: &mut Reader<R>,
     writer: &mut Writer<W>,
 ) -> Ended
-    // At the end of the input the text of all things in it is appended, and a fault if one of them is refused or broken.
+    // At the end of the input, the text of the whole input is appended, and a fault if a message was refused or broken.
     ensures ran { OnOk result.outcome ((things : List Thing) × AreIn (R.remaining (reader_inside reader.old)) (state_of printer.old).header things
         × Progress things (W.contents (writer_inside writer.old)) (W.contents (writer_inside writer.new)) (state_of printer.old) (state_of printer.new)) }
-    // A run that ends early has read the first things in the input, and appends a front of their text, and a fault if one of them is refused or broken.
+    // A run that ends early has read the front of the input, and appends a front of its text, and a fault if a message there was refused or broken.
     ensures partly { IfErr result.outcome (λ stop. stop ≢ NoMemory → (things : List Thing)
         × AreFirstIn (R.remaining (reader_inside reader.old)) (state_of printer.old).header things
         × Halts things (W.contents (writer_inside writer.old)) (W.contents (writer_inside writer.new)) (state_of printer.old) (state_of printer.new)) }

@@ -77,7 +77,7 @@ pub fn run<A: Allocator + Copy, R: Read, W: Write>(
     reader: &mut Reader<R>,
     writer: &mut Writer<W>,
 ) -> Ended
-    // At the end of the input the text of all things in it is written, and `has_refused` is true if one of them is refused or broken.
+    // At the end of the input, the text of the whole input is written. `has_refused` is true if a message was refused or broken.
     ensures ran { OnOk result.outcome (Ran options.now result.has_refused (R.remaining (reader_inside reader.old))
         (W.contents (writer_inside writer.old)) (W.contents (writer_inside writer.new))) }
     // A run that ends early has read the first things in the input. A front of their text is written, and `has_refused` is true if one of them is

@@ -76,7 +76,7 @@ fn are_formats_shown(alloc: Global, form: OutputFormat) -> Result<bool, Fail> {
     Ok(lines == 20 || form == OutputFormat::Lines && 20 < lines)
 }
 
-// Lines tell a file of rtmon from a capture.
+// Lines for people are left out: their verbs differ between a file of rtmon and a capture.
 #[test]
 fn each_format_is_shown_the_same(rt: HostRuntime) -> Result<(), Fail> {
     for form in [
