@@ -20,7 +20,7 @@ pub struct Countdown {
 }
 
 impl Countdown {
-    /// Ends at step `at`, where 1 is the next one; at 0 it never ends.
+    /// Ends at step `at`, where 1 is the next one. At 0 it never ends.
     pub fn new(at: u64) -> Countdown {
         Countdown {
             left: Cell::new(at),

@@ -1,7 +1,7 @@
 //! For tests alone: an allocator that refuses one chosen request and passes every other on, so that a
 //! test can make each allocation of a call fail in turn.
 //!
-//! Code under test is generic over `A: Allocator + Copy`; a `&Failing<B>` is such an allocator.
+//! Code under test is generic over `A: Allocator + Copy`. A `&Failing<B>` is such an allocator.
 #![tactic(auto)]
 
 mod countdown;
@@ -20,7 +20,7 @@ pub struct Failing<B: Allocator> {
 }
 
 impl<B: Allocator> Failing<B> {
-    /// Refuses the request number `at`, where 1 is the next one; 0 refuses none.
+    /// Refuses the request number `at`, where 1 is the next one. 0 refuses none.
     pub fn new(inner: B, at: u64) -> Self {
         Failing {
             inner,

@@ -22,11 +22,11 @@ pub struct Frame<'a> {
     pub word: u16,
     /// The payload.
     pub value: &'a [u8],
-    /// The padding after the payload, unchanged; the last frame may lack some.
+    /// The padding after the payload, unchanged. The last frame may lack some.
     pub pad: &'a [u8],
 }
 
-/// The frame at the front, and the bytes after it; `None` if the bytes don't begin with a frame.
+/// The frame at the front, and the bytes after it. `None` if the bytes don't begin with a frame.
 #[inline(always)]
 pub fn front(bytes: &[u8]) -> Option<(Frame<'_>, &[u8])>
     ensures frame { option_map (λ r. frame_view r.0) result ≡ front bytes.now }
@@ -82,7 +82,7 @@ pub fn kind_in<'a>(has: bool, frame: &Frame<'a>) -> Option<&'a str>
     }
 }
 
-/// The first kind in a list; empty if no attribute sets one.
+/// The first kind in a list. Empty if no attribute sets one.
 pub fn own_kind(bytes: &[u8]) -> &str
     ensures { result.now ≡ own_kind (length bytes.now) bytes.now }
 {

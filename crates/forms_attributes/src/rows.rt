@@ -258,7 +258,7 @@ fn only_member<'v>(value: &'v Value) -> Option<(&'v str, &'v Value)>
     }
 }
 
-/// The first row of a list whose name is that of a member, and the member's value.
+/// The first row of a list with the name of a member, and the member's value.
 pub fn row_held_in<'a, 'v>(rows: &RowList<'a>, value: &'v Value) -> Option<(Row<'a>, &'v Value)>
     ensures { option_map (λ m. (row_view m.0, view m.1.now)) result ≡ held (λ r. r.name) counts (rows_in rows.now) (view value.now) }
 {

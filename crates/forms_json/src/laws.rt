@@ -7,7 +7,7 @@ ghost use Rattle.forms_json.specs.Shown.{shown_of};
 
 use forms_values::{Form, Tables};
 
-/// The JSON of bytes leads back to these bytes, for every table, form and list of bytes; also if a reader of JSON has put the members
+/// The JSON of bytes leads back to these bytes, for every table, form and list of bytes, also if a reader of JSON has put the members
 /// in the order of their names.
 pub fn shown_is_made<T: Tables>(table: T, form: Form, bytes: &[u8])
     ensures again { made_of (T.parts_of table) form (shown_of (T.parts_of table) form bytes.now) ≡ Some bytes.now }

@@ -1,5 +1,5 @@
 //! The attributes, records and named numbers of Linux's traffic control, as a table for `forms_json`. They are defined in the files below
-//! `kinds/`; `kinds/generate` writes the parts here from them.
+//! `kinds/`. `kinds/generate` writes the parts here from them.
 #![tactic(auto)]
 
 mod parts;
@@ -9,7 +9,7 @@ ghost use Rattle.forms_kinds.specs.Table.{tc_tables};
 use forms_values::{Part, Tables};
 pub use parts::{ACTION_LIST, ACTION_MESSAGE, PLACES, TC_LIST, TC_MESSAGE};
 
-/// The table of Linux's traffic control; it allocates nothing.
+/// The table of Linux's traffic control. It allocates nothing.
 #[derive(Clone, Copy)]
 pub struct TcTables;
 

@@ -32,7 +32,7 @@ pub fn messages_are_the_codecs()
     ensures flags { IsRecord tc_tables (form_at action_message_rows 2) flags_pair fields.flags_pair_names }
 {}
 
-/// Statistics have the codec's attributes and records, under each kind; a qdisc's own statistics are chosen by the codec's numbers.
+/// Statistics have the codec's attributes and records, under each kind. A qdisc's own statistics are chosen by the codec's numbers.
 pub fn statistics_are_the_codecs()
     ensures of_message { HasRows tc_tables (statistics_rows []) stats2 names.stats2_names }
     ensures of_fq_codel { HasRows tc_tables (statistics_rows (codes "fq_codel")) stats2 names.stats2_names }

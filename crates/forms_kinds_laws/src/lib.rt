@@ -1,6 +1,6 @@
-//! Laws of the table of `forms_kinds`. Every row, field, choice and name of a number counts, since its type, number or name is distinct; every place
-//! that a form names has a part of its sort; and the table has all that the codec's tables have: every attribute with its `nla_type`, its name
-//! and its form, and every record with its fields. The functions do nothing; their contracts are the laws.
+//! Laws of the table of `forms_kinds`. Every row, field, choice and name of a number counts, since its type, number or name is distinct. Every place
+//! that a form names has a part of its sort, and the table has all that the codec's tables have: every attribute with its `nla_type`, its name
+//! and its form, and every record with its fields. The functions do nothing. Their contracts are the laws.
 #![tactic(auto)]
 
 mod codec;

@@ -9,11 +9,11 @@ use std::fmt;
 /// A place where JSON differs from the JSON that is wanted.
 #[derive(Drop)]
 pub struct Difference {
-    /// The place, as a JSON pointer (RFC 6901); empty for the whole.
+    /// The place, as a JSON pointer (RFC 6901). Empty for the whole.
     pub path: String,
-    /// The JSON at this place, or a few words for a list, an object or a long text; `None` if there is none.
+    /// The JSON at this place, or a few words for a list, an object or a long text. `None` if there is none.
     pub found: Option<String>,
-    /// The JSON that is wanted there; `None` if there should be none.
+    /// The JSON that is wanted there. `None` if there should be none.
     pub wanted: Option<String>,
 }
 
@@ -49,7 +49,7 @@ pub fn differences<'v>(
     Ok(search.differences)
 }
 
-/// The first difference; the whole if there is none.
+/// The first difference, or the whole if there is none.
 pub(crate) fn first_difference<'v>(
     alloc: Global,
     found: &'v Value,

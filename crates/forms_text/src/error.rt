@@ -17,15 +17,15 @@ pub enum ReadError {
     /// Memory ran out.
     OutOfMemory,
 
-    /// It isn't JSON, or isn't UTF-8, or has a number too large for a float; the place is where reading stopped.
+    /// It isn't JSON, or isn't UTF-8, or has a number too large for a float. The place is where reading stopped.
     NotJson {
         /// The line, counted from 1.
         line: usize,
-        /// The byte of the line, counted from 1; 0 at the end of an empty line.
+        /// The byte of the line, counted from 1. 0 at the end of an empty line.
         column: usize,
     },
 
-    /// Lists and objects nest more than 127 levels deep; the place is where reading stopped.
+    /// Lists and objects nest more than 127 levels deep. The place is where reading stopped.
     TooDeep {
         /// The line, counted from 1.
         line: usize,

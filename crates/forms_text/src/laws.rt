@@ -12,7 +12,7 @@ ghost use Rattle.forms_text.specs.Text.{IsJsonText};
 use forms_json::{Form, Tables};
 
 /// For every table, form and list of bytes: the text that `serde_json` writes for their JSON, compact or indented, is read. It is read
-/// as this JSON, the members of each object in the order of their names; no object in it has a name twice; and the JSON that is read leads
+/// as this JSON, the members of each object in the order of their names. No object in it has a name twice, and the JSON that is read leads
 /// back to the bytes.
 pub fn shown_text_is_made<T: Tables>(table: T, form: Form, bytes: &[u8])
     ensures read { (text : List ℕ) → IsJsonText (shown_of (T.parts_of table) form bytes.now) text

@@ -1,4 +1,4 @@
-//! The JSON of forms as text: read with each name once, and turned into bytes; and bytes only from JSON that is exactly their own.
+//! The JSON of forms as text: read with each name once, and turned into bytes, and bytes only from JSON that is exactly their own.
 //!
 //! ```rust
 //! let bytes = bytes_of_text(alloc, table, form, br#"[{"Kind":"htb"},{"Handle":"1:"}]"#)?;
@@ -6,7 +6,7 @@
 //!
 //! `forms_json` turns bytes into JSON and back. The law of this crate has the text between them: the text that `serde_json` writes for
 //! the JSON of bytes is read, to its end, and turned into these bytes
-//! ([`shown_text_is_made`]). A name that an object has twice is an error of [`read_json`], since a `Value` keeps only one of them;
+//! ([`shown_text_is_made`]). A name that an object has twice is an error of [`read_json`], since a `Value` keeps only one of them,
 //! so is nesting of more than 127 levels. The JSON of bytes nests at most 49 levels deep.
 //!
 //! ```rust

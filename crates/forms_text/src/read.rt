@@ -13,7 +13,7 @@ use serde_json::{Error, Value};
 use std::alloc::{AllocError, Global};
 use std::str;
 
-/// Reads a text as JSON. If an object has a name twice, this fails; `Value::from_slice` of `serde_json` keeps the last of the values.
+/// Reads a text as JSON. If an object has a name twice, this fails. `Value::from_slice` of `serde_json` keeps the last of the values.
 pub fn read_json(alloc: Global, text: &[u8]) -> Result<Value, ReadError>
     ensures utf8 { OnOk result (IsUtf8 text.now) }
     ensures read { IfOk result (λ json. read text.now ≡ Some (view json)) }

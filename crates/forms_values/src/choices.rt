@@ -106,7 +106,7 @@ pub fn send_unknown<S: Serializer>(
     end_map(out, aside)
 }
 
-/// The first choice whose name is that of a member, and the member's value.
+/// The first choice with the name of a member, and the member's value.
 pub fn choice_held<'a, 'v>(
     choices: &[Choice<'a>],
     value: &'v Value,

@@ -114,7 +114,7 @@ pub enum MakeError {
 
     /// A part of the JSON is wrong.
     Wrong {
-        /// The place, as a JSON pointer; empty for the whole.
+        /// The place, as a JSON pointer. Empty for the whole.
         path: String,
         /// The JSON at this place, or a few words for a list, an object or a long text.
         found: String,

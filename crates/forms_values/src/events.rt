@@ -7,7 +7,7 @@ ghost use Rattle.std.specs.Prelude.{None, OnOk};
 use serde::Serializer;
 use std::alloc::Global;
 
-/// The format failed; its error is in [`Aside`].
+/// The format failed. Its error is in [`Aside`].
 #[derive(Clone, Copy)]
 pub enum Stopped {
     /// The format failed.

@@ -1,6 +1,6 @@
 //! Forms, and the parts of a table, which forms name by their places.
 
-/// A number. Little-endian unless its name ends in `Be`; a signed one is two's complement.
+/// A number. Little-endian unless its name ends in `Be`. A signed one is two's complement.
 #[derive(Clone, Copy)]
 pub enum Number {
     /// One byte.
@@ -42,13 +42,13 @@ pub enum Form {
     Truth,
     /// A text with a NUL at its end.
     Text,
-    /// A text without a NUL at its end; it may contain NULs.
+    /// A text without a NUL at its end. It may contain NULs.
     Bare,
     /// Any bytes.
     Hex,
     /// This number of bytes.
     Bytes(usize),
-    /// This number of padding bytes; a record shows them only if one isn't zero.
+    /// This number of padding bytes. A record shows them only if one isn't zero.
     Pad(usize),
     /// A MAC address.
     Mac,
@@ -78,7 +78,7 @@ pub enum Form {
 /// none that has a lifetime.
 #[derive(Clone, Copy)]
 pub struct NameOf<N> {
-    /// The number; if it is signed, its two's complement.
+    /// The number. If it is signed, its two's complement.
     pub number: u64,
     /// The name.
     pub name: N,
@@ -120,7 +120,7 @@ pub struct ChoiceOf<N, B> {
     pub name: N,
     /// The first bytes.
     pub prefix: B,
-    /// The length of the bytes; `None` if any.
+    /// The length of the bytes. `None` if any.
     pub len: Option<usize>,
     /// The form of the bytes after the prefix.
     pub form: Form,

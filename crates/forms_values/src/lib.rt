@@ -1,4 +1,4 @@
-//! Forms and tables of forms, as data; and the JSON of values whose form contains no other form, both ways.
+//! Forms and tables of forms, as data, and the JSON of values whose form contains no other form, both ways.
 //!
 //! Such forms are numbers, texts, addresses and hex. For records and choices, which contain forms: the widths of fields, the bytes after the
 //! last field, and which choice applies. Calls that take an allocator fail with `OutOfMemory` if it fails.

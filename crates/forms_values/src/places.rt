@@ -18,7 +18,7 @@ pub struct At<'k, T> {
     pub kind: &'k str,
 }
 
-/// The names at a place; none if the part there has another sort.
+/// The names at a place. Empty if the part there has another sort.
 pub(crate) fn names_at<T: Tables>(table: T, place: usize) -> &'static [Name<'static>]
     ensures { names_view result.now ≡ names_of (part_at (T.parts_of table) place) }
 {
@@ -28,7 +28,7 @@ pub(crate) fn names_at<T: Tables>(table: T, place: usize) -> &'static [Name<'sta
     &[]
 }
 
-/// The fields at a place; none if the part there has another sort.
+/// The fields at a place. Empty if the part there has another sort.
 pub fn fields_at<T: Tables>(table: T, place: usize) -> &'static [Field<'static>]
     ensures { fields_view result.now ≡ fields_of (part_at (T.parts_of table) place) }
 {
@@ -38,7 +38,7 @@ pub fn fields_at<T: Tables>(table: T, place: usize) -> &'static [Field<'static>]
     &[]
 }
 
-/// The layer at a place; empty if there is none.
+/// The layer at a place. Empty if there is none.
 pub fn layer_at<T: Tables>(table: T, place: usize) -> &'static str
     ensures { result.now ≡ layer_of (part_at (T.parts_of table) place) }
 {
@@ -48,7 +48,7 @@ pub fn layer_at<T: Tables>(table: T, place: usize) -> &'static str
     ""
 }
 
-/// The choices at a place; none if the part there has another sort.
+/// The choices at a place. Empty if the part there has another sort.
 pub fn choices_at<T: Tables>(table: T, place: usize) -> &'static [Choice<'static>]
     ensures { choices_view result.now ≡ choices_of (part_at (T.parts_of table) place) }
 {
@@ -58,7 +58,7 @@ pub fn choices_at<T: Tables>(table: T, place: usize) -> &'static [Choice<'static
     &[]
 }
 
-/// The form at a place; that of bytes for names of numbers.
+/// The form at a place, or the form of bytes for names of numbers.
 pub fn form_at<T: Tables>(table: T, place: usize) -> Form
     ensures { result ≡ form_of place (part_at (T.parts_of table) place) }
 {

@@ -109,7 +109,7 @@ pub(crate) fn names_distinct(fields: &[Field<'_>]) -> bool
     is_free("raw", fields) && is_free("rest", fields) && are_distinct(fields)
 }
 
-/// Appends padding that the JSON leaves out; for another field, notes that it is missing.
+/// Appends padding that the JSON leaves out. For another field, notes that it is missing.
 pub fn make_blank<'v, T: Tables>(
     maker: &mut Maker<'v>,
     table: T,

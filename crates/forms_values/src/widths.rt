@@ -8,7 +8,7 @@ use crate::form::{Field, Form, Number};
 use crate::places::{fields_at, form_at};
 use crate::tables::Tables;
 
-/// The greatest depth of forms in a table; deeper bytes are shown raw.
+/// The greatest depth of forms in a table. Deeper bytes are shown raw.
 pub const DEEPEST: u8 = 16;
 
 impl Number {

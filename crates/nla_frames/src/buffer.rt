@@ -25,7 +25,7 @@ impl<'a> NlaBuffer<'a> {
     ghost use Rattle.nla_frames.specs.Buffer.{frame_of, first_of};
     ghost use Rattle.nla_frames.specs.FirstFrame.{StartsWith, HasBrokenFront};
 
-    /// Reads the first frame of the bytes; what follows it is ignored. Fails with `FrameHeaderShort` (also for no
+    /// Reads the first frame of the bytes. What follows it is ignored. Fails with `FrameHeaderShort` (also for no
     /// bytes), `FrameTooLong` or `FrameTooShort` if the bytes don't begin with a whole frame.
     pub fn new_checked(bytes: &'a [u8]) -> Res<Self>
         ensures found { IfOk result (λ frame. StartsWith bytes.now (frame_of frame)) }

@@ -18,8 +18,8 @@ pub mod in_range;
 use crate::meaning::{CanonMeaning, FrameMeaning};
 
 /// `cut` is the grammar of frames: the bytes are the frames that `cut` returns, followed by the broken frame of its
-/// fault, if any; and if the bytes are some frames, or some frames and a broken one, `cut` returns these. So all bytes
-/// can be cut, in exactly one way.
+/// fault, if any. If the bytes are some frames, or some frames and a broken one, `cut` returns these. So all bytes can
+/// be cut, in exactly one way.
 pub fn cutting(bytes: &[u8])
     ensures cuts { CutsUp bytes.now (cut bytes.now).frames (cut bytes.now).fault }
     ensures only { (fs : List Frame) (fault : Option DecodeError) → CutsUp bytes.now fs fault

@@ -14,7 +14,7 @@ pub trait FrameMeaning {
     ghost codec: { Codec Frame Seen };
 }
 
-/// A type that defines which frames are canonical; `laws::lists` lifts the definition to lists.
+/// A type that defines which frames are canonical. `laws::lists` lifts the definition to lists.
 pub trait CanonMeaning: FrameMeaning {
     ghost Canon: { List ℕ → Frame → Type 0 };
 }

@@ -1,6 +1,6 @@
 //! Parts that the programs share: output, retries after an interruption, how a run ends, and outlines in colors.
 //!
-//! [`Coloured`] adds colors to the outlines that are written to it. The first line of a paragraph is bold; in each other
+//! [`Coloured`] adds colors to the outlines that are written to it. The first line of a paragraph is bold. In each other
 //! line the name is cyan and the value green. A line about refused, cut or broken input is red. Each write must end with
 //! a whole line.
 #![tactic(auto)]

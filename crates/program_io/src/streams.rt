@@ -64,7 +64,7 @@ impl<R: Read> Read for Reader<R> {
     }
 }
 
-/// A writer that keeps the error of its last write that failed. A write that is interrupted is tried again; one that writes
+/// A writer that keeps the error of its last write that failed. A write that is interrupted is tried again. One that writes
 /// nothing fails with `WriteZero`.
 #[derive(Drop)]
 pub struct Writer<W> {

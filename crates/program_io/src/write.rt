@@ -39,8 +39,8 @@ fn write_some<W: Write>(writer: &mut W, bytes: &[u8]) -> Result<usize, Stop>
     }
 }
 
-/// Writes some of the bytes once, and returns their number. A write that is interrupted is tried again, up to 1,024 times;
-/// one that writes nothing fails with `WriteZero`.
+/// Writes some of the bytes once, and returns their number. A write that is interrupted is tried again, up to 1,024 times.
+/// One that writes nothing fails with `WriteZero`.
 pub(crate) fn write_retrying<W: Write>(writer: &mut W, bytes: &[u8]) -> Result<usize, Error>
     ensures bound { WritesAtMost result bytes.now }
     ensures bytes { WriteAppends (W.contents writer.old) (W.contents writer.new) result bytes.now }

@@ -132,7 +132,7 @@ impl<A: Allocator> TcActionMessageAttribute<A> {
         self.row()
     }
 
-    /// The `nla_type` (type and flags) and the value in the format of the type's row; both of `Other` are as read.
+    /// The `nla_type` (type and flags) and the value in the format of the type's row. Both of `Other` are as read.
     pub fn row(&self) -> (u16, Value<'_, Nested<'_, A>>)
         ensures seen { action_message_attribute self.now
             ≡ attribute_of attribute_body result.0 result.1 }

@@ -1,4 +1,4 @@
-//! The flags of an action message, with the selector of those that are valid.
+//! The flags of an action message, with the selector of the valid ones.
 
 ghost use Rattle.std.specs.Prelude.{◌≡◌, ◌≤◌, List, [], length, take};
 ghost use Rattle.nla_frames.specs.Value.{le_value};
@@ -23,13 +23,13 @@ pub const TCA_ROOT_FLAGS: u16 = 2;
 /// Length in bytes.
 pub const FLAGS_LEN: usize = 8;
 
-/// Flags and the selector of those that are valid, `struct nla_bitfield32` of `linux/netlink.h`: two little-endian u32.
+/// Flags and the selector of the valid ones, `struct nla_bitfield32` of `linux/netlink.h`: two little-endian u32.
 /// Ordered by flags, then selector.
 #[derive(PartialEq, Eq, PartialOrd, Ord, Hash, Clone, Copy, Default, Debug)]
 pub struct TcActionMessageFlagsWithSelector {
     /// The flags.
     pub flags: TcActionMessageFlags,
-    /// Mask of the valid flags; others are ignored.
+    /// Mask of the valid flags. Others are ignored.
     pub selector: TcActionMessageFlags,
 }
 

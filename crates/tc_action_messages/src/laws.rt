@@ -20,7 +20,7 @@ use std::hash::{Hash, Hasher};
 use tc_laws::rewriting;
 use tc_meaning::laws;
 
-/// Flags with a selector compare by the flags first, by `cmp` and `partial_cmp`; they are equal if and only if they compare
+/// Flags with a selector compare by the flags first, by `cmp` and `partial_cmp`. They are equal if and only if they compare
 /// as `Equal`.
 pub fn flags_order(
     first: TcActionMessageFlagsWithSelector,

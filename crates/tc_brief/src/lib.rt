@@ -3,14 +3,14 @@
 //! [`lines_of`] serializes bytes as `forms_json` does, and keeps the events. From them it makes leaves: each value with its
 //! column (`tc_lines`) and its row ([`Words`]), in the order of the bytes. A leaf stands in one section of the line: the
 //! head, the kind's words, hardware flags, statistics, or an action. The line has the words of each section's leaves, in
-//! the order of the leaves, but those that their rows leave out:
+//! the order of the leaves, without the ones that their rows leave out:
 //!
 //! ```text
 //! is class htb 1:10 dev eth0 parent 1:1 leaf 10: rate 10Mbit ceil 50Mbit burst 1600B cburst 1600B quantum 125000B
 //! ```
 //!
 //! A member is `word value` if its row has one of `tc`'s words, else `Name=value`. A word has no blank, and nothing but
-//! printable ASCII; other bytes are escaped, as are quotes and backslashes.
+//! printable ASCII. Other bytes are escaped, as are quotes and backslashes.
 #![tactic(auto)]
 
 mod error;

@@ -49,9 +49,9 @@ pub struct Said<'v> {
     pub object: Object,
     /// True if statistics are written.
     pub statistics: bool,
-    /// The port id of a notification's sender; 0 for none.
+    /// The port id of a notification's sender. 0 for none.
     pub port: u64,
-    /// The text that each of its lines ends with; mostly empty.
+    /// The text that each of its lines ends with. Mostly empty.
     pub end: &'v [u8],
 }
 

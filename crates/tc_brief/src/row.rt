@@ -8,13 +8,13 @@ ghost use Rattle.tc_brief.specs.Rows.{Row, rows_view};
 pub enum LeftOut {
     Never,
     Always,
-    /// If it is this number; `false` is 0 and `true` is 1.
+    /// If it is this number. `false` is 0 and `true` is 1.
     Equal(u64),
     /// If it is less than this number.
     Below(u64),
 }
 
-/// How a member is written. Its unit and the names of its numbers are those of its column.
+/// How a member is written. Its unit and the names of its numbers come from its column.
 #[derive(Clone, Copy)]
 pub enum Style {
     /// `word value`, or `Name=value` if it has no word. A list or a record is one word: `[..]` or `{..}`.
@@ -38,7 +38,7 @@ pub enum Style {
     Burst,
     /// Bytes, or their number if there are more than 32: `<2048B>`.
     Bytes,
-    /// The protocol, left out if it is that of the message's header.
+    /// The protocol, left out if the message's header has the same.
     Protocol,
     /// A flag word: the names of its bits, after the kind's words.
     Hardware,
@@ -65,10 +65,10 @@ pub enum Style {
 pub struct RowOf<N> {
     /// Its name in JSON.
     pub key: N,
-    /// `tc`'s word for it; empty if there is none.
+    /// `tc`'s word for it. Empty if there is none.
     pub word: N,
     pub style: Style,
-    /// The name of what belongs to it, as its style says; empty if nothing does.
+    /// The name of what belongs to it, as its style says. Empty if nothing does.
     pub with: N,
     pub left: LeftOut,
 }

@@ -201,7 +201,7 @@ pub(crate) fn put_name_of(out: &mut Vec<u8>, leaf: &Leaf<'_>) -> Result<(), Allo
     put_equals(out, leaf.key)
 }
 
-/// Appends `Name=value`; only the name if it is true.
+/// Appends `Name=value`, or only the name if it is true.
 pub(crate) fn put_assigned(out: &mut Vec<u8>, leaf: &Leaf<'_>) -> Result<(), AllocError>
     ensures { OnOk result (out.new.items ≡ out.old.items ++ assigned (leaf_view leaf.now)) }
 {

@@ -100,7 +100,7 @@ impl Table for ActionAttributes {
     }
 }
 
-/// True if a value is that of a canonical action: its frames set one kind and are canonical under it.
+/// True if a value is a canonical action: its frames set one kind and are canonical under it.
 pub fn canon_action(value: &[u8]) -> bool
     ensures { IsTrue result ↔ CanonAction value.now }
 {

@@ -91,7 +91,7 @@ const WIDTHS: [(u16, u16, usize); 30] = [
     (100, 101, 4), // KeyHash, KeyHashMask
 ];
 
-/// The length of the value of a number, an address or an array; `None` for other options.
+/// The length of the value of a number, an address or an array. `None` for other options.
 fn width_of(kind: u16) -> Option<usize>
     ensures { result ≡ width_at flower_options kind }
 {

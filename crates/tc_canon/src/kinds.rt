@@ -10,7 +10,7 @@ use crate::front::split_padded;
 use nla_frames::NlaBuffer;
 use nla_frames::values::read::strip_nul;
 
-/// The one kind that the frames of an action set, at any place among them; `None` if they set no kind or several, or
+/// The one kind that the frames of an action set, at any place among them. `None` if they set no kind or several, or
 /// if the bytes aren't frames padded with zeros.
 pub(crate) fn own_kind(value: &[u8]) -> Option<&[u8]>
     ensures { MatchOption result

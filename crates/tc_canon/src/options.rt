@@ -91,7 +91,7 @@ pub(crate) fn has_options(kind: &[u8]) -> bool
         || kind == b"bpf".as_slice()
 }
 
-/// True if a value is a canonical list of options under a kind. `ingress` has no option; under an unknown kind,
+/// True if a value is a canonical list of options under a kind. `ingress` has no option. Under an unknown kind,
 /// options aren't a list.
 pub fn canon_options(value: &[u8], kind: &[u8]) -> bool
     ensures { IsTrue result ↔ CanonOptions kind.now value.now }

@@ -11,7 +11,7 @@ use crate::records::{is_stats_basic, is_stats_queue};
 use nla_frames::NlaBuffer;
 
 /// True if a value is canonical statistics under a kind: for fq_codel a number, followed by the record that it names
-/// if it is 0 or 1; for any other kind any bytes.
+/// if it is 0 or 1. For any other kind any bytes.
 pub(crate) fn is_xstats(value: &[u8], kind: &[u8]) -> bool
     ensures { IsTrue result ↔ CanonXstats kind.now value.now }
 {

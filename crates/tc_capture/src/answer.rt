@@ -20,9 +20,9 @@ const OFFSET: u16 = 2;
 /// after it.
 #[derive(Clone, Copy, Debug)]
 pub struct Answer<'a> {
-    /// The number of the error, such as 22 for `EINVAL`; 0 for an acknowledgement.
+    /// The number of the error, such as 22 for `EINVAL`. 0 for an acknowledgement.
     pub error: u32,
-    /// The request; with `NLM_F_CAPPED` only its netlink header.
+    /// The request. With `NLM_F_CAPPED` only its netlink header.
     pub request: NetlinkMessage<'a>,
     /// True if the kernel quoted only the netlink header of the request (`NLM_F_CAPPED`).
     pub is_capped: bool,
@@ -33,7 +33,7 @@ pub struct Answer<'a> {
     pub offset: Option<u32>,
 }
 
-/// The answer in a netlink message; `None` if its type isn't `NLMSG_ERROR`, or if the request in it isn't whole.
+/// The answer in a netlink message. `None` if its type isn't `NLMSG_ERROR`, or if the request in it isn't whole.
 #[tactic(auto, unfolding(crate::specs::Answer::answer_in))]
 pub fn answer_in<'a>(message: &NetlinkMessage<'a>) -> Option<Answer<'a>>
     ensures { option_map answer_of result ≡ answer_in (message_of message.now) }

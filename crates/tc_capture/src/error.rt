@@ -5,7 +5,7 @@ use thiserror::Error;
 /// The result of reading a capture.
 pub type Res<T> = Result<T, CaptureError>;
 
-/// The reason why the front of some bytes can't be read. All numbers are in bytes, except those of interfaces.
+/// The reason why the front of some bytes can't be read. All numbers are in bytes, except numbers of interfaces.
 #[derive(Clone, Copy, PartialEq, Eq, Error, Debug)]
 pub enum CaptureError {
     /// The bytes end too early: the piece at their front needs at least `needed` bytes, and `left` are there.

@@ -44,7 +44,7 @@ pub struct RtmType {
     pub name: &'static str,
 }
 
-/// The name of an `nlmsg_type`, and the type of message that it has; `None` if it isn't traffic control.
+/// The name of an `nlmsg_type`, and the type of message that it has. `None` if it isn't traffic control.
 #[tactic(auto, unfolding(crate::specs::Kind::rtm_at))]
 pub fn rtm_of(kind: u16) -> Option<RtmType>
     ensures { option_map named_of result ≡ rtm_at kind }

@@ -1,5 +1,5 @@
 //! Captures of netlink: reading the packets of a file, and the messages of a packet.  Nothing here does I/O or
-//! allocates. A caller keeps bytes in a buffer and reads the piece at their front; the error `Short` says how many
+//! allocates. A caller keeps bytes in a buffer and reads the piece at their front. The error `Short` says how many
 //! bytes it needs. So a reader needs a buffer of the longest piece, whatever the length of the file.
 #![tactic(auto)]
 

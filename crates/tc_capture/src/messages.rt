@@ -25,7 +25,7 @@ impl<'a> Messages<'a> {
         Messages { rest: bytes }
     }
 
-    /// The number of bytes left; 0 after a fault.
+    /// The number of bytes left. 0 after a fault.
     pub fn bytes_left(&self) -> usize
         ensures { result ≡ length (left_of self.now) }
     {

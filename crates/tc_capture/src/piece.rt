@@ -8,7 +8,7 @@ use crate::packet::Packet;
 pub struct Piece<'a> {
     /// Its length in bytes.
     pub used: usize,
-    /// The packet in it; `None` for a header, for a pcapng block without a packet, and for a time in a stream. An
+    /// The packet in it. `None` for a header, for a pcapng block without a packet, and for a time in a stream. An
     /// error if a pcapng block is whole but can't be read.
     pub packet: Res<Option<Packet<'a>>>,
 }

@@ -1,4 +1,4 @@
-//! A file is the concatenation of its pieces, and a piece that of its parts: no byte is lost or repeated.
+//! A file is the concatenation of its pieces, and a piece the concatenation of its parts: no byte is lost or repeated.
 
 ghost use Rattle.std.specs.Prelude.{◌≡◌, ◌<◌, List, [], ◌∷◌, ◌++◌, length, All};
 ghost use Rattle.tc_capture.specs.declared.error.CaptureError.{CaptureError};

@@ -16,7 +16,7 @@ use crate::step::{Plan, Step};
 use std::alloc::{AllocError, Allocator};
 
 /// The steps that lead from the present state to the wanted one. In both, each object comes after all that it needs
-/// (`is_ready`). Deletes come first, from below, and none that another delete makes needless; then objects are changed and
+/// (`is_ready`). Deletes come first, from below, and none that another delete makes needless. Then objects are changed and
 /// made, from above. A step that isn't sent any more leaves a state from which a plan leads on, or back. There are no steps if
 /// an object can't be made that is wanted and isn't there, or has to be made again.
 pub fn plan<A: Allocator + Copy, R: Rules<A>>(

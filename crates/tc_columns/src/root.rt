@@ -14,7 +14,7 @@ use forms_values::{Form, KindRows, Part, Tables};
 use tc_lines::{Column, Columns};
 use tc_units::Name;
 
-/// The object that a message describes; decides how its header is displayed.
+/// The object that a message describes, which decides how its header is displayed.
 #[derive(Clone, Copy, PartialEq, Eq, Debug, Drop)]
 pub enum Root {
     /// A qdisc: `tcm_info` is its number of references.
@@ -34,7 +34,7 @@ pub enum Root {
 }
 
 impl Root {
-    /// The object of messages with this `nlmsg_type` and these `nlmsg_flags`; `None` if they aren't traffic control.
+    /// The object of messages with this `nlmsg_type` and these `nlmsg_flags`. `None` if they aren't traffic control.
     /// `kind` is the text of the message's first `TCA_KIND`, or empty. An `RTM_DELACTION` with `NLM_F_ROOT` is a flush.
     pub fn of(kind_of_message: u16, flags: u16, kind: &str) -> Option<Root> {
         match kind_of_message {
@@ -78,7 +78,7 @@ impl Root {
 pub struct KindColumns<'a> {
     /// The object type.
     pub root: Root,
-    /// The caller's names of interfaces, by index; the first of an index counts.
+    /// The caller's names of interfaces, by index. The first of an index counts.
     pub interfaces: &'a [(u32, &'a str)],
     /// Names of other interfaces, such as those in a capture.
     pub links: Option<&'a LinkNames>,
@@ -86,7 +86,7 @@ pub struct KindColumns<'a> {
     pub all: bool,
 }
 
-/// The kernel's name of the member of a column at a place; empty if there is none.
+/// The kernel's name of the member of a column at a place. Empty if there is none.
 pub fn kernel_name(place: usize, column: Column<'static>) -> &'static str {
     for (member, kernel) in tables::kernels_at(place) {
         if *member == column.key {

@@ -68,7 +68,7 @@ pub extern "C" fn vtc_action_json(
     calls::json(alloc, ACTION_MESSAGE, bytes, buffer, length)
 }
 
-/// Builds the canonical bytes of a JSON message in the buffer, and sets their number; or writes the reason why there are none as a
+/// Builds the canonical bytes of a JSON message in the buffer, and sets their number, or writes the reason why there are none as a
 /// text into the second buffer, cut if it is too long, and sets its length.
 #[unsafe(no_mangle)]
 pub extern "C" fn vtc_action_make(

@@ -37,7 +37,7 @@ pub fn check<M: WholeMessage<Global> + HasForm + Drop>(
     }
 }
 
-/// Rewrites a message into the buffer if it fits; `length` is set in any case.
+/// Rewrites a message into the buffer if it fits. `length` is set in any case.
 pub fn rewrite<M: WholeMessage<Global> + Drop>(
     alloc: Global,
     bytes: &[u8],
@@ -63,7 +63,7 @@ pub fn rewrite<M: WholeMessage<Global> + Drop>(
     }
 }
 
-/// Settles a message into the buffer, like `rewrite`; also sets the number of rewrites.
+/// Settles a message into the buffer, like `rewrite`, and sets the number of rewrites.
 pub fn settle<M: WholeMessage<Global>>(
     alloc: Global,
     bytes: &[u8],

@@ -17,7 +17,7 @@ use tc_message_json::{HasForm, NoMessage};
 use tc_status::{NO_MESSAGE, NOT_JSON, OUT_OF_MEMORY};
 use tc_wire::WholeMessage;
 
-/// Builds a message from a JSON text, and writes its bytes at the front of the buffer if they fit, and their number; or the reason
+/// Builds a message from a JSON text, and writes its bytes at the front of the buffer if they fit, and their number, or the reason
 /// why there are none.
 pub fn make<M: WholeMessage<Global> + HasForm + Drop>(
     alloc: Global,

@@ -14,7 +14,7 @@ use tc_wire::{DecodeError, WholeMessage};
 #[repr(C)]
 #[derive(Clone, Copy)]
 pub struct VtcVerdict {
-    /// The encoded length in bytes; 0 if it can't be encoded.
+    /// The encoded length in bytes. 0 if it can't be encoded.
     pub length: usize,
     /// 1 if it can be encoded, else 0.
     pub fits: u8,

@@ -8,7 +8,7 @@ use crate::node::VtcNode;
 use tc_index::{fill_action, fill_tc};
 
 /// Writes the attributes of a traffic control message, each before those nested in it, into as many slots as there are,
-/// and returns the number of attributes before the first malformed frame; 0 if the bytes are shorter than the header.
+/// and returns the number of attributes before the first malformed frame. 0 if the bytes are shorter than the header.
 #[unsafe(no_mangle)]
 pub extern "C" fn vtc_index(bytes: &[u8], slots: &mut [VtcNode]) -> usize
     ensures count { result ≡ length (tc_nodes bytes.now) }

@@ -42,8 +42,8 @@ pub trait FixedRecord<const N: usize>: Drop {
     fn copied(&self) -> Self
         ensures { result ≡ self.now };
 
-    /// Does nothing. Its contract: each field is in the range of the layout's width and has the layout's names; records
-    /// with equal abstract values are equal; and no record is longer than the scratch array.
+    /// Does nothing. Its contract: each field is in the range of the layout's width and has the layout's names. Records
+    /// with equal abstract values are equal, and no record is longer than the scratch array.
     fn in_range(self, other: Self)
         ensures typed { TypedFields layout (scalars self) }
         ensures forgets_nothing { scalars self ≡ scalars other → self ≡ other }
@@ -51,7 +51,7 @@ pub trait FixedRecord<const N: usize>: Drop {
 
     ghost whole: { size_of layout ≡ N };
 
-    /// Does nothing. Its contract is that of `in_range`, for a reference.
+    /// Does nothing. Its contract is the one of `in_range`, for a reference.
     final fn ref_in_range(&self)
         ensures typed { TypedFields layout (scalars self.now) }
         ensures short { size_of layout ≤ 40 }
@@ -82,7 +82,7 @@ pub fn record_len<R: FixedRecord<N>, const N: usize>(value: &R) -> Option<usize>
     Some(N)
 }
 
-/// Writes a record at the front of the buffer; what follows is unchanged.
+/// Writes a record at the front of the buffer. What follows is unchanged.
 pub fn emit_record<R: FixedRecord<N>, const N: usize>(value: &R, buffer: &mut [u8])
     requires { HasRoom (fields_bytes R.layout (R.scalars value.now)) buffer.old }
     ensures written { Writes (fields_bytes R.layout (R.scalars value.now)) buffer.old buffer.new }

@@ -29,7 +29,7 @@ impl Slot for Node {
 }
 
 /// Writes the attributes of a traffic control message, each before those nested in it, into as many slots as there are,
-/// and returns the number of attributes before the first malformed frame; 0 if the bytes are shorter than the header.
+/// and returns the number of attributes before the first malformed frame. 0 if the bytes are shorter than the header.
 #[tactic(auto, using(crate::proofs::Filling::fills_nodes))]
 pub fn index_tc(bytes: &[u8], slots: &mut [Node]) -> usize
     ensures count { result ≡ length (tc_nodes bytes.now) }
@@ -89,7 +89,7 @@ fn fill<S: Slot>(
     count
 }
 
-/// Appends the attributes of a list at this depth to the slots, up to the first malformed frame; true if there is none.
+/// Appends the attributes of a list at this depth to the slots, up to the first malformed frame. True if there is none.
 fn put_list<S: Slot>(list: &Level<'_>, depth: u8, slots: &mut [S], count: &mut usize) -> bool
     requires { count.old + length (nodes_of (left_in depth list.now)) < 2 ^ 64 }
     ensures { Puts S.seen (left_in depth list.now) count.old slots.old count.new slots.new result }

@@ -12,7 +12,7 @@ ghost use Rattle.tc_index.specs.Views.{list_found};
 use crate::table::Table;
 use nla_frames::{NlasIterator, strip_nul};
 
-/// The table of the attributes nested in an attribute, and the kind there; `None` if its value isn't a list.
+/// The table of the attributes nested in an attribute, and the kind there. `None` if its value isn't a list.
 pub fn list_in<'a>(
     table: Table,
     number: u16,
@@ -73,7 +73,7 @@ fn inner_table(table: Table, number: u16, kind: &[u8]) -> Option<Table>
     }
 }
 
-/// The table of a message's options; `None` for an unknown kind.
+/// The table of a message's options. `None` for an unknown kind.
 fn options_table(kind: &[u8]) -> Option<Table>
     ensures { option_map table_of result ≡ known_table option_kinds kind.now }
 {
@@ -94,7 +94,7 @@ fn options_table(kind: &[u8]) -> Option<Table>
     }
 }
 
-/// The table of an action's options; `ActionOptions`, without rows, for an unknown kind.
+/// The table of an action's options. `ActionOptions`, without rows, for an unknown kind.
 fn action_options_table(kind: &[u8]) -> Table
     ensures { table_of result ≡ table_under (by_kind action_option_kinds) kind.now }
 {
@@ -109,7 +109,7 @@ fn action_options_table(kind: &[u8]) -> Table
     }
 }
 
-/// The kind in the first `TCA_ACT_KIND` of an action; empty if there is none.
+/// The kind in the first `TCA_ACT_KIND` of an action. Empty if there is none.
 fn first_kind(value: &[u8]) -> &[u8]
     ensures { result.now ≡ first_kind (items_of (cut value.now)) }
 {

@@ -1,4 +1,4 @@
-//! The attributes that `tc_index` finds in a message are those of the value that it reads as.
+//! The attributes that `tc_index` finds in a message are the ones of the value that it reads as.
 #![tactic(auto)]
 
 ghost use Rattle.nla_frames.specs.Reading.{keep};
@@ -10,7 +10,7 @@ ghost use Rattle.tc_index.specs.Attributes.{tc_items, action_items};
 ghost use Rattle.tc_index_laws.specs.Spots.{AreAt, spots_in};
 
 /// If a traffic control message can be read, its attributes are those of the value: in order, each before those nested
-/// in it, of the same types and depths; and no frame is malformed.
+/// in it, of the same types and depths, and no frame is malformed.
 pub fn tc_tree(bytes: &[u8])
     ensures { (m : Message) → ReadsMessage tc_header attributes bytes.now m
         → AreAt (tc_items bytes.now) (spots_in 0 (attributes_of m.body)) }

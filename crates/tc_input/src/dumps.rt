@@ -12,7 +12,7 @@ use crate::text::{before_comment, bytes_of};
 use std::alloc::{AllocError, Allocator};
 use tc_select::{DumpLine, digits_of_line, dump_line, end_of_dump, is_asterisk};
 
-/// The lines that may follow those of a dump.
+/// The lines that may follow the lines of a dump.
 #[derive(Clone, Copy, PartialEq, Eq)]
 pub enum Next {
     /// None.
@@ -77,7 +77,7 @@ impl<A: Allocator> Dump<A> {
     }
 }
 
-/// The role of a line after those of a dump: at offset 0 it begins one; at the offset where the bytes end it continues it, as
+/// The role of a line after the lines of a dump: at offset 0 it begins one. At the offset where the bytes end it continues it, as
 /// an asterisk does and the offset of the end. A row of 60 digits begins rows, and a row of at most 60 continues them.
 pub fn place_of<A: Allocator + Copy>(
     alloc: A,

@@ -1,6 +1,6 @@
 //! Reads an input in parts: the pieces of a capture, or lines of hex, several of which can form a dump.
 //!
-//! Contracts are about all bytes of the input, if those of the reader are known: the result doesn't depend on the parts.
+//! Contracts are about all bytes of the input, if the reader's are known: the result doesn't depend on the parts.
 //! Calls that take an allocator fail with `AllocError` or `Stop::Memory` if it fails.
 #![tactic(auto)]
 

@@ -40,7 +40,7 @@ pub fn on_line<A: Allocator + Copy>(alloc: A, line: &[u8]) -> Result<OnLine<A>, 
     }
 }
 
-/// Reads hex; `None` if it isn't.
+/// Reads hex. `None` if it isn't.
 #[tactic(auto, using(crate::proofs::Alone::hex_alone, crate::proofs::Alone::no_hex_alone))]
 pub(crate) fn bytes_of<A: Allocator>(
     alloc: A,

@@ -9,8 +9,8 @@ ghost use Rattle.tc_meaning.specs.Whole.{ReadsTc, FaultTc, TypedTc, FitsTc, Sett
 ghost use Rattle.tc_laws.specs.FirstVersion.{ReadsTc1, FaultTc1, read_tc1, upgrade_attribute, upgrade, WasRead, IsUpgrade};
 
 /// Both readings of the same bytes. Version 1 returns a message if and only if its grammar reads the bytes as it, and
-/// a fault if and only if that is its grammar's; its messages are typed. Bytes that version 1 reads are now read as
-/// the upgrade of its message; every message that is read now is the upgrade of one of version 1, and its own upgrade.
+/// a fault if and only if that is its grammar's. Its messages are typed. Bytes that version 1 reads are now read as
+/// the upgrade of its message. Every message that is read now is the upgrade of one of version 1, and its own upgrade.
 /// The faults are the same.
 pub fn both_readings(bytes: &[u8])
     ensures reading { (m : Message) → (read_tc1 bytes.now ≡ Ok m) ↔ ReadsTc1 bytes.now m }

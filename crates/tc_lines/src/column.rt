@@ -53,9 +53,9 @@ pub enum Display {
     Nested(usize),
     /// The contents are on lines instead of this one, with the columns at this place.
     Inline(usize),
-    /// The contents are on lines one level deeper, with the columns at this place; this line isn't written.
+    /// The contents are on lines one level deeper, with the columns at this place. This line isn't written.
     Below(usize),
-    /// The elements are below this line, with the columns at this place; each begins with a line of its own, named as 0
+    /// The elements are below this line, with the columns at this place. Each begins with a line of its own, named as 0
     /// is at this place.
     Elements(usize),
     /// The contents continue the line before this one, with the columns at this place.
@@ -80,7 +80,7 @@ pub struct ColumnOf<N> {
     pub key: N,
     pub name: N,
     pub display: Display,
-    /// The kernel's name of the member, which `--explain` prints; empty if there is none. Lines don't depend on it.
+    /// The kernel's name of the member, which `--explain` prints. Empty if there is none. Lines don't depend on it.
     pub kernel: N,
 }
 

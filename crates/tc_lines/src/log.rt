@@ -18,7 +18,7 @@ impl Model for Log {
     ghost also_owns = { λ _. ftrue };
 }
 
-/// One call of a serializer's method; `Lost` if what was written isn't known.
+/// One call of a serializer's method. `Lost` if what was written isn't known.
 #[derive(Clone, Copy, Drop)]
 pub(crate) enum Note<'a> {
     Bool(bool),

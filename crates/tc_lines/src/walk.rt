@@ -465,7 +465,7 @@ impl Walk {
         }
     }
 
-    /// The name of a member; `own` are the columns of the innermost object.
+    /// The name of a member. `own` are the columns of the innermost object.
     pub(crate) fn key<C: Columns>(
         &mut self,
         columns: &C,

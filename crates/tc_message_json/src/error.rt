@@ -31,7 +31,7 @@ pub enum NoMessage {
     /// The message that is read doesn't fit.
     DoesNotFit,
 
-    /// Emitting would change the message; the first difference.
+    /// Emitting would change the message. This is the first difference.
     Changed(Difference),
 }
 

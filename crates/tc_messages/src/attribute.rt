@@ -52,7 +52,7 @@ use tc_values::{Either, Items, Record, Value, kind_set_by_frame};
 /// | 4 | `Xstats` | [`TcXstats`], by the kind in force |
 /// | 5, 6, 8 | `Rate`, `Fcnt`, `Stab` | bytes |
 /// | 7 | `Stats2` | a list of [`TcStats2`], by the kind in force |
-/// | 10 | `DumpInvisible` | any; written as no bytes |
+/// | 10 | `DumpInvisible` | any, written as no bytes |
 /// | 11 | `Chain` | u32 |
 /// | 12 | `HwOffload` | u8 |
 #[derive(Drop)]
@@ -72,7 +72,7 @@ pub enum TcAttribute<A: Allocator = Global> {
     Xstats(TcXstats<A>),
     /// How a rate is estimated, `struct tc_estimator` as bytes: `TCA_RATE`.
     Rate(Vec<u8, A>),
-    /// A count, as bytes; Linux sends one when actions are flushed: `TCA_FCNT`.
+    /// A count, as bytes. Linux sends one when actions are flushed: `TCA_FCNT`.
     Fcnt(Vec<u8, A>),
     /// Statistics, each an attribute: `TCA_STATS2`.
     Stats2(Vec<TcStats2<A>, A>),
@@ -149,8 +149,8 @@ type Nested<'a, A> = Either<
 >;
 
 impl<A: Allocator> TcAttribute<A> {
-    /// The attribute's `nla_type` (type and flags) and its value, in the form that the row of its type in the table says;
-    /// of `Other` and `OptionsRaw` the word and the payload that they keep.
+    /// The attribute's `nla_type` (type and flags) and its value, in the form that the row of its type in the table says.
+    /// Of `Other` and `OptionsRaw` the word and the payload that they keep.
     pub fn row(&self) -> (u16, Value<'_, Nested<'_, A>>)
         ensures seen { as_other (tc_attribute self.now) ≡ attribute_of nested result.0 result.1 }
         ensures written { IsWritten (tc_attribute self.now) result.0 result.1 }

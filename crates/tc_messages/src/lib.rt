@@ -1,4 +1,4 @@
-//! Traffic control messages and their attributes, each read under the last kind before it; the upgrade from version 1.
+//! Traffic control messages and their attributes, each read under the last kind before it, and the upgrade from version 1.
 //!
 //! Calls that take an allocator fail with `OutOfMemory` if it fails.
 #![tactic(auto)]

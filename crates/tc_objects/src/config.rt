@@ -18,7 +18,7 @@ pub(crate) struct Config<'a> {
     pub(crate) fixed: &'a [u8],
     /// The message of the request that changes another one into it. It is empty if that is `message`.
     pub(crate) change: &'a [u8],
-    /// The message of the request that makes it; of an object that none makes, its dump.
+    /// The message of the request that makes it, or the dump of an object that no request makes.
     pub(crate) message: &'a [u8],
 }
 

@@ -9,7 +9,7 @@ use nla_frames::{
 };
 use std::alloc::{AllocError, Allocator};
 
-/// The frames of bytes; none of bytes that aren't frames.
+/// The frames of bytes. Empty if they aren't frames.
 pub(crate) fn frames_of<A: Allocator + Copy>(
     alloc: A,
     bytes: &[u8],
@@ -21,7 +21,7 @@ pub(crate) fn frames_of<A: Allocator + Copy>(
     }
 }
 
-/// The bytes of frames; `None` if they are too long.
+/// The bytes of frames. `None` if they are too long.
 pub(crate) fn bytes_of<A: Allocator + Copy>(
     alloc: A,
     frames: &[DefaultNla<A>],
@@ -36,7 +36,7 @@ pub(crate) fn bytes_of<A: Allocator + Copy>(
     }
 }
 
-/// The bytes of a message; `None` if it is too long.
+/// The bytes of a message. `None` if it is too long.
 pub(crate) fn emitted<A: Allocator + Copy, M: Emitable>(
     alloc: A,
     message: &M,

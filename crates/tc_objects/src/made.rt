@@ -25,7 +25,7 @@ pub(crate) fn is_by_kernel<A: Allocator>(
     !has_two_roots(roots, object, dump) && is_made(object, dump)
 }
 
-/// The handle by which an object is named: that of its request.
+/// The handle that names an object: the one in its request.
 pub(crate) fn handle_named<A: Allocator>(
     roots: &[RootTable],
     object: Object,

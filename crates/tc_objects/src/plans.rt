@@ -19,7 +19,7 @@ use tc_changes::{Plan, Rules, plan};
 #[derive(Drop)]
 pub struct Planned<A: Allocator> {
     pub plan: Plan<A>,
-    /// The requests, in the order of the steps; none if there are no steps.
+    /// The requests, in the order of the steps. Empty if there are no steps.
     pub requests: Vec<PlanRequest<A>, A>,
 }
 

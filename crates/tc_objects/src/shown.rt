@@ -28,7 +28,7 @@ pub struct Shown<A: Allocator> {
     pub sort: Sort,
     /// The interface (`tcm_ifindex`), or -1 in a block that interfaces share.
     pub index: i32,
-    /// The handle (`tcm_handle`); the index of an action.
+    /// The handle (`tcm_handle`), or the index of an action.
     pub handle: u32,
     /// The parent (`tcm_parent`), or the number of the block.
     pub parent: u32,

@@ -169,7 +169,7 @@ impl<A: Allocator> Eq for TcOption<A> {
     ghost laws = { attribute_equiv tc_option };
 }
 
-/// The options in one frame: a list under a known kind; under any other kind one `Other` with the whole frame.
+/// The options in one frame: a list under a known kind. Under any other kind one `Other` with the whole frame.
 #[derive(Drop)]
 pub struct VecTcOption<A: Allocator = Global>(pub Vec<TcOption<A>, A>);
 

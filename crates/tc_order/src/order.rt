@@ -17,9 +17,9 @@ pub struct Step<T, K, A: Allocator> {
     pub item: T,
     /// Keys that it provides.
     pub provides: Vec<K, A>,
-    /// Keys that it needs; a key that no step provides counts as present.
+    /// Keys that it needs. A key that no step provides counts as present.
     pub needs: Vec<K, A>,
-    /// True if the step can't run; then steps that depend on it can't either.
+    /// True if the step can't run. Then steps that depend on it can't either.
     pub cannot_run: bool,
 }
 

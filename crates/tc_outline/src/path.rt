@@ -138,7 +138,7 @@ impl Path {
         self.enter_step(depth, step);
     }
 
-    /// Writes it as a JSON pointer, such as `/attributes/1/Options/0/Flower/Actions/1`; `/header` is the header of the
+    /// Writes it as a JSON pointer, such as `/attributes/1/Options/0/Flower/Actions/1`. `/header` is the header of the
     /// message.
     pub fn show<A: Allocator>(&self, page: &mut Page<A>) -> Result<(), AllocError> {
         if self.len == 0 {

@@ -29,7 +29,7 @@ enum At<'a> {
     Frame(usize),
 }
 
-/// The first fault of a message, in the order of parsing; `None` if the message can be parsed.
+/// The first fault of a message, in the order of parsing. `None` if the message can be parsed.
 pub fn locate(bytes: &[u8], what: What) -> Option<Fault>
     ensures error { option_map (λ fault. fault.error) result ≡ message_fault (items_of_message what bytes.now) }
     ensures place { IfSome result (λ fault. fault.offset ≤ length bytes.now) }
@@ -149,7 +149,7 @@ fn broken_at(before: &Path, offset: usize, error: DecodeError) -> Fault
     }
 }
 
-/// The path of the attribute whose header is at this offset, four bytes before its value; `None` if there is none.
+/// The path of the attribute whose header is at this offset, four bytes before its value. `None` if there is none.
 pub fn path_at(bytes: &[u8], what: What, offset: usize) -> Option<Path> {
     let mut path = Path::new();
     for attribute in attributes_of(bytes, what).ok()? {

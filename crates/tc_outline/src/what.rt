@@ -2,7 +2,7 @@
 
 use tc_columns::Root;
 
-/// The object that a message describes, given its `nlmsg_type`; decides the meaning of `tcm_info`.
+/// The object that a message describes, given its `nlmsg_type`. It decides the meaning of `tcm_info`.
 #[derive(Clone, Copy, PartialEq, Eq, Debug)]
 pub enum What {
     /// A qdisc: `tcm_info` is its number of references.
@@ -34,7 +34,7 @@ impl What {
         }
     }
 
-    /// The object of messages with this `nlmsg_type`; `None` if they aren't traffic control.
+    /// The object of messages with this `nlmsg_type`. `None` if they aren't traffic control.
     pub fn of_type(kind: u16) -> Option<What> {
         match kind {
             36..=38 => Some(What::Qdisc),

@@ -43,7 +43,7 @@ pub struct Entry<A: Allocator> {
     pub provides: Vec<Key, A>,
     /// Keys that its request needs.
     pub needs: Vec<Key, A>,
-    /// The objects that it shows; a second dump of one is a duplicate. Of actions, each that is standalone or shared.
+    /// The objects that it shows. A second dump of one is a duplicate. Of actions, each that is standalone or shared.
     pub objects: Vec<Key, A>,
     /// A key that some dump has to provide: the class that is a class's parent.
     pub must: Option<Key>,
@@ -53,7 +53,7 @@ pub struct Entry<A: Allocator> {
     pub made_by: Option<Key>,
 }
 
-/// Makes the entry of a dump; `place` is the caller's number of it, and `ingress` are the interfaces that have ingress, found by
+/// Makes the entry of a dump. `place` is the caller's number of it, and `ingress` are the interfaces that have ingress, found by
 /// `ingress_of` in all dumps.
 pub fn entry_of<A: Allocator + Copy>(
     alloc: A,
@@ -293,7 +293,7 @@ pub fn ingress_of<A: Allocator>(kind: Object, dump: &TcMessage<A>) -> Option<i32
 }
 
 /// The key of the filters of basic or bpf of one chain and priority, which is the key of one without a handle. The kernel
-/// puts a new one before the others, and dumps the newest first; packets come to the first that matches.
+/// puts a new one before the others, and dumps the newest first. Packets come to the first that matches.
 pub fn newest_first<A: Allocator>(kind: Object, ingress: &[i32], dump: &TcMessage<A>) -> Option<Key>
     ensures { option_to_list result ≡ newest_first ingress.now kind dump.now }
 {

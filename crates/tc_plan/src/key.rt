@@ -6,7 +6,7 @@ ghost use Rattle.tc_plan.specs.Fates.{is_shared};
 /// An object that a request provides or needs.
 #[derive(Clone, Copy, PartialEq, Eq, Hash, Drop, Debug)]
 pub enum Key {
-    /// All standalone actions; a filter may share one by its index.
+    /// All standalone actions. A filter may share one by its index.
     Actions,
     /// An action: its kind, padded with zeros, and its index in that kind.
     Action {
@@ -38,7 +38,7 @@ pub enum Key {
         parent: u32,
         number: u32,
     },
-    /// A hash table of u32 below this qdisc, or in this shared block; its number is the upper 12 bits of its handle.
+    /// A hash table of u32 below this qdisc, or in this shared block. Its number is the upper 12 bits of its handle.
     Table {
         index: i32,
         parent: u32,

@@ -19,7 +19,7 @@ use tc_restore::{Use, actions_of_filter, kind_of_action, use_of_action};
 pub struct Action<A: Allocator> {
     /// Its kind and its index.
     pub name: Named,
-    /// The request that makes it, without a netlink header; empty if no request does.
+    /// The request that makes it, without a netlink header. Empty if no request does.
     pub request: Vec<u8, A>,
     /// The number of filters that hold it (`tc_gen.bindcnt`).
     pub filters: usize,
@@ -34,7 +34,7 @@ pub struct Now<A: Allocator> {
     pub held: Vec<Key, A>,
 }
 
-/// The fate of an action that this request makes. If it is there with the same request, it stays; another one is changed if only
+/// The fate of an action that this request makes. If it is there with the same request, it stays. Another one is changed if only
 /// filters of the interfaces to be restored hold it, or none, or if `replaces`.
 pub fn fate_of_action<A: Allocator>(
     now: &Now<A>,
@@ -99,7 +99,7 @@ fn own(held: &[Key], name: Named) -> usize
     held.iter().filter(|key| own == **key).count()
 }
 
-/// The kind and the index of an action, whoever holds it; `None` if its parameters have no index, or 0.
+/// The kind and the index of an action, whoever holds it. `None` if its parameters have no index, or 0.
 pub fn name_of_action<A: Allocator>(action: &TcAction<A>) -> Option<Named>
     ensures { result ≡ named action.now }
 {

@@ -15,7 +15,7 @@ use std::collections::HashSet;
 use tc_order::{Order, Step, ordered};
 
 /// Sorts the requests that restore dumps, each after all of these that it needs, and decides the fate of each dump. `sorted` has
-/// requests and the objects that they make; `unordered` has dumps that can't be made, that need such, or that need one another in a
+/// requests and the objects that they make. `unordered` has dumps that can't be made, that need such, or that need one another in a
 /// circle.
 pub fn plan<A: Allocator + Copy>(
     alloc: A,

@@ -21,7 +21,7 @@ use tc_options::{
 use tc_restore::{Use, use_of_action};
 
 /// The keys of the actions of a filter with an offload flag (`TCA_CLS_FLAGS_SKIP_HW` or `TCA_CLS_FLAGS_SKIP_SW`), each as often as
-/// the filter has it; none for another filter.
+/// the filter has it. Empty for another filter.
 pub fn offloaded_by<A: Allocator + Copy>(
     alloc: A,
     filter: TcMessage<A>,

@@ -29,7 +29,7 @@ impl TcActionGenericBuffer {
         })
     }
 
-    /// The bytes as read, or those of the record that this was built from.
+    /// The bytes as read, or the bytes of the record that this was built from.
     pub fn as_bytes(&self) -> [u8; TC_ACTION_GENERIC_LEN]
         ensures { result ≡ generic_bytes self.now }
     {

@@ -42,7 +42,7 @@ impl<R, const N: usize> Raw<R, N> {
         }
     }
 
-    /// The bytes as read, or those of the record that this was built from, with zeros for padding.
+    /// The bytes as read, or the bytes of the record that this was built from, with zeros for padding.
     pub fn as_bytes(&self) -> [u8; N]
         ensures { result ≡ raw_bytes self.now }
     {

@@ -155,7 +155,7 @@ pub struct TcHeader {
     pub handle: TcHandle,
     /// `tcm_parent`: the handle of its parent, or the number of a block of filters (`tcm_block_index`).
     pub parent: TcHandle,
-    /// `tcm_info`: for a filter its priority in the upper half and its protocol, big-endian, in the lower; for a qdisc
+    /// `tcm_info`: for a filter its priority in the upper half and its protocol, big-endian, in the lower. For a qdisc
     /// its number of references.
     pub info: u32,
 }

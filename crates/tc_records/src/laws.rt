@@ -1,4 +1,4 @@
-//! Laws of records, numbers and flags, each the contract of a function that does nothing; how flags compare and hash;
+//! Laws of records, numbers and flags, each the contract of a function that does nothing: how flags compare and hash,
 //! and the defaults.
 
 ghost use Rattle.std.specs.Prelude.{◌≡◌, ◌↔◌, ◌<◌, ℕ, pos, negsuc, List, fold, Ok, Some, IsTrue};
@@ -63,7 +63,7 @@ pub fn handle_numbers()
     ensures handle { (h : TcHandle) → h.minor < 0x10000 → handle_of (handle_number h) ≡ h }
 {}
 
-/// Converting a number to its enum and back returns the number, so reading and writing loses nothing; the enum names
+/// Converting a number to its enum and back returns the number, so reading and writing loses nothing. The enum names
 /// exactly the numbers that the layouts of records name.
 pub fn action_numbers(number: i32)
     ensures outcome { action_type_number (action_type_of number) ≡ number }
@@ -92,7 +92,7 @@ pub fn flags_forget_nothing()
     ensures option { ForgetsNothing option_flags_word }
 {}
 
-/// `cmp` and `partial_cmp` of the flags of action messages compare their words; flags are equal if and only if they
+/// `cmp` and `partial_cmp` of the flags of action messages compare their words. Flags are equal if and only if they
 /// compare as `Equal`.
 pub fn message_flags_order(
     first: TcActionMessageFlags,
@@ -118,7 +118,7 @@ pub fn message_flags_hash<H: Hasher>(flags: TcActionMessageFlags, state: &mut H)
     flags.hash(state);
 }
 
-/// The defaults: no flags, every number 0, the family `Unspec`; but a verdict is `Unspec` (-1), and a mirror's
+/// The defaults: no flags, every number 0, the family `Unspec`, but a verdict is `Unspec` (-1), and a mirror's
 /// direction `EgressRedir` (1).
 pub fn defaults()
     ensures family { DefaultsTo ⟦<AddressFamily as Default>⟧.is_default (λ x. x) Unspec }

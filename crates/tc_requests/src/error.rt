@@ -18,7 +18,7 @@ pub enum RequestError {
     #[error("an action at place 0")]
     NoPlace,
 
-    /// Two actions of a list have this order number; Linux keeps only the last.
+    /// Two actions of a list have this order number. Linux keeps only the last.
     #[error("two actions at place {0}")]
     SamePlace(u16),
 

@@ -18,14 +18,14 @@ pub trait TcText {
 }
 
 impl TcText for TcHandle {
-    /// The handle as `tc` writes it: `1:10`, `1:`, `root`, in hex; 0 is `0:0`.
+    /// The handle as `tc` writes it: `1:10`, `1:`, `root`, in hex. 0 is `0:0`.
     fn tc_text(self) -> ArrayString<HANDLE_TEXT_LEN>
         ensures { result.bytes ≡ handle_text (handle_number self) }
     {
         handle_text(u32::from(self))
     }
 
-    /// The handle that a text names: `1:10`, `1:`, `:10`, `root`, `none`, `ingress`, `clsact`; digits are hex, in either case.
+    /// The handle that a text names: `1:10`, `1:`, `:10`, `root`, `none`, `ingress`, `clsact`. Digits are hex, in either case.
     /// A number without a colon is `None`.
     fn from_tc_text(text: &str) -> Option<TcHandle>
         ensures { result ≡ handle_of_text text.now }

@@ -11,7 +11,7 @@ use tc_records::{TcHandle, TcHeader};
 pub struct Target {
     /// The index of the interface.
     pub index: i32,
-    /// The handle of the qdisc or the filter; with 0 the kernel chooses one.
+    /// The handle of the qdisc or the filter. With 0 the kernel chooses one.
     pub handle: TcHandle,
     /// The handle of its parent.
     pub parent: TcHandle,

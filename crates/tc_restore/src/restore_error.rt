@@ -6,7 +6,7 @@ ghost use Rattle.tc_restore.specs.declared.restore_error.RestoreError.TheVariant
 use std::alloc::{AllocError, AllocFailed};
 use thiserror::Error;
 
-/// The reason why a dump has no request; the first from left to right.
+/// The reason why a dump has no request. The first from left to right.
 #[derive(Drop, PartialEq, Eq, Error, Debug)]
 pub enum RestoreError {
     /// An eBPF program is dumped as its ID (`ProgId`), and loaded by a file descriptor.
@@ -33,11 +33,11 @@ pub enum RestoreError {
     #[error("police of a filter, without its rate table")]
     PoliceOfFilter,
 
-    /// A list has more than 32 actions; the kernel ignores those after the 32nd.
+    /// A list has more than 32 actions. The kernel ignores those after the 32nd.
     #[error("more than 32 actions")]
     TooManyActions,
 
-    /// An action that no filter holds has the verdict `goto chain`; the chain belongs to the block of a filter.
+    /// An action that no filter holds has the verdict `goto chain`. The chain belongs to the block of a filter.
     #[error("goto chain of an action that no filter has")]
     GotoChain,
 
@@ -58,9 +58,9 @@ pub enum RestoreError {
     #[error("nothing but statistics")]
     NothingLeft,
 
-    /// The kernel makes the object itself or with another one: a qdisc without a handle, which is a default; a class of a kind that
-    /// makes its classes (prio, tbf, mq, ...), or a root class; a classifier, dumped without a handle before its filters; u32's
-    /// root table; actions that are one filter's own.
+    /// The kernel makes the object itself or with another one. Such are a qdisc without a handle (a default), root classes and
+    /// the classes of a kind that makes its own (prio, tbf, mq, ...), a classifier, dumped without a handle before its filters,
+    /// u32's root table, and actions that are one filter's own.
     #[error("made by the kernel itself")]
     MadeByKernel,
 

@@ -78,9 +78,9 @@ pub struct Request<M> {
     pub message: M,
 }
 
-/// Makes the request that restores a dumped object; `roots` are the root tables of u32 in all dumps, found by `root_table`. The
+/// Makes the request that restores a dumped object. `roots` are the root tables of u32 in all dumps, found by `root_table`. The
 /// request has no statistics, times, padding or other attributes that occur only in dumps. `InHw` and `NotInHw` are cleared in a
-/// filter's flags, its actions are counted from 1, and those that only it holds have index 0. A u32 filter in the root table of
+/// filter's flags, its actions are counted from 1, and the ones that only it holds have index 0. A u32 filter in the root table of
 /// its priority has the hash `TC_U32_ROOT`, and a handle without the table's number.
 pub fn request_of<A: Allocator + Copy>(
     alloc: A,

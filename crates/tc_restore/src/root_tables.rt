@@ -16,7 +16,7 @@ use tc_texts::info_priority;
 /// A root table of u32 in a dump: the table of a block, a chain and a priority that has a number of 0x800 or above and one bucket.
 #[derive(Clone, Copy, PartialEq, Eq, Debug)]
 pub struct RootTable {
-    /// The index of the interface; -1 if interfaces share the block.
+    /// The index of the interface. -1 if interfaces share the block.
     pub index: i32,
     /// The parent, or the number of the shared block.
     pub parent: u32,
@@ -39,7 +39,7 @@ pub fn root_table<A: Allocator>(object: Object, dump: &TcMessage<A>) -> Option<R
     }
 }
 
-/// The number of the chain that a message names first; 0 if it names no chain.
+/// The number of the chain that a message names first. 0 if it names no chain.
 pub fn chain_number<A: Allocator>(attributes: &[TcAttribute<A>]) -> u32
     ensures { result ≡ chain_number attributes.now }
 {

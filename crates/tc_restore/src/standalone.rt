@@ -1,4 +1,4 @@
-//! Standalone actions of a dump: those that aren't one filter's own.
+//! Standalone actions of a dump: the ones that aren't one filter's own.
 
 ghost use Rattle.std.specs.Prelude.{◌≡◌, map};
 ghost use Rattle.std.specs.List.{list_any};

@@ -10,7 +10,7 @@ use tc_records::{TcActionGeneric, TcMirror, TcNat, TcTunnelKey};
 /// The index of an action, its verdict and the counts of its holders.
 #[derive(Clone, Copy, PartialEq, Eq, Debug)]
 pub struct Use {
-    /// The number of the action among those of its kind; 0 asks for a free one.
+    /// The number of the action among the actions of its kind. 0 asks for a free one.
     pub index: u32,
     /// The verdict: what happens to the packet next, `TC_ACT_*`.
     pub next: u32,

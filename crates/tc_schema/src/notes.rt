@@ -12,9 +12,9 @@ pub struct Note {
     pub place: usize,
     /// The name in JSON.
     pub member: &'static str,
-    /// The kernel's name; empty if there is none.
+    /// The kernel's name. Empty if there is none.
     pub kernel: &'static str,
-    /// The unit in words; empty if there is none.
+    /// The unit in words. Empty if there is none.
     pub unit: &'static str,
     /// The names of its numbers or bits.
     pub names: &'static [Name<'static>],
@@ -48,7 +48,7 @@ pub(crate) fn note_of(notes: &[Note], place: usize, member: &str) -> Note
     }
 }
 
-/// A unit in words; empty for `Plain`.
+/// A unit in words. Empty for `Plain`.
 pub fn unit_in_words(unit: Unit) -> &'static str {
     match unit {
         Unit::Bytes => "bytes",

@@ -111,7 +111,7 @@ pub fn put_between<A: Allocator>(out: &mut Vec<u8, A>, head: &str, text: &str, t
 
 // ---- forms
 
-/// The description of a form: in words; for a form without others in it also an example in JSON, and its schema, or the
+/// The description of a form: in words. For a form without others in it also an example in JSON, and its schema, or the
 /// range of a number.
 #[derive(Clone, Copy)]
 pub struct Description {

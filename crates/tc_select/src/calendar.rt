@@ -9,7 +9,7 @@ const MONTH_LENGTHS: [u64; 12] = [31, 28, 31, 30, 31, 30, 31, 31, 30, 31, 30, 31
 // The days before each month, without the leap day.
 const DAYS_BEFORE: [u64; 12] = [0, 31, 59, 90, 120, 151, 181, 212, 243, 273, 304, 334];
 
-/// The number of days from the first of January 1970 to a date up to the year 9999; `None` if there is no such date.
+/// The number of days from the first of January 1970 to a date up to the year 9999. `None` if there is no such date.
 #[tactic(auto, unfolding(crate::specs::Calendar::days_of_date))]
 pub fn days_of_date(year: u64, month: u64, day: u64) -> Option<u64>
     ensures days { result ≡ days_of_date year month day }

@@ -3,7 +3,7 @@
 ghost use Rattle.std.specs.Prelude.{◌≡◌, ◌<◌, ◌≤◌, IfSome};
 ghost use Rattle.tc_select.specs.Digits.{digit, add_digit, add_char, digits_of, number_of};
 
-/// Parses a number of at most `most` in this radix; 0 if there are no digits.
+/// Parses a number of at most `most` in this radix. 0 if there are no digits.
 #[tactic(auto, unfolding(crate::specs::Digits::digits_of))]
 pub fn digits_of(radix: u64, most: u64, text: &[u8]) -> Option<u64>
     requires { radix ≤ 16 }
@@ -17,7 +17,7 @@ pub fn digits_of(radix: u64, most: u64, text: &[u8]) -> Option<u64>
     Some(number)
 }
 
-/// Parses a number of at most `most` in this radix; `None` if there are no digits.
+/// Parses a number of at most `most` in this radix. `None` if there are no digits.
 pub fn number_of(radix: u64, most: u64, text: &[u8]) -> Option<u64>
     requires { radix ≤ 16 }
     ensures number { result ≡ number_of radix most text.now }

@@ -1,4 +1,4 @@
-//! Lines of a hex dump; each begins with an offset.
+//! Lines of a hex dump. Each begins with an offset.
 
 ghost use Rattle.std.specs.Prelude.{◌≡◌, ◌≤◌, length, slice_index, option_map};
 ghost use Rattle.tc_select.specs.Dump.{is_blank, front_length, columns_length, is_digit, without_blanks, begins_with_byte, has_gap, columns_with_gap, columns_after};
@@ -16,7 +16,7 @@ pub struct DumpLine<'a> {
     pub columns: &'a [u8],
 }
 
-/// Parses a line of `xxd`, `hexdump -C`, `tcpdump -x` or of a copy from Wireshark; `None` if it doesn't begin with an offset.
+/// Parses a line of `xxd`, `hexdump -C`, `tcpdump -x` or of a copy from Wireshark. `None` if it doesn't begin with an offset.
 pub fn dump_line(line: &[u8]) -> Option<DumpLine<'_>>
     ensures { option_map line_view result ≡ line_of line.now }
 {
@@ -199,7 +199,7 @@ pub fn is_asterisk(line: &[u8]) -> bool
     }
 }
 
-/// The number of digits of a line that holds nothing else, as of `xxd -p`; 0 for another line.
+/// The number of digits of a line that holds nothing else, as of `xxd -p`. 0 for another line.
 pub fn digits_of_line(line: &[u8]) -> usize
     ensures count { result ≡ digits_of_line line.now }
     ensures within { result ≤ length line.now }

@@ -18,7 +18,7 @@ pub struct Filter<'a> {
     pub types: &'a [Types],
     /// Interface numbers.
     pub interfaces: &'a [u32],
-    /// Names of interfaces; an interface with one of the numbers or one of the names matches.
+    /// Names of interfaces. An interface with one of the numbers or one of the names matches.
     pub names: &'a [&'a str],
     /// Handles.
     pub handles: &'a [u32],
@@ -41,7 +41,7 @@ pub struct Filter<'a> {
 pub struct Message<'a> {
     /// The time of capture.
     pub time: Option<Time>,
-    /// `nlmsg_type`; `None` for a message without a netlink header.
+    /// `nlmsg_type`. `None` for a message without a netlink header.
     pub rtm: Option<u16>,
     /// The type of message in the payload.
     pub holds: MessageType,

@@ -9,7 +9,7 @@ use tc_texts::handle_from_tc_text;
 /// The forms of a handle, for error messages.
 pub const HANDLE_FORMS: &str = "a handle is one such as 1:10, ffff:, root, 800::800 or 0x1";
 
-/// Parses a handle: `1:10`, `ffff:`, `:10`, `root`, `none`, `ingress`, `clsact`; of filters `0x1`, and of u32
+/// Parses a handle: `1:10`, `ffff:`, `:10`, `root`, `none`, `ingress`, `clsact`, for filters also `0x1`, and for u32
 /// `800::800`. A number without a colon or `0x` is no handle.
 pub fn parse_handle(text: &str) -> Option<u32>
     ensures { result ≡ parse_handle text.now }

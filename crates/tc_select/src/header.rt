@@ -24,28 +24,28 @@ const TCMSG_LEN: usize = 20;
 // `TCA_CHAIN` of `linux/rtnetlink.h`.
 const TCA_CHAIN: u16 = 11;
 
-/// The interface number of a message; `None` for an action message.
+/// The interface number of a message. `None` for an action message.
 pub fn interface_in(holds: MessageType, message: &[u8]) -> Option<u32>
     ensures { result ≡ interface_in holds message.now }
 {
     number_at(IFINDEX, holds, message)
 }
 
-/// The handle of a message; `None` for an action message.
+/// The handle of a message. `None` for an action message.
 pub fn handle_in(holds: MessageType, message: &[u8]) -> Option<u32>
     ensures { result ≡ handle_in holds message.now }
 {
     number_at(HANDLE, holds, message)
 }
 
-/// The parent of a message; `None` for an action message.
+/// The parent of a message. `None` for an action message.
 pub fn parent_in(holds: MessageType, message: &[u8]) -> Option<u32>
     ensures { result ≡ parent_in holds message.now }
 {
     number_at(PARENT, holds, message)
 }
 
-/// The priority of a filter; `None` for any other message.
+/// The priority of a filter. `None` for any other message.
 pub fn priority_in(rtm: Option<u16>, holds: MessageType, message: &[u8]) -> Option<u32>
     ensures { result ≡ priority_in rtm holds message.now }
 {
@@ -58,7 +58,7 @@ pub fn priority_in(rtm: Option<u16>, holds: MessageType, message: &[u8]) -> Opti
     }
 }
 
-/// The chain of a filter, or the chain itself; `None` for any other message.
+/// The chain of a filter, or the chain itself. `None` for any other message.
 pub fn chain_in(rtm: Option<u16>, holds: MessageType, message: &[u8]) -> Option<u32>
     ensures { result ≡ chain_in rtm holds message.now }
 {

@@ -1,4 +1,4 @@
-//! The kinds in a message: its own, and those of its actions.
+//! The kinds in a message: its own, and its actions'.
 
 ghost use Rattle.std.specs.Prelude.{◌≡◌, ◌||◌, drop, option_map, option_copied, Some, [], bytes_eq, is_some};
 ghost use Rattle.std.specs.List.{list_any};
@@ -21,7 +21,7 @@ pub fn has_kind(values: &[&str], holds: MessageType, message: &[u8]) -> bool
     }
 }
 
-/// The kind of a traffic control message: the text of its last `TCA_KIND` before a malformed attribute; empty if there is
+/// The kind of a traffic control message: the text of its last `TCA_KIND` before a malformed attribute. Empty if there is
 /// none.
 pub fn kind_of(message: &[u8]) -> &[u8]
     ensures { result.now ≡ kind_of message.now }

@@ -9,7 +9,7 @@ use crate::links::{NamedLink, link_of_line};
 use std::alloc::{AllocError, Allocator};
 use std::str;
 
-/// Parses a file of interface names: on each line a number and a name, or a line of `ip -o link`; comments begin with
+/// Parses a file of interface names: on each line a number and a name, or a line of `ip -o link`. Comments begin with
 /// `#`. Returns the names, or the number of the first line that can't be parsed, starting at 1.
 pub fn names_in<'a, A: Allocator>(
     alloc: A,

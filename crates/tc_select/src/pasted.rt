@@ -7,8 +7,8 @@ use crate::digits::digit;
 use crate::dump::is_blank;
 use std::alloc::{AllocError, Allocator};
 
-/// Appends the bytes of a hex text: two digits a byte; blanks, colons and `0x` are ignored. Returns false if there is
-/// anything else, or an odd digit; the bytes appended so far then remain.
+/// Appends the bytes of a hex text: two digits a byte. Blanks, colons and `0x` are ignored. Returns false if there is
+/// anything else, or an odd digit. The bytes appended so far then remain.
 #[tactic(auto, using(crate::proofs::Pushing::ended, crate::proofs::Pushing::nothing), unfolding(crate::specs::Pasted::bytes_of_hex))]
 pub fn push_hex<A: Allocator>(bytes: &mut Vec<u8, A>, text: &[u8]) -> Result<bool, AllocError>
     ensures { IfOk result (λ is_hex. appended bytes.old.items (bytes_of_hex text.now) ≡ if_hex is_hex bytes.new.items) }

@@ -52,7 +52,7 @@ pub fn status_of(fault: &DecodeError) -> u32
     }
 }
 
-/// The numbers in a fault's fields, in order; 0 for fields that it doesn't have.
+/// The numbers in a fault's fields, in order. 0 for fields that it doesn't have.
 pub fn numbers_of(fault: &DecodeError) -> (usize, usize)
     ensures { result ≡ numbers_of fault.now }
 {

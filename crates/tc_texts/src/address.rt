@@ -95,7 +95,7 @@ pub fn ipv6_text(octets: [u8; 16]) -> ArrayString<IPV6_TEXT_LEN>
     text
 }
 
-/// Start and length of the longest run of zeros; of several equally long runs, of the first.
+/// Start and length of the longest run of zeros, or of the first of several equally long ones.
 fn longest_zero_run(segments: &[u16]) -> (usize, usize)
     ensures value { result ≡ longest_zero_run segments.now }
     ensures within { result.0 + result.1 ≤ length segments.now }
@@ -128,7 +128,7 @@ fn push_groups<const N: usize>(text: &mut ArrayString<N>, groups: &[u16])
     }
 }
 
-/// Parses a MAC address as `mac_text` writes it; `None` for any other text.
+/// Parses a MAC address as `mac_text` writes it. `None` for any other text.
 pub fn read_mac(text: &str) -> Option<[u8; 6]>
     ensures { ReadsBack mac_text 6 text.now result }
 {
@@ -147,7 +147,7 @@ pub fn read_mac(text: &str) -> Option<[u8; 6]>
     }
 }
 
-/// Parses an IPv4 address as `ipv4_text` writes it, most significant octet first; `None` for any other text.
+/// Parses an IPv4 address as `ipv4_text` writes it, most significant octet first. `None` for any other text.
 pub fn read_ipv4(text: &str) -> Option<[u8; 4]>
     ensures { ReadsBack ipv4_text 4 text.now result }
 {
@@ -157,7 +157,7 @@ pub fn read_ipv4(text: &str) -> Option<[u8; 4]>
     }
 }
 
-/// Parses an IPv6 address as `ipv6_text` writes it, most significant octet first; `None` for any other text.
+/// Parses an IPv6 address as `ipv6_text` writes it, most significant octet first. `None` for any other text.
 pub fn read_ipv6(text: &str) -> Option<[u8; 16]>
     ensures { ReadsBack ipv6_text 16 text.now result }
 {

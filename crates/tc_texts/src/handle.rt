@@ -35,7 +35,7 @@ pub fn handle_text(handle: u32) -> ArrayString<HANDLE_TEXT_LEN>
     text
 }
 
-/// Appends half of a handle in hex; nothing for 0.
+/// Appends half of a handle in hex, or nothing for 0.
 fn push_half<const N: usize>(text: &mut ArrayString<N>, half: u16)
     requires { array_string_len text.old + 4 ≤ N }
     ensures bytes { text.new.bytes ≡ text.old.bytes ++ half_text half }
@@ -46,7 +46,7 @@ fn push_half<const N: usize>(text: &mut ArrayString<N>, half: u16)
     }
 }
 
-/// Parses a handle as `handle_text` writes it; `None` for any other text.
+/// Parses a handle as `handle_text` writes it. `None` for any other text.
 pub fn read_handle(text: &str) -> Option<u32>
     ensures { ReadsHandle text.now result }
 {
@@ -90,7 +90,7 @@ fn numbers(text: &str) -> Option<u32>
     }
 }
 
-/// Parses up to four hex digits; none is 0.
+/// Parses up to four hex digits. No digits are 0.
 fn half(text: &str) -> Option<u16>
     ensures { result ≡ half_of text.now }
 {

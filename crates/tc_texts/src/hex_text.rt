@@ -32,7 +32,7 @@ pub fn hex_string<A: Allocator>(alloc: A, bytes: &[u8]) -> Result<String<A>, All
     hex::encode(alloc, bytes)
 }
 
-/// Parses bytes in hex as `hex_string` writes them: two lower-case digits each; `None` for any other text. Fails only
+/// Parses bytes in hex as `hex_string` writes them: two lower-case digits each. `None` for any other text. Fails only
 /// if the allocator does.
 pub fn read_hex<A: Allocator>(alloc: A, text: &str) -> Result<Option<Vec<u8, A>>, AllocError>
     ensures { IfOk result (λ r. MatchOption r (IsNoHex text.now) (λ bytes. text.now ≡ hex_text bytes.items)) }

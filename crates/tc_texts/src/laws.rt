@@ -33,7 +33,7 @@ pub fn handle_texts()
     ensures read { (a : ℕ) → a < 2 ^ 32 → handle_of (handle_text a) ≡ Some a }
 {}
 
-/// Different bytes have different hex texts, which are those of the crate `hex`.
+/// Different bytes have different hex texts, the same as the crate `hex` writes.
 pub fn hex_texts()
     ensures injective { (a b : List ℕ) → IsBytes a → IsBytes b → hex_text a ≡ hex_text b → a ≡ b }
     ensures hex { (a : List ℕ) → IsBytes a → encode_lower a ≡ hex_text a }

@@ -1,8 +1,8 @@
-//! Values of Linux traffic control as text, written and parsed: addresses, handles and bytes in hex; `tcm_info` of a
-//! filter, from a priority and a protocol; and escaping for terminals.
+//! Values of Linux traffic control as text, written and parsed: addresses, handles and bytes in hex. `tcm_info` of a
+//! filter, from a priority and a protocol, and escaping for terminals.
 //!
 //! Addresses and handles are texts of fixed capacity and don't allocate. Parsers accept exactly the texts that are
-//! written; only `handle_from_tc_text` accepts all that `tc` does.
+//! written. Only `handle_from_tc_text` accepts all that `tc` does.
 #![tactic(auto)]
 
 pub mod address;

@@ -11,10 +11,10 @@ use std::alloc::{AllocError, Allocator};
 /// its type has no lifetime.
 #[derive(Clone, Copy)]
 pub struct NameOf<N> {
-    /// The number; for a bit a power of two.
+    /// The number. For a bit a power of two.
     pub number: u64,
     pub name: N,
-    /// The kernel's constant, which `--explain` prints; empty if there is none.
+    /// The kernel's constant, which `--explain` prints. Empty if there is none.
     pub kernel: N,
 }
 
@@ -49,7 +49,7 @@ fn is_same(a: &str, b: &str) -> bool
     a == b
 }
 
-/// Appends a number: its name, and the number in its unit in parentheses; or only the number if it has no name.
+/// Appends a number: its name, and the number in its unit in parentheses, or only the number if it has no name.
 pub fn put_named<A: Allocator>(
     out: &mut Vec<u8, A>,
     unit: Unit,

@@ -4,7 +4,7 @@ ghost use Rattle.std.specs.List.{list_all};
 ghost use Rattle.std.specs.Prelude.{IfSome, length, ◌*◌, ◌==◌, ◌≡◌, ◌≤◌};
 ghost use Rattle.tc_units.specs.Prefix.{ones_of, prefix_of};
 
-/// The prefix length of a mask, most significant octet first; `None` if it isn't ones followed by zeros.
+/// The prefix length of a mask, most significant octet first. `None` if it isn't ones followed by zeros.
 pub fn prefix_of(mask: &[u8]) -> Option<u8>
     requires { length mask.now ≤ 16 }
     ensures len { result ≡ prefix_of mask.now }

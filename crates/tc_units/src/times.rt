@@ -27,7 +27,7 @@ pub(crate) fn put_time<A: Allocator>(out: &mut Vec<u8, A>, ns: u128) -> Result<(
     out.extend_from_slice(b"ns")
 }
 
-/// Appends a number of units with this name, then the time in a longer unit if that is exact; both with the sign.
+/// Appends a number of units with this name, then the time in a longer unit if that is exact. Both with the sign.
 pub(crate) fn put_time_in<A: Allocator>(
     out: &mut Vec<u8, A>,
     sign: &[u8],

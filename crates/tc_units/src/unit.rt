@@ -13,7 +13,7 @@ pub enum Unit {
     NetworkHex,
     Bytes,
     Packets,
-    /// Bytes per second; in parentheses bits per second, as `tc` writes them.
+    /// Bytes per second. In parentheses bits per second, as `tc` writes them.
     BytesPerSecond,
     PacketsPerSecond,
     /// 1000 bits per second.
@@ -29,7 +29,7 @@ pub enum Unit {
     Percent,
     /// A probability in units of 2^-32.
     Probability,
-    /// The exponent of a power of two; in parentheses the power.
+    /// The exponent of a power of two. In parentheses the power.
     Power,
     /// The handle of a u32 filter, as `tc` writes it: `800::800`.
     U32Handle,

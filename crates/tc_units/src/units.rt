@@ -37,7 +37,7 @@ pub fn put_number<A: Allocator>(out: &mut Vec<u8, A>, unit: Unit, n: u64) -> Res
     }
 }
 
-/// Appends a signed number in its unit; negative rates, masks and keys without one.
+/// Appends a signed number in its unit. Negative rates, masks and keys without one.
 pub fn put_signed<A: Allocator>(out: &mut Vec<u8, A>, unit: Unit, n: i64) -> Result<(), AllocError>
     ensures { OnOk result (out.new.items ≡ out.old.items ++ signed_text unit n) }
 {

@@ -26,7 +26,7 @@ pub fn verdict_name(n: u32) -> Option<&'static str>
     }
 }
 
-/// Appends a verdict by name, such as `pipe` or `goto chain 42`; a number if it has no name.
+/// Appends a verdict by name, such as `pipe` or `goto chain 42`. A number if it has no name.
 pub fn put_verdict<A: Allocator>(out: &mut Vec<u8, A>, n: u32) -> Result<(), AllocError>
     ensures { OnOk result (out.new.items ≡ out.old.items ++ verdict_text n) }
 {

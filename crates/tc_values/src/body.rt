@@ -44,7 +44,7 @@ pub trait Body {
         ensures typed { IsTrue result → Self.Typed self.now };
 }
 
-/// The nested payload of enums whose attributes nest nothing; it has no values.
+/// The nested payload of enums whose attributes nest nothing. It has no values.
 #[derive(Drop)]
 pub struct NoBody {}
 

@@ -22,7 +22,7 @@ pub fn is_settled_of_kind<T: Settle>(attribute: &T, own: &str, kind: &str) -> bo
     kind == own && attribute.is_settled_under(kind)
 }
 
-/// The kind that a frame sets: the text of a frame of type 1, with any flags; `None` for any other type. Fails with
+/// The kind that a frame sets: the text of a frame of type 1, with any flags. `None` for any other type. Fails with
 /// `NotUtf8` if the payload isn't UTF-8.
 pub fn kind_set_by_frame<'a>(frame: &NlaBuffer<'a>) -> Res<Option<&'a str>>
     ensures { seen text_set result ≡ first_look [] (frame_of frame.now) }

@@ -105,7 +105,7 @@ impl<'a, N: Body> Value<'a, N> {
         }
     }
 
-    /// True if encoding it and parsing the bytes under this kind returns it unchanged; `is_read` says whether its table
+    /// True if encoding it and parsing the bytes under this kind returns it unchanged. `is_read` says whether its table
     /// has the attribute's type.
     pub fn is_settled_under(&self, is_read: bool, kind: &str) -> bool
         ensures settled { IsTrue result ↔ SettledAs N.Settled is_read kind.now self.now }

@@ -43,7 +43,7 @@ pub trait WholeMessage<A: Allocator>: ParseableBytes<A> + Emitable {
     fn measure(&self) -> Option<usize>
         ensures { Measures result (words.Fits (message self.now)) (words.bytes (message self.now)) };
 
-    /// Encodes the message at the front of the buffer; the bytes after it are unchanged.
+    /// Encodes the message at the front of the buffer. The bytes after it are unchanged.
     fn write(&self, buffer: &mut [u8])
         requires fits { words.Fits (message self.now) }
         requires room { HasRoom (words.bytes (message self.now)) buffer.old }

@@ -5,7 +5,7 @@
 //! $ tcshow --json -r capture.pcap | sed 's/"Limit":10240/"Limit":500/' | tcmake --pcap > changed.pcap
 //! ```
 //!
-//! A line that makes no message gets a complaint with its number and the place of the mistake; the others go on.
+//! A line that makes no message gets a complaint with its number and the place of the mistake. The others go on.
 #![tactic(auto)]
 
 pub mod arguments;

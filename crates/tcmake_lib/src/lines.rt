@@ -39,7 +39,7 @@ pub enum RemarkKind {
 #[derive(Drop)]
 pub struct Remark {
     pub source: Source,
-    /// The number of the line, from 1; 0 of an input without lines.
+    /// The number of the line, from 1. 0 of an input without lines.
     pub number: u64,
     pub kind: RemarkKind,
     pub text: String,

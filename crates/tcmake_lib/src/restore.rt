@@ -32,7 +32,7 @@ const RTM_GETACTION: u16 = 50;
 
 const OBJECTS: [Object; 4] = [Object::Qdisc, Object::Class, Object::Filter, Object::Chain];
 
-/// Makes of the message of a dump the request that restores it, with the dump's sequence number and time; `roots` are the root
+/// Makes of the message of a dump the request that restores it, with the dump's sequence number and time. `roots` are the root
 /// tables of u32 that all dumps show.
 pub(crate) fn restored(alloc: Global, roots: &[RootTable], made: &Made) -> Result<Made, Complaint>
     ensures canonical { IfOk result (λ r. IsCanonical r.given.holds r.bytes.items) }

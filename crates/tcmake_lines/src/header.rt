@@ -1,4 +1,4 @@
-//! Headers of captures, packets and netlink messages; hex.
+//! Headers of captures, packets and netlink messages, and hex.
 
 ghost use Rattle.std.specs.Prelude.{◌≡◌, ◌+◌, ◌++◌, length, unwrap_or, OnOk, IfOk};
 ghost use Rattle.tcmake_lines.specs.Written.{HasHeader, file_header, hex_line, netlink_header, packet_header, padded, whole};
@@ -68,7 +68,7 @@ fn header_of(given: &NetlinkHeader, bytes: &[u8]) -> [u8; 16]
     netlink_header_of(len, kind, given.flags, given.sequence, given.port)
 }
 
-/// Appends a message to those of a packet.
+/// Appends a message to a packet's.
 pub(crate) fn joined(
     packet: Vec<u8>,
     given: &NetlinkHeader,

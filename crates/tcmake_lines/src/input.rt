@@ -25,7 +25,7 @@ pub enum LineStatus {
     Whole,
     /// The line is too long.
     TooLong,
-    /// The end of the input; no line.
+    /// The end of the input.
     End,
 }
 
@@ -145,7 +145,7 @@ fn append(part: &[u8], line: &mut Vec<u8>, found: LineStatus) -> Result<LineStat
     Ok(LineStatus::Whole)
 }
 
-/// True if a line opens more than [`MOST_OBJECTS`] objects; a brace in a text counts too.
+/// True if a line opens more than [`MOST_OBJECTS`] objects. A brace in a text counts too.
 pub fn has_many_objects(line: &[u8]) -> bool
     ensures { result ≡ nat_lt 196624 (opened line.now) }
 {

@@ -9,7 +9,7 @@ use tc_capture::{MessageType, Time};
 #[derive(Clone, Copy)]
 pub struct NetlinkHeader {
     pub holds: MessageType,
-    /// `nlmsg_type`; `None` if the line has only the message.
+    /// `nlmsg_type`. `None` if the line has only the message.
     pub kind: Option<u16>,
     /// `nlmsg_flags`.
     pub flags: u16,
@@ -23,7 +23,7 @@ pub struct NetlinkHeader {
 /// The packet of a message.
 #[derive(Clone, Copy)]
 pub struct PacketOf {
-    /// Its number; `None` for a packet with only this message.
+    /// Its number. `None` for a packet with only this message.
     pub number: Option<u64>,
     pub time: Time,
     /// The packet type of the cooked header.

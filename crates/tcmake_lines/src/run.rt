@@ -155,7 +155,7 @@ fn put_whole_line<M: Maker, E: Write>(
     }
 }
 
-/// Appends a message to the output, and prints its notices. True if it can't be written; then the error is printed.
+/// Appends a message to the output, and prints its notices. True if it can't be written. Then the error is printed.
 pub fn put_message<E: Write>(
     alloc: Global,
     given: &NetlinkHeader,

@@ -29,7 +29,7 @@ pub struct Made {
     pub settled: Vec<Difference>,
 }
 
-/// The message of a line; none of an answer of the kernel, and of the first and the last line of a save.
+/// The message of a line. An answer of the kernel, and the first and the last line of a save, have none.
 pub fn made_of<T: Tables>(
     alloc: Global,
     forms: Forms<T>,

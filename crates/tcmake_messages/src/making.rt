@@ -3,7 +3,7 @@
 /// How a line is made into a message.
 #[derive(Clone, Copy, PartialEq, Eq, Debug)]
 pub enum Making {
-    /// The bytes that it shows, if the codec finds of them what the line says; if the line says nothing, they have to be
+    /// The bytes that it shows, if the codec finds of them what the line says. If the line says nothing, they have to be
     /// canonical.
     Checked,
     /// The bytes to which settling leads.

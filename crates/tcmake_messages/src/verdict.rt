@@ -41,7 +41,7 @@ pub enum Verdict {
 pub enum Said {
     /// It is refused.
     Refused(DecodeError),
-    /// It is read; None of what the line doesn't say.
+    /// It is read. `None` for what the line doesn't say.
     Read {
         fits: Option<bool>,
         settled: Option<bool>,

@@ -25,7 +25,7 @@ pub enum Arguments {
     NoMemory,
 }
 
-/// Parses the arguments; the first is the program's name.
+/// Parses the arguments. The first is the program's name.
 pub fn parse_arguments<A: Allocator>(arguments: &[String<A>]) -> Arguments
     ensures report { (mode : MessageType)
         → (result ≡ Report mode) ↔ HasMode (map string_bytes arguments.now) mode }

@@ -3,7 +3,7 @@
 // So many lines that aren't hex show that a text isn't hex, if no line before them is.
 const MOST_LINES: u8 = 16;
 
-/// What the lines of a text were so far; lines that are empty or hold only a comment don't count.
+/// What the lines of a text were so far. Lines that are empty or hold only a comment don't count.
 #[derive(Clone, Copy, Default)]
 pub(crate) struct FirstLines {
     has_hex: bool,

@@ -21,7 +21,7 @@ pub enum OutputFormat {
 #[derive(Clone, Copy)]
 pub struct Options<'a> {
     pub format: OutputFormat,
-    /// The message type of lines of hex that have no netlink header; `None` if they have one.
+    /// The message type of lines of hex that have no netlink header. `None` if they have one.
     pub without_header: Option<MessageType>,
     /// Which messages are printed.
     pub filter: Filter<'a>,

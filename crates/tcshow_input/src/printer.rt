@@ -52,7 +52,7 @@ pub(crate) fn layout_of(form: OutputFormat) -> Layout
     }
 }
 
-/// Whether lines for people have statistics; `None` for another format.
+/// Whether lines for people have statistics. `None` for another format.
 pub(crate) fn statistics_in(form: OutputFormat) -> Option<bool>
     ensures { result ≡ statistics_in form }
 {
@@ -101,7 +101,7 @@ impl<'a, A: Allocator + Copy> Printer<'a, A> {
         self.dump_at = 0;
     }
 
-    /// Prints the name of an input on a line before its messages, as `head` does; nothing in JSON.
+    /// Prints the name of an input on a line before its messages, as `head` does. Nothing in JSON.
     pub fn put_name(&mut self, name: &str) -> Result<(), AllocError>
         ensures form { self.new.output.is_json ≡ self.old.output.is_json }
         ensures put { OnOk result ((text : List ℕ) × ShowsName self.old.output.is_json text × Grows text false (state_of self.old) (state_of self.new)) }

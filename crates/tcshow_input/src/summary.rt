@@ -15,7 +15,7 @@ const MOST_KIND: usize = 64;
 /// A row: messages of a type and a kind.
 #[derive(Drop, Serialize)]
 pub(crate) struct Count {
-    /// Name of the message type; empty for the shared row, and without a netlink header.
+    /// Name of the message type. Empty for the shared row, and without a netlink header.
     #[serde(rename = "type")]
     rtm: &'static str,
     /// The kind as outlines have it.

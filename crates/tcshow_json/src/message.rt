@@ -51,7 +51,7 @@ pub const NO_ORIGIN: Origin = Origin {
 pub struct Message<'a> {
     /// The packet it came in.
     pub origin: Origin,
-    /// The netlink header; `None` for a line of hex without one.
+    /// The netlink header. `None` for a line of hex without one.
     pub header: Option<NetlinkHeader>,
     pub holds: MessageType,
     pub payload: &'a [u8],
@@ -64,7 +64,7 @@ impl<'a> Message<'a> {
     ghost use Rattle.tcshow_json.specs.Messages.{header_view, message_view, message_in, no_origin};
     ghost use Rattle.tcshow_json.specs.Objects.{root_of};
 
-    /// The traffic control message in a netlink message; `None` if its type is another.
+    /// The traffic control message in a netlink message. `None` if its type is another.
     pub fn in_netlink(origin: Origin, message: &NetlinkMessage<'a>) -> Option<Message<'a>>
         ensures { option_map message_view result ≡ message_in origin (message_of message.now) }
     {
@@ -106,7 +106,7 @@ impl<'a> Message<'a> {
         What::of_root(self.root())
     }
 
-    /// Name of the message type; empty without a netlink header.
+    /// Name of the message type. Empty without a netlink header.
     pub fn name(&self) -> &'static str {
         match &self.header {
             Some(header) => header.name,
@@ -114,7 +114,7 @@ impl<'a> Message<'a> {
         }
     }
 
-    /// The kind: the last `TCA_KIND` of a qdisc, class, filter or chain; the first action's kind of an action message.
+    /// The kind: the last `TCA_KIND` of a qdisc, class, filter or chain, or the first action's kind of an action message.
     /// Empty if there is none.
     pub fn kind(&self) -> &'a [u8] {
         kind_in(self.holds, self.payload)

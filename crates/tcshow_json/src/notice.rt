@@ -11,7 +11,7 @@ pub enum Notice {
     Cut(CaptureError),
     /// The capture holds only the first bytes of a packet, and they are whole messages.
     Snapped,
-    /// Longer than the limit; its length in bytes.
+    /// Longer than the limit, with its length in bytes.
     Skipped(u64),
     /// Bytes that can't be read as the format says.
     Broken(CaptureError),

@@ -152,7 +152,7 @@ pub fn show_time_of<A: Allocator>(page: &mut Page<A>, origin: &Origin) -> Result
     Ok(())
 }
 
-/// The text on a page; `None` if it is empty.
+/// The text on a page. `None` if it is empty.
 pub fn some_text<A: Allocator>(page: &Page<A>) -> Option<&str> {
     let text = text_of(page);
     if text.is_empty() { None } else { Some(text) }

@@ -60,7 +60,7 @@ impl<'a> Reply<'a> {
         })
     }
 
-    /// The name of the error, such as `EINVAL`; its number if it has no name, or `warning` for error 0.
+    /// The name of the error, such as `EINVAL`. Its number if it has no name, or `warning` for error 0.
     #[tactic(auto, unfolding(crate::specs::Line::errno_text))]
     pub fn errno<'b>(&self, buffer: &'b mut Buffer) -> &'b str
         ensures { result.now ≡ errno_text self.now.answer.error }

@@ -48,7 +48,7 @@ pub(crate) struct MessageLine<'t, 'a, 'e, 'p> {
 /// Error, text and place in an answer of the kernel.
 #[derive(Clone, Copy)]
 pub(crate) struct Reason<'n, 't, 'p> {
-    /// Name of the error, such as `EINVAL`; its number if it has no name.
+    /// Name of the error, such as `EINVAL`. Its number if it has no name.
     pub(crate) errno: &'n str,
     pub(crate) text: Option<&'t str>,
     /// Offset of the fault in the request (`NLMSGERR_ATTR_OFFS`), in bytes from the end of the netlink header.

@@ -22,7 +22,7 @@ pub enum Task<'a> {
 pub struct Arguments<'a> {
     /// Operation.
     pub task: Task<'a>,
-    /// Input files; none for standard input, which `-` names too.
+    /// Input files. Standard input if there are none, and for `-`.
     pub files: Vec<&'a str>,
     /// File with names of interfaces (`--names`).
     pub names: Option<&'a str>,

@@ -40,7 +40,7 @@ pub enum Verb {
     Unsaid,
 }
 
-/// What a message does, and the port id of a notification; 0 for none.
+/// What a message does, and the port id of a notification. 0 for none.
 #[derive(Clone, Copy)]
 pub struct Speech {
     pub verb: Verb,
@@ -266,7 +266,7 @@ fn speech_by(before: &[Request], origin: &Origin, object: Object, header: &Netli
     }
 }
 
-/// What a message does, after these requests; without a netlink header nobody says it.
+/// What a message does, after these requests. Without a netlink header nobody says it.
 pub fn speech_of(before: &[Request], found: &Message<'_>) -> Speech
     ensures { result ≡ speech_of before.now (message_view found.now) }
 {

@@ -1,4 +1,4 @@
-//! Reading plain values. Numbers, addresses and arrays have a fixed length; any other fails with `WrongLength`.
+//! Reading plain values. Numbers, addresses and arrays have a fixed length. Any other fails with `WrongLength`.
 
 ghost use Rattle.std.specs.Prelude.{◌≡◌, string_bytes, length};
 ghost use Rattle.nla_frames.specs.Fault.{Returns, seen};

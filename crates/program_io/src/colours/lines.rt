@@ -27,7 +27,7 @@ fn code_of(colour: Colour) -> &'static [u8]
     }
 }
 
-/// Appends lines in colors; `is_first` says whether they begin a paragraph. Returns whether the text after them begins
+/// Appends lines in colors. `is_first` says whether they begin a paragraph. Returns whether the text after them begins
 /// one. Without the colors, the appended text is the lines.
 pub fn paint<A: Allocator>(
     out: &mut Vec<u8, A>,

@@ -38,7 +38,7 @@ pub enum TcActionAttribute<A: Allocator = Global> {
     Kind(String<A>),
     /// The options: `TCA_ACT_OPTIONS`.
     Options(Vec<TcActionOption<A>, A>),
-    /// The index of the action among those of its kind: `TCA_ACT_INDEX`.
+    /// The index of the action among the actions of its kind: `TCA_ACT_INDEX`.
     Index(u32),
     /// Statistics: `TCA_ACT_STATS`.
     Stats(Vec<TcStats2<A>, A>),
@@ -95,7 +95,7 @@ impl<A: Allocator> TcActionAttribute<A> {
         self.row()
     }
 
-    /// The `nla_type` (type and flags) and the value in the format of the type's row; both of `Other` are as read.
+    /// The `nla_type` (type and flags) and the value in the format of the type's row. Both of `Other` are as read.
     pub fn row(&self) -> (u16, Value<'_, Body<'_, A>>)
         ensures seen { action_attribute self.now ≡ attribute_of attribute_body result.0 result.1 }
         ensures row { IsRow attribute_body action_attributes result.0 result.1 }

@@ -70,7 +70,7 @@ impl<A: Allocator> TcActionNatOption<A> {
         self.row()
     }
 
-    /// The `nla_type` (type and flags) and the value in the format of the type's row; both of `Other` are as read.
+    /// The `nla_type` (type and flags) and the value in the format of the type's row. Both of `Other` are as read.
     pub fn row(&self) -> (u16, Value<'_, Body<'_>>)
         ensures seen { nat_option self.now ≡ attribute_of nat_body result.0 result.1 }
         ensures row { IsRow nat_body nat_options result.0 result.1 }

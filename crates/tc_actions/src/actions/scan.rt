@@ -19,7 +19,7 @@ use tc_meaning::laws::own_grammar;
 use tc_values::kind_set_by_frame;
 
 /// Reads each frame under the kind that one of them sets. The first fault is a broken frame or a kind that isn't UTF-8,
-/// else no kind or several, else that of a frame.
+/// else no kind or several, else the fault of a frame.
 pub(crate) fn parse_list_own<A: Allocator + Copy, T: ParseableParametrized<A> + Drop>(
     alloc: A,
     bytes: &[u8],

@@ -57,7 +57,7 @@ pub enum TcActionTunnelKeyOption<A: Allocator = Global> {
     EncKeyId(u32),
     /// The UDP port of the tunnel's destination, big-endian: `TCA_TUNNEL_KEY_ENC_DST_PORT`.
     EncDstPort(u16),
-    /// Whether the tunnel's UDP header goes without a checksum; any byte but 0 is true, written as 1: `TCA_TUNNEL_KEY_NO_CSUM`.
+    /// Whether the tunnel's UDP header goes without a checksum. Any byte but 0 is true, written as 1: `TCA_TUNNEL_KEY_NO_CSUM`.
     NoCsum(bool),
     /// The type of service in the tunnel's IP header: `TCA_TUNNEL_KEY_ENC_TOS`.
     EncTos(u8),
@@ -109,7 +109,7 @@ impl<A: Allocator> TcActionTunnelKeyOption<A> {
         self.row()
     }
 
-    /// The `nla_type` (type and flags) and the value in the format of the type's row; both of `Other` are as read.
+    /// The `nla_type` (type and flags) and the value in the format of the type's row. Both of `Other` are as read.
     #[inline(always)]
     pub fn row(&self) -> (u16, Value<'_, Body<'_>>)
         ensures seen { tunnel_key_option self.now ≡ attribute_of tunnel_key_body result.0 result.1 }

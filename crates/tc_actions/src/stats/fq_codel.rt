@@ -58,7 +58,7 @@ impl<A: Allocator> BytesMeaning for TcFqCodelXstats<A> {
 }
 
 impl<A: Allocator> ParseableBytes<A> for TcFqCodelXstats<A> {
-    /// Reads statistics; bytes after the record are ignored. Fails with `XstatsShort` if there are fewer than four bytes,
+    /// Reads statistics. Bytes after the record are ignored. Fails with `XstatsShort` if there are fewer than four bytes,
     /// and with `BufferTooSmall` if the record is cut off (its lengths don't count the number).
     fn parse(alloc: A, bytes: &[u8]) -> Res<TcFqCodelXstats<A>> {
         if bytes.len() < XSTATS_NUMBER_LEN {

@@ -75,7 +75,7 @@ impl<A: Allocator> TcStats2<A> {
         self.row()
     }
 
-    /// The `nla_type` (type and flags) and the value in the format of the type's row; both of `Other` are as read.
+    /// The `nla_type` (type and flags) and the value in the format of the type's row. Both of `Other` are as read.
     pub fn row(&self) -> (u16, Value<'_, Body<'_, A>>)
         ensures seen { tc_stats2 self.now ≡ attribute_of stats2_body result.0 result.1 }
         ensures row { IsRow stats2_body stats2 result.0 result.1 }

@@ -15,7 +15,7 @@ use crate::piece::Piece;
 use crate::stream::next_in_stream;
 
 impl Capture {
-    /// The capture that begins with these four bytes, before they are read; `None` if the format is unknown.
+    /// The capture that begins with these four bytes, before they are read. `None` if the format is unknown.
     pub fn of_first(first: &[u8]) -> Option<Capture>
         ensures { option_map state_of result ≡ capture_at first.now }
     {

@@ -30,7 +30,7 @@ impl TcFilterBpf {
     pub const BPF_TAG_SIZE: usize = 8;
 }
 
-/// An option of `bpf`; numbers are little-endian.
+/// An option of `bpf`. Numbers are little-endian.
 ///
 /// | Type | Option | Value |
 /// |---|---|---|
@@ -112,7 +112,7 @@ impl<A: Allocator> TcFilterBpfOption<A> {
         self.row()
     }
 
-    /// The `nla_type` (type and flags) and the value in the format of the type's row; both of `Other` are as read.
+    /// The `nla_type` (type and flags) and the value in the format of the type's row. Both of `Other` are as read.
     pub fn row(&self) -> (u16, Value<'_>)
         ensures seen { bpf_option self.now ≡ attribute_of nothing result.0 result.1 }
         ensures row { IsRow nothing bpf_options result.0 result.1 }

@@ -26,7 +26,7 @@ impl TcFilterU32 {
     pub const KIND: &'static str = "u32";
 }
 
-/// An option of `u32`; numbers are little-endian.
+/// An option of `u32`. Numbers are little-endian.
 ///
 /// | Type | Option | Value |
 /// |---|---|---|
@@ -106,7 +106,7 @@ impl<A: Allocator> TcFilterU32Option<A> {
         self.row()
     }
 
-    /// The `nla_type` (type and flags) and the value in the format of the type's row; both of `Other` are as read.
+    /// The `nla_type` (type and flags) and the value in the format of the type's row. Both of `Other` are as read.
     pub fn row(&self) -> (u16, Value<'_, Body<'_, A>>)
         ensures seen { u32_option self.now ≡ attribute_of u32_body result.0 result.1 }
         ensures row { IsRow u32_body u32_options result.0 result.1 }

@@ -25,7 +25,7 @@ impl TcFilterMatchAll {
     pub const KIND: &'static str = "matchall";
 }
 
-/// An option of `matchall`; numbers are little-endian.
+/// An option of `matchall`. Numbers are little-endian.
 ///
 /// | Type | Option | Value |
 /// |---|---|---|
@@ -79,7 +79,7 @@ impl<A: Allocator> TcFilterMatchAllOption<A> {
         self.row()
     }
 
-    /// The `nla_type` (type and flags) and the value in the format of the type's row; both of `Other` are as read.
+    /// The `nla_type` (type and flags) and the value in the format of the type's row. Both of `Other` are as read.
     pub fn row(&self) -> (u16, Value<'_, Items<'_, TcAction<A>>>)
         ensures seen { matchall_option self.now ≡ attribute_of action_list result.0 result.1 }
         ensures row { IsRow action_list matchall_options result.0 result.1 }

@@ -88,7 +88,7 @@ impl<A: Allocator> TcQdiscFqCodelOption<A> {
         self.row()
     }
 
-    /// The `nla_type` (type and flags) and the value in the format of the type's row; both of `Other` are as read.
+    /// The `nla_type` (type and flags) and the value in the format of the type's row. Both of `Other` are as read.
     pub fn row(&self) -> (u16, Value<'_>)
         ensures seen { fq_codel_option self.now ≡ attribute_of nothing result.0 result.1 }
         ensures row { IsRow nothing fq_codel_options result.0 result.1 }

@@ -7,7 +7,7 @@ ghost use Rattle.tc_options.specs.Ingress.{ingress_option};
 use nla_frames::{DefaultNla, FrameMeaning, Nla, NlaBuffer, Parseable, Res, Settle};
 use std::alloc::{Allocator, Global};
 
-/// The qdisc `ingress`, to which filters of incoming packets are attached; it queues nothing.
+/// The qdisc `ingress`, to which filters of incoming packets are attached. It queues nothing.
 #[derive(PartialEq, Eq, Clone, Drop, Debug)]
 pub struct TcQdiscIngress {}
 

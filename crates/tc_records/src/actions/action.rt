@@ -48,7 +48,7 @@ pub enum TcActionType {
     /// `TC_ACT_REDIRECT`, 7: the packet is redirected, by bpf.
     Redirect,
 
-    /// `TC_ACT_TRAP`, 8: hardware passes the packet to software; in software it is dropped.
+    /// `TC_ACT_TRAP`, 8: hardware passes the packet to software. In software it is dropped.
     Trap,
 
     /// Any other number.
@@ -155,7 +155,7 @@ impl FixedRecord<4> for TcActionType {
 /// | 16 | `bindcnt` | i32 |
 #[derive(Clone, Copy, Default, Debug)]
 pub struct TcActionGeneric {
-    /// The index of the action among those of its kind; in a request, 0 means that the kernel chooses one.
+    /// The index of the action among the actions of its kind. In a request, 0 means that the kernel chooses one.
     pub index: u32,
     /// Not used by the kernel.
     pub capab: u32,

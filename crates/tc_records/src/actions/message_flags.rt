@@ -3,7 +3,7 @@
 use crate::flags::flags;
 use bitflags::{Flag, Flags};
 
-/// Options of a dump of actions: `TCA_ACT_FLAG_*` of `linux/rtnetlink.h`. Unnamed bits are kept; flags are ordered as
+/// Options of a dump of actions: `TCA_ACT_FLAG_*` of `linux/rtnetlink.h`. Unnamed bits are kept. Flags are ordered as
 /// their words.
 #[derive(PartialEq, Eq, PartialOrd, Ord, Hash, Clone, Copy, Default, Debug)]
 pub struct TcActionMessageFlags(u32);

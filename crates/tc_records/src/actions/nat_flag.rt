@@ -10,7 +10,7 @@ pub struct TcNatFlags(u32);
 
 #[allow(non_upper_case_globals)]
 impl TcNatFlags {
-    /// Translate source addresses of outgoing packets; without it, destinations of incoming ones:
+    /// Translate source addresses of outgoing packets. Without it, destinations of incoming ones:
     /// `TCA_NAT_FLAG_EGRESS`.
     pub const Egress: TcNatFlags = TcNatFlags(0x1);
 

@@ -170,7 +170,7 @@ fn put_keys(buffer: &mut [u8], keys: &[TcU32Key])
 }
 
 /// The selector of a u32 filter, `struct tc_u32_sel` of `linux/pkt_cls.h`. The filter matches a packet if all keys do.
-/// Numbers are little-endian unless stated otherwise; a byte of padding follows `nkeys`.
+/// Numbers are little-endian unless stated otherwise. A byte of padding follows `nkeys`.
 ///
 /// | Offset | Field | Type |
 /// |---|---|---|
@@ -204,7 +204,7 @@ pub struct TcU32Selector<A: Allocator = Global> {
     pub hoff: i16,
     /// The bits of that word to hash, big-endian.
     pub hmask: u32,
-    /// The comparisons; all have to match.
+    /// The comparisons. All have to match.
     pub keys: Vec<TcU32Key, A>,
 }
 

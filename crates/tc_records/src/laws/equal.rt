@@ -23,7 +23,7 @@ use crate::{
 use nla_frames::{AddressFamily, DefaultNla};
 use std::alloc::Allocator;
 
-/// Headers and statistics are equal if and only if their fields are; padding isn't a field.
+/// Headers and statistics are equal if and only if their fields are. Padding isn't a field.
 pub fn equal_statistics()
     ensures family { IsEqualityOf ⟦<AddressFamily as PartialEq>⟧.eq family_scalar }
     ensures handle { IsEqualityOf ⟦<TcHandle as PartialEq>⟧.eq handle_number }

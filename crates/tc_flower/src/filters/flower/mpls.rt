@@ -25,7 +25,7 @@ pub(crate) const TCA_FLOWER_KEY_MPLS_OPT_LSE_TC: u16 = 4;
 
 pub(crate) const TCA_FLOWER_KEY_MPLS_OPT_LSE_LABEL: u16 = 5;
 
-/// A match on one label stack entry (LSE); numbers are little-endian.
+/// A match on one label stack entry (LSE). Numbers are little-endian.
 ///
 /// | Type | Option | Value |
 /// |---|---|---|
@@ -79,7 +79,7 @@ impl<A: Allocator> TcFilterFlowerMplsLseOption<A> {
         self.row()
     }
 
-    /// The `nla_type` (type and flags) and the value in the format of the type's row; both of `Other` are as read.
+    /// The `nla_type` (type and flags) and the value in the format of the type's row. Both of `Other` are as read.
     pub fn row(&self) -> (u16, Value<'_>)
         ensures seen { lse_option self.now ≡ attribute_of nothing result.0 result.1 }
         ensures row { IsRow nothing lse_options result.0 result.1 }
@@ -185,7 +185,7 @@ impl<A: Allocator> TcFilterFlowerMplsOption<A> {
         self.row()
     }
 
-    /// The `nla_type` (type and flags) and the value in the format of the type's row; both of `Other` are as read.
+    /// The `nla_type` (type and flags) and the value in the format of the type's row. Both of `Other` are as read.
     pub fn row(&self) -> (u16, Value<'_, Items<'_, TcFilterFlowerMplsLseOption<A>>>)
         ensures seen { mpls_option self.now ≡ attribute_of lse_lists result.0 result.1 }
         ensures row { IsRow lse_lists mpls_options result.0 result.1 }

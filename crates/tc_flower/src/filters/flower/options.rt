@@ -273,7 +273,7 @@ pub(crate) const TCA_FLOWER_KEY_HASH_MASK: u16 = 101;
 /// | 100, 101 | `KeyHash`, `KeyHashMask` | u32 |
 #[derive(Drop)]
 pub enum TcFilterFlowerOption<A: Allocator = Global> {
-    /// The class of matching packets, little-endian; emitted but never parsed: an attribute of this type is read as
+    /// The class of matching packets, little-endian. Emitted but never parsed: an attribute of this type is read as
     /// [`Self::Other`]. `TCA_FLOWER_CLASSID` of `linux/pkt_cls.h`.
     ClassId(u32),
     /// The name of the device that packets come in by: `TCA_FLOWER_INDEV`.
@@ -408,11 +408,11 @@ pub enum TcFilterFlowerOption<A: Allocator = Global> {
     ArpThaMask([u8; 6]),
     /// The time to live of the outermost MPLS entry: `TCA_FLOWER_KEY_MPLS_TTL`.
     MplsTtl(u8),
-    /// The bottom-of-stack bit of the outermost MPLS entry; the lowest bit is written: `TCA_FLOWER_KEY_MPLS_BOS`.
+    /// The bottom-of-stack bit of the outermost MPLS entry. The lowest bit is written: `TCA_FLOWER_KEY_MPLS_BOS`.
     MplsBos(u8),
-    /// The traffic class of the outermost MPLS entry; the lowest three bits are written: `TCA_FLOWER_KEY_MPLS_TC`.
+    /// The traffic class of the outermost MPLS entry. The lowest three bits are written: `TCA_FLOWER_KEY_MPLS_TC`.
     MplsTc(u8),
-    /// The label of the outermost MPLS entry, little-endian; the lowest 20 bits are written: `TCA_FLOWER_KEY_MPLS_LABEL`.
+    /// The label of the outermost MPLS entry, little-endian. The lowest 20 bits are written: `TCA_FLOWER_KEY_MPLS_LABEL`.
     MplsLabel(u32),
     /// The flags of TCP, big-endian: `TCA_FLOWER_KEY_TCP_FLAGS`.
     TcpFlags(u16),

@@ -25,7 +25,7 @@ impl<A: Allocator> TcFilterFlowerOption<A> {
         self.row()
     }
 
-    /// The `nla_type` (type and flags) and the value in the format of the type's row; both of `Other` are as read.
+    /// The `nla_type` (type and flags) and the value in the format of the type's row. Both of `Other` are as read.
     #[inline(always)]
     pub fn row(&self) -> (u16, Value<'_, FlowerLists<'_, A>>)
         ensures seen { flower_option self.now ≡ attribute_of flower_lists result.0 result.1 }
