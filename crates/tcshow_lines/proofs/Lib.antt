@@ -1,1 +1,3 @@
+pub mod Beginning
+pub mod Kept
 pub mod Printable
