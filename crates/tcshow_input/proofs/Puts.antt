@@ -12,7 +12,7 @@ use Rattle.tcshow_input.specs.Shown.{Nothing, Shows, ShowsEach, ShowsMessage, Sh
 use Rattle.tc_outline.specs.declared.page.Page.{Page}
 use Rattle.tc_outline.specs.Text.{Continues, is_in_lines, text_on}
 use Rattle.tcshow_input.specs.declared.options.OutputFormat.{OutputFormat}
-use Rattle.tcshow_input.specs.declared.options.OutputFormat.TheVariants.{Brief, Lines, OneLine, Json}
+use Rattle.tcshow_input.specs.declared.options.OutputFormat.TheVariants.{Lines, Outline, Json}
 use Rattle.tcshow_input.specs.State.{State, Grows, Prints, Puts, laid_out, layout_of, noting, statistics_in, view_of}
 use Rattle.tcshow_lines.specs.Lines.{IsLines}
 use Rattle.tcshow_lines.specs.Verbs.{noted_if}
@@ -77,9 +77,8 @@ more_text s json items text same put =
 -- a page in the formats that have a line for each message
 pub line_laid_out : (format : OutputFormat) (page : List ℕ) (s n : State) → is_in_lines (layout_of format) ≡ false → Grows (ended page) false s n
     → Grows (laid_out format page) false s n
-line_laid_out (Brief statistics) page s n is put = put
-line_laid_out Lines page s n is put = absurd (true≢false is)
-line_laid_out OneLine page s n is put = put
+line_laid_out (Lines statistics) page s n is put = put
+line_laid_out Outline page s n is put = absurd (true≢false is)
 line_laid_out Json page s n is put = put
 
 -- one more line feed, which ends a paragraph
@@ -101,9 +100,8 @@ with_feed : (page : List ℕ) → IsShown true page → IsShown true (ended page
 with_feed page shown = All-push (λ b. IsTrue (is_shown true b)) page 10 shown refl
 
 pub is_page : (format : OutputFormat) (page : List ℕ) → IsShown true page → IsPage (laid_out format page)
-is_page (Brief statistics) page shown = (page, shown, refl)
-is_page Lines page shown = (ended page, with_feed page shown, refl)
-is_page OneLine page shown = (page, shown, refl)
+is_page (Lines statistics) page shown = (page, shown, refl)
+is_page Outline page shown = (ended page, with_feed page shown, refl)
 is_page Json page shown = (page, shown, refl)
 
 -- a notice on a line of JSON, and on a page
@@ -123,18 +121,16 @@ asked_summary json asked s n is x = (x.0, subst (λ a. ShowsSummary json a x.0) 
 -- a page is the outline of a message, if it is laid out in lines
 pub is_view : (format : OutputFormat) (all : Bool) (before : List Request) (m : Message) (page : List ℕ) → statistics_in format ≡ None
     → (is_in_lines (layout_of format) ≡ true → IsOutline all m (ended (ended page))) → IsViewOf (view_of format all) before m (laid_out format page)
-is_view (Brief statistics) all before m page none h = absurd (cc none)
-is_view Lines all before m page none h = h refl
-is_view OneLine all before m page none h = tt
+is_view (Lines statistics) all before m page none h = absurd (cc none)
+is_view Outline all before m page none h = h refl
 is_view Json all before m page none h = tt
 
--- lines for people
-pub is_brief : (format : OutputFormat) (all statistics : Bool) (before : List Request) (m : Message) (text : List ℕ) → statistics_in format ≡ Some statistics
+-- lines of objects
+pub is_lines : (format : OutputFormat) (all statistics : Bool) (before : List Request) (m : Message) (text : List ℕ) → statistics_in format ≡ Some statistics
     → IsLines before statistics m text → IsViewOf (view_of format all) before m text
-is_brief (Brief has) all statistics before m text is h = subst (λ s. IsLines before s m text) (sym (cc is)) h
-is_brief Lines all statistics before m text is h = absurd (cc is)
-is_brief OneLine all statistics before m text is h = absurd (cc is)
-is_brief Json all statistics before m text is h = absurd (cc is)
+is_lines (Lines has) all statistics before m text is h = subst (λ s. IsLines before s m text) (sym (cc is)) h
+is_lines Outline all statistics before m text is h = absurd (cc is)
+is_lines Json all statistics before m text is h = absurd (cc is)
 
 module _ {A : Type 0} (all : Bool) (m : Message) where
   -- a page that was empty, with a line and then the lines of the message, is its outline

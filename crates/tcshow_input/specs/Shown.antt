@@ -35,12 +35,11 @@ pub record Nothing (text : List ℕ) (bad : Bool) : Type 0 where
   pub no_text : text ≡ []
   pub no_fault : bad ≡ false
 
--- how messages are shown outside JSON: as outlines with or without padding attributes, as outlines on one line, or as lines for people
--- with or without statistics
+-- how messages are shown: as lines of their objects with or without statistics, as outlines with or without padding attributes, or in JSON
 pub data View : Type 0 where
+  lines : Bool → View
   outline : Bool → View
-  one_line : View
-  brief : Bool → View
+  in_json : View
 
 -- whether an outline ends with a fault
 abbrev pub has_fault : Message → Bool
@@ -62,9 +61,9 @@ pub record IsOutline (all : Bool) (m : Message) (text : List ℕ) : Type 0 where
 
 -- the text of a message in each view, after these requests
 abbrev pub IsViewOf : View → List Request → Message → List ℕ → Type 0
+IsViewOf (lines statistics) before m text = IsLines before statistics m text
 IsViewOf (outline all) before m text = IsOutline all m text
-IsViewOf one_line before m text = ⊤
-IsViewOf (brief statistics) before m text = IsLines before statistics m text
+IsViewOf in_json before m text = ⊤
 
 -- for a message its JSON line, or a page in this view
 abbrev pub ShowsMessage : Bool → View → List Request → Message → List ℕ → Bool → Type 0

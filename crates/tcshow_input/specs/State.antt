@@ -5,7 +5,7 @@ use Rattle.tc_capture.specs.declared.kind.MessageType.{MessageType}
 use Rattle.tc_select.specs.declared.filter.Filter.{Filter}
 use Rattle.tcshow_input.specs.declared.options.Options.{Options}
 use Rattle.tcshow_input.specs.declared.options.OutputFormat.{OutputFormat}
-use Rattle.tcshow_input.specs.declared.options.OutputFormat.TheVariants.{Brief, Lines, OneLine, Json}
+use Rattle.tcshow_input.specs.declared.options.OutputFormat.TheVariants.{Lines, Outline, Json}
 use Rattle.tcshow_input.specs.declared.stop.Stop.{Stop}
 use Rattle.tcshow_input.specs.declared.stop.Stop.TheVariants.{NoMemory}
 use Rattle.tcshow_input.specs.declared.counts.Counts.{Counts}
@@ -14,7 +14,7 @@ use Rattle.tcshow_json.specs.Messages.{Thing}
 use Rattle.tcshow_input.specs.Reading.{AreIn, AreFirstIn, GivesFirst}
 use Rattle.tc_outline.specs.declared.page.Layout.{Layout}
 use Rattle.tc_outline.specs.declared.page.Layout.TheVariants as layout
-use Rattle.tcshow_input.specs.Shown.{View, after_all, brief, outline, one_line, ended, Shows, ShowsEach, ShowsSummary}
+use Rattle.tcshow_input.specs.Shown.{View, after_all, in_json, lines, outline, ended, Shows, ShowsEach, ShowsSummary}
 use Rattle.tcshow_lines.specs.Verbs.{requests_view}
 use Rattle.tcshow_lines.specs.declared.verb.Request.{Request}
 
@@ -37,35 +37,31 @@ pub record State : Type 0 where
   pub bad : Bool
 
 abbrev pub is_json : OutputFormat → Bool
-is_json (Brief statistics) = false
-is_json Lines = false
-is_json OneLine = false
+is_json (Lines statistics) = false
+is_json Outline = false
 is_json Json = true
 
 -- the view of each format, with or without padding attributes
 abbrev pub view_of : OutputFormat → Bool → View
-view_of (Brief statistics) all = brief statistics
-view_of Lines all = outline all
-view_of OneLine all = one_line
-view_of Json all = one_line
+view_of (Lines statistics) all = lines statistics
+view_of Outline all = outline all
+view_of Json all = in_json
 
--- whether lines for people have statistics
+-- whether lines of objects have statistics
 abbrev pub statistics_in : OutputFormat → Option Bool
-statistics_in (Brief statistics) = Some statistics
+statistics_in (Lines statistics) = Some statistics
 statistics_in format = None
 
 -- the layout of pages
 abbrev pub layout_of : OutputFormat → Layout
-layout_of (Brief statistics) = layout.OneLine
-layout_of Lines = layout.Lines
-layout_of OneLine = layout.OneLine
+layout_of (Lines statistics) = layout.OneLine
+layout_of Outline = layout.Lines
 layout_of Json = layout.OneLine
 
 -- a page in the output: a paragraph, or a line
 abbrev pub laid_out : OutputFormat → List ℕ → List ℕ
-laid_out (Brief statistics) page = ended page
-laid_out Lines page = ended (ended page)
-laid_out OneLine page = ended page
+laid_out (Lines statistics) page = ended page
+laid_out Outline page = ended (ended page)
 laid_out Json page = ended page
 
 abbrev pub is_bad : Counts → Bool

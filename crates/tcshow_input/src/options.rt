@@ -7,12 +7,10 @@ use tc_select::Filter;
 /// How messages are printed.
 #[derive(Clone, Copy, PartialEq, Eq)]
 pub enum OutputFormat {
-    /// A line for each object, as people read it, with statistics or without.
-    Brief(bool),
+    /// A line for each object, with statistics or without.
+    Lines(bool),
     /// An outline: a line for the header, a line for each attribute, and an empty line.
-    Lines,
-    /// An outline on one line.
-    OneLine,
+    Outline,
     /// A line of JSON.
     Json,
 }

@@ -47,17 +47,17 @@ pub(crate) fn layout_of(form: OutputFormat) -> Layout
     ensures { result ≡ layout_of form }
 {
     match form {
-        OutputFormat::Lines => Layout::Lines,
-        OutputFormat::Brief(_) | OutputFormat::OneLine | OutputFormat::Json => Layout::OneLine,
+        OutputFormat::Outline => Layout::Lines,
+        OutputFormat::Lines(_) | OutputFormat::Json => Layout::OneLine,
     }
 }
 
-/// Whether lines for people have statistics. `None` for another format.
+/// Whether lines of objects have statistics. `None` for another format.
 pub(crate) fn statistics_in(form: OutputFormat) -> Option<bool>
     ensures { result ≡ statistics_in form }
 {
     match form {
-        OutputFormat::Brief(statistics) => Some(statistics),
+        OutputFormat::Lines(statistics) => Some(statistics),
         _ => None,
     }
 }
@@ -123,8 +123,8 @@ impl<'a, A: Allocator + Copy> Printer<'a, A> {
         let format = self.options.format;
         self.put_page_line()?;
         match format {
-            OutputFormat::Lines => self.output.line_feed(),
-            OutputFormat::Brief(_) | OutputFormat::OneLine | OutputFormat::Json => Ok(()),
+            OutputFormat::Outline => self.output.line_feed(),
+            OutputFormat::Lines(_) | OutputFormat::Json => Ok(()),
         }
     }
 
@@ -272,7 +272,7 @@ fn is_json(form: OutputFormat) -> bool
     ensures { result ≡ is_json form }
 {
     match form {
-        OutputFormat::Brief(_) | OutputFormat::Lines | OutputFormat::OneLine => false,
+        OutputFormat::Lines(_) | OutputFormat::Outline => false,
         OutputFormat::Json => true,
     }
 }

@@ -90,11 +90,19 @@ with messages in hex. The format is detected. Without FILE, or if it is -, tcsho
 input. With several, a line ==> FILE <== precedes the messages of each, except with --json.";
 
 const NOTES: &str = "Examples:
-  tcshow f.pcap                                 every message, one attribute per line
-  tcshow --oneline --kind htb --dev 7 f.pcap    htb messages of interface 7, one line each
-  tcshow --refused f.pcap                       malformed messages and requests the kernel rejected
-  tcshow --json f.pcap | jq .message            messages as JSON
-  tcshow --explain fq_codel                     the attributes of a kind
+  tcshow f.pcap                          each object on a line, in the words of tc
+  tcshow -s --kind htb --dev 7 f.pcap    htb of interface 7, with statistics
+  tcshow --outline f.pcap                every attribute, each on a line
+  tcshow --refused f.pcap                malformed messages and requests the kernel rejected
+  tcshow --json f.pcap | jq .message     messages as JSON
+  tcshow --explain fq_codel              the attributes of a kind
+
+Lines:
+  A line has the time of day (UTC), who does what, the object, its kind and its handle, then what
+  tc shows of it. add, replace, change, del, get and dump are requests. is, new, gone, refused and
+  warned are the kernel's, and by 21644 is the port (often the process) that caused it. What has
+  its usual value is left out (docs/LINES.md lists it). No word has a blank. A line is not a
+  command: tc does not take it back.
 
 Notes:
   Repeat a filter to allow several values; different filters must all match.
@@ -161,22 +169,16 @@ static OPTIONS: [(&str, Value, &str, &str); 21] = [
         "Read interface names from FILE: lines like '7 eth0', or 'ip -o link'",
     ),
     (
-        "lines",
-        Value::Nothing,
-        FORMS,
-        "Print a line for each object: time, verb, and the words of tc",
-    ),
-    (
         "statistics",
         Value::Nothing,
         FORMS,
-        "With --lines, print statistics on the same line",
+        "Print statistics on the line of each object",
     ),
     (
-        "oneline",
+        "outline",
         Value::Nothing,
         FORMS,
-        "Print each message on one line",
+        "Print every attribute of each message, each on a line",
     ),
     (
         "json",
@@ -185,10 +187,16 @@ static OPTIONS: [(&str, Value, &str, &str); 21] = [
         "Print each message as one line of JSON",
     ),
     (
+        "oneline",
+        Value::Nothing,
+        FORMS,
+        "Print what is printed without it (this release is the last with it)",
+    ),
+    (
         "all",
         Value::Nothing,
         FORMS,
-        "Print padding attributes and fields as well",
+        "With --outline, print padding attributes and fields as well",
     ),
     (
         "color",
@@ -292,6 +300,7 @@ fn with_letter<'a>(option: Arg<'a>, name: &str) -> Arg<'a> {
     match name {
         "read" => option.short('r'),
         "statistics" => option.short('s'),
+        "outline" => option.short('v'),
         _ => option,
     }
 }
@@ -370,8 +379,16 @@ fn begun<'a>(alloc: Global) -> Result<Command<'a>, AllocError> {
 // Output formats, which exclude one another.
 fn form_group<'a>(alloc: Global) -> Result<ArgGroup<'a>, AllocError> {
     ArgGroup::new(alloc, "forms")
-        .arg("lines")?
+        .arg("outline")?
         .arg("oneline")?
+        .arg("json")
+}
+
+// What excludes statistics: they are on lines only.
+fn statistics_group<'a>(alloc: Global) -> Result<ArgGroup<'a>, AllocError> {
+    ArgGroup::new(alloc, "counters")
+        .arg("statistics")?
+        .arg("outline")?
         .arg("json")
 }
 
@@ -385,9 +402,14 @@ fn with_forms<'a>(alloc: Global) -> Result<Command<'a>, AllocError> {
     begun(alloc)?.group(forms)
 }
 
+fn with_statistics<'a>(alloc: Global) -> Result<Command<'a>, AllocError> {
+    let statistics = statistics_group(alloc)?;
+    with_forms(alloc)?.group(statistics)
+}
+
 fn with_groups<'a>(alloc: Global) -> Result<Command<'a>, AllocError> {
     let tables = table_group(alloc)?;
-    with_forms(alloc)?.group(tables)
+    with_statistics(alloc)?.group(tables)
 }
 
 fn command<'a>(alloc: Global) -> Result<Command<'a>, AllocError> {
@@ -401,12 +423,10 @@ fn command<'a>(alloc: Global) -> Result<Command<'a>, AllocError> {
 fn format_of(matches: &ArgMatches<'_>) -> OutputFormat {
     if matches.get_flag("json") {
         OutputFormat::Json
-    } else if matches.get_flag("lines") {
-        OutputFormat::Brief(matches.get_flag("statistics"))
-    } else if matches.get_flag("oneline") {
-        OutputFormat::OneLine
+    } else if matches.get_flag("outline") {
+        OutputFormat::Outline
     } else {
-        OutputFormat::Lines
+        OutputFormat::Lines(matches.get_flag("statistics"))
     }
 }
 

@@ -54,7 +54,7 @@ fn obey<R: Env + AllocGlobal + Files + Input + Print, E: Write>(
 ) -> Ended {
     match arguments_of(rt.alloc(), words) {
         Ok(mut arguments) => {
-            arguments.in_colours = arguments.format == OutputFormat::Lines
+            arguments.in_colours = arguments.format == OutputFormat::Outline
                 && arguments.colours.are_on(is_terminal && allows_colours(rt));
             perform(rt, &arguments, errors)
         }

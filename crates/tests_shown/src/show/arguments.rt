@@ -55,7 +55,7 @@ fn has(arguments: &Arguments<'_>, part: Part) -> bool {
 }
 
 fn is_default(arguments: &Arguments<'_>) -> bool {
-    arguments.format == OutputFormat::Lines
+    arguments.format == OutputFormat::Lines(false)
         && arguments.files.is_empty()
         && arguments.names.is_none()
         && arguments.without_header.is_none()
@@ -77,14 +77,8 @@ fn chooses_all(arguments: &Arguments<'_>) -> bool {
 // Words, and what they say.
 static WORDS: [(&[&str], &[Part]); 16] = [
     (&["tcshow"], &[Part::Defaults]),
-    (
-        &["tcshow", "--lines"],
-        &[Part::Format(OutputFormat::Brief(false))],
-    ),
-    (
-        &["tcshow", "-s", "--lines"],
-        &[Part::Format(OutputFormat::Brief(true))],
-    ),
+    (&["tcshow", "-s"], &[Part::Format(OutputFormat::Lines(true))]),
+    (&["tcshow", "-v"], &[Part::Format(OutputFormat::Outline)]),
     (
         &[
             "tcshow", "-r", "a", "--json", "--names", "b", "--kind", "u32",
@@ -108,7 +102,7 @@ static WORDS: [(&[&str], &[Part]); 16] = [
             "tc",
         ],
         &[
-            Part::Format(OutputFormat::OneLine),
+            Part::Format(OutputFormat::Lines(false)),
             Part::Types(&["RTM_NEWQDISC"]),
             Part::Interfaces(&["7"]),
             Part::WithoutHeader(MessageType::Tc),
@@ -146,7 +140,10 @@ static WORDS: [(&[&str], &[Part]); 16] = [
         &[Part::Task(Task::Explain(Some("htb")))],
     ),
     (&["tcshow", "a", "-", "b"], &[Part::Files(&["a", "-", "b"])]),
-    (&["tcshow", "--all"], &[Part::Paddings]),
+    (
+        &["tcshow", "--outline", "--all"],
+        &[Part::Format(OutputFormat::Outline), Part::Paddings],
+    ),
     (
         &["tcshow", "--color", "auto"],
         &[Part::Colours(Colours::Auto)],
@@ -186,13 +183,16 @@ fn each_option(rt: HostRuntime) {
 }
 
 // Words that aren't taken, and the status.
-static OTHERS: [(&[&str], i32); 8] = [
+static OTHERS: [(&[&str], i32); 11] = [
     (&["tcshow", "--help"], 0),
     (&["tcshow", "--version"], 0),
     (&["tcshow", "a", "--read", "a"], 2),
     (&["tcshow", "--pref", "65536"], 2),
     (&["tcshow", "--schema", "--explain"], 2),
-    (&["tcshow", "--json", "--oneline"], 2),
+    (&["tcshow", "--json", "--outline"], 2),
+    (&["tcshow", "-s", "--outline"], 2),
+    (&["tcshow", "-s", "--json"], 2),
+    (&["tcshow", "--lines"], 2),
     (&["tcshow", "--no-header", "qdisc"], 2),
     (&["tcshow", "--color", "on"], 2),
 ];

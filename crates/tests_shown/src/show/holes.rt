@@ -57,7 +57,7 @@ fn long_stream(alloc: Global) -> Result<Vec<u8>, AllocError> {
     Ok(stream)
 }
 
-static STREAM_LINES: [&str; 2] = ["byte 0: skipped: 1048592 bytes", "RTM_NEWQDISC "];
+static STREAM_LINES: [&str; 2] = ["byte 0: skipped: 1048592 bytes", "new qdisc - "];
 
 #[test]
 fn long_messages_are_skipped(rt: HostRuntime) -> Result<(), Fail> {
@@ -66,7 +66,7 @@ fn long_messages_are_skipped(rt: HostRuntime) -> Result<(), Fail> {
     assert!(rt;
         gives(
             rt.alloc(),
-            &all_in(OutputFormat::OneLine),
+            &all_in(OutputFormat::Lines(false)),
             &stream,
             0,
             lines,

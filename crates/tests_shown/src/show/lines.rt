@@ -23,7 +23,7 @@ new action mirred - index 5
 
 #[test]
 fn lines_are_known(rt: HostRuntime) {
-    let mut options = all_in(OutputFormat::Brief(false));
+    let mut options = all_in(OutputFormat::Lines(false));
     options.names = Interfaces {
         names: &[(2, "eth0")],
     };
@@ -32,7 +32,7 @@ fn lines_are_known(rt: HostRuntime) {
         refused: true,
         ..Filter::ALL
     };
-    let options = chosen_in(OutputFormat::Brief(true), filter);
+    let options = chosen_in(OutputFormat::Lines(true), filter);
     assert!(rt;
         gives(
             rt.alloc(),
@@ -43,7 +43,7 @@ fn lines_are_known(rt: HostRuntime) {
             ""
         )
     );
-    let options = counted_in(OutputFormat::Brief(false));
+    let options = counted_in(OutputFormat::Lines(false));
     assert!(rt;
         gives(
             rt.alloc(),
@@ -136,7 +136,7 @@ fn are_said(alloc: Global, input: &[u8], time: &str, all: &[Said]) -> Result<boo
         )?;
         lines.push_str(line.as_str())?;
     }
-    let run = shown(alloc, &all_in(OutputFormat::Brief(false)), input);
+    let run = shown(alloc, &all_in(OutputFormat::Lines(false)), input);
     Ok(run.written.as_slice() == lines.as_bytes())
 }
 

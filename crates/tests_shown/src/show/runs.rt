@@ -12,10 +12,9 @@ use tcshow_lib::program::serve;
 use tests_data::{Format, file_of, messages};
 
 /// The output formats.
-pub(crate) static FORMS: [OutputFormat; 4] = [
-    OutputFormat::Brief(true),
-    OutputFormat::Lines,
-    OutputFormat::OneLine,
+pub(crate) static FORMS: [OutputFormat; 3] = [
+    OutputFormat::Lines(true),
+    OutputFormat::Outline,
     OutputFormat::Json,
 ];
 

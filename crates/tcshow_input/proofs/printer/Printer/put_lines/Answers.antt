@@ -5,7 +5,7 @@ use Rattle.tcshow_json.specs.Messages.{message_view}
 use Rattle.tcshow_lines.specs.Lines.{IsLines}
 use Rattle.tcshow_lines.specs.declared.verb.Request.{Request}
 use Rattle.tcshow_input.specs.State.{state_of}
-use Rattle.tcshow_input.proofs.Puts.{grows_counted, is_brief, more_text}
+use Rattle.tcshow_input.proofs.Puts.{grows_counted, is_lines, more_text}
 use Rattle.tcshow_input.proofs.printer.Printer.put_lines.Goals as goal
 
 pub returns-clause-put : goal.returns-clause-put
@@ -22,7 +22,7 @@ returns-clause-put g c =
     (λ counted. (
       text,
       fault,
-      (found.ended, is_brief options.format options.all c.args.statistics s.before m text c.requires lines, found.fault),
+      (found.ended, is_lines options.format options.all c.args.statistics s.before m text c.requires lines, found.fault),
       grows_counted text fault s (record s { json = now.is_json; text = now.bytes.items }) (state_of c.count_fault.new.self)
           (more_text s now.is_json now.bytes.items text c.lines.ensures.form (c.in_ok-lines-2.ensures.put ∙ ap (λ l. s.text ++ l) c.deref.ensures.value)) counted,
     ))
