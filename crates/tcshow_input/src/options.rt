@@ -3,6 +3,7 @@
 use tc_capture::MessageType;
 use tc_outline::Interfaces;
 use tc_select::Filter;
+use tcshow_lines::TimeFormat;
 
 /// How messages are printed.
 #[derive(Clone, Copy, PartialEq, Eq)]
@@ -23,6 +24,10 @@ pub struct Options<'a> {
     pub without_header: Option<MessageType>,
     /// Which messages are printed.
     pub filter: Filter<'a>,
+    /// How lines of objects show times.
+    pub time: TimeFormat,
+    /// True if lines of objects are printed for acknowledgements without a text, too.
+    pub acks: bool,
     /// True if outlines have padding attributes too.
     pub all: bool,
     /// Names of interfaces, beside those in the capture.

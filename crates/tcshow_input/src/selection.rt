@@ -1,25 +1,29 @@
 //! Which messages are printed.
 
-ghost use Rattle.std.specs.Prelude.{◌≡◌, option_map};
+ghost use Rattle.std.specs.Prelude.{◌≡◌, [], option_map};
 ghost use Rattle.tc_select.specs.Filter.{message_view as properties_view};
 ghost use Rattle.tcshow_json.specs.Messages.{header_view, message_view};
 ghost use Rattle.tcshow_input.specs.Selection.{type_in, properties_of};
 
+use crate::attributes::columns_of;
 use crate::printer::Printer;
 use std::alloc::{AllocError, Allocator};
+use tc_lines::Columns;
 use tc_select::Message as Properties;
+use tc_select::header::interface_in;
 use tcshow_json::{Message, NetlinkHeader, is_refused};
 
-// The properties of a message that filters look at.
-fn properties_of<'a>(found: &Message<'a>) -> Properties<'a>
-    ensures { properties_view result ≡ properties_of (message_view found.now) }
+// The properties of a message that filters look at, with this name of its interface.
+fn properties_of<'a>(found: &Message<'a>, name: Option<&'a str>) -> Properties<'a>
+    ensures { properties_view result
+        ≡ record (properties_of [] (message_view found.now)) { name = option_map (λ n. n.now) name.entry } }
 {
     Properties {
         time: found.origin.time,
         rtm: type_in(&found.header),
         holds: found.holds,
         payload: found.payload,
-        name: None,
+        name,
     }
 }
 
@@ -34,13 +38,15 @@ fn type_in(header: &Option<NetlinkHeader>) -> Option<u16>
 
 impl<'a, A: Allocator + Copy> Printer<'a, A> {
     ghost use Rattle.std.specs.Prelude.{◌≡◌, IfOk};
+    ghost use Rattle.tcshow_input.specs.Known.{names_by};
     ghost use Rattle.tcshow_input.specs.Selection.{is_included, is_matched};
     ghost use Rattle.tcshow_json.specs.Messages.{message_view};
     ghost use Rattle.tcshow_input.specs.State.{state_of};
 
     /// True if the filter matches the message.
     pub(crate) fn takes(&self, found: &Message<'_>) -> Result<bool, AllocError>
-        ensures { IfOk result (λ taken. taken ≡ is_included (state_of self.now).filter (message_view found.now)) }
+        ensures { IfOk result (λ taken. taken
+            ≡ is_included (names_by (state_of self.now).before) (state_of self.now).filter (message_view found.now)) }
     {
         if !self.matches_request(found) {
             return Ok(false);
@@ -54,8 +60,23 @@ impl<'a, A: Allocator + Copy> Printer<'a, A> {
 
     /// True if the filter matches the message, whether or not the codec refuses it. It decides about answers to the message.
     pub(crate) fn matches_request(&self, found: &Message<'_>) -> bool
-        ensures { result ≡ is_matched (state_of self.now).filter (message_view found.now) }
+        ensures { result ≡ is_matched (names_by (state_of self.now).before) (state_of self.now).filter (message_view found.now) }
     {
-        self.options.filter.matches(&properties_of(found))
+        if self.options.filter.names.is_empty() {
+            return self.options.filter.matches(&properties_of(found, None));
+        }
+        self.matches_name(found)
+    }
+
+    // The same for a filter with names of interfaces.
+    fn matches_name(&self, found: &Message<'_>) -> bool
+        ensures { result ≡ is_matched (names_by (state_of self.now).before) (state_of self.now).filter (message_view found.now) }
+    {
+        let columns = columns_of(self.options, &self.links, found);
+        let name = match interface_in(found.holds, found.payload) {
+            Some(number) => columns.interface(u64::from(number)),
+            None => None,
+        };
+        self.options.filter.matches(&properties_of(found, name))
     }
 }
