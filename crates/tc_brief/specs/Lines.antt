@@ -143,10 +143,14 @@ has_any s (l ∷ ls) = is_in s l && (if is_left_out l then false else true) || h
 
 -- ---- actions
 
+-- true for the first leaf of an action
+abbrev pub begins : Leaf → Bool
+begins l = is_in section.Begin l
+
 -- the leaves up to the next action
 abbrev pub one_action : List Leaf → List Leaf
 one_action [] = []
-one_action (l ∷ ls) = if is_in section.Begin l then [] else l ∷ one_action ls
+one_action (l ∷ ls) = if begins l then [] else l ∷ one_action ls
 
 -- the kind of an action that begins with a leaf, which may be the kind itself; `-` without one
 abbrev pub action_kind : Leaf → Around → List (List ℕ)
@@ -175,7 +179,7 @@ action_of stats l c = codes "action" ∷ (action_kind l c ++ counted_action stat
 abbrev pub actions : Bool → ℕ → List Leaf → List (List ℕ)
 actions stats p [] = []
 actions stats p (l ∷ ls) =
-    (if is_in section.Begin l then action_of stats l (record { leaves = one_action ls; protocol = p }) else []) ++ actions stats p ls
+    (if begins l then action_of stats l (record { leaves = one_action ls; protocol = p }) else []) ++ actions stats p ls
 
 -- what is in no action, as a list of actions that can't be read
 abbrev pub before_actions : ℕ → List Leaf → Around
@@ -267,11 +271,15 @@ object_words said ls =
     head said.statistics said.object (around ls) ++ (body said.statistics (around ls) ls ++ (by_words said.port
     ++ after_semicolon said.statistics (around ls) section.Statistics))
 
+-- an action has no handle
+abbrev pub own_head : Bool → List Leaf → Leaf → Around → List (List ℕ)
+own_head stats all l c = codes "action" ∷ (action_kind l c ++ (codes "-" ∷ (place stats all ++ other_words c 0 all)))
+
 -- the words of an action's line, after the verb
 abbrev pub own_action_words : Said → List Leaf → Leaf → Around → List (List ℕ)
 own_action_words said all l c =
-    codes "action" ∷ (action_kind l c ++ (codes "-" ∷ (place said.statistics all ++ (other_words c 0 all ++ (action_words c
-    ++ (section_words c section.Words 0 None all ++ (by_words said.port ++ after_semicolon said.statistics c section.ActionStatistics)))))))
+    own_head said.statistics all l c ++ (action_words c ++ (section_words c section.Words 0 None all ++ (by_words said.port
+    ++ after_semicolon said.statistics c section.ActionStatistics)))
 
 -- a line: its words, a blank before each, between its begin and its end, and a line feed
 abbrev pub line : Said → List (List ℕ) → List ℕ
@@ -280,11 +288,11 @@ line said words = said.begin ++ (written words ++ (said.end ++ codes "\n"))
 abbrev pub own_actions : Said → List Leaf → List Leaf → List ℕ
 own_actions said all [] = []
 own_actions said all (l ∷ ls) =
-    (if is_in section.Begin l then line said (own_action_words said all l (record { leaves = one_action ls; protocol = 0 })) else []) ++ own_actions said all ls
+    (if begins l then line said (own_action_words said all l (record { leaves = one_action ls; protocol = 0 })) else []) ++ own_actions said all ls
 
 abbrev pub has_action : List Leaf → Bool
 has_action [] = false
-has_action (l ∷ ls) = is_in section.Begin l || has_action ls
+has_action (l ∷ ls) = begins l || has_action ls
 
 abbrev pub is_of_actions : Object → Bool
 is_of_actions object.Action = true

@@ -26,5 +26,6 @@ mod words;
 
 pub use error::BriefError;
 pub use line::{Object, Said, lines_of, lines_of_nothing};
+pub use numbers::put_number;
 pub use row::{LeftOut, Row, RowOf, Style, Words};
 pub use words::{put_byte, put_first, put_word, word_is_a_word};

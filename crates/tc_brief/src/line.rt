@@ -8,7 +8,7 @@ ghost use Rattle.tc_brief.specs.Lines.{action_kind, action_of, action_words, act
 ghost use Rattle.tc_brief.specs.Lines.{counted_bare, counts, dev_words, family_words, handle_in};
 ghost use Rattle.tc_brief.specs.Lines.{handle_value, handle_word, has_action, has_any, head, in_head, info_in, info_words, is_of_actions, is_other, is_placed};
 ghost use Rattle.tc_brief.specs.Lines.{kind_words, message_lines, named_or_hex, object_text, object_words, of_leaf, one_action, other_words};
-ghost use Rattle.tc_brief.specs.Lines.{own_action_words, own_actions, parent_words, place, place_words, protocol_in, protocol_of, said_view};
+ghost use Rattle.tc_brief.specs.Lines.{own_action_words, own_actions, own_head, parent_words, place, place_words, protocol_in, protocol_of, said_view};
 ghost use Rattle.tc_brief.specs.Lines.{statistics, text_or_dash, unless_zero, with_word};
 ghost use Rattle.tc_brief.specs.Parts.{count_in, is_in, scope_view};
 ghost use Rattle.tc_brief.specs.Values.{number_in};
@@ -602,6 +602,25 @@ impl Line {
         self.after_semicolon(said.statistics, &scope, Section::Statistics)
     }
 
+    // Writes the kind of an action, and where its message is.
+    #[tactic(auto, using(crate::proofs::Written::written_append))]
+    fn own_head(
+        &mut self,
+        counted: bool,
+        all: &[Leaf<'_>],
+        first: &Leaf<'_>,
+        scope: &Scope<'_, '_>,
+    ) -> Result<(), BriefError>
+        ensures { OnOk result (self.new.text.items ≡ self.old.text.items
+            ++ written (own_head counted (leaves_view all.now) (leaf_view first.now) (scope_view scope.now))) }
+    {
+        self.word(b"action")?;
+        self.action_kind(first, scope)?;
+        self.word(b"-")?;
+        self.place(counted, all)?;
+        self.others(scope, all)
+    }
+
     // Writes the line of an action after its verb.
     #[tactic(auto, using(crate::proofs::Written::written_append))]
     fn own_action(
@@ -614,11 +633,7 @@ impl Line {
         ensures { OnOk result (self.new.text.items ≡ self.old.text.items
             ++ written (own_action_words (said_view said.now) (leaves_view all.now) (leaf_view first.now) (scope_view scope.now))) }
     {
-        self.word(b"action")?;
-        self.action_kind(first, scope)?;
-        self.word(b"-")?;
-        self.place(said.statistics, all)?;
-        self.others(scope, all)?;
+        self.own_head(said.statistics, all, first, scope)?;
         self.action(scope)?;
         self.section(scope, Section::Words, all)?;
         self.numbered(b"by", said.port)?;

@@ -4,10 +4,8 @@ use Rattle.nla_frames.specs.Value.{strip}
 use Rattle.std.specs.Prelude.{IsTrue, Option, Some, None, if◌then◌else◌, not, option_map, ◌&&◌, ◌==◌, ◌||◌}
 use Rattle.std.proofs.lemmas.List.Elements.{All-append, All-cons, All-nil, All-push, All-same, All-weaker}
 use Rattle.tc_brief.specs.Leaves.{Leaf}
-use Rattle.tc_brief.specs.Lines.{Said, has_action, is_of_actions, line, message_lines, object_words, one_action, own_action_words, own_actions}
-use Rattle.tc_brief.specs.Parts.{is_in}
+use Rattle.tc_brief.specs.Lines.{Said, has_action, is_of_actions, line, message_lines, object_words, one_action, own_action_words, own_actions, begins}
 use Rattle.tc_brief.specs.Words.{is_of_word, spaced, word, word_byte, written}
-use Rattle.tc_brief.specs.declared.leaf.Section.TheVariants as section
 use Rattle.tc_brief.proofs.Bare.{word_is}
 use Rattle.tc_outline.specs.Page.{IsShown, is_shown}
 use Rattle.tc_brief.specs.declared.line.Object.{Object}
@@ -75,12 +73,12 @@ module _ (said : Said) (begin : IsShown true said.begin) (end : IsShown true sai
   none_left : (all ls : List Leaf) → has_action ls ≡ false → own_actions said all ls ≡ []
   none_left all [] h = refl
   none_left all (l ∷ ls) h =
-      none_step (line said (own_words all l ls)) (own_actions said all ls) (is_in section.Begin l) (has_action ls) h (λ k. none_left all ls k)
+      none_step (line said (own_words all l ls)) (own_actions said all ls) (begins l) (has_action ls) h (λ k. none_left all ls k)
 
   own_ended : (all ls : List Leaf) → has_action ls ≡ true → IsEnded (own_actions said all ls)
   own_ended all [] h = absurd (true≢false (sym h))
   own_ended all (l ∷ ls) h =
-      own_step (line said (own_words all l ls)) (own_actions said all ls) (is_in section.Begin l) (has_action ls) h (line_ended (own_words all l ls))
+      own_step (line said (own_words all l ls)) (own_actions said all ls) (begins l) (has_action ls) h (line_ended (own_words all l ls))
       (λ k. own_ended all ls k) (λ k. none_left all ls k)
 
   lines_ended : (ls : List Leaf) → IsEnded (message_lines said ls)

@@ -259,7 +259,15 @@ fn lines_of_bytes(
     ensures { IfOk result (λ text. IsSaid (request_begin begin.entry.items (message_view request.now)) statistics 0 (message_view request.now) text.items) }
 {
     put_asked(alloc, &mut begin, request)?;
-    let lines = lines_said(alloc, interfaces, links, begin.as_slice(), statistics, 0, request)?;
+    let lines = lines_said(
+        alloc,
+        interfaces,
+        links,
+        begin.as_slice(),
+        statistics,
+        0,
+        request,
+    )?;
     let Lines { text, .. } = lines;
     Ok(text)
 }
@@ -320,5 +328,13 @@ pub fn lines_of_reply(
     let bytes = asked_bytes(past, reply);
     let request = with_bytes(&reply.request, bytes);
     let begin = told_text(alloc, past, format, &request, reply)?;
-    lines_asked(alloc, interfaces, links, begin, statistics, &reply.request, bytes)
+    lines_asked(
+        alloc,
+        interfaces,
+        links,
+        begin,
+        statistics,
+        &reply.request,
+        bytes,
+    )
 }

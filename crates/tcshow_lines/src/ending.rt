@@ -155,7 +155,13 @@ fn ending(
         return begin_with(alloc, past, format, &origin.time, b"interrupted");
     }
     let mut buffer = Buffer::new();
-    refused(alloc, past, format, &origin.time, name_of(error, &mut buffer))
+    refused(
+        alloc,
+        past,
+        format,
+        &origin.time,
+        name_of(error, &mut buffer),
+    )
 }
 
 // The name of an error, or its number.
@@ -191,5 +197,13 @@ pub fn lines_of_end(
     };
     let begin = ending(alloc, past, format, &origin, message)?;
     let asked = request_at(origin, request);
-    lines_asked(alloc, interfaces, links, begin, statistics, &asked, bytes_of(request))
+    lines_asked(
+        alloc,
+        interfaces,
+        links,
+        begin,
+        statistics,
+        &asked,
+        bytes_of(request),
+    )
 }

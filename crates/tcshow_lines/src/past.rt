@@ -159,9 +159,7 @@ fn note_interrupted(
         ≡ interrupted_with (headers_view interrupted.old.items) (option_map header_view header.now)) }
 {
     match header {
-        Some(header) if has_flag(header.flags, NLM_F_DUMP_INTR) => {
-            keep(interrupted, *header)
-        }
+        Some(header) if has_flag(header.flags, NLM_F_DUMP_INTR) => { keep(interrupted, *header) }
         _ => Ok(()),
     }
 }

@@ -264,7 +264,12 @@ pub(crate) fn speech_of(before: &Requests, found: &Message<'_>) -> Speech
     ensures { result ≡ speech_of (past_of before.now).requests (message_view found.now) }
 {
     match &found.header {
-        Some(header) => speech_by(before.requests.as_slice(), &found.origin, object_in(found.root()), header),
+        Some(header) => speech_by(
+            before.requests.as_slice(),
+            &found.origin,
+            object_in(found.root()),
+            header,
+        ),
         None => Speech {
             verb: Verb::Unsaid,
             port: 0,
