@@ -24,6 +24,8 @@ pub struct Arguments<'a> {
     pub task: Task<'a>,
     /// Input files. Standard input if there are none, and for `-`.
     pub files: Vec<&'a str>,
+    /// True if the stored capture is the input (`--example`).
+    pub example: bool,
     /// File with names of interfaces (`--names`).
     pub names: Option<&'a str>,
     /// Output format.
@@ -90,6 +92,7 @@ with messages in hex. The format is detected. Without FILE, or if it is -, tcsho
 input. With several, a line ==> FILE <== precedes the messages of each, except with --json.";
 
 const NOTES: &str = "Examples:
+  tcshow --example                       a first look, without a capture
   tcshow f.pcap                          each object on a line, in the words of tc
   tcshow -s --kind htb --dev 7 f.pcap    htb of interface 7, with statistics
   tcshow --outline f.pcap                every attribute, each on a line
@@ -98,11 +101,10 @@ const NOTES: &str = "Examples:
   tcshow --explain fq_codel              the attributes of a kind
 
 Lines:
-  A line has the time of day (UTC), who does what, the object, its kind and its handle, then what
-  tc shows of it. add, replace, change, del, get and dump are requests. is, new, gone, refused and
-  warned are the kernel's, and by 21644 is the port (often the process) that caused it. What has
-  its usual value is left out (docs/LINES.md lists it). No word has a blank. A line is not a
-  command: tc does not take it back.
+  A line has the time of day (UTC), a verb, the object, its kind and its handle, then what tc shows
+  of it. add, replace, change, del, get and dump are requests. is, new, gone, refused and warned are
+  the kernel's, and by 21644 is the port (often the process) that caused it. What has its usual
+  value is left out. No word has a blank. A line is no command: tc does not take it back.
 
 Notes:
   Repeat a filter to allow several values; different filters must all match.
@@ -155,7 +157,13 @@ enum Value {
 }
 
 // The options: name, value, heading and text of the help.
-static OPTIONS: [(&str, Value, &str, &str); 21] = [
+static OPTIONS: [(&str, Value, &str, &str); 22] = [
+    (
+        "example",
+        Value::Nothing,
+        INPUT,
+        "Read a small capture that tcshow has, instead of a file",
+    ),
     (
         "no-header",
         Value::Word("WHAT", &["tc", "action"]),
@@ -178,7 +186,7 @@ static OPTIONS: [(&str, Value, &str, &str); 21] = [
         "outline",
         Value::Nothing,
         FORMS,
-        "Print every attribute of each message, each on a line",
+        "Print an outline of each message, with every attribute on a line",
     ),
     (
         "json",
@@ -190,7 +198,7 @@ static OPTIONS: [(&str, Value, &str, &str); 21] = [
         "oneline",
         Value::Nothing,
         FORMS,
-        "Print what is printed without it (this release is the last with it)",
+        "Print lines, as without it; the next release lacks it",
     ),
     (
         "all",
@@ -355,12 +363,11 @@ fn or_nothing<'a>(option: Arg<'a>) -> Arg<'a> {
 }
 
 // The input files, which `--read` can name too.
-fn files<'a>(alloc: Global) -> Result<Arg<'a>, AllocError> {
+fn files<'a>(alloc: Global) -> Arg<'a> {
     Arg::new(alloc, "FILE")
         .value_name("FILE")
         .action(ArgAction::Append)
         .help("Files to read")
-        .conflicts_with("read")
 }
 
 fn read<'a>(alloc: Global) -> Arg<'a> {
@@ -368,12 +375,16 @@ fn read<'a>(alloc: Global) -> Arg<'a> {
 }
 
 fn begun<'a>(alloc: Global) -> Result<Command<'a>, AllocError> {
-    let files = files(alloc)?;
     Command::new(alloc, "tcshow")
         .version("0.3.0")
         .about(ABOUT)
         .after_help(NOTES)
-        .arg(files)
+        .arg(files(alloc))
+}
+
+// Inputs, which exclude one another.
+fn input_group<'a>(alloc: Global) -> Result<ArgGroup<'a>, AllocError> {
+    ArgGroup::new(alloc, "inputs").arg("FILE")?.arg("read")?.arg("example")
 }
 
 // Output formats, which exclude one another.
@@ -397,9 +408,14 @@ fn table_group<'a>(alloc: Global) -> Result<ArgGroup<'a>, AllocError> {
     ArgGroup::new(alloc, "tables").arg("explain")?.arg("schema")
 }
 
+fn with_inputs<'a>(alloc: Global) -> Result<Command<'a>, AllocError> {
+    let inputs = input_group(alloc)?;
+    begun(alloc)?.group(inputs)
+}
+
 fn with_forms<'a>(alloc: Global) -> Result<Command<'a>, AllocError> {
     let forms = form_group(alloc)?;
-    begun(alloc)?.group(forms)
+    with_inputs(alloc)?.group(forms)
 }
 
 fn with_statistics<'a>(alloc: Global) -> Result<Command<'a>, AllocError> {
@@ -487,6 +503,7 @@ fn base_arguments<'a>(alloc: Global, matches: &ArgMatches<'a>) -> Arguments<'a> 
     Arguments {
         task: task_of(matches),
         files: Vec::new(alloc),
+        example: matches.get_flag("example"),
         names: matches.get_str("names"),
         format: format_of(matches),
         all: matches.get_flag("all"),

@@ -5,6 +5,7 @@
 
 pub mod arguments;
 mod day;
+pub mod example;
 pub mod filter;
 pub mod inputs;
 pub mod kinds;

@@ -10,6 +10,7 @@ ghost use Rattle.tcshow_lib.specs.Streams.{ShowsEnd};
 
 use crate::arguments::{Arguments, Task, arguments_of};
 use crate::day::first_time;
+use crate::example::EXAMPLE;
 use crate::filter::{FilterError, FilterValues};
 use crate::inputs::{run_next, worse};
 use crate::kinds::{explain, is_known, put_schema_of_line, write_all_kinds};
@@ -179,7 +180,7 @@ fn show_named<R: AllocGlobal + Files + Input + Print, E: Write>(
     }
 }
 
-// Prints the messages of all files, or of standard input.
+// Prints the messages of all files, of standard input, or of the stored capture.
 fn show_files<R: AllocGlobal + Files + Input + Print, E: Write>(
     rt: &R,
     arguments: &Arguments<'_>,
@@ -187,6 +188,9 @@ fn show_files<R: AllocGlobal + Files + Input + Print, E: Write>(
     values: FilterValues<'_, '_>,
     errors: &mut E,
 ) -> Ended {
+    if arguments.example {
+        return show_reader(rt, arguments, names, values, "example", EXAMPLE, errors);
+    }
     match arguments.files.as_slice() {
         [] => show_reader(rt, arguments, names, values, INPUT, rt.reader(), errors),
         [file] => show_file(rt, arguments, names, values, *file, errors),
