@@ -384,7 +384,10 @@ fn begun<'a>(alloc: Global) -> Result<Command<'a>, AllocError> {
 
 // Inputs, which exclude one another.
 fn input_group<'a>(alloc: Global) -> Result<ArgGroup<'a>, AllocError> {
-    ArgGroup::new(alloc, "inputs").arg("FILE")?.arg("read")?.arg("example")
+    ArgGroup::new(alloc, "inputs")
+        .arg("FILE")?
+        .arg("read")?
+        .arg("example")
 }
 
 // Output formats, which exclude one another.

@@ -90,7 +90,16 @@ fn answers(rt: HostRuntime) {
     let options = all_in(OutputFormat::Json);
     assert!(rt; gives_of_hex(rt.alloc(), &options, ANSWERS, 0, Written::Is(&[JSON]), ""));
     let options = all_in(OutputFormat::Lines(false));
-    assert!(rt; gives_of_hex(rt.alloc(), &options, ANSWERS, 0, Written::Is(&[REFUSED_LINE, OTHER_LINES]), ""));
+    assert!(rt;
+        gives_of_hex(
+            rt.alloc(),
+            &options,
+            ANSWERS,
+            0,
+            Written::Is(&[REFUSED_LINE, OTHER_LINES]),
+            ""
+        )
+    );
     let options = chosen_in(OutputFormat::Lines(false), REFUSED_FLOWER);
     assert!(rt;
         gives_of_hex(

@@ -77,7 +77,10 @@ fn chooses_all(arguments: &Arguments<'_>) -> bool {
 // Words, and what they say.
 static WORDS: [(&[&str], &[Part]); 16] = [
     (&["tcshow"], &[Part::Defaults]),
-    (&["tcshow", "-s"], &[Part::Format(OutputFormat::Lines(true))]),
+    (
+        &["tcshow", "-s"],
+        &[Part::Format(OutputFormat::Lines(true))],
+    ),
     (&["tcshow", "-v"], &[Part::Format(OutputFormat::Outline)]),
     (
         &[

@@ -146,14 +146,11 @@ static MODIFIED_BIG: &str =
      0d00010066715f636f64656c000000000c0002000800020000280000";
 
 // The message on a line: with the time of its packet, after 250 seconds, and without a time.
-static TIMED: &str =
-    "22:13:20.123456 new qdisc fq_codel 1: dev 2 root limit 10240p\n";
+static TIMED: &str = "22:13:20.123456 new qdisc fq_codel 1: dev 2 root limit 10240p\n";
 
-static EARLY: &str =
-    "00:04:10.000000 new qdisc fq_codel 1: dev 2 root limit 10240p\n";
+static EARLY: &str = "00:04:10.000000 new qdisc fq_codel 1: dev 2 root limit 10240p\n";
 
-static UNTIMED: &str =
-    "new qdisc fq_codel 1: dev 2 root limit 10240p\n";
+static UNTIMED: &str = "new qdisc fq_codel 1: dev 2 root limit 10240p\n";
 
 // True if these texts are written of a capture, and the run ends with this status.
 fn is_shown(alloc: Global, capture: &str, status: u8, texts: &[&str]) -> bool {

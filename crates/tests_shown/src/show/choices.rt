@@ -275,8 +275,7 @@ static QDISCS: &str = "\
 34000000240000060400000000000000000000000800000000000100ffffffff000000000d00010066715f636f64656c00000000
 ";
 
-static CHOSEN: &str =
-    "new qdisc fq_codel 1: dev eth7 root\n";
+static CHOSEN: &str = "new qdisc fq_codel 1: dev eth7 root\n";
 
 // An action message without a netlink header, and what is shown of it.
 static BARE: &str = "00000000100001000c000100080001006e617400\n";
@@ -286,8 +285,7 @@ static BARE_LINE: &str = "- action nat -\n";
 // A filter without a netlink header: its kind says that it is one.
 static BARE_FILTER: &str = "0000000003000000010000000000ffff080001000a0001006261736963000000\n";
 
-static BARE_FILTER_LINE: &str =
-    "- filter basic 0x1 dev 3 parent ffff: pref 1 protocol ip\n";
+static BARE_FILTER_LINE: &str = "- filter basic 0x1 dev 3 parent ffff: pref 1 protocol ip\n";
 
 // True if a run by these words, where interfaces have these names, writes this and nothing else.
 fn writes(alloc: Global, words: &[&str], names: &[(u32, &str)], input: &str, want: &str) -> bool {
