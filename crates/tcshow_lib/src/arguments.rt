@@ -87,9 +87,10 @@ impl Colours {
 const ABOUT: &str =
     "Decode Linux traffic control messages (tc: qdiscs, classes, filters, chains, actions)
 
-FILE is a capture (pcap, pcapng), a file written by rtmon, a stream of netlink messages, or text
-with messages in hex. The format is detected. Without FILE, or if it is -, tcshow reads standard
-input. With several, a line ==> FILE <== precedes the messages of each, except with --json.";
+FILE is a capture (pcap, pcapng), a file written by rtmon, a stream of netlink messages, text with
+messages in hex, or lines of JSON as tcsave and tcshow --json write them. The format is detected.
+Without FILE, or if it is -, tcshow reads standard input. With several, a line ==> FILE <== precedes
+the messages of each, except with --json.";
 
 const NOTES: &str = "Examples:
   tcshow --example                       a first look, without a capture
@@ -117,7 +118,8 @@ Notes:
   Hex may contain spaces, colons, 0x prefixes and # comments. One message per line; or a dump with
   offsets (xxd, hexdump -C, tcpdump -x, Wireshark), in which offset 0 starts a new message; or lines
   of 60 digits and a shorter last one (xxd -p).
-  Packets, blocks and messages larger than 1 MiB are skipped and reported.
+  Packets, blocks and messages larger than 1 MiB are skipped and reported. Of JSON, all messages are
+  made before the first is printed, by the rules of tcmake; errors that the kernel returned are not.
   In outlines, ticks are packet scheduler ticks of 64 ns and clock_t units are 10 ms.
   Captures made on big-endian hosts can be opened, but their messages are reported as malformed.
 

@@ -8,6 +8,7 @@ mod day;
 pub mod example;
 pub mod filter;
 pub mod inputs;
+pub mod json;
 pub mod kinds;
 pub mod names;
 mod nearest;
