@@ -1,6 +1,6 @@
 //! Arguments of the program.
 
-use crate::options::OutputFormat;
+use crate::options::{OutputFormat, TimeFormat};
 use clap::{Arg, ArgAction, ArgGroup, ArgMatches, Command, Error, value_parser};
 use std::alloc::{AllocError, Global};
 use std::convert::AsStr;
@@ -30,6 +30,10 @@ pub struct Arguments<'a> {
     pub names: Option<&'a str>,
     /// Output format.
     pub format: OutputFormat,
+    /// How times of lines are written (`--time`).
+    pub time: TimeFormat,
+    /// True if lines have acknowledgements without a text too (`--acks`).
+    pub acks: bool,
     /// True if outlines have padding attributes too (`--all`).
     pub all: bool,
     /// Message type of lines of hex that have no netlink header (`--no-header`).
@@ -112,8 +116,9 @@ Notes:
   Handles are such as 1:10, ffff:, root, 800::800 or 0x1.
   Times are such as 1764028801.25 or 2026-11-26T14:00:00Z, or 20:00 (UTC) on the day of the first
   packet that has a time. --since and --until also drop messages that have no time.
-  --dev takes a name only if --names lists it. --type tclass stands for newtclass, deltclass and
-  gettclass. Hex that is a message only has no netlink header. Without --color, outlines have
+  --dev takes a number or a name: one in the capture (tcnl monitor --links), or one in --names.
+  --type tclass stands for newtclass, deltclass and gettclass. --time delta counts from the message
+  before, --time relative from the first, and --since takes what --time date and epoch print. Hex that is a message only has no netlink header. Without --color, outlines have
   color on a terminal, unless NO_COLOR is set.
   Hex may contain spaces, colons, 0x prefixes and # comments. One message per line; or a dump with
   offsets (xxd, hexdump -C, tcpdump -x, Wireshark), in which offset 0 starts a new message; or lines
@@ -159,7 +164,7 @@ enum Value {
 }
 
 // The options: name, value, heading and text of the help.
-static OPTIONS: [(&str, Value, &str, &str); 22] = [
+static OPTIONS: [(&str, Value, &str, &str); 24] = [
     (
         "example",
         Value::Nothing,
@@ -183,6 +188,18 @@ static OPTIONS: [(&str, Value, &str, &str); 22] = [
         Value::Nothing,
         FORMS,
         "Print statistics on the line of each object",
+    ),
+    (
+        "time",
+        Value::Word("FORMAT", &["date", "epoch", "delta", "relative"]),
+        FORMS,
+        "Print times so, instead of the time of day",
+    ),
+    (
+        "acks",
+        Value::Nothing,
+        FORMS,
+        "Print acknowledgements without a text too",
     ),
     (
         "outline",
@@ -400,12 +417,20 @@ fn form_group<'a>(alloc: Global) -> Result<ArgGroup<'a>, AllocError> {
         .arg("json")
 }
 
-// What excludes statistics: they are on lines only.
-fn statistics_group<'a>(alloc: Global) -> Result<ArgGroup<'a>, AllocError> {
-    ArgGroup::new(alloc, "counters")
+// Options of lines, which outlines and JSON exclude.
+fn lines_group<'a>(alloc: Global) -> Result<ArgGroup<'a>, AllocError> {
+    ArgGroup::new(alloc, "of_lines")
+        .multiple(true)
         .arg("statistics")?
-        .arg("outline")?
-        .arg("json")
+        .arg("time")?
+        .arg("acks")
+}
+
+fn with_conflicts<'a>(option: Arg<'a>, name: &str) -> Result<Arg<'a>, AllocError> {
+    match name {
+        "outline" | "json" => option.conflicts_with("of_lines"),
+        _ => Ok(option),
+    }
 }
 
 // Options about the tables, which exclude one another.
@@ -423,20 +448,21 @@ fn with_forms<'a>(alloc: Global) -> Result<Command<'a>, AllocError> {
     with_inputs(alloc)?.group(forms)
 }
 
-fn with_statistics<'a>(alloc: Global) -> Result<Command<'a>, AllocError> {
-    let statistics = statistics_group(alloc)?;
-    with_forms(alloc)?.group(statistics)
+fn with_lines<'a>(alloc: Global) -> Result<Command<'a>, AllocError> {
+    let lines = lines_group(alloc)?;
+    with_forms(alloc)?.group(lines)
 }
 
 fn with_groups<'a>(alloc: Global) -> Result<Command<'a>, AllocError> {
     let tables = table_group(alloc)?;
-    with_statistics(alloc)?.group(tables)
+    with_lines(alloc)?.group(tables)
 }
 
 fn command<'a>(alloc: Global) -> Result<Command<'a>, AllocError> {
     let mut command = with_groups(alloc)?.arg(read(alloc))?;
     for (name, value, heading, help) in &OPTIONS {
-        command = command.arg(option(alloc, *name, *value, *heading, *help))?;
+        let option = option(alloc, *name, *value, *heading, *help);
+        command = command.arg(with_conflicts(option, *name)?)?;
     }
     Ok(command)
 }
@@ -448,6 +474,16 @@ fn format_of(matches: &ArgMatches<'_>) -> OutputFormat {
         OutputFormat::Outline
     } else {
         OutputFormat::Lines(matches.get_flag("statistics"))
+    }
+}
+
+fn time_of(matches: &ArgMatches<'_>) -> TimeFormat {
+    match matches.get_str("time") {
+        Some("date") => TimeFormat::Date,
+        Some("epoch") => TimeFormat::Epoch,
+        Some("delta") => TimeFormat::Delta,
+        Some("relative") => TimeFormat::Relative,
+        _ => TimeFormat::Clock,
     }
 }
 
@@ -511,6 +547,8 @@ fn base_arguments<'a>(alloc: Global, matches: &ArgMatches<'a>) -> Arguments<'a> 
         example: matches.get_flag("example"),
         names: matches.get_str("names"),
         format: format_of(matches),
+        time: time_of(matches),
+        acks: matches.get_flag("acks"),
         all: matches.get_flag("all"),
         without_header: without_header(matches),
         kinds: Vec::new(alloc),

@@ -3,13 +3,16 @@
 use std::alloc::Global;
 use tc_capture::MessageType;
 use tcshow_lib::arguments::{Arguments, Colours, Task, arguments_of};
-use tcshow_lib::options::OutputFormat;
+use tcshow_lib::options::{OutputFormat, TimeFormat};
 
 // A part of the arguments.
 #[derive(Clone, Copy)]
 enum Part {
     Task(Task<'static>),
     Format(OutputFormat),
+    Time(TimeFormat),
+    Acks,
+    Example,
     Files(&'static [&'static str]),
     Names(&'static str),
     WithoutHeader(MessageType),
@@ -34,6 +37,9 @@ fn has(arguments: &Arguments<'_>, part: Part) -> bool {
     match part {
         Part::Task(task) => arguments.task == task,
         Part::Format(form) => arguments.format == form,
+        Part::Time(format) => arguments.time == format,
+        Part::Acks => arguments.acks,
+        Part::Example => arguments.example,
         Part::Files(files) => arguments.files.as_slice() == files,
         Part::Names(file) => arguments.names == Some(file),
         Part::WithoutHeader(holds) => arguments.without_header == Some(holds),
@@ -57,6 +63,9 @@ fn has(arguments: &Arguments<'_>, part: Part) -> bool {
 fn is_default(arguments: &Arguments<'_>) -> bool {
     arguments.format == OutputFormat::Lines(false)
         && arguments.files.is_empty()
+        && arguments.time == TimeFormat::Clock
+        && !arguments.acks
+        && !arguments.example
         && arguments.names.is_none()
         && arguments.without_header.is_none()
         && !arguments.all
@@ -75,13 +84,25 @@ fn chooses_all(arguments: &Arguments<'_>) -> bool {
 }
 
 // Words, and what they say.
-static WORDS: [(&[&str], &[Part]); 16] = [
+static WORDS: [(&[&str], &[Part]); 18] = [
     (&["tcshow"], &[Part::Defaults]),
     (
         &["tcshow", "-s"],
         &[Part::Format(OutputFormat::Lines(true))],
     ),
     (&["tcshow", "-v"], &[Part::Format(OutputFormat::Outline)]),
+    (
+        &["tcshow", "-s", "--time", "delta", "--acks"],
+        &[
+            Part::Format(OutputFormat::Lines(true)),
+            Part::Time(TimeFormat::Delta),
+            Part::Acks,
+        ],
+    ),
+    (
+        &["tcshow", "--time", "date", "--example"],
+        &[Part::Time(TimeFormat::Date), Part::Example],
+    ),
     (
         &[
             "tcshow", "-r", "a", "--json", "--names", "b", "--kind", "u32",
@@ -186,7 +207,7 @@ fn each_option(rt: HostRuntime) {
 }
 
 // Words that aren't taken, and the status.
-static OTHERS: [(&[&str], i32); 11] = [
+static OTHERS: [(&[&str], i32); 15] = [
     (&["tcshow", "--help"], 0),
     (&["tcshow", "--version"], 0),
     (&["tcshow", "a", "--read", "a"], 2),
@@ -195,6 +216,10 @@ static OTHERS: [(&[&str], i32); 11] = [
     (&["tcshow", "--json", "--outline"], 2),
     (&["tcshow", "-s", "--outline"], 2),
     (&["tcshow", "-s", "--json"], 2),
+    (&["tcshow", "--time", "date", "--outline"], 2),
+    (&["tcshow", "--acks", "--json"], 2),
+    (&["tcshow", "--time", "local"], 2),
+    (&["tcshow", "--example", "a"], 2),
     (&["tcshow", "--lines"], 2),
     (&["tcshow", "--no-header", "qdisc"], 2),
     (&["tcshow", "--color", "on"], 2),

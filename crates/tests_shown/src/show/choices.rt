@@ -152,7 +152,7 @@ fn times(rt: HostRuntime) {
 }
 
 // Options with words that aren't known, and a part of the complaint.
-static UNKNOWN: [(&str, &str, &str); 9] = [
+static UNKNOWN: [(&str, &str, &str); 8] = [
     (
         "--kind",
         "fq_code",
@@ -164,11 +164,6 @@ static UNKNOWN: [(&str, &str, &str); 9] = [
         "--type",
         "newclass",
         "unknown type 'newclass': a type is one of qdisc, tclass,",
-    ),
-    (
-        "--dev",
-        "eth0",
-        "unknown interface 'eth0': an interface is a number, or a name",
     ),
     (
         "--handle",
@@ -377,6 +372,20 @@ static LINKS: &str =
 34000000240000060100000000000000000000000200000000000100ffffffff000000000d00010066715f636f64656c00000000
 34000000240000060100000000000000000000000100000000000100ffffffff000000000d00010066715f636f64656c00000000
 ";
+
+// A message about an interface is chosen by the name that the capture has given it before.
+#[test]
+fn names_choose(rt: HostRuntime) {
+    assert!(rt;
+        writes(
+            rt.alloc(),
+            &["tcshow", "--dev", "dsl0"],
+            &[],
+            LINKS,
+            "new qdisc fq_codel 1: dev dsl0 root\n"
+        )
+    );
+}
 
 #[test]
 fn links_name(rt: HostRuntime) {

@@ -7,7 +7,7 @@ use std::test::Fail;
 use tc_capture::MessageType;
 use tc_outline::Interfaces;
 use tc_select::Filter;
-use tcshow_lib::options::{Options, OutputFormat};
+use tcshow_lib::options::{Options, OutputFormat, TimeFormat};
 use tcshow_lib::program::serve;
 use tests_data::{Format, file_of, messages};
 
@@ -25,6 +25,8 @@ pub(crate) fn chosen_in<'a>(form: OutputFormat, chosen: Filter<'a>) -> Options<'
         all: false,
         without_header: None,
         filter: chosen,
+        time: TimeFormat::Clock,
+        acks: false,
         names: Interfaces { names: &[] },
         has_summary: false,
     }
