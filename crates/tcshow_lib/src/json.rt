@@ -2,6 +2,8 @@
 
 ghost use Rattle.std.specs.Prelude.{◌≡◌, ◌||◌, Some, [], IfOk};
 ghost use Rattle.forms_kinds.specs.Table.{tc_tables};
+ghost use Rattle.std.specs.Io.KnownBytes.{Keeps};
+ghost use Rattle.tc_input.specs.Left.{left_of};
 ghost use Rattle.tcmake_lines.specs.Parts.{Ran};
 ghost use Rattle.tcmake_messages.specs.Answer.{IsAnswer, IsMessage, IsRefused};
 ghost use Rattle.tcmake_messages.specs.declared.making.Making.TheVariants.{Checked};
@@ -9,12 +11,15 @@ ghost use Rattle.tcshow_lib.specs.Json.{form_by};
 
 use crate::run::Ended;
 use forms_kinds::{ACTION_MESSAGE, TC_MESSAGE, TcTables};
+use forms_text::read_json;
 use program_io::{Reader, Writer, cause_of, write_text};
+use serde_json::Value;
 use std::alloc::{AllocError, Global};
 use std::io::{BufReader, Read, Write};
+use tc_input::{Input, MOST_PIECE};
 use tcmake_lines::OutputFormat;
 use tcmake_lines::run::run;
-use tcmake_messages::{Forms, Making, MessageMaker};
+use tcmake_messages::{Forms, Making, MessageMaker, is_head};
 use tcshow_input::Stop;
 
 /// The messages that lines of JSON show.
@@ -36,6 +41,70 @@ pub fn form_by(first: &[u8]) -> Option<OutputFormat>
         [b'{', ..] => Some(OutputFormat::Stream),
         _ => None,
     }
+}
+
+/// The names of interfaces in the head of a save, by their indices. The first bytes of the save were read; more are, to the end of its first line.
+pub(crate) fn names_in_head<R: Read>(
+    alloc: Global,
+    input: &mut Input<Global>,
+    reader: &mut R,
+) -> Result<Vec<(u32, String)>, program_io::Stop>
+    // No byte is lost.
+    ensures { IfOk result (λ _. Keeps (left_of input.old (R.remaining reader.old)) (left_of input.new (R.remaining reader.new))) }
+{
+    while input.rest().len() < MOST_PIECE && !has_line(input.rest()) {
+        if !input.more(reader)? {
+            return Ok(names_in(alloc, input.rest())?);
+        }
+    }
+    Ok(names_in(alloc, input.rest())?)
+}
+
+fn has_line(bytes: &[u8]) -> bool {
+    bytes.contains(&b'\n')
+}
+
+// The names in the first of these lines, if it is the head of a save.
+fn names_in(alloc: Global, lines: &[u8]) -> Result<Vec<(u32, String)>, AllocError> {
+    match read_json(alloc, line_at_front(lines)) {
+        Ok(head) if is_head(&head) => names_of(alloc, &head),
+        _ => Ok(Vec::new(alloc)),
+    }
+}
+
+fn line_at_front(lines: &[u8]) -> &[u8] {
+    lines.split(|byte| *byte == b'\n').next().unwrap_or(lines)
+}
+
+// The names in the head of a save.
+fn names_of(alloc: Global, head: &Value) -> Result<Vec<(u32, String)>, AllocError> {
+    let mut names = Vec::new(alloc);
+    let Some(held) = head.get("names") else {
+        return Ok(names);
+    };
+    let Some(members) = held.as_object() else {
+        return Ok(names);
+    };
+    for (index, name) in members {
+        if let (Ok(index), Some(name)) = (index.as_str().parse::<u32>(), name.as_str()) {
+            names.push((index, String::from_str(alloc, name)?))?;
+        }
+    }
+    Ok(names)
+}
+
+/// The names of both, the caller's first.
+pub(crate) fn joined<'a>(
+    alloc: Global,
+    given: &[(u32, &'a str)],
+    names: &'a [(u32, String)],
+) -> Result<Vec<(u32, &'a str)>, AllocError> {
+    let mut all = Vec::new(alloc);
+    all.extend_from_slice(given)?;
+    for (index, name) in names {
+        all.push((*index, name.as_str()))?;
+    }
+    Ok(all)
 }
 
 /// Makes the messages of all lines of JSON. Errors in lines are written to `errors`, after the name of the input.

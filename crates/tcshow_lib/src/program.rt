@@ -13,7 +13,7 @@ use crate::day::first_time;
 use crate::example::EXAMPLE;
 use crate::filter::{FilterError, FilterValues};
 use crate::inputs::{run_next, worse};
-use crate::json::{Made, form_by, made_of, with_fault};
+use crate::json::{Made, form_by, joined, made_of, names_in_head, with_fault};
 use crate::kinds::{explain, is_known, put_schema_of_line, write_all_kinds};
 use crate::names::names_in;
 use crate::options::{Options, OutputFormat, options_of};
@@ -239,15 +239,64 @@ fn show_reader<R: AllocGlobal + Print, I: Read + Drop, E: Write>(
 ) -> Ended {
     let mut reader = Reader::new(reader);
     match Begun::begin(rt.alloc(), &mut reader) {
-        Ok(input) => {
-            let form = form_by(input.first());
-            let whole = input.rest().chain(reader.into_inner());
-            match form {
-                None => show_bytes(rt, arguments, names, values, name, whole, errors),
-                Some(form) => { show_json(rt, arguments, names, values, name, form, whole, errors) }
+        Ok(input) => match form_by(input.first()) {
+            None => {
+                let whole = input.rest().chain(reader.into_inner());
+                show_bytes(rt, arguments, names, values, name, whole, errors)
             }
+            Some(form) => show_lines(rt, arguments, names, name, form, input, reader, errors),
+        },
+        Err(stop) => fail_to_read(rt.alloc(), stop, name, &reader, errors),
+    }
+}
+
+// Prints the messages that lines of JSON show, with the names of interfaces in their head too.
+fn show_lines<R: AllocGlobal + Print, I: Read + Drop, E: Write>(
+    rt: &R,
+    arguments: &Arguments<'_>,
+    names: &[(u32, &str)],
+    name: &str,
+    form: MadeFormat,
+    mut input: Begun<Global>,
+    mut reader: Reader<I>,
+    errors: &mut E,
+) -> Ended {
+    match names_in_head(rt.alloc(), &mut input, &mut reader) {
+        Ok(saved) => {
+            let whole = input.rest().chain(reader.into_inner());
+            show_named_lines(rt, arguments, names, &saved, name, form, whole, errors)
         }
         Err(stop) => fail_to_read(rt.alloc(), stop, name, &reader, errors),
+    }
+}
+
+fn show_named_lines<R: AllocGlobal + Print, I: Read + Drop, E: Write>(
+    rt: &R,
+    arguments: &Arguments<'_>,
+    names: &[(u32, &str)],
+    saved: &[(u32, String)],
+    name: &str,
+    form: MadeFormat,
+    reader: I,
+    errors: &mut E,
+) -> Ended {
+    let Ok(names) = joined(rt.alloc(), names, saved) else {
+        return fail_without_memory(errors);
+    };
+    match FilterValues::of_arguments(rt.alloc(), arguments, names.as_slice()) {
+        Ok(values) => {
+            show_json(
+                rt,
+                arguments,
+                names.as_slice(),
+                values,
+                name,
+                form,
+                reader,
+                errors,
+            )
+        }
+        Err(none) => complain_of_filter(rt.alloc(), none, errors),
     }
 }
 
