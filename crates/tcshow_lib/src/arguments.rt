@@ -107,9 +107,10 @@ const NOTES: &str = "Examples:
 
 Lines:
   A line has the time of day (UTC), a verb, the object, its kind and its handle, then what tc shows
-  of it. add, replace, change, del, get and dump are requests. is, new, gone, refused and warned are
-  the kernel's, and by 21644 is the port (often the process) that caused it. What has its usual
-  value is left out. No word has a blank. A line is no command: tc does not take it back.
+  of it. add, replace, change, del, get and dump are requests. is, new, gone, ok, refused, warned
+  and interrupted are the kernel's, and by 21644 is the port (often the process) that caused it.
+  What has its usual value is left out. No word has a blank. A line is no command: tc does not take
+  it back.
 
 Notes:
   Repeat a filter to allow several values; different filters must all match.
@@ -117,9 +118,10 @@ Notes:
   Times are such as 1764028801.25 or 2026-11-26T14:00:00Z, or 20:00 (UTC) on the day of the first
   packet that has a time. --since and --until also drop messages that have no time.
   --dev takes a number or a name: one in the capture (tcnl monitor --links), or one in --names.
-  --type tclass stands for newtclass, deltclass and gettclass. --time delta counts from the message
-  before, --time relative from the first, and --since takes what --time date and epoch print. Hex that is a message only has no netlink header. Without --color, outlines have
-  color on a terminal, unless NO_COLOR is set.
+  --type tclass stands for newtclass, deltclass and gettclass. Hex that is a message only has no
+  netlink header. --time delta counts from the message before, relative from the first. --since
+  takes what --time date and epoch print. Without --color, outlines have color on a terminal, unless
+  NO_COLOR is set.
   Hex may contain spaces, colons, 0x prefixes and # comments. One message per line; or a dump with
   offsets (xxd, hexdump -C, tcpdump -x, Wireshark), in which offset 0 starts a new message; or lines
   of 60 digits and a shorter last one (xxd -p).

@@ -67,8 +67,8 @@ fn has_line(bytes: &[u8]) -> bool {
 // The names in the first of these lines, if it is the head of a save.
 fn names_in(alloc: Global, lines: &[u8]) -> Result<Vec<(u32, String)>, AllocError> {
     match read_json(alloc, line_at_front(lines)) {
-        Ok(head) if is_head(&head) => names_of(alloc, &head),
-        _ => Ok(Vec::new(alloc)),
+        Ok(head) => names_of(alloc, &head),
+        Err(_error) => Ok(Vec::new(alloc)),
     }
 }
 
@@ -76,9 +76,12 @@ fn line_at_front(lines: &[u8]) -> &[u8] {
     lines.split(|byte| *byte == b'\n').next().unwrap_or(lines)
 }
 
-// The names in the head of a save.
+// The names in the head of a save. Another line has none.
 fn names_of(alloc: Global, head: &Value) -> Result<Vec<(u32, String)>, AllocError> {
     let mut names = Vec::new(alloc);
+    if !is_head(head) {
+        return Ok(names);
+    }
     let Some(held) = head.get("names") else {
         return Ok(names);
     };
