@@ -2,7 +2,8 @@
 use Rattle.std.proofs.Common.{◌≡◌, ◌∙◌, ◌∷◌, [], ◌==◌, ◌&&◌, ◌||◌, ℕ, Bool, List, Option, Some, None, String, length, map, string_bytes, refl, sym, ap}
 use Rattle.std.specs.Borrow.{Bor}
 use Rattle.std.specs.BTreeMap.{BTreeMap, insert_entry}
-use Rattle.std.specs.Ordering.{Ordering, Less, Equal, Greater, match_ordering, nat_cmp}
+use Rattle.std.proofs.Common.{Ordering, Less, Equal, Greater}
+use Rattle.std.specs.Ordering.{match_ordering, nat_cmp}
 use Rattle.tc_columns.specs.Names.{names_in}
 use Rattle.tc_select.specs.declared.filter.Filter.{Filter}
 use Rattle.tc_select.specs.Filter.{Message as Properties, allows, is_among, is_called, is_kind, is_within, matches, matches_chain, matches_kind, matches_type}
@@ -10,8 +11,7 @@ use Rattle.tc_select.specs.Header.{handle_in, interface_in, parent_in}
 use Rattle.tcshow_input.specs.Known.{with_name}
 
 module _ {A : Type 0} where
-  bytes_of : ℕ × String A → ℕ × List ℕ
-  unfolding bytes_of
+  abbrev bytes_of : ℕ × String A → ℕ × List ℕ
   bytes_of link = (link.0, string_bytes link.1)
 
   map_ordered : (o : Ordering) (a b c : List (ℕ × String A))
@@ -24,7 +24,8 @@ module _ {A : Type 0} where
       → map bytes_of (insert_entry nat_cmp es k v) ≡ insert_entry nat_cmp (map bytes_of es) k (string_bytes v)
   map_insert [] k v = refl
   map_insert (e ∷ es) k v =
-      map_ordered (nat_cmp k e.0) _ _ _ ∙ ap (λ (l : List (ℕ × List ℕ)). match_ordering (nat_cmp k e.0) _ _ (bytes_of e ∷ l)) (map_insert es k v)
+      map_ordered (nat_cmp k e.0) _ _ _ ∙ ap (λ (l : List (ℕ × List ℕ)). match_ordering (nat_cmp k e.0) ((k, string_bytes v) ∷ map bytes_of (e ∷ es)) ((e.0, string_bytes v) ∷ map bytes_of es) (bytes_of e ∷ l))
+      (map_insert es k v)
 
   -- a name that is put into the map is the last of its interface
   pub named : (old new : BTreeMap ℕ (String A)) (index : ℕ) (name : String A) (text : List ℕ) → new.entries ≡ insert_entry nat_cmp old.entries index name

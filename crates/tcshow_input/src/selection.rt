@@ -1,11 +1,15 @@
 //! Which messages are printed.
 
-ghost use Rattle.std.specs.Prelude.{◌≡◌, [], option_map};
+ghost use Rattle.std.specs.Prelude.{◌≡◌, ◌++◌, [], option_map};
+ghost use Rattle.tc_columns.specs.Names.{names_in};
 ghost use Rattle.tc_select.specs.Filter.{message_view as properties_view};
 ghost use Rattle.tcshow_json.specs.Messages.{header_view, message_view};
-ghost use Rattle.tcshow_input.specs.Selection.{type_in, properties_of};
+ghost use Rattle.tcshow_input.specs.Known.{given_in};
+ghost use Rattle.tcshow_input.specs.Selection.{is_matched, type_in, properties_of};
 
 use crate::attributes::columns_of;
+use crate::links::Links;
+use crate::options::Options;
 use crate::printer::Printer;
 use std::alloc::{AllocError, Allocator};
 use tc_lines::Columns;
@@ -14,7 +18,7 @@ use tc_select::header::interface_in;
 use tcshow_json::{Message, NetlinkHeader, is_refused};
 
 // The properties of a message that filters look at, with this name of its interface.
-fn properties_of<'a>(found: &Message<'a>, name: Option<&'a str>) -> Properties<'a>
+fn properties_of<'p>(found: &'p Message<'_>, name: Option<&'p str>) -> Properties<'p>
     ensures { properties_view result
         ≡ record (properties_of [] (message_view found.now)) { name = option_map (λ n. n.now) name.entry } }
 {
@@ -33,6 +37,20 @@ fn type_in(header: &Option<NetlinkHeader>) -> Option<u16>
     match header {
         Some(header) => Some(header.kind),
         None => None,
+    }
+}
+
+// True if the filter matches a message, with the names of interfaces that are known.
+fn is_matched<'x>(options: &Options<'x>, links: &'x Links, found: &'x Message<'x>) -> bool
+    ensures { result ≡ is_matched (given_in options.now ++ names_in links.now.names) options.now.filter (message_view found.now) }
+{
+    let columns = columns_of(options, links, found);
+    match interface_in(found.holds, found.payload) {
+        Some(number) => {
+            let name = columns.interface(u64::from(number));
+            options.filter.matches(&properties_of(found, name))
+        }
+        None => options.filter.matches(&properties_of(found, None)),
     }
 }
 
@@ -62,21 +80,10 @@ impl<'a, A: Allocator + Copy> Printer<'a, A> {
     pub(crate) fn matches_request(&self, found: &Message<'_>) -> bool
         ensures { result ≡ is_matched (names_by (state_of self.now).before) (state_of self.now).filter (message_view found.now) }
     {
-        if self.options.filter.names.is_empty() {
-            return self.options.filter.matches(&properties_of(found, None));
+        let filter = self.options.filter;
+        if filter.names.is_empty() {
+            return filter.matches(&properties_of(found, None));
         }
-        self.matches_name(found)
-    }
-
-    // The same for a filter with names of interfaces.
-    fn matches_name(&self, found: &Message<'_>) -> bool
-        ensures { result ≡ is_matched (names_by (state_of self.now).before) (state_of self.now).filter (message_view found.now) }
-    {
-        let columns = columns_of(self.options, &self.links, found);
-        let name = match interface_in(found.holds, found.payload) {
-            Some(number) => columns.interface(u64::from(number)),
-            None => None,
-        };
-        self.options.filter.matches(&properties_of(found, name))
+        is_matched(self.options, &self.links, found)
     }
 }
