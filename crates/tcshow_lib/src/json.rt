@@ -1,6 +1,6 @@
 //! Lines of JSON as an input, as `tcshow --json` and `tcsave` write them.
 
-ghost use Rattle.std.specs.Prelude.{◌≡◌, ◌||◌, Some, [], IfOk};
+ghost use Rattle.std.specs.Prelude.{◌≡◌, ◌||◌, Some, [], IfOk, OnOk};
 ghost use Rattle.forms_kinds.specs.Table.{tc_tables};
 ghost use Rattle.std.specs.Io.KnownBytes.{Keeps};
 ghost use Rattle.tc_input.specs.Left.{left_of};
@@ -52,12 +52,23 @@ pub(crate) fn names_in_head<R: Read>(
     // No byte is lost.
     ensures { IfOk result (λ _. Keeps (left_of input.old (R.remaining reader.old)) (left_of input.new (R.remaining reader.new))) }
 {
-    while input.rest().len() < MOST_PIECE && !has_line(input.rest()) {
+    read_line(input, reader)?;
+    Ok(names_in(alloc, input.rest())?)
+}
+
+// Reads more of the first line, but at most a MiB.
+fn read_line<R: Read>(input: &mut Input<Global>, reader: &mut R) -> Result<(), program_io::Stop>
+    ensures { OnOk result (Keeps (left_of input.old (R.remaining reader.old)) (left_of input.new (R.remaining reader.new))) }
+{
+    'parts: while input.rest().len() < MOST_PIECE {
+        if has_line(input.rest()) {
+            return Ok(());
+        }
         if !input.more(reader)? {
-            return Ok(names_in(alloc, input.rest())?);
+            return Ok(());
         }
     }
-    Ok(names_in(alloc, input.rest())?)
+    Ok(())
 }
 
 fn has_line(bytes: &[u8]) -> bool {
@@ -120,7 +131,7 @@ pub fn made_of<R: Read + Drop, E: Write>(
 ) -> Result<Made, Stop>
     // These are the bytes that `tcmake` writes for these lines.
     ensures { IfOk result (λ made. Ran (IsMessage tc_tables TC_MESSAGE ACTION_MESSAGE Checked) IsAnswer
-        (IsRefused tc_tables TC_MESSAGE ACTION_MESSAGE Checked) form made.has_wrong (R.remaining reader.entry) (Some []) (Some made.bytes.items)) }
+        (IsRefused tc_tables TC_MESSAGE ACTION_MESSAGE Checked) form made.has_wrong (R.remaining reader) (Some []) (Some made.bytes.items)) }
 {
     let maker = MessageMaker {
         alloc,
