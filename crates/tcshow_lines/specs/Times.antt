@@ -37,7 +37,7 @@ epoch_text t = decimal t.seconds ++ (46 ∷ fraction t.nanoseconds)
 unfoldable pub place_in : (ℕ → ℕ) → ℕ → ℕ → ℕ → Place
 place_in length zero first n = record { part = first; before = n }
 place_in length (suc more) first n =
-    if nat_lt n (length first) then record { part = first; before = n } else place_in length more (suc first) (n - length first)
+    if nat_lt n (length first) then record { part = first; before = n } else place_in length more (first + 1) (n - length first)
 
 -- month and day; year, month and day
 abbrev pub month_text : Place → List ℕ

@@ -126,10 +126,10 @@ fn month_length(leap: bool, month: u64) -> u64
 }
 
 // The year of a day, given the days from the first of January 1970 to it, at most so many years later.
-#[tactic(auto, using(crate::proofs::Places::place_found, crate::proofs::Places::place_later, crate::proofs::Places::place_last))]
 fn year_at(years: u64, days: u64) -> Place
     requires { years ≤ 8029 }
     ensures place { result ≡ place_in year_length years 1970 days }
+    ensures few { result.before ≤ days }
 {
     let mut place = Place {
         part: 1970,
@@ -149,10 +149,10 @@ fn year_at(years: u64, days: u64) -> Place
 }
 
 // The month of a day, given the days before it in its year, at most so many months later.
-#[tactic(auto, using(crate::proofs::Places::place_found, crate::proofs::Places::place_later, crate::proofs::Places::place_last))]
 fn month_at(leap: bool, months: u64, days: u64) -> Place
     requires { months ≤ 11 }
     ensures place { result ≡ place_in (month_length leap) months 1 days }
+    ensures few { result.before ≤ days }
 {
     let mut place = Place {
         part: 1,
@@ -173,6 +173,7 @@ fn month_at(leap: bool, months: u64, days: u64) -> Place
 
 // Appends the date of a day in a year.
 fn put_day(out: &mut Vec<u8>, year: &Place) -> Result<(), AllocError>
+    requires { year.now.before ≤ 4000000 }
     ensures { OnOk result (out.new.items ≡ out.old.items ++ day_text year.now) }
 {
     put_four(out, year.part)?;
@@ -180,7 +181,7 @@ fn put_day(out: &mut Vec<u8>, year: &Place) -> Result<(), AllocError>
     let month = month_at(is_leap(year.part), 11, year.before);
     put_two(out, month.part)?;
     out.extend_from_slice(b"-")?;
-    put_two(out, month.before.saturating_add(1))
+    put_two(out, month.before + 1)
 }
 
 // The first second of the year 10000.
