@@ -1,5 +1,5 @@
 -- The first words of a line, and the others.
-use Rattle.std.proofs.Common.{◌≡◌, ◌∙◌, ◌++◌, ◌∷◌, [], List, ℕ, ap, sym, append_assoc, append-nil}
+use Rattle.std.proofs.Common.{◌≡◌, ◌∙◌, ◌++◌, ◌∷◌, [], List, ℕ, ap, append_assoc, append-nil}
 use Rattle.std.specs.Prelude.{None, Option, Some}
 use Rattle.tc_brief.specs.Words.{spaced, word, written}
 use Rattle.tcshow_lines.specs.Begins.{timed, words_text}

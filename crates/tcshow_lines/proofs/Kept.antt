@@ -1,5 +1,5 @@
 -- What is kept, seen otherwise.
-use Rattle.std.proofs.Common.{◌≡◌, ◌∙◌, ◌++◌, ◌∷◌, [], List, ℕ, Bool, true, false, refl, sym, ap, length}
+use Rattle.std.proofs.Common.{◌≡◌, ◌∙◌, ◌++◌, ◌∷◌, [], List, suc, Bool, true, false, refl, sym, ap, length}
 use Rattle.std.specs.Prelude.{drop, if◌then◌else◌, map, nat_lt}
 use Rattle.tcshow_lines.specs.Past.{kept}
 
@@ -10,7 +10,7 @@ module _ {A B : Type 0} (f : A → B) where
 
   map_length : (xs : List A) → length (map f xs) ≡ length xs
   map_length [] = refl
-  map_length (x ∷ xs) = ap (λ n. 1 + n) (map_length xs)
+  map_length (x ∷ xs) = ap suc (map_length xs)
 
   map_drop : (xs : List A) → map f (drop 1 xs) ≡ drop 1 (map f xs)
   map_drop [] = refl

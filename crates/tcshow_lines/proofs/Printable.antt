@@ -113,6 +113,9 @@ is_said begin stats port m object about names fault end text o r f e h =
     ∙ ap (λ (z : List ℕ). with (object_in (root_of m)) (root_of m) z) e in
     record { names = names; fault = fault; is_fault = f; line = sym same ∙ h }
 
+pub said_equal : (b c : List ℕ) (stats : Bool) (p q : ℕ) (m : Message) (text : List ℕ) → b ≡ c → p ≡ q → IsSaid b stats p m text → IsSaid c stats q m text
+said_equal b c stats p q m text e f h = subst (λ (n : ℕ). IsSaid c stats n m text) f (subst (λ (begin : List ℕ). IsSaid begin stats p m text) e h)
+
 -- ---- answers
 
 byte_shown : (b : ℕ) → IsShown true (word_byte b)
@@ -157,3 +160,8 @@ asked_ended begin stats m None text b h =
 asked_ended begin stats m (Some bytes) text b h =
     said_ended (request_begin begin (record m { payload = bytes })) stats 0 (record m { payload = bytes }) text
     (begin_shown begin (record m { payload = bytes }) b) h
+
+pub asked_equal : (b c : List ℕ) (stats : Bool) (m : Message) (bytes others : Option (List ℕ)) (text : List ℕ) → b ≡ c → bytes ≡ others
+    → IsAsked b stats m bytes text → IsAsked c stats m others text
+asked_equal b c stats m bytes others text e f h =
+    subst (λ (o : Option (List ℕ)). IsAsked c stats m o text) f (subst (λ (begin : List ℕ). IsAsked begin stats m bytes text) e h)

@@ -2,7 +2,7 @@
 use Rattle.byteorder.specs.Endian.{little_number}
 use Rattle.nla_frames.specs.Value.{strip}
 use Rattle.std.specs.Prelude.{Bool, List, None, Option, Some, [], codes, if◌then◌else◌, is_some, length, nat_le, not, option_and_then, option_map, ℕ}
-use Rattle.std.specs.Prelude.{◌%◌, ◌&&◌, ◌++◌, ◌-◌, ◌==◌, ◌≡◌, ◌||◌, ◌∷◌, ◌^◌, false}
+use Rattle.std.specs.Prelude.{◌%◌, ◌&&◌, ◌++◌, ◌-◌, ◌==◌, ◌≡◌, ◌||◌, ◌∷◌, false}
 use Rattle.tc_brief.specs.Lines.{message_lines}
 use Rattle.tc_brief.specs.Words.{word_byte, written}
 use Rattle.tc_capture.specs.Message.{Message as Netlink}

@@ -256,7 +256,7 @@ fn lines_of_bytes(
     statistics: bool,
     request: &Message<'_>,
 ) -> Result<Vec<u8>, AllocError>
-    ensures { IfOk result (λ text. IsSaid (request_begin begin.entry.items (message_view request.now)) statistics 0 (message_view request.now) text.items) }
+    ensures { IfOk result (λ text. IsSaid (request_begin begin.items (message_view request.now)) statistics 0 (message_view request.now) text.items) }
 {
     put_asked(alloc, &mut begin, request)?;
     let lines = lines_said(
@@ -282,7 +282,7 @@ pub(crate) fn lines_asked(
     request: &Message<'_>,
     bytes: Option<&[u8]>,
 ) -> Result<Vec<u8>, AllocError>
-    ensures { IfOk result (λ text. IsAsked begin.entry.items statistics (message_view request.now) (option_map (λ bytes. bytes.now) bytes.entry) text.items) }
+    ensures { IfOk result (λ text. IsAsked begin.items statistics (message_view request.now) (option_map (λ bytes. bytes.now) bytes.entry) text.items) }
 {
     match bytes {
         Some(payload) => {

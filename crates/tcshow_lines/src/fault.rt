@@ -23,7 +23,7 @@ pub(crate) fn end_of(alloc: Global, fault: &Option<Fault>) -> Result<Vec<u8>, Al
 
 // What is malformed, and where.
 fn malformed(alloc: Global, fault: &Fault) -> Result<Vec<u8>, AllocError>
-    ensures { IfOk result (λ text. (names : List ℕ) × (n : ℕ) × (text.items ≡ written (malformed_words fault.now.error names n))) }
+    ensures { IfOk result (λ text. (words : List (List ℕ)) × IsFault (Some fault.now.error) words × (text.items ≡ written words)) }
 {
     let names = names_of(alloc, &fault.path)?;
     malformed_at(alloc, &fault.error, names.as_str(), fault.offset as u64)

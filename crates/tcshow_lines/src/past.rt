@@ -1,6 +1,6 @@
 //! What was in the capture before.
 
-ghost use Rattle.std.specs.Prelude.{◌<◌, ◌≡◌, ◌++◌, ◌∷◌, [], OnOk, IfOk, length, option_map};
+ghost use Rattle.std.specs.Prelude.{◌<◌, ◌≡◌, ◌++◌, ◌∷◌, [], OnOk, IfOk, Some, length, option_map};
 ghost use Rattle.tcshow_json.specs.Messages.{header_view, message_view};
 ghost use Rattle.tcshow_lines.specs.Past.{bytes_kept, has_flag, headers_view, interrupted_with, kept, or_time, request_view, requests_view, requests_with};
 
@@ -113,7 +113,6 @@ impl Requests {
 }
 
 // Keeps a message, if it is a request.
-#[tactic(auto, using(crate::proofs::Kept::kept_push))]
 fn note_request(
     alloc: Global,
     requests: &mut Vec<Request>,
@@ -123,12 +122,26 @@ fn note_request(
         ≡ requests_with (requests_view requests.old.items) (message_view found.now) (option_map header_view found.now.header)) }
 {
     match &found.header {
-        Some(header) if has_flag(header.flags, NLM_F_REQUEST) => {
-            let request = request_of(alloc, header, found)?;
-            keep(requests, request)
-        }
-        _ => Ok(()),
+        Some(header) => note_headed(alloc, requests, header, found),
+        None => Ok(()),
     }
+}
+
+// Keeps a message with this header, if it is a request.
+fn note_headed(
+    alloc: Global,
+    requests: &mut Vec<Request>,
+    header: &NetlinkHeader,
+    found: &Message<'_>,
+) -> Result<(), AllocError>
+    ensures { OnOk result (requests_view requests.new.items
+        ≡ requests_with (requests_view requests.old.items) (message_view found.now) (Some (header_view header.now))) }
+{
+    if !has_flag(header.flags, NLM_F_REQUEST) {
+        return Ok(());
+    }
+    let request = request_of(alloc, header, found)?;
+    keep_request(requests, request)
 }
 
 // Removes the first if there are 1,024.
@@ -142,15 +155,26 @@ fn make_room<T: Drop>(all: &mut Vec<T>)
 
 // Keeps one more.
 fn keep<T: Drop>(all: &mut Vec<T>, one: T) -> Result<(), AllocError>
-    ensures { OnOk result (all.new.items ≡ kept all.old.items ++ one.entry ∷ []) }
+    ensures { OnOk result (all.new.items ≡ kept all.old.items ++ one ∷ []) }
 {
     make_room(all);
     all.push(one)?;
     Ok(())
 }
 
+fn keep_request(requests: &mut Vec<Request>, request: Request) -> Result<(), AllocError>
+    ensures { OnOk result (requests_view requests.new.items ≡ kept (requests_view requests.old.items) ++ request_view request ∷ []) }
+{
+    keep(requests, request)
+}
+
+fn keep_header(headers: &mut Vec<NetlinkHeader>, header: NetlinkHeader) -> Result<(), AllocError>
+    ensures { OnOk result (headers_view headers.new.items ≡ kept (headers_view headers.old.items) ++ header_view header ∷ []) }
+{
+    keep(headers, header)
+}
+
 // Keeps the header of a message of an interrupted dump.
-#[tactic(auto, using(crate::proofs::Kept::kept_push))]
 fn note_interrupted(
     interrupted: &mut Vec<NetlinkHeader>,
     header: &Option<NetlinkHeader>,
@@ -159,7 +183,20 @@ fn note_interrupted(
         ≡ interrupted_with (headers_view interrupted.old.items) (option_map header_view header.now)) }
 {
     match header {
-        Some(header) if has_flag(header.flags, NLM_F_DUMP_INTR) => { keep(interrupted, *header) }
-        _ => Ok(()),
+        Some(header) => note_header(interrupted, header),
+        None => Ok(()),
     }
+}
+
+fn note_header(
+    interrupted: &mut Vec<NetlinkHeader>,
+    header: &NetlinkHeader,
+) -> Result<(), AllocError>
+    ensures { OnOk result (headers_view interrupted.new.items
+        ≡ interrupted_with (headers_view interrupted.old.items) (Some (header_view header.now))) }
+{
+    if !has_flag(header.flags, NLM_F_DUMP_INTR) {
+        return Ok(());
+    }
+    keep_header(interrupted, *header)
 }
