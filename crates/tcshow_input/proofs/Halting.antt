@@ -11,7 +11,7 @@ use Rattle.program_io.specs.Written.{GrowsByFront}
 use Rattle.tcshow_input.specs.declared.stop.Stop.{Stop}
 use Rattle.tcshow_input.specs.declared.stop.Stop.TheVariants.{NoMemory}
 use Rattle.tcshow_input.specs.Reading.{GivesFirst, text_left}
-use Rattle.tcshow_input.specs.Shown.{after_all}
+use Rattle.tcshow_input.specs.Known.{after_all}
 use Rattle.tcshow_input.specs.State.{State, Halts, Progress, Puts, Stops}
 use Rattle.tcshow_input.proofs.InOrder.{gives_none, gives_then}
 use Rattle.tcshow_input.proofs.Progress.{progress_none, progress_puts}
