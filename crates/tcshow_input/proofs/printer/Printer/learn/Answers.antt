@@ -1,6 +1,5 @@
-use Rattle.std.proofs.Common.{◌≡◌, ◌∙◌, ◌∷◌, [], ℕ, List, ap, sym, subst, option_map}
+use Rattle.std.proofs.Common.{◌∙◌, ◌∷◌, [], ℕ, List, ap, sym, subst, option_map}
 use Rattle.std.proofs.lemmas.Result.{on_ok_weaker}
-use Rattle.tc_capture.specs.Message.{message_of}
 use Rattle.tc_columns.specs.Names.{names_in}
 use Rattle.tc_select.specs.Links.{Link}
 use Rattle.tc_select.specs.Names.{name_view}
