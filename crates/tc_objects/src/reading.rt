@@ -19,7 +19,7 @@ ghost use Rattle.tc_objects.specs.States.{action_named, actions_named};
 ghost use Rattle.tc_objects.specs.declared.dump.Dump.TheVariants.{Of};
 ghost use Rattle.tc_objects.specs.declared.shown.Sort.TheVariants.{Class as ClassSort, Qdisc as QdiscSort};
 
-use crate::classes::{classes_of, kind_of};
+use crate::classes::classes_of;
 use crate::config::{MADE, NEVER};
 use crate::configured::{configured, plain};
 use crate::dump::Dump;
@@ -42,8 +42,8 @@ use tc_plan::{
 };
 use tc_records::{TcActionMessageHeader, TcHandle};
 use tc_restore::{
-    Object, RestoreError, actions_of_filter, kind_of_action, request_of, request_of_actions,
-    standalone_index,
+    Object, RestoreError, actions_of_filter, kind_of_action, kind_of_message, request_of,
+    request_of_actions, standalone_index,
 };
 
 /// The origin of an object.
@@ -427,7 +427,7 @@ fn with_priority<A: Allocator + Copy>(
 {
     let protocol = message.header.info % 0x1_0000;
     let mut text = Vec::from_slice(alloc, &protocol.to_le_bytes())?;
-    text.extend_from_slice(kind_of(message).as_bytes())?;
+    text.extend_from_slice(kind_of_message(message).as_bytes())?;
     let others = with_places(Vec::new(alloc), known, at)?;
     let config = plain(alloc, MADE, &text)?;
     let shown = priority_shown(alloc, at, others, config);
@@ -476,7 +476,7 @@ fn shown_of<A: Allocator + Copy>(
         ≡ key_at at.sort at.index at.parent at.chain at.priority (handle_named known.now.roots.items object message)) }
 {
     let handle = handle_named(&known.roots, object, &message);
-    let kind = String::from_str(alloc, kind_of(&message))?;
+    let kind = String::from_str(alloc, kind_of_message(&message))?;
     let classes = match object {
         Object::Filter => classes_of(alloc, &message)?,
         _ => Vec::new(alloc),
