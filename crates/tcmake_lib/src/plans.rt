@@ -177,15 +177,19 @@ pub fn state_of_lines<T: Tables, R: BufRead>(
     let lines = read_lines(alloc, forms, reading, reader)?;
     let mut remarks = Lines::new(alloc);
     let found = state_in(alloc, Source::Wanted, there, lines, &mut remarks)?;
-    let is_void = remarks.is_void;
-    let state = match found {
-        Some((state, _)) if !is_void => Some(state),
-        _ => None,
-    };
-    Ok(LineState {
-        state,
-        remarks: remarks.remarks,
-    })
+    let Lines {
+        remarks,
+        is_void,
+        ..
+    } = remarks;
+    let state = if is_void { None } else { state_alone(found) };
+    Ok(LineState { state, remarks })
+}
+
+// The state without the numbers of lines.
+fn state_alone(found: Option<(State<Global>, Numbers)>) -> Option<State<Global>> {
+    let (state, _numbers) = found?;
+    Some(state)
 }
 
 // The state that lines show, and the numbers of their lines; what is wrong with them is kept.
