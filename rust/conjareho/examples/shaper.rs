@@ -3,9 +3,9 @@
 use conjareho::kinds::action::{Gen, TcAct};
 use conjareho::kinds::actions::{mirred::*, tunnel_key::*};
 use conjareho::kinds::filters::{flower::*, u32::*};
-use conjareho::kinds::qdiscs::{cake::*, fq_codel::*, htb::*, netem::*};
+use conjareho::kinds::qdiscs::{cake::*, fq_codel::*, netem::*};
 use conjareho::kinds::shared::eth_p;
-use conjareho::kinds::{ActionOptions, Handle, HtbClass, Message, Prob, Rate, police};
+use conjareho::kinds::{ActionOptions, Handle, Htb, HtbClass, Message, Prob, Rate, police};
 use conjareho::requests::{Object, Verb};
 use std::time::Duration;
 
@@ -25,7 +25,6 @@ fn main() -> Result<(), Box<dyn std::error::Error>> {
     ];
     let https = FlowerAttr::list().with_ip_proto(6).with_ipv4_dst([10, 8, 0, 1]).with_ipv4_dst_mask([255; 4]);
     let https = https.with_tcp_dst(443).with_actions(steps).with_flags(TcaClsFlagsBits(0)).with_eth_type(eth_p::IP);
-    let root = HtbGlob { version: 3, rate2quantum: 10, defcls: 0x30, ..HtbGlob::default() };
     let fast = HtbClass { ceil: "100mbit".parse()?, quantum: 3000, prio: 1, ..HtbClass::new("60mbit".parse()?) };
     let slow = HtbClass { ceil: "50mbit".parse()?, quantum: 1514, prio: 2, ..HtbClass::new("10mbit".parse()?) };
     let queue = FqCodelAttr::list().with_limit(1000).with_interval(100_000).with_target(5000);
@@ -34,7 +33,7 @@ fn main() -> Result<(), Box<dyn std::error::Error>> {
     let requests = [
         (Object::Qdisc, Message::on(1).handle("ffff:".parse()?).parent(Handle::CLSACT).with_kind("clsact")),
         (Object::Filter, Message::on(1).parent(Handle::EGRESS).filter(10, eth_p::IP).of(https)),
-        (Object::Qdisc, at("1:", "root")?.of(HtbAttr::list().with_init(root))),
+        (Object::Qdisc, at("1:", "root")?.of(Htb::new(0x30))),
         (Object::Class, at("1:1", "1:")?.of(HtbClass::new("100mbit".parse()?))),
         (Object::Class, at("1:10", "1:1")?.of(fast)),
         (Object::Class, at("1:30", "1:1")?.of(slow)),

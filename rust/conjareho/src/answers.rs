@@ -35,13 +35,13 @@ const TEXT: u16 = 1;
 /// The outcome of a request: an error of the kernel, or an acknowledgement.
 #[derive(Clone, PartialEq, Eq, Hash, Debug, Default)]
 pub struct Answer {
-    /// The number of the error, such as 22 for `EINVAL`; 0 of an acknowledgement.
+    /// The number of the error, such as 22 for `EINVAL`, or 0 of an acknowledgement.
     pub errno: u32,
     /// The text of the extended acknowledgement.
     pub text: Option<String>,
     /// The offset in the request of the attribute that the kernel refused, in bytes, the netlink header among them.
     pub offset: Option<usize>,
-    /// The path of that attribute in the request, as a JSON pointer; only with the feature `serde`, whose tables have the names.
+    /// The path of that attribute in the request, as a JSON pointer. Only with the feature `serde`, whose tables have the names.
     pub path: Option<String>,
 }
 
@@ -171,7 +171,7 @@ impl<'r> Answers<'r> {
     ///
     /// # Errors
     ///
-    /// `Refused` if the kernel answers with an error, at the end of a dump too; `Broken` if a message is cut.
+    /// `Refused` if the kernel answers with an error, at the end of a dump too. `Broken` if a message is cut.
     pub fn read<'d>(&mut self, datagram: &'d [u8]) -> Result<Vec<NetlinkMessage<'d>>, AnswerError> {
         let (flags, sequence) = ((self.number(4) >> 16) as u16, self.number(8));
         let mut found = Vec::new();

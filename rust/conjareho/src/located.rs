@@ -14,7 +14,7 @@ pub struct Located {
     /// first byte of the value.
     pub offset: usize,
     /// The place of the fault as a JSON pointer into the JSON of [`forms`](crate::forms), such as
-    /// `/attributes/1/Options/0/Flower/Actions/1`; `/header` if the header is short.
+    /// `/attributes/1/Options/0/Flower/Actions/1`, or `/header` if the header is short.
     pub path: String,
 }
 

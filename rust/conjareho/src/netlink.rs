@@ -105,7 +105,7 @@ impl Netlink {
     ///
     /// # Errors
     ///
-    /// `DoesNotFit` if it can't be written, or has 4 GiB or more; `OutOfMemory` if there is no memory.
+    /// `DoesNotFit` if it can't be written, or has 4 GiB or more. `OutOfMemory` if there is no memory.
     pub fn to_bytes(&self) -> Result<Vec<u8>, RewriteError> {
         let mut bytes = match &self.payload {
             Payload::Tc(message) => bytes_after(NLMSG_HEADER_LEN, message)?,

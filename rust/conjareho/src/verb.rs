@@ -18,7 +18,7 @@ pub enum Verb {
     Delete,
     /// Asks for one.
     Get,
-    /// Asks for all.
+    /// Asks for all: the classes, filters and chains of the interface that the request names, and the qdiscs of every interface.
     Dump,
 }
 

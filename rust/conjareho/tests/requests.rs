@@ -11,13 +11,12 @@ use conjareho::kinds::filters::u32::{TcU32Bits, TcaClsFlagsBits, U32Attr, U32Key
 use conjareho::kinds::message::{ActionMessageAttr, TcAttr, TcaActFlagBits, TcaRootFlags};
 use conjareho::kinds::qdiscs::cake::{CakeAttr, CakeDiffserv};
 use conjareho::kinds::qdiscs::fq_codel::FqCodelAttr;
-use conjareho::kinds::qdiscs::htb::{HtbAttr, HtbGlob};
 use conjareho::kinds::qdiscs::netem::{
     NetemAttr, NetemCorr, NetemCorrupt, NetemGemodel, NetemLossAttr, NetemQopt, NetemRate, NetemReorder,
 };
 use conjareho::kinds::shared::{TcLinklayer, eth_p};
 use conjareho::kinds::{
-    ActionMessage, ActionOptions, Handle, HtbClass, Message, Options, PoliceAction, Prob, Rate, Sizes, Tbf, police,
+    ActionMessage, ActionOptions, Handle, Htb, HtbClass, Message, Options, PoliceAction, Prob, Rate, Sizes, Tbf, police,
 };
 use conjareho::requests::{Object, Verb};
 use std::time::Duration;
@@ -62,16 +61,12 @@ fn mirred(eaction: TcaMirred, action: TcAct, index: u32) -> ActionOptions {
 
 #[test]
 fn htb() {
-    let glob = |defcls, rate2quantum| HtbGlob { version: 3, rate2quantum, defcls, ..HtbGlob::default() };
-    let plain = || at("1:", "root").of(HtbAttr::list().with_init(glob(0x30, 10)));
+    let plain = || at("1:", "root").of(Htb::new(0x30));
     qdisc("tc qdisc add dev lo root handle 1: htb default 30", Verb::Add, plain());
     qdisc("tc qdisc replace dev lo root handle 1: htb default 30", Verb::Replace, plain());
-    let more = HtbAttr::list().with_init(glob(0x10, 20)).with_direct_qlen(500);
-    qdisc(
-        "tc qdisc add dev lo root handle 1: htb default 10 r2q 20 direct_qlen 500",
-        Verb::Add,
-        at("1:", "root").of(more),
-    );
+    let more = Htb { r2q: 20, direct_qlen: Some(500), ..Htb::new(0x10) };
+    let command = "tc qdisc add dev lo root handle 1: htb default 10 r2q 20 direct_qlen 500";
+    qdisc(command, Verb::Add, at("1:", "root").of(more));
     qdisc("tc qdisc delete dev lo root handle 1:", Verb::Delete, at("1:", "root"));
     qdisc("tc qdisc show dev lo", Verb::Dump, Message::on(1));
 }

@@ -1,4 +1,4 @@
-//! The builder of arguments, over the real `clap`; some of its calls fail where there is no memory, as in the sources.
+//! The builder of arguments, over the real `clap`. Some of its calls fail if there is no memory, as in the sources.
 
 use crate::fallible::AllocError;
 use crate::host::AsStr;

@@ -17,11 +17,11 @@ pub trait Serializer: Sized {
     fn u64(&mut self, v: u64) -> Result<(), Self::Error>;
     /// A text.
     fn str(&mut self, v: &str) -> Result<(), Self::Error>;
-    /// A list begins; its length may be known.
+    /// A list begins. Its length may be known.
     fn begin_seq(&mut self, len: Option<usize>) -> Result<(), Self::Error>;
     /// It ends.
     fn end_seq(&mut self) -> Result<(), Self::Error>;
-    /// An object begins; its length may be known.
+    /// An object begins. Its length may be known.
     fn begin_map(&mut self, len: Option<usize>) -> Result<(), Self::Error>;
     /// It ends.
     fn end_map(&mut self) -> Result<(), Self::Error>;
@@ -106,7 +106,7 @@ impl Serializer for Events {
 struct Next<'a>(&'a Cell<&'a [Event]>, &'a str);
 
 impl<'a> Next<'a> {
-    /// Whether a list or an object goes on; where it ends, the end is taken.
+    /// Whether a list or an object goes on. If it ends, the end is taken.
     fn goes_on(&self) -> bool {
         let is_end = matches!(self.0.get(), [Event::End, ..] | []);
         if is_end {

@@ -6,7 +6,7 @@ use prelude::{String, Vec};
 
 /// What each erased module imports.
 pub(crate) mod prelude {
-    pub(crate) use crate::fallible::{self, AllocError, Fallible as _, Signed as _, Unsigned as _};
+    pub(crate) use crate::fallible::{self, AllocError, Fallible as _, Signed as _};
     pub(crate) use alloc::{string::String, string::ToString as _, vec::Vec};
     pub(crate) use core::{fmt::Write as _, str::FromStr as _};
 }
@@ -84,24 +84,14 @@ impl<T> Fallible<T> for Vec<T> {
     }
 }
 
-/// A number without a sign as one with a sign: `cast_signed`, which numbers have themselves since Rust 1.87.
-pub(crate) trait Unsigned {
-    type Signed;
-    fn signed(self) -> Self::Signed;
-}
-
-/// A number with a sign as one without.
+/// A number with a sign as one without: `cast_unsigned`, which numbers have themselves since Rust 1.87.
 pub(crate) trait Signed {
     type Unsigned;
     fn unsigned(self) -> Self::Unsigned;
 }
 
 macro_rules! casts {
-    ($($unsigned:ident $signed:ident,)*) => { $(
-        impl Unsigned for $unsigned {
-            type Signed = $signed;
-            fn signed(self) -> $signed { self as $signed }
-        }
+    ($($signed:ident $unsigned:ident,)*) => { $(
         impl Signed for $signed {
             type Unsigned = $unsigned;
             fn unsigned(self) -> $unsigned { self as $unsigned }
@@ -109,4 +99,4 @@ macro_rules! casts {
     )* };
 }
 
-casts! { u8 i8, u16 i16, u32 i32, u64 i64, usize isize, }
+casts! { i8 u8, i16 u16, i32 u32, i64 u64, isize usize, }

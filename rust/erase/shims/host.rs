@@ -104,7 +104,7 @@ pub mod env {
 
     pub type Args = std::vec::IntoIter<String>;
 
-    /// The arguments, the program's name first; an error if one is no text.
+    /// The arguments, the program's name first, or an error if one is no text.
     pub fn args<R: super::rt::Env>(_rt: &R) -> Result<Args, Error> {
         let words: Result<Vec<String>, _> = std::env::args_os().map(|word| word.into_string()).collect();
         words.map(Vec::into_iter).map_err(|_| ErrorKind::InvalidInput.into())

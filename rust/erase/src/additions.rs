@@ -38,7 +38,7 @@ fn add_derives(all: &mut Vec<Token>) -> Result<(), Fault> {
     Ok(())
 }
 
-/// The last type of `Result < .. , E >`; the codec's error of `Res`.
+/// The last type of `Result < .. , E >`, or the codec's error of `Res`.
 fn error_of(returned: &[Token]) -> Option<String> {
     match returned.first()?.text {
         "Res" => Some("DecodeError".to_string()),

@@ -28,8 +28,8 @@ fn arithmetic(duty: &[Token]) -> Option<String> {
     (rust.iter().any(|token| token.is("<")) && rust.iter().all(is_simple) && !is_apart).then(|| words(&rust))
 }
 
-/// A `# Panics` in the comment above each function that asks for something, `(required ..)` before its body; an assertion of what
-/// is simple arithmetic where it is public, and checks where a length is cut or taken for 0.
+/// A `# Panics` in the comment above each function that asks for something, `(required ..)` before its body. An assertion of what
+/// is simple arithmetic if it is public, and checks where a length is cut or taken for 0.
 pub(crate) fn check(all: &mut Vec<Token>) -> Result<(), Fault> {
     for function in functions(all)?.iter().rev() {
         let (mut duties, mut body) = (Vec::new(), all[function.body..function.end].to_vec());

@@ -15,7 +15,7 @@ pub(crate) type Rule = (&'static str, &'static str);
 /// What a pattern's names match, by the places.
 type Bound = Vec<(&'static str, Range<usize>)>;
 
-/// How many tokens match this word of a pattern; none if they are something else.
+/// How many tokens match this word of a pattern: none if they are something else.
 fn len_of(word: &str, all: &[Token]) -> usize {
     let is = |at: usize, text: &str| all.get(at).is_some_and(|token| token.is(text));
     let is_in = |at: usize, class: &str| {

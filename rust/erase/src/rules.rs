@@ -64,23 +64,12 @@ const PUT_ROW: &str = "fn put_value(&self, buffer: &mut [u8]) -> usize;
     fn put_row(&self, buffer: &mut [u8]) -> (u16, usize) {
         (self.kind(), self.put_value(buffer))
     }";
-const PUT_VIEW: &str = "fn put_value(&self, buffer: &mut [u8]) -> usize {
+const PUT_BOTH: &str = "fn put_value(&self, buffer: &mut [u8]) -> usize {
         self.put_row(buffer).1
     }
 
     #[inline(always)]
-    fn put_row(&self, buffer: &mut [u8]) -> (u16, usize) {
-        let (word, value) = self.$v();
-        (word, value.put(buffer))
-    }";
-const PUT_ONE_OF: &str = "fn put_value(&self, buffer: &mut [u8]) -> usize {
-        self.put_row(buffer).1
-    }
-
-    #[inline(always)]
-    fn put_row(&self, buffer: &mut [u8]) -> (u16, usize) {
-        match self {$*a}
-    }";
+    fn put_row(&self, buffer: &mut [u8]) -> (u16, usize) {$;b}";
 
 const ERROR: &str = "impl core::fmt::Display for $x {
     fn fmt(&self, f: &mut core::fmt::Formatter<'_>) -> core::fmt::Result {$;b}
@@ -170,19 +159,18 @@ pub(crate) const RULES: &[Rule] = &[
     ("only = only . and ( kind_set_by_frame ( $*f ) ? ) ;", "if let told @ Some(_) = kind_set_by_frame($*f)? {\n            only = only.and(told);\n        }"),
     // An attribute's word and value in one step, since rustc tells its variant twice otherwise.
     ("fn put_value ( & self , buffer : & mut [ u8 ] ) -> usize ;", PUT_ROW),
-    ("fn put_value ( & self , buffer : & mut [ u8 ] ) -> usize { self . $v ( ) . 1 . put ( buffer ) }", PUT_VIEW),
-    ("fn put_value ( & self , buffer : & mut [ u8 ] ) -> usize { match self { $*a } }", PUT_ONE_OF),
+    ("fn put_value $-p { self . $v ( ) . 1 . put ( buffer ) }", "fn put_row { let (word, value) = self.$v(); (word, value.put(buffer)) }"),
+    ("fn put_value $-p { match self { $*a } }", "fn put_row { match self {$*a} }"),
+    ("fn put_row { $;b }", PUT_BOTH),
     ("=> $x . put_value ( buffer ) ,", "=> $x.put_row(buffer),"),
     ("# [ rattlefmt :: skip ]", "#[rustfmt::skip]"),
     // Calls of std that Rust has under another name, or had later.
     ("parse_ascii ( $x . as_bytes ( ) )", "from_str($x)"),
     ("( $*x ) . is_multiple_of ( $*n )", "(($*x) % ($*n) == 0)"),
-    (". cast_signed ( )", ".signed()"),
     (". cast_unsigned ( )", ".unsigned()"),
     ("std :: str :: from_utf8 (", "str::from_utf8("),
     ("str :: from_utf8 (", "core::str::from_utf8("),
-    ("Ipv4Addr :: from_octets (", "Ipv4Addr::from("),
-    ("Ipv6Addr :: from_octets (", "Ipv6Addr::from("),
+    ("$x :: from_octets (", "$x::from("),
     (":: self ;", ";"),
     ("$x :: self as $y", "$x as $y"),
     // Numbers in bytes.
@@ -201,8 +189,7 @@ pub(crate) const RULES: &[Rule] = &[
 /// Rules of programs and tests, before those above.
 pub(crate) const USER_RULES: &[Rule] = &[
     ("( rt : HostRuntime )", "()"),
-    ("assert ! ( rt ; $*x )", "assert!($*x)"),
-    ("assert_eq ! ( rt ; $*x )", "assert_eq!($*x)"),
+    ("$m ! ( rt ; $*x )", "$m!($*x)"),
     (", BuildHasherDefault < FoldHasher >", ""),
     (". insert ( $*x ) ?", ".insert($*x)"),
     (". sort_by_key ( $*f ) ?", ".sort_by_key($*f)"),
@@ -228,10 +215,9 @@ pub(crate) const USER_RULES: &[Rule] = &[
     ("log : Log $*x ,", ""),
     ("# [ inline ( always ) ] fn after $-x -> Log { $;b }", ""),
     ("# [ inline ( always ) ] fn unit ( & mut self ) -> $-r { $;b }", ""),
-    ("fn $x ( & mut self $*p ) -> Result < ( ) , LinesError > { Err ( LinesError :: NotJson ) }", ""),
+    ("fn $x ( & mut self $*p ) -> Result < ( ) , $e > { Err ( $e :: NotJson ) }", ""),
     ("fn key_cased ( $*a , case : Case ) -> $-r { match case { Case :: AsIs => $*x , _ => { $;y } } }", "fn key($*a) -> $-r {$*x}"),
     ("fn unit ( & mut self ) -> Result < ( ) , BriefError > { $;b }", ""),
-    ("fn $x ( & mut self $*p ) -> Result < ( ) , BriefError > { Err ( BriefError :: NotJson ) }", ""),
     ("fn key_cased ( $*a , case : Case ) -> $-r { match case { Case :: AsIs => { $;x } _ => $*y , } }", "fn key($*a) -> $-r {$;x}"),
     // What the shims of `clap` and `arrayvec` do without.
     ("value_parser ! ( $t )", "clap::builder::ValueParser(::clap::value_parser!($t).into())"),
@@ -257,7 +243,6 @@ pub(crate) const SHOW_RULES: &[Rule] = &[
     ("self . json ,", ""),
     ("( self . json )", "()"),
     (":: new ( json )", "::new()"),
-    ("in json ;", "in alloc;"),
     ("< B : Allocator >", ""),
     ("Page < B >", "Page"),
 ];
@@ -296,10 +281,11 @@ pub(crate) const UNKNOWN: &[&str] =
 /// Attributes that Rust has too, and macros: of `core` and `std`, and of the sources' own.
 pub(crate) const ATTRIBUTES: &[&str] = &["allow", "cfg", "default", "doc", "derive", "inline", "must_use", "repr", "rustfmt", "test"];
 pub(crate) const MACROS: &[&str] = &[
-    "any_of", "assert", "assert_eq", "done", "flags", "format", "format_args", "macro_rules", "matches", "name_of", "sent", "stringify", "type_of", "unreachable",
-    "value_parser", "write",
+    "any_of", "assert", "assert_eq", "done", "flags", "format", "format_args", "macro_rules", "matches", "name_of", "sent", "stringify", "type_of",
+    "unreachable", "value_parser", "write",
 ];
 
 /// Lints that erased modules don't meet: contracts used what is now unused, and some code is easier to prove than what clippy prefers.
-pub(crate) const LINTS: &str = "dead_code, missing_docs, unused_doc_comments, unused_imports, unused_labels, unused_must_use, unused_variables, clippy::complexity, \
-    clippy::style, clippy::large_enum_variant, clippy::manual_unwrap_or_default, clippy::result_large_err, clippy::derived_hash_with_manual_eq, rustdoc::broken_intra_doc_links";
+pub(crate) const LINTS: &str = "dead_code, missing_docs, unused_doc_comments, unused_imports, unused_labels, unused_must_use, unused_variables, \
+    clippy::complexity, clippy::style, clippy::large_enum_variant, clippy::manual_unwrap_or_default, clippy::result_large_err, \
+    clippy::derived_hash_with_manual_eq, rustdoc::broken_intra_doc_links";

@@ -168,7 +168,7 @@ pub(crate) fn read(files: &[File]) -> Result<Tables, Fault> {
     Ok(tables)
 }
 
-/// A line of a file, without its comment; the comment; and where it is.
+/// A line of a file without its comment, the comment, and the place of the line.
 struct Text<'a> {
     path: &'a str,
     at: usize,
@@ -196,7 +196,7 @@ impl Tables {
         Ok(())
     }
 
-    /// Reads a line; the comments at the margin before it, and whether it may belong to a block.
+    /// Reads a line, with the comments at the margin before it, and whether it may belong to a block.
     fn read_line(&mut self, line: Text<'_>, about: &mut Vec<String>, is_open: &mut bool) -> Result<(), Fault> {
         match line.words.as_slice() {
             [] if line.at > 0 && !line.comment.is_empty() && !line.is_indented => about.push(line.comment.to_string()),

@@ -7,11 +7,13 @@ fn written(path: &str, text: &str) -> Result<String, Fault> {
     types_of(&[("action".to_string(), "form actions hex".to_string()), (path.to_string(), text.to_string())])
 }
 
-/// The examples of `kinds/README.md`, without the remarks in their last column.
+/// The examples of `kinds/README.md`, which are its first indented lines, without the remarks in their last column.
 fn examples() -> String {
     let page = Path::new(env!("CARGO_MANIFEST_DIR")).join("../../kinds/README.md");
     let text = std::fs::read_to_string(page).expect("the page");
-    let indented: Vec<&str> = text.lines().filter(|line| line.starts_with("    ") || line.is_empty()).collect();
+    let is_indented = |line: &str| line.starts_with("    ");
+    let after = text.lines().skip_while(|line| !is_indented(line));
+    let indented: Vec<&str> = after.take_while(|line| line.is_empty() || is_indented(line)).collect();
     let column = indented.iter().find_map(|line| line.find("   a comment")).expect("the remark on a comment");
     let lines = indented.iter().map(|line| line.get(4..column.min(line.len())).unwrap_or("").trim_end());
     lines.map(|line| format!("{line}\n")).collect::<String>().trim_start().to_string()

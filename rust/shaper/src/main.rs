@@ -2,8 +2,7 @@
 
 use conjareho::answers::Answers;
 use conjareho::kinds::qdiscs::fq_codel::FqCodelAttr;
-use conjareho::kinds::qdiscs::htb::{HtbAttr, HtbGlob};
-use conjareho::kinds::{Handle, HtbClass, Message, Rate};
+use conjareho::kinds::{Handle, Htb, HtbClass, Message, Rate};
 use conjareho::requests::{Object, Verb};
 use netlink_options::{NetlinkOption, turn_on};
 use netlink_sys::{Socket, SocketAddr, protocols::NETLINK_ROUTE};
@@ -55,10 +54,9 @@ fn run() -> Result<(), Box<dyn Error>> {
     let words: Vec<String> = std::env::args().skip(1).collect();
     let [index, rates @ ..] = words.as_slice() else { return Err("usage: shaper INDEX RATE..".into()) };
     let (index, mut session) = (index.parse()?, Session::open()?);
-    let root = HtbGlob { version: 3, rate2quantum: 10, defcls: 1, ..HtbGlob::default() };
     let at = |handle, parent| Message::on(index).handle(handle).parent(parent);
-    let qdisc = at(Handle::new(1, 0), Handle::ROOT).of(HtbAttr::list().with_init(root));
-    // A root that is there can't be changed into htb, nor htb into itself; and there may be none.
+    let qdisc = at(Handle::new(1, 0), Handle::ROOT).of(Htb::new(1));
+    // A root that is there can't be changed into htb, nor htb into itself. There may be none.
     _ = session.ask(&Message::on(index).parent(Handle::ROOT), Object::Qdisc, Verb::Delete);
     session.ask(&qdisc, Object::Qdisc, Verb::Add)?;
     for (number, rate) in (1..).zip(rates) {

@@ -12,7 +12,8 @@ const TESTS: &[&str] = &[
     "tests_lines",
 ];
 
-/// Tests of how large Rattle's values are, of refused memory, of random bytes, and of lines of a program. Where a text isn't JSON, `serde_json` says another column than Rattle's.
+/// Tests of how large Rattle's values are, of refused memory, of random bytes, and of lines of a program. Where a text isn't JSON,
+/// `serde_json` says another column than Rattle's.
 const OMITTED: &[&str] = &[
     "failing_alloc",
     "tests_data::streams",

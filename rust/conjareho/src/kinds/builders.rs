@@ -3,7 +3,7 @@
 use super::action::{Gen, TcAct};
 use super::actions::gact::{Gact, GactAttr};
 use super::actions::police::{Police, PoliceAttr};
-use super::qdiscs::htb::{HtbAttr, HtbOpt};
+use super::qdiscs::htb::{HtbAttr, HtbGlob, HtbOpt};
 use super::qdiscs::tbf::{TbfAttr, TbfQopt};
 use super::shared::{Ratespec, TcLinklayer};
 use super::{ActionOptions, Bytes, Options, Rate, Ticks};
@@ -13,7 +13,7 @@ use core::time::Duration;
 /// What the size of a packet is counted as, and the largest packet of a rate table.
 #[derive(Clone, Copy, PartialEq, Eq, Hash, Debug)]
 pub struct Sizes {
-    /// The largest packet, in bytes; 0 stands for 2047. The cells of the table are as small as it allows.
+    /// The largest packet, in bytes. 0 stands for 2047. The cells of the table are as small as it allows.
     pub mtu: u32,
     /// Bytes that count beside those of a packet.
     pub overhead: u16,
@@ -53,6 +53,35 @@ impl Ratespec {
     }
 }
 
+/// The qdisc htb as `tc qdisc add .. htb` makes it.
+#[derive(Clone, Copy, PartialEq, Eq, Hash, Debug)]
+pub struct Htb {
+    /// The minor number of the class for packets that no filter classifies. If there is no such class, they aren't shaped.
+    pub default: u32,
+    /// The kernel computes the quantum of a class as its rate divided by this.
+    pub r2q: u32,
+    /// The most packets that wait unshaped, if it isn't the length of the interface's queue.
+    pub direct_qlen: Option<u32>,
+}
+
+impl Htb {
+    /// A qdisc with this default class: 0x30 is `default 30` of `tc`.
+    #[must_use]
+    pub fn new(default: u32) -> Self {
+        Htb { default, r2q: 10, direct_qlen: None }
+    }
+}
+
+impl From<Htb> for Options {
+    fn from(htb: Htb) -> Self {
+        // The version of the interface to htb, which the kernel requires.
+        let init = HtbGlob { version: 3, rate2quantum: htb.r2q, defcls: htb.default, ..HtbGlob::default() };
+        let mut list = HtbAttr::list().with_init(init);
+        list.extend(htb.direct_qlen.map(HtbAttr::DirectQlen));
+        Options::Htb(list)
+    }
+}
+
 /// A class of htb as `tc class add .. htb` makes it.
 #[derive(Clone, Copy, PartialEq, Eq, Hash, Debug)]
 pub struct HtbClass {
@@ -60,15 +89,15 @@ pub struct HtbClass {
     pub rate: Rate,
     /// Its rate with what it borrows.
     pub ceil: Rate,
-    /// Burst at `rate`, in bytes; computed if 0.
+    /// Burst at `rate`, in bytes, or 0 to compute it.
     pub burst: u32,
-    /// Burst at `ceil`, in bytes; computed if 0.
+    /// Burst at `ceil`, in bytes, or 0 to compute it.
     pub cburst: u32,
     /// Bytes that it sends before the next class of its priority is served. If 0, the kernel computes it.
     pub quantum: u32,
-    /// Its priority; the class with the lowest is served first.
+    /// Its priority. The class with the lowest is served first.
     pub prio: u32,
-    /// What the size of a packet is counted as; an MTU of 0 stands for 1600.
+    /// What the size of a packet is counted as. An MTU of 0 stands for 1600.
     pub sizes: Sizes,
 }
 
@@ -157,7 +186,7 @@ impl From<Tbf> for Options {
 /// The action police as `tc` makes it.
 #[derive(Clone, Copy, PartialEq, Eq, Hash, Debug)]
 pub struct PoliceAction {
-    /// The rate and the burst in bytes; none if packets are counted.
+    /// The rate and the burst in bytes, or nothing if packets are counted.
     pub rate: Option<(Rate, u32)>,
     /// The rate within a burst, if it has one.
     pub peakrate: Option<Rate>,

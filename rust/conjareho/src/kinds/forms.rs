@@ -10,9 +10,9 @@ use core::net::{Ipv4Addr, Ipv6Addr};
 
 /// A number of Rust.
 pub trait Number: Copy + PartialEq {
-    /// Its bits; the upper ones are its sign.
+    /// Its bits. The upper ones are its sign.
     fn bits(self) -> u64;
-    /// The number with these bits; the upper ones are dropped.
+    /// The number with these bits. The upper ones are dropped.
     fn of_bits(bits: u64) -> Self;
 }
 

@@ -317,7 +317,7 @@ macro_rules! choice {
     };
 }
 
-/// Options or statistics by kind; what those of kinds without a table are called in JSON, their flags and form. Of each: its variant,
+/// Options or statistics by kind, and what those of kinds without a table are called in JSON, their flags and form. Of each: its variant,
 /// its names in JSON, the flags of the attribute that holds it, the type of its value, its form, and the kinds that have it.
 macro_rules! by_kind {
     ($(#[$about:meta])* $name:ident $other:literal $other_flags:literal $shown:ident ($other_form:ty) { $(
@@ -333,7 +333,7 @@ macro_rules! by_kind {
         }
 
         impl $name {
-            /// The kind that has these; the first, if several have. `None` for those of unknown kinds.
+            /// The kind that has these, or the first of several. `None` for those of unknown kinds.
             #[must_use]
             pub fn kind(&self) -> Option<&'static str> {
                 match self {

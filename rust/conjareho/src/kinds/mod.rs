@@ -30,7 +30,7 @@ mod wire;
 use crate::bitflags::{Flag, Flags};
 use alloc::string::String;
 use alloc::vec::Vec;
-pub use builders::{HtbClass, PoliceAction, Sizes, Tbf, police};
+pub use builders::{Htb, HtbClass, PoliceAction, Sizes, Tbf, police};
 use core::net::{Ipv4Addr, Ipv6Addr};
 use forms::{Array, Bare, Be, Code, Coded, Each, Empty, Fixed, Kind, List, Pad, Text, Times, Truth};
 pub use list::{Attrs, Indexed};

@@ -121,7 +121,7 @@ impl Rate {
 impl FromStr for Rate {
     type Err = NotARate;
 
-    /// Reads a number and a unit of `tc`, such as `1.5mbit`, `10kbps` (kilobytes per second) or `1mibit`; without a unit, bits per second.
+    /// Reads a number and a unit of `tc`, such as `1.5mbit`, `10kbps` (kilobytes per second) or `1mibit`. Without a unit: bits per second.
     fn from_str(text: &str) -> Result<Self, NotARate> {
         let bits = measured(text, RATES, "bit").ok_or(NotARate)?;
         u64::try_from(bits / 8).map(Rate).map_err(|_| NotARate)
@@ -138,7 +138,7 @@ impl fmt::Display for Rate {
 impl FromStr for Ticks {
     type Err = NotATime;
 
-    /// Reads a number and a unit of `tc`, such as `100ms`, `1.5s` or `64ns`; without a unit, microseconds. What is less than a tick is dropped.
+    /// Reads a number and a unit of `tc`, such as `100ms`, `1.5s` or `64ns`. Without a unit: microseconds. Less than a tick is dropped.
     fn from_str(text: &str) -> Result<Self, NotATime> {
         let ns = measured(text, TIMES, "us").ok_or(NotATime)?;
         u32::try_from(ns / NS_IN_TICK).map(Ticks).map_err(|_| NotATime)
@@ -153,7 +153,7 @@ impl fmt::Display for Ticks {
 }
 
 impl From<Duration> for Ticks {
-    /// The whole ticks of a time; the largest number if there are more.
+    /// The whole ticks of a time, or the largest number if there are more.
     fn from(time: Duration) -> Self {
         Ticks(u32::try_from(time.as_nanos() / NS_IN_TICK).unwrap_or(u32::MAX))
     }
@@ -181,7 +181,7 @@ fn rounded(number: u128, by: u128) -> u128 {
 impl FromStr for Prob {
     type Err = NotAProb;
 
-    /// Reads a share in percent, from `0%` to `100%`; `%` may be left out.
+    /// Reads a share in percent, from `0%` to `100%`. `%` may be left out.
     fn from_str(text: &str) -> Result<Self, NotAProb> {
         let (digits, decimals, _) = decimal(text).filter(|(_, _, unit)| ["", "%"].contains(unit)).ok_or(NotAProb)?;
         let one = 100 * 10u128.pow(decimals);

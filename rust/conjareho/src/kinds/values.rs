@@ -98,7 +98,7 @@ impl FromStr for Handle {
 #[derive(Clone, Copy, PartialEq, Eq, Hash, PartialOrd, Ord, Debug, Default)]
 pub struct Ticks(pub u32);
 
-/// A probability in units of 2^-32; the largest stands for 1.
+/// A probability in units of 2^-32. The largest number stands for 1.
 #[derive(Clone, Copy, PartialEq, Eq, Hash, PartialOrd, Ord, Debug, Default)]
 pub struct Prob(pub u32);
 
