@@ -4,16 +4,14 @@ use Rattle.std.specs.Prelude.{◌++◌, ◌/◌, ◌==◌, ◌||◌, ◌∷◌}
 use Rattle.tc_brief.specs.Leaves as leaf
 use Rattle.tc_brief.specs.Leaves.{Leaf, Value}
 use Rattle.tc_brief.specs.Numbers as numbers
-use Rattle.tc_brief.specs.Parts.{Around, bare, is_in, section_words}
-use Rattle.tc_brief.specs.Values.{interface_text, is_left_out, number_in, value_text}
+use Rattle.tc_brief.specs.Parts.{Around, bare, count_in, is_in, section_words, words_of}
+use Rattle.tc_brief.specs.Values.{depth_after, interface_text, is_left_out, is_opening, number_in, value_text}
 use Rattle.tc_brief.specs.Words.{written}
 use Rattle.tc_brief.specs.declared.leaf.Section.{Section}
 use Rattle.tc_brief.specs.declared.leaf.Section.TheVariants as section
 use Rattle.tc_brief.specs.declared.line.Object.{Object}
 use Rattle.tc_brief.specs.declared.line.Object.TheVariants as object
 use Rattle.tc_brief.specs.declared.line.Said.{Said as CodeSaid}
-use Rattle.tc_brief.specs.declared.row.Style.{Style}
-use Rattle.tc_brief.specs.declared.row.Style.TheVariants as style
 use Rattle.tc_lines.specs.Leaves.{is_block}
 use Rattle.tc_lines.specs.declared.column.Display.{Display}
 use Rattle.tc_lines.specs.declared.column.Display.TheVariants as display
@@ -119,15 +117,6 @@ of_leaf f (Some l) = f l
 
 -- ---- statistics
 
-abbrev pub is_count : Style → Bool
-is_count style.Count = true
-is_count s = false
-
--- the first count of this name
-abbrev pub count_in : Section → List Leaf → List ℕ → Option Leaf
-count_in s [] key = None
-count_in s (l ∷ ls) key = if is_in s l && is_count l.row.style && bytes_eq l.key key then Some l else count_in s ls key
-
 abbrev pub counted : List ℕ → Option Leaf → List (List ℕ)
 counted name None = []
 counted [] (Some l) = value_text l l.value ∷ []
@@ -154,18 +143,20 @@ has_any s (l ∷ ls) = is_in s l && (if is_left_out l then false else true) || h
 
 -- ---- actions
 
-abbrev pub is_kind : Display → Bool
-is_kind display.Kind = true
-is_kind h = false
-
--- true for the kind of an action, with which it begins
-abbrev pub is_action : Leaf → Bool
-is_action l = is_kind l.display && is_in section.Actions l
+-- true for the first leaf of an action
+abbrev pub begins : Leaf → Bool
+begins l = is_in section.Begin l
 
 -- the leaves up to the next action
 abbrev pub one_action : List Leaf → List Leaf
 one_action [] = []
-one_action (l ∷ ls) = if is_action l then [] else l ∷ one_action ls
+one_action (l ∷ ls) = if begins l then [] else l ∷ one_action ls
+
+-- the kind of an action that begins with a leaf, which may be the kind itself; `-` without one
+abbrev pub action_kind : Leaf → Around → List (List ℕ)
+action_kind l c =
+    if (if is_left_out l then false else true) || has_any section.Kind c.leaves then words_of c None [] l ++ section_words c section.Kind 0 None c.leaves
+    else codes "-" ∷ []
 
 abbrev pub bracketed : Bool → List (List ℕ) → List (List ℕ)
 bracketed true words = codes "[" ∷ (words ++ codes "]" ∷ [])
@@ -180,12 +171,19 @@ abbrev pub counted_action : Bool → Around → List (List ℕ)
 counted_action stats c =
     action_words c ++ bracketed (stats && has_any section.ActionStatistics c.leaves) (statistics c section.ActionStatistics c.leaves)
 
+-- an action of a filter, which begins with a leaf
+abbrev pub action_of : Bool → Leaf → Around → List (List ℕ)
+action_of stats l c = codes "action" ∷ (action_kind l c ++ counted_action stats c)
+
 -- the actions of a filter
 abbrev pub actions : Bool → ℕ → List Leaf → List (List ℕ)
 actions stats p [] = []
 actions stats p (l ∷ ls) =
-    (if is_action l
-    then codes "action" ∷ value_text l l.value ∷ counted_action stats (record { leaves = one_action ls; protocol = p }) else []) ++ actions stats p ls
+    (if begins l then action_of stats l (record { leaves = one_action ls; protocol = p }) else []) ++ actions stats p ls
+
+-- what is in no action, as a list of actions that can't be read
+abbrev pub before_actions : ℕ → List Leaf → Around
+before_actions p ls = record { leaves = one_action ls; protocol = p }
 
 -- ---- the line
 
@@ -243,22 +241,44 @@ around ls = record { leaves = ls; protocol = protocol_of (in_head ls (codes "inf
 abbrev pub after_semicolon : Bool → Around → Section → List (List ℕ)
 after_semicolon stats c s = if stats && has_any s c.leaves then codes ";" ∷ statistics c s c.leaves else []
 
-abbrev pub head : Bool → Object → List Leaf → List (List ℕ)
-head stats o ls = object_text o ∷ (kind_words o ls ++ (place stats ls ++ chain_words o ls))
+-- the members of the head that have a place of their own
+abbrev pub is_placed : List ℕ → Bool
+is_placed key =
+    bytes_eq key (codes "index") || bytes_eq key (codes "parent") || bytes_eq key (codes "info") || bytes_eq key (codes "family")
+    || bytes_eq key (codes "handle") || bytes_eq key (codes "Kind") || bytes_eq key (codes "Chain")
+
+-- the others, as the bytes of a header or of a kind that can't be read
+abbrev pub is_other : Leaf → Bool
+is_other l = is_in section.Head l && (is_opening l.value || (if is_placed l.key then false else true))
+
+abbrev pub other_words : Around → ℕ → List Leaf → List (List ℕ)
+other_words c depth [] = []
+other_words c depth (l ∷ ls) =
+    (if depth == 0 && is_other l then words_of c None ls l else []) ++ other_words c (depth_after depth l.value) ls
+
+abbrev pub head : Bool → Object → Around → List (List ℕ)
+head stats o c =
+    object_text o ∷ (kind_words o c.leaves ++ (place stats c.leaves ++ (chain_words o c.leaves ++ other_words c 0 c.leaves)))
 
 abbrev pub body : Bool → Around → List Leaf → List (List ℕ)
-body stats c ls = section_words c section.Words 0 None ls ++ (section_words c section.Hardware 0 None ls ++ actions stats c.protocol ls)
+body stats c ls =
+    section_words c section.Words 0 None ls ++ (section_words c section.Hardware 0 None ls
+    ++ (counted_action stats (before_actions c.protocol ls) ++ actions stats c.protocol ls))
 
 -- the words of an object's line, after the verb
 abbrev pub object_words : Said → List Leaf → List (List ℕ)
 object_words said ls =
-    head said.statistics said.object ls ++ (body said.statistics (around ls) ls ++ (by_words said.port
+    head said.statistics said.object (around ls) ++ (body said.statistics (around ls) ls ++ (by_words said.port
     ++ after_semicolon said.statistics (around ls) section.Statistics))
+
+-- an action has no handle
+abbrev pub own_head : Bool → List Leaf → Leaf → Around → List (List ℕ)
+own_head stats all l c = codes "action" ∷ (action_kind l c ++ (codes "-" ∷ (place stats all ++ other_words c 0 all)))
 
 -- the words of an action's line, after the verb
 abbrev pub own_action_words : Said → List Leaf → Leaf → Around → List (List ℕ)
 own_action_words said all l c =
-    codes "action" ∷ value_text l l.value ∷ codes "-" ∷ (action_words c ++ (section_words c section.Words 0 None all ++ (by_words said.port
+    own_head said.statistics all l c ++ (action_words c ++ (section_words c section.Words 0 None all ++ (by_words said.port
     ++ after_semicolon said.statistics c section.ActionStatistics)))
 
 -- a line: its words, a blank before each, between its begin and its end, and a line feed
@@ -268,11 +288,11 @@ line said words = said.begin ++ (written words ++ (said.end ++ codes "\n"))
 abbrev pub own_actions : Said → List Leaf → List Leaf → List ℕ
 own_actions said all [] = []
 own_actions said all (l ∷ ls) =
-    (if is_action l then line said (own_action_words said all l (record { leaves = one_action ls; protocol = 0 })) else []) ++ own_actions said all ls
+    (if begins l then line said (own_action_words said all l (record { leaves = one_action ls; protocol = 0 })) else []) ++ own_actions said all ls
 
 abbrev pub has_action : List Leaf → Bool
 has_action [] = false
-has_action (l ∷ ls) = is_action l || has_action ls
+has_action (l ∷ ls) = begins l || has_action ls
 
 abbrev pub is_of_actions : Object → Bool
 is_of_actions object.Action = true

@@ -6,7 +6,7 @@ use Rattle.tc_brief.specs.Leaves as leaf
 use Rattle.tc_brief.specs.Leaves.{Leaf, Value, leaves_view}
 use Rattle.tc_brief.specs.Numbers as numbers
 use Rattle.tc_brief.specs.Values.{assigned, bytes_text, depth_after, equals, is_left_out, is_opening, name_of_leaf, number_in, open_text, value_text}
-use Rattle.tc_brief.specs.Values.{within_word}
+use Rattle.tc_brief.specs.Values.{is_count, is_hollow, is_number, within_word}
 use Rattle.tc_brief.specs.declared.leaf.Section.{Section}
 use Rattle.tc_brief.specs.declared.leaf.Section.TheVariants as section
 use Rattle.tc_brief.specs.declared.parts.Scope.{Scope}
@@ -23,6 +23,22 @@ use Rattle.tc_units.specs.Values.{verdict_text}
 pub record Around : Type 0 where
   pub leaves : List Leaf
   pub protocol : ℕ
+
+-- ---- sections
+
+abbrev pub number_of_section : Section → ℕ
+number_of_section section.Head = 0
+number_of_section section.Words = 1
+number_of_section section.Hardware = 2
+number_of_section section.Statistics = 3
+number_of_section section.Actions = 4
+number_of_section section.Control = 5
+number_of_section section.ActionStatistics = 6
+number_of_section section.Begin = 7
+number_of_section section.Kind = 8
+
+abbrev pub is_in : Section → Leaf → Bool
+is_in s l = number_of_section l.section == number_of_section s
 
 -- ---- a word and a value
 
@@ -56,6 +72,8 @@ plain l = plain_as l l.value
 abbrev pub takes : Style → Bool
 takes style.Mask = true
 takes style.Range = true
+takes style.Key = true
+takes style.KeyValue = true
 takes s = false
 
 abbrev pub is_with : List ℕ → Leaf → Bool
@@ -177,6 +195,25 @@ abbrev pub hex_words : Leaf → Value → List (List ℕ)
 hex_words l (leaf.text s) = valued l (bytes_text s)
 hex_words l v = plain l
 
+-- ---- counts
+
+-- the first count of this name
+abbrev pub count_in : Section → List Leaf → List ℕ → Option Leaf
+count_in s [] key = None
+count_in s (l ∷ ls) key = if is_in s l && is_count l.row.style && bytes_eq l.key key then Some l else count_in s ls key
+
+abbrev pub agrees : Option ℕ → Option ℕ → Bool
+agrees None n = false
+agrees (Some k) n = is_number k n
+
+-- true if it is the first count of its name, which each line with statistics has, or has the same number
+abbrev pub is_counted : Option Leaf → Leaf → Bool
+is_counted None l = false
+is_counted (Some first) l = agrees (number_in first.value) (number_in l.value)
+
+abbrev pub count_words : List Leaf → Leaf → List (List ℕ)
+count_words ls l = if is_counted (count_in l.section ls l.key) l then [] else assigned l ∷ []
+
 -- ---- the words of a leaf
 
 abbrev pub styled_words : Style → Around → List Leaf → Leaf → List (List ℕ)
@@ -192,12 +229,12 @@ styled_words style.Hardware c rest l = hardware l (number_in l.value)
 styled_words style.Bits c rest l = hardware l (number_in l.value)
 styled_words style.Control c rest l = control l l.display (number_in l.value)
 styled_words style.Key c rest l = key_words l (number_in l.value) rest
-styled_words style.Count c rest l = []
+styled_words style.Count c rest l = count_words c.leaves l
 styled_words s c rest l = plain l
 
--- a list or record of one word
+-- a list or record of one word, unless it has nothing
 abbrev pub opened_words : Leaf → List ℕ → List Leaf → List (List ℕ)
-opened_words l bracket rest = valued l (bracket ++ within_word 1 true rest)
+opened_words l bracket rest = if is_hollow rest then [] else valued l (bracket ++ within_word 1 true rest)
 
 abbrev pub words_by : Value → Around → List Leaf → Leaf → List (List ℕ)
 words_by (leaf.opens s) c rest l = opened_words l (open_text s) rest
@@ -208,18 +245,6 @@ abbrev pub words_of : Around → Option Leaf → List Leaf → Leaf → List (Li
 words_of c before rest l = if is_taken before l || is_left_out l then [] else words_by l.value c rest l
 
 -- ---- the words of a section, in the order of the leaves
-
-abbrev pub number_of_section : Section → ℕ
-number_of_section section.Head = 0
-number_of_section section.Words = 1
-number_of_section section.Hardware = 2
-number_of_section section.Statistics = 3
-number_of_section section.Actions = 4
-number_of_section section.Control = 5
-number_of_section section.ActionStatistics = 6
-
-abbrev pub is_in : Section → Leaf → Bool
-is_in s l = number_of_section l.section == number_of_section s
 
 -- a leaf of a list or record of one word is written with that word
 abbrev pub own_words : Around → Section → ℕ → Option Leaf → List Leaf → Leaf → List (List ℕ)

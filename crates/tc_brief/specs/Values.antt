@@ -1,6 +1,6 @@
 -- The value of a leaf, as part of a word.
 use Rattle.std.specs.Prelude.{Bool, List, None, Option, Some, [], bytes_eq, codes, decimal, false, if◌then◌else◌, length, nat_le, nat_lt, true, ℕ, ℤ, ◌%◌}
-use Rattle.std.specs.Prelude.{◌+◌, ◌++◌, ◌-◌, ◌/◌, ◌==◌, ◌||◌, ◌∷◌}
+use Rattle.std.specs.Prelude.{◌&&◌, ◌+◌, ◌++◌, ◌-◌, ◌/◌, ◌==◌, ◌||◌, ◌∷◌}
 use Rattle.tc_brief.specs.Leaves as leaf
 use Rattle.tc_brief.specs.Leaves.{Leaf, Value}
 use Rattle.tc_brief.specs.Numbers.{number_text, signed_text}
@@ -8,6 +8,8 @@ use Rattle.tc_brief.specs.declared.leaf.Shape.{Shape}
 use Rattle.tc_brief.specs.declared.leaf.Shape.TheVariants.{Braces, Brackets, Silent}
 use Rattle.tc_brief.specs.declared.row.LeftOut.{LeftOut}
 use Rattle.tc_brief.specs.declared.row.LeftOut.TheVariants.{Always, Below, Equal, Never}
+use Rattle.tc_brief.specs.declared.row.Style.{Style}
+use Rattle.tc_brief.specs.declared.row.Style.TheVariants as style
 use Rattle.tc_lines.specs.declared.column.Display.{Display}
 use Rattle.tc_lines.specs.declared.column.Display.TheVariants as display
 use Rattle.tc_units.specs.Flags.{is_set}
@@ -162,14 +164,27 @@ abbrev pub is_opening : Value → Bool
 is_opening (leaf.opens s) = true
 is_opening v = false
 
--- true for a leaf that is left out within a word
+abbrev pub is_count : Style → Bool
+is_count style.Count = true
+is_count s = false
+
+-- true for a leaf that is left out within a word; so is a count that is 0
 abbrev pub is_skipped_as : Leaf → Value → Bool
 is_skipped_as l (leaf.opens s) = false
 is_skipped_as l (leaf.closes s) = false
-is_skipped_as l v = is_left_out l
+is_skipped_as l v = is_left_out l || is_count l.row.style && is_number 0 (number_in v)
 
 abbrev pub is_skipped : Leaf → Bool
 is_skipped l = is_skipped_as l l.value
+
+abbrev pub is_closing : Value → Bool
+is_closing (leaf.closes s) = true
+is_closing v = false
+
+-- true if nothing is written between an open bracket and the next closing one
+abbrev pub is_hollow : List Leaf → Bool
+is_hollow [] = false
+is_hollow (l ∷ ls) = if is_skipped l then is_hollow ls else is_closing l.value
 
 -- the rest of a word that began with an open bracket
 abbrev pub within_word : ℕ → Bool → List Leaf → List ℕ

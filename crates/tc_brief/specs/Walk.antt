@@ -10,6 +10,7 @@ use Rattle.tc_brief.specs.declared.leaf.Section.{Section}
 use Rattle.tc_brief.specs.declared.leaf.Section.TheVariants as section
 use Rattle.tc_brief.specs.declared.leaf.Shape.{Shape}
 use Rattle.tc_brief.specs.declared.leaf.Shape.TheVariants.{Braces, Brackets, Silent}
+use Rattle.tc_brief.specs.declared.row.LeftOut.TheVariants.{Never}
 use Rattle.tc_brief.specs.declared.row.Style.{Style}
 use Rattle.tc_brief.specs.declared.row.Style.TheVariants as style
 use Rattle.tc_brief.specs.declared.walk.Frame.{Frame as CodeFrame}
@@ -66,6 +67,8 @@ is_head section.Head = true
 is_head s = false
 
 abbrev pub is_of_action : Section → Bool
+is_of_action section.Begin = true
+is_of_action section.Kind = true
 is_of_action section.Actions = true
 is_of_action section.Control = true
 is_of_action section.ActionStatistics = true
@@ -74,6 +77,7 @@ is_of_action s = false
 -- the section of a member with this style, in a record or list of this section
 abbrev pub styled : Style → Section → Section
 styled style.Actions s = section.Actions
+styled style.Begin s = if is_of_action s then section.Begin else s
 styled style.Statistics s = if is_of_action s then section.ActionStatistics else section.Statistics
 styled style.Control s = if is_of_action s then section.Control else s
 styled style.Hardware s = if is_of_action s then s else section.Hardware
@@ -83,7 +87,7 @@ styled other s = s
 -- the section of a member: a header and a message's kind are in the head
 abbrev pub displayed : Display → Section → Section
 displayed (display.SameLine p) s = section.Head
-displayed display.Kind s = if is_of_action s then s else section.Head
+displayed display.Kind s = if is_of_action s then section.Kind else section.Head
 displayed h s = s
 
 abbrev pub section_in : Frame → Display → Style → Section
@@ -155,11 +159,15 @@ rated st outer row = row
 abbrev pub key_in : Frame → List ℕ → List ℕ
 key_in f key = if f.list then [] else key
 
+-- a value without a name, which begins an action
+abbrev pub begin_row : Row
+begin_row = record { key = codes "Kind"; word = []; style = style.Alone; with = []; left = Never }
+
 -- the beginning of a record or list that is one word; of actions under a word of their own, the kind of that name
 abbrev pub opening : Bool → List ℕ → State → Section → Shape → List Leaf
 opening true key s sec shape =
     if bytes_eq s.row.word [] then []
-    else record { key = codes "Kind"; row = plain_row (codes "Kind"); display = display.Kind; names = []; section = sec; value = text s.row.word } ∷ []
+    else record { key = codes "Kind"; row = begin_row; display = display.Kind; names = []; section = section.Begin; value = text s.row.word } ∷ []
 opening false key s sec shape =
     if is_silent shape then []
     else record { key = key; row = s.row; display = s.display; names = []; section = sec; value = opens shape } ∷ []

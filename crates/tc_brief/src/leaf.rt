@@ -15,7 +15,11 @@ pub(crate) enum Section {
     Hardware,
     /// Statistics of the object.
     Statistics,
-    /// Actions, and in them the words of each action's kind.
+    /// The first leaf of an action.
+    Begin,
+    /// The kind of an action.
+    Kind,
+    /// The words of an action's kind.
     Actions,
     /// The end of an action: its index, and its verdict.
     Control,

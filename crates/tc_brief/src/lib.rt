@@ -25,6 +25,7 @@ mod walk;
 mod words;
 
 pub use error::BriefError;
-pub use line::{Object, Said, lines_of};
+pub use line::{Object, Said, lines_of, lines_of_nothing};
+pub use numbers::put_number;
 pub use row::{LeftOut, Row, RowOf, Style, Words};
-pub use words::{put_first, put_word, word_is_a_word};
+pub use words::{put_byte, put_first, put_word, word_is_a_word};

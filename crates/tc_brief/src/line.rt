@@ -4,13 +4,13 @@ ghost use Rattle.std.specs.Prelude.{IfOk, List, None, OnOk, Some, [], bytes_eq, 
 ghost use Rattle.forms_json.specs.Shown.{shown_of};
 ghost use Rattle.forms_values.specs.Sent.{events};
 ghost use Rattle.tc_brief.specs.Leaves.{Leaf as LeafView, leaf_view, leaves_view, value_view};
-ghost use Rattle.tc_brief.specs.Lines.{action_words, actions, after_semicolon, body, chain_words, count_in, counted, counted_action, counted_bare, counts};
-ghost use Rattle.tc_brief.specs.Lines.{dev_words, family_words, handle_in};
-ghost use Rattle.tc_brief.specs.Lines.{handle_value, handle_word, has_action, has_any, head, in_head, info_in, info_words, is_action, is_count, is_kind};
-ghost use Rattle.tc_brief.specs.Lines.{is_of_actions, kind_words, message_lines, named_or_hex, object_text, object_words, of_leaf, one_action};
-ghost use Rattle.tc_brief.specs.Lines.{own_action_words, own_actions, parent_words, place, place_words, protocol_in, protocol_of, said_view};
+ghost use Rattle.tc_brief.specs.Lines.{action_kind, action_of, action_words, actions, after_semicolon, body, chain_words, counted, counted_action};
+ghost use Rattle.tc_brief.specs.Lines.{counted_bare, counts, dev_words, family_words, handle_in};
+ghost use Rattle.tc_brief.specs.Lines.{handle_value, handle_word, has_action, has_any, head, in_head, info_in, info_words, is_of_actions, is_other, is_placed};
+ghost use Rattle.tc_brief.specs.Lines.{kind_words, message_lines, named_or_hex, object_text, object_words, of_leaf, one_action, other_words};
+ghost use Rattle.tc_brief.specs.Lines.{own_action_words, own_actions, own_head, parent_words, place, place_words, protocol_in, protocol_of, said_view};
 ghost use Rattle.tc_brief.specs.Lines.{statistics, text_or_dash, unless_zero, with_word};
-ghost use Rattle.tc_brief.specs.Parts.{scope_view};
+ghost use Rattle.tc_brief.specs.Parts.{count_in, is_in, scope_view};
 ghost use Rattle.tc_brief.specs.Values.{number_in};
 ghost use Rattle.tc_brief.specs.Walk.{leaves};
 ghost use Rattle.tc_brief.specs.Words.{written};
@@ -20,10 +20,10 @@ ghost use Rattle.tc_units.specs.Names.{name_of, names_view};
 use crate::error::BriefError;
 use crate::leaf::{Leaf, Section, Value};
 use crate::numbers::put_signed;
-use crate::parts::{Line, Scope, bare, is_in};
-use crate::row::{Style, Words};
+use crate::parts::{Line, Scope, bare, count_in, is_in};
+use crate::row::Words;
 use crate::tape::tokens_of;
-use crate::values::{is_left_out, number_in, put_interface};
+use crate::values::{depth_after, is_left_out, is_opening, number_in, put_interface};
 use crate::walk::leaves_of;
 use forms_json::{Form, Tables};
 use std::alloc::{AllocError, Global};
@@ -87,26 +87,6 @@ fn in_head<'l, 't>(leaves: &'l [Leaf<'t>], key: &str) -> Option<&'l Leaf<'t>>
     None
 }
 
-fn is_count(style: Style) -> bool
-    ensures { result ≡ is_count style }
-{
-    matches!(style, Style::Count)
-}
-
-// The first count of this name.
-fn count_in<'l, 't>(section: Section, leaves: &'l [Leaf<'t>], key: &str) -> Option<&'l Leaf<'t>>
-    ensures { option_map (λ l. leaf_view l.now) result ≡ count_in section (leaves_view leaves.now) key.now }
-{
-    let mut left = leaves;
-    'each: while let [leaf, rest @ ..] = left {
-        if is_in(section, leaf) && is_count(leaf.row.style) && is_same(leaf.key, key) {
-            return Some(leaf);
-        }
-        left = rest;
-    }
-    None
-}
-
 fn protocol_in(n: u64) -> u64
     ensures { result ≡ protocol_in n }
 {
@@ -126,17 +106,22 @@ fn protocol_of(info: Option<&Leaf<'_>>) -> u64
     }
 }
 
-fn is_kind(display: &Display) -> bool
-    ensures { result ≡ is_kind display.now }
+// True for the members of the head that have a place of their own.
+fn is_placed(key: &str) -> bool
+    ensures { result ≡ is_placed key.now }
 {
-    matches!(display, Display::Kind)
+    is_same(key, "index")
+        || (is_same(key, "parent")
+            || (is_same(key, "info")
+                || (is_same(key, "family")
+                    || (is_same(key, "handle")
+                        || (is_same(key, "Kind") || is_same(key, "Chain"))))))
 }
 
-// True for the kind of an action, with which it begins.
-fn is_action(leaf: &Leaf<'_>) -> bool
-    ensures { result ≡ is_action (leaf_view leaf.now) }
+fn is_other(leaf: &Leaf<'_>) -> bool
+    ensures { result ≡ is_other (leaf_view leaf.now) }
 {
-    is_kind(&leaf.display) && is_in(Section::Actions, leaf)
+    is_in(Section::Head, leaf) && (is_opening(&leaf.value) || !is_placed(leaf.key))
 }
 
 // The leaves up to the next action.
@@ -145,7 +130,7 @@ fn one_action<'l, 't>(leaves: &'l [Leaf<'t>]) -> &'l [Leaf<'t>]
 {
     let mut count = 0;
     for leaf in leaves {
-        if is_action(leaf) {
+        if is_in(Section::Begin, leaf) {
             return &leaves[..count];
         }
         count += 1;
@@ -451,7 +436,7 @@ impl Line {
         self.section(scope, section, leaves)
     }
 
-    // Writes an action after its kind.
+    // Writes the words of an action after its kind.
     #[tactic(auto, using(crate::proofs::Written::written_append))]
     fn action(&mut self, scope: &Scope<'_, '_>) -> Result<(), BriefError>
         ensures { OnOk result (self.new.text.items ≡ self.old.text.items ++ written (action_words (scope_view scope.now))) }
@@ -474,6 +459,35 @@ impl Line {
         Ok(())
     }
 
+    // Writes the kind of an action that begins with a leaf.
+    #[tactic(auto, using(crate::proofs::Written::written_append))]
+    fn action_kind(&mut self, first: &Leaf<'_>, scope: &Scope<'_, '_>) -> Result<(), BriefError>
+        ensures { OnOk result (self.new.text.items ≡ self.old.text.items ++ written (action_kind (leaf_view first.now) (scope_view scope.now))) }
+    {
+        if is_left_out(first) && !has_any(Section::Kind, scope.leaves) {
+            self.word(b"-")?;
+            return Ok(());
+        }
+        self.leaf(scope, None, &[], first)?;
+        self.section(scope, Section::Kind, scope.leaves)
+    }
+
+    // Writes an action of a filter, which begins with a leaf.
+    #[tactic(auto, using(crate::proofs::Written::written_append))]
+    fn action_of(
+        &mut self,
+        counted: bool,
+        first: &Leaf<'_>,
+        scope: &Scope<'_, '_>,
+    ) -> Result<(), BriefError>
+        ensures { OnOk result (self.new.text.items ≡ self.old.text.items
+            ++ written (action_of counted (leaf_view first.now) (scope_view scope.now))) }
+    {
+        self.word(b"action")?;
+        self.action_kind(first, scope)?;
+        self.counted_action(counted, scope)
+    }
+
     // Writes the actions of a filter.
     #[tactic(auto, using(crate::proofs::Written::written_append))]
     fn actions(
@@ -486,14 +500,12 @@ impl Line {
     {
         let mut left = leaves;
         'each: while let [leaf, rest @ ..] = left {
-            if is_action(leaf) {
-                self.word(b"action")?;
-                self.alone(leaf)?;
+            if is_in(Section::Begin, leaf) {
                 let scope = Scope {
                     leaves: one_action(rest),
                     protocol,
                 };
-                self.counted_action(counted, &scope)?;
+                self.action_of(counted, leaf, &scope)?;
             }
             left = rest;
         }
@@ -520,13 +532,39 @@ impl Line {
 
     // Writes where the object is, and what it is.
     #[tactic(auto, using(crate::proofs::Written::written_append))]
-    fn head(&mut self, counted: bool, object: Object, leaves: &[Leaf<'_>]) -> Result<(), AllocError>
-        ensures { OnOk result (self.new.text.items ≡ self.old.text.items ++ written (head counted object (leaves_view leaves.now))) }
+    fn head(
+        &mut self,
+        counted: bool,
+        object: Object,
+        scope: &Scope<'_, '_>,
+    ) -> Result<(), BriefError>
+        ensures { OnOk result (self.new.text.items ≡ self.old.text.items ++ written (head counted object (scope_view scope.now))) }
     {
         self.word(object_text(object).as_bytes())?;
-        self.kind(object, leaves)?;
-        self.place(counted, leaves)?;
-        self.chain(object, leaves)
+        self.kind(object, scope.leaves)?;
+        self.place(counted, scope.leaves)?;
+        self.chain(object, scope.leaves)?;
+        self.others(scope, scope.leaves)
+    }
+
+    // Writes what has no place of its own in the head.
+    #[tactic(auto, using(crate::proofs::Written::written_append))]
+    fn others(&mut self, scope: &Scope<'_, '_>, leaves: &[Leaf<'_>]) -> Result<(), BriefError>
+        ensures { OnOk result (self.new.text.items ≡ self.old.text.items ++ written (other_words (scope_view scope.now) 0 (leaves_view leaves.now))) }
+    {
+        let mut depth = 0;
+        let mut left = leaves;
+        'each: while let [leaf, rest @ ..] = left {
+            if depth == 0 && is_other(leaf) {
+                self.leaf(scope, None, rest, leaf)?;
+            }
+            depth = match depth_after(depth, &leaf.value) {
+                Some(depth) => depth,
+                None => return Err(BriefError::NotJson),
+            };
+            left = rest;
+        }
+        Ok(())
     }
 
     // Writes the words of an object's kind, its hardware flags, and its actions.
@@ -541,6 +579,11 @@ impl Line {
     {
         self.section(scope, Section::Words, leaves)?;
         self.section(scope, Section::Hardware, leaves)?;
+        let before = Scope {
+            leaves: one_action(leaves),
+            protocol: scope.protocol,
+        };
+        self.counted_action(counted, &before)?;
         self.actions(counted, scope.protocol, leaves)
     }
 
@@ -553,10 +596,29 @@ impl Line {
             leaves,
             protocol: protocol_of(in_head(leaves, "info")),
         };
-        self.head(said.statistics, said.object, leaves)?;
+        self.head(said.statistics, said.object, &scope)?;
         self.body(said.statistics, &scope, leaves)?;
         self.numbered(b"by", said.port)?;
         self.after_semicolon(said.statistics, &scope, Section::Statistics)
+    }
+
+    // Writes the kind of an action, and where its message is.
+    #[tactic(auto, using(crate::proofs::Written::written_append))]
+    fn own_head(
+        &mut self,
+        counted: bool,
+        all: &[Leaf<'_>],
+        first: &Leaf<'_>,
+        scope: &Scope<'_, '_>,
+    ) -> Result<(), BriefError>
+        ensures { OnOk result (self.new.text.items ≡ self.old.text.items
+            ++ written (own_head counted (leaves_view all.now) (leaf_view first.now) (scope_view scope.now))) }
+    {
+        self.word(b"action")?;
+        self.action_kind(first, scope)?;
+        self.word(b"-")?;
+        self.place(counted, all)?;
+        self.others(scope, all)
     }
 
     // Writes the line of an action after its verb.
@@ -565,15 +627,13 @@ impl Line {
         &mut self,
         said: &Said<'_>,
         all: &[Leaf<'_>],
-        kind: &Leaf<'_>,
+        first: &Leaf<'_>,
         scope: &Scope<'_, '_>,
     ) -> Result<(), BriefError>
         ensures { OnOk result (self.new.text.items ≡ self.old.text.items
-            ++ written (own_action_words (said_view said.now) (leaves_view all.now) (leaf_view kind.now) (scope_view scope.now))) }
+            ++ written (own_action_words (said_view said.now) (leaves_view all.now) (leaf_view first.now) (scope_view scope.now))) }
     {
-        self.word(b"action")?;
-        self.alone(kind)?;
-        self.word(b"-")?;
+        self.own_head(said.statistics, all, first, scope)?;
         self.action(scope)?;
         self.section(scope, Section::Words, all)?;
         self.numbered(b"by", said.port)?;
@@ -587,7 +647,7 @@ impl Line {
     {
         let mut left = leaves;
         'each: while let [leaf, rest @ ..] = left {
-            if is_action(leaf) {
+            if is_in(Section::Begin, leaf) {
                 let scope = Scope {
                     leaves: one_action(rest),
                     protocol: 0,
@@ -637,7 +697,7 @@ fn has_action(leaves: &[Leaf<'_>]) -> bool
 {
     let mut left = leaves;
     'each: while let [leaf, rest @ ..] = left {
-        if is_action(leaf) {
+        if is_in(Section::Begin, leaf) {
             return true;
         }
         left = rest;
@@ -673,6 +733,19 @@ pub fn lines_of<T: Tables, C: Columns + Drop, W: Words + Drop>(
         word: Vec::with_capacity(alloc, 64)?,
     };
     line.message(said, &found)?;
+    let Line { text, .. } = line;
+    Ok(text)
+}
+
+/// The line of a message of which nothing but the object is known.
+pub fn lines_of_nothing(alloc: Global, said: &Said<'_>) -> Result<Vec<u8>, BriefError>
+    ensures { IfOk result (λ text. text.items ≡ message_lines (said_view said.now) []) }
+{
+    let mut line = Line {
+        text: Vec::with_capacity(alloc, 64)?,
+        word: Vec::new(alloc),
+    };
+    line.message(said, &[])?;
     let Line { text, .. } = line;
     Ok(text)
 }

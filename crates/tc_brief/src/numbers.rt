@@ -140,7 +140,7 @@ fn put_power(out: &mut Vec<u8>, n: u64) -> Result<(), AllocError>
 }
 
 /// Appends a number in its unit.
-pub(crate) fn put_number(out: &mut Vec<u8>, unit: Unit, n: u64) -> Result<(), AllocError>
+pub fn put_number(out: &mut Vec<u8>, unit: Unit, n: u64) -> Result<(), AllocError>
     ensures { OnOk result (out.new.items ≡ out.old.items ++ number_text unit n) }
 {
     let wide = n as u128;

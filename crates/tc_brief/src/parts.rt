@@ -6,7 +6,7 @@ ghost use Rattle.tc_brief.specs.Leaves.{leaf_view, leaves_view, value_view};
 ghost use Rattle.tc_brief.specs.Parts.{bare, begun, bit_words, burst_text, choice, choice_at, chosen, control, end_text, hardware, hex_words, is_bar};
 ghost use Rattle.tc_brief.specs.Parts.{is_blank, is_in, is_rate};
 ghost use Rattle.tc_brief.specs.Parts.{is_taken, is_with, key_text, key_words, mask_text, match_words, next_with, number_of, number_of_section, opened_words};
-ghost use Rattle.tc_brief.specs.Parts.{or_key};
+ghost use Rattle.tc_brief.specs.Parts.{agrees, count_in, count_words, is_counted, or_key};
 ghost use Rattle.tc_brief.specs.Parts.{own_word, phrase, plain, protocol_words, rate_named, rate_of, rate_text, scope_view, section_words, styled_words};
 ghost use Rattle.tc_brief.specs.Parts.{takes, valued, verdict_words, words_by, words_of};
 ghost use Rattle.tc_brief.specs.Values.{assigned, name_of_leaf, number_in, open_text, value_text, within_word};
@@ -19,8 +19,8 @@ use crate::leaf::{Leaf, Section, Shape, Value};
 use crate::numbers::{put_bits, put_burst};
 use crate::row::Style;
 use crate::values::{
-    depth_after, is_left_out, is_opening, is_set, is_skipped, number_in, put_assigned,
-    put_hex_bytes, put_name_of, put_open, put_value, put_within,
+    depth_after, is_count, is_hollow, is_left_out, is_opening, is_set, is_skipped, number_in,
+    put_assigned, put_hex_bytes, put_name_of, put_open, put_value, put_within,
 };
 use crate::words::put_word;
 use std::alloc::AllocError;
@@ -327,6 +327,16 @@ impl Line {
         self.phrase(word)
     }
 
+    // Writes a count, unless each line with statistics has it.
+    fn count(&mut self, leaves: &[Leaf<'_>], leaf: &Leaf<'_>) -> Result<(), AllocError>
+        ensures { OnOk result (self.new.text.items ≡ self.old.text.items ++ written (count_words (leaves_view leaves.now) (leaf_view leaf.now))) }
+    {
+        if is_counted(count_in(leaf.section, leaves, leaf.key), leaf) {
+            return Ok(());
+        }
+        self.assigned(leaf)
+    }
+
     // Writes a leaf as its style says.
     fn styled(
         &mut self,
@@ -349,7 +359,7 @@ impl Line {
             Style::Hardware | Style::Bits => self.hardware(leaf),
             Style::Control => self.control(leaf),
             Style::Key => self.key(leaf, rest),
-            Style::Count => Ok(()),
+            Style::Count => self.count(scope.leaves, leaf),
             _ => self.plain(leaf),
         }
     }
@@ -360,6 +370,9 @@ impl Line {
         ensures { OnOk result (self.new.text.items ≡ self.old.text.items
             ++ written (opened_words (leaf_view leaf.now) (open_text shape) (leaves_view rest.now))) }
     {
+        if is_hollow(rest) {
+            return Ok(());
+        }
         self.begin_valued(leaf)?;
         put_open(&mut self.word, shape)?;
         put_within_word(&mut self.word, rest)?;
@@ -386,8 +399,8 @@ impl Line {
         }
     }
 
-    // Writes a leaf, unless it is left out or written by the one before it.
-    fn leaf(
+    /// Writes a leaf, unless it is left out or written by the one before it.
+    pub(crate) fn leaf(
         &mut self,
         scope: &Scope<'_, '_>,
         before: Option<&Leaf<'_>>,
@@ -482,7 +495,10 @@ fn is_with(key: &str, leaf: &Leaf<'_>) -> bool
 fn takes(style: Style) -> bool
     ensures { result ≡ takes style }
 {
-    matches!(style, Style::Mask | Style::Range)
+    matches!(
+        style,
+        Style::Mask | Style::Range | Style::Key | Style::KeyValue
+    )
 }
 
 // True if the leaf before writes this one.
@@ -526,6 +542,43 @@ fn put_end(out: &mut Vec<u8>, end: Option<&Leaf<'_>>) -> Result<(), AllocError>
             put_value(out, leaf)
         }
         None => Ok(()),
+    }
+}
+
+/// The first count of this name.
+pub(crate) fn count_in<'l, 't>(
+    section: Section,
+    leaves: &'l [Leaf<'t>],
+    key: &str,
+) -> Option<&'l Leaf<'t>>
+    ensures { option_map (λ l. leaf_view l.now) result ≡ count_in section (leaves_view leaves.now) key.now }
+{
+    let mut left = leaves;
+    'each: while let [leaf, rest @ ..] = left {
+        if is_in(section, leaf) && is_count(leaf.row.style) && is_same(leaf.key, key) {
+            return Some(leaf);
+        }
+        left = rest;
+    }
+    None
+}
+
+fn agrees(first: Option<u64>, number: Option<u64>) -> bool
+    ensures { result ≡ agrees first number }
+{
+    match (first, number) {
+        (Some(k), Some(n)) => n == k,
+        _ => false,
+    }
+}
+
+// True if the first count of a leaf's name is the leaf, or has the same number.
+fn is_counted(first: Option<&Leaf<'_>>, leaf: &Leaf<'_>) -> bool
+    ensures { result ≡ is_counted (option_map (λ l. leaf_view l.now) first.entry) (leaf_view leaf.now) }
+{
+    match first {
+        Some(first) => agrees(number_in(&first.value), number_in(&leaf.value)),
+        None => false,
     }
 }
 
@@ -651,6 +704,8 @@ fn number_of_section(section: Section) -> u8
         Section::Actions => 4,
         Section::Control => 5,
         Section::ActionStatistics => 6,
+        Section::Begin => 7,
+        Section::Kind => 8,
     }
 }
 

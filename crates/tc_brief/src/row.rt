@@ -50,10 +50,14 @@ pub enum Style {
     Head,
     /// Actions, which come last.
     Actions,
+    /// With this member an action begins.
+    Begin,
     /// The keys of u32: a list whose elements are written one after the other.
     Keys,
-    /// The mask of a u32 key, with the value and the offset that follow it: `match 00000050/0000ffff at 20`.
+    /// The mask of a u32 key, with the value and the offset that follow it: `match 00000050/0000ffff at 20`. The row names the value.
     Key,
+    /// The value of a u32 key, which its mask writes. The row names the offset.
+    KeyValue,
     /// Statistics, which are written only if they are asked for.
     Statistics,
     /// A number of packets, bytes or events that each line with statistics has.

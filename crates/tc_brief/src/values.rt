@@ -1,17 +1,18 @@
 //! The value of a leaf, as part of a word.
 
 ghost use Rattle.std.specs.Prelude.{IfSome, OnOk, [], bytes_eq, ◌++◌, ◌≡◌};
-ghost use Rattle.tc_brief.specs.Leaves.{leaf_view, name_now, value_view};
+ghost use Rattle.tc_brief.specs.Leaves.{leaf_view, leaves_view, name_now, value_view};
 ghost use Rattle.tc_brief.specs.Numbers.{number_text};
 ghost use Rattle.tc_brief.specs.Values.{assigned, attribute_name, bar, bits_text, bytes_text, close_text, comma, depth_after, equals};
-ghost use Rattle.tc_brief.specs.Values.{flags_text, interface_text, is_framing, is_left_out, is_opening, is_skipped, left_by, name_of_leaf, named_text};
+ghost use Rattle.tc_brief.specs.Values.{flags_text, interface_text, is_closing, is_count, is_framing, is_hollow, is_left_out, is_number, is_opening};
+ghost use Rattle.tc_brief.specs.Values.{is_skipped, left_by, name_of_leaf, named_text};
 ghost use Rattle.tc_brief.specs.Values.{number_in, open_text, shown_name, shown_number, shown_signed, value_text, within_as};
 ghost use Rattle.tc_units.specs.Flags.{is_set};
 ghost use Rattle.tc_units.specs.Names.{names_view};
 
 use crate::leaf::{Leaf, Shape, Value};
 use crate::numbers::{put_number, put_signed};
-use crate::row::LeftOut;
+use crate::row::{LeftOut, Style};
 use std::alloc::AllocError;
 use tc_lines::Display;
 use tc_units::{Name, Unit, name_of, put_decimal, put_hex, put_verdict};
@@ -296,8 +297,44 @@ pub(crate) fn is_skipped(leaf: &Leaf<'_>) -> bool
 {
     match leaf.value {
         Value::Opens(_) | Value::Closes(_) => false,
-        _ => is_left_out(leaf),
+        _ => is_left_out(leaf) || (is_count(leaf.row.style) && is_zero(number_in(&leaf.value))),
     }
+}
+
+/// True for a number that each line with statistics has.
+pub(crate) fn is_count(style: Style) -> bool
+    ensures { result ≡ is_count style }
+{
+    matches!(style, Style::Count)
+}
+
+fn is_zero(number: Option<u64>) -> bool
+    ensures { result ≡ is_number 0 number }
+{
+    match number {
+        Some(n) => n == 0,
+        None => false,
+    }
+}
+
+fn is_closing(value: &Value<'_>) -> bool
+    ensures { result ≡ is_closing (value_view value.now) }
+{
+    matches!(value, Value::Closes(_))
+}
+
+/// True if nothing is written between an open bracket and the next closing one.
+pub(crate) fn is_hollow(leaves: &[Leaf<'_>]) -> bool
+    ensures { result ≡ is_hollow (leaves_view leaves.now) }
+{
+    let mut left = leaves;
+    'each: while let [leaf, rest @ ..] = left {
+        if !is_skipped(leaf) {
+            return is_closing(&leaf.value);
+        }
+        left = rest;
+    }
+    false
 }
 
 /// Appends one leaf within a word.

@@ -9,7 +9,7 @@ ghost use Rattle.tc_brief.specs.Rows.{find_row, or_row, plain_row, row_view, row
 ghost use Rattle.tc_brief.specs.Tape.{event_of, events_of};
 ghost use Rattle.tc_brief.specs.Walk.{close_map, close_seq, closing, displayed, frame_view, is_actions, is_enum, is_flat, is_head, is_of_action, is_other};
 ghost use Rattle.tc_brief.specs.Walk.{is_silent, is_stand_in, is_through, is_transparent, item_shape, leaf_of, leaves, list_shape, names_in, note};
-ghost use Rattle.tc_brief.specs.Walk.{number_value};
+ghost use Rattle.tc_brief.specs.Walk.{begin_row, number_value};
 ghost use Rattle.tc_brief.specs.Walk.{open_map, open_seq, opened, opening, option_list, other_leaf, place_within, plain_leaf, rated, record_shape};
 ghost use Rattle.tc_brief.specs.Walk.{rest_of, section_in, settle, stack_of, start, state_of, step, styled, take_key, take_leaf, text_number, top_of};
 ghost use Rattle.tc_brief.specs.Walk.{value_of, with_number};
@@ -95,6 +95,19 @@ fn plain_row<'t>(key: &'t str) -> Row<'t>
     }
 }
 
+// The row of a value without a name, which begins an action.
+fn begin_row<'t>() -> Row<'t>
+    ensures { row_view result ≡ begin_row }
+{
+    Row {
+        key: "Kind",
+        word: "",
+        style: Style::Alone,
+        with: "",
+        left: LeftOut::Never,
+    }
+}
+
 // The row of a name.
 fn row_in<'t, W: Words>(words: &W, place: usize, base: usize, key: &'t str) -> Row<'t>
     ensures { row_view result ≡ unwrap_or (or_row (find_row (W.rows place) key.now) (find_row (W.rows base) key.now)) (plain_row key.now) }
@@ -161,7 +174,11 @@ fn is_of_action(section: Section) -> bool
 {
     matches!(
         section,
-        Section::Actions | Section::Control | Section::ActionStatistics
+        Section::Begin
+            | Section::Kind
+            | Section::Actions
+            | Section::Control
+            | Section::ActionStatistics
     )
 }
 
@@ -172,6 +189,7 @@ fn styled(style: Style, section: Section) -> Section
     let action = is_of_action(section);
     match style {
         Style::Actions => Section::Actions,
+        Style::Begin if action => Section::Begin,
         Style::Statistics if action => Section::ActionStatistics,
         Style::Statistics => Section::Statistics,
         Style::Control if action => Section::Control,
@@ -186,7 +204,8 @@ fn displayed(display: &Display, section: Section) -> Section
 {
     match display {
         Display::SameLine(_) => Section::Head,
-        Display::Kind if !is_of_action(section) => Section::Head,
+        Display::Kind if is_of_action(section) => Section::Kind,
+        Display::Kind => Section::Head,
         _ => section,
     }
 }
@@ -613,10 +632,10 @@ impl<'t> Walk<'t> {
             }
             return Some(Leaf {
                 key: "Kind",
-                row: plain_row("Kind"),
+                row: begin_row(),
                 display: Display::Kind,
                 names: &[],
-                section,
+                section: Section::Begin,
                 value: Value::Text(self.row.word),
             });
         }

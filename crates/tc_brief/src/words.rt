@@ -13,8 +13,8 @@ fn is_bare(b: u8) -> bool
     0x21 <= b && b <= 0x7e && b != 34 && b != 92
 }
 
-// Appends a byte of a word.
-fn put_byte(out: &mut Vec<u8>, b: u8) -> Result<(), AllocError>
+/// Appends a byte of a word.
+pub fn put_byte(out: &mut Vec<u8>, b: u8) -> Result<(), AllocError>
     ensures { OnOk result (out.new.items ≡ out.old.items ++ word_byte b) }
 {
     if is_bare(b) {

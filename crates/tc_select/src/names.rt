@@ -80,8 +80,8 @@ fn named_in(content: &str) -> Option<(u32, &str)>
     }
 }
 
-// A name is UTF-8.
-fn if_utf8(link: NamedLink<'_>) -> Option<(u32, &str)>
+/// The index and the name of an interface, if the name is UTF-8.
+pub fn if_utf8(link: NamedLink<'_>) -> Option<(u32, &str)>
     ensures { option_map name_view result ≡ if_utf8 (Some (link_view link.entry)) }
 {
     match str::from_utf8(link.name) {

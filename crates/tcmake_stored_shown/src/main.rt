@@ -41,6 +41,8 @@ fn make_again<R: Print, I: Read, E: Write>(
 ) -> u8 {
     let options = Options {
         format: tcshow_lib::options::OutputFormat::Json,
+        time: tcshow_lib::options::TimeFormat::Clock,
+        acks: false,
         all: false,
         without_header: None,
         filter: Filter::ALL,

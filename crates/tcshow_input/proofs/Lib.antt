@@ -5,3 +5,4 @@ pub mod InOrder
 pub mod Halting
 pub mod Breaking
 mod Dumps
+mod Named

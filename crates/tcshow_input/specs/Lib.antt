@@ -2,5 +2,6 @@ pub mod Writing
 pub mod Things
 pub mod Reading
 pub mod Selection
+pub mod Known
 pub mod Shown
 pub mod State

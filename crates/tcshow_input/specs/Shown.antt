@@ -1,5 +1,6 @@
 -- The text that is printed for things, one after the other, and whether one of them is refused or broken.
-use Rattle.std.specs.Prelude.{◌≡◌, ℕ, Bool, true, false, ◌||◌, List, [], ◌∷◌, ◌++◌, is_some, IsUtf8, ⊤}
+use Rattle.std.specs.Prelude.{◌≡◌, ℕ, Bool, true, false, not, ◌&&◌, ◌||◌, List, [], ◌∷◌, ◌++◌, Option, Some, None, is_some, IsUtf8, ⊤}
+use Rattle.tc_capture.specs.Message.{Message as Netlink}
 use Rattle.tc_columns.specs.Kinds.{root_place}
 use Rattle.tc_select.specs.declared.filter.Filter.{Filter}
 use Rattle.tc_outline.specs.Located.{items_of_message, message_fault}
@@ -7,13 +8,15 @@ use Rattle.tc_outline.specs.Outline.{form_of, shown_lines, what_of}
 use Rattle.tc_outline.specs.Page.{IsShown}
 use Rattle.tcshow_json.specs.Grammars.{is_refused, IsLineOf}
 use Rattle.tcshow_input.specs.Selection.{is_matched, is_included}
-use Rattle.tcshow_json.specs.Messages.{Header, Message, Reason, Thing, message, answer, other, hole}
+use Rattle.tcshow_json.specs.Messages.{Header, Message, Reason, Thing, message, answer, link, done, other, hole, is_silent}
+use Rattle.tcshow_json.specs.declared.message.Origin.{Origin}
+use Rattle.tcshow_input.specs.Known.{Known, after, names_by}
 use Rattle.tcshow_json.specs.Line.{IsAnswered}
 use Rattle.tcshow_json.specs.Safe.{safe_text}
 use Rattle.tcshow_json.specs.Objects.{root_of}
+use Rattle.tcshow_lines.specs.Answers.{IsAnswer, IsEnd, dump_of}
 use Rattle.tcshow_lines.specs.Lines.{IsLines}
-use Rattle.tcshow_lines.specs.Verbs.{noted_if}
-use Rattle.tcshow_lines.specs.declared.verb.Request.{Request}
+use Rattle.tcshow_lines.specs.declared.times.TimeFormat.{TimeFormat}
 
 -- a line, and the line feed that ends it
 abbrev pub ended : List ℕ → List ℕ
@@ -35,12 +38,12 @@ pub record Nothing (text : List ℕ) (bad : Bool) : Type 0 where
   pub no_text : text ≡ []
   pub no_fault : bad ≡ false
 
--- how messages are shown outside JSON: as outlines with or without padding attributes, as outlines on one line, or as lines for people
--- with or without statistics
+-- how messages are shown: as lines of their objects with or without statistics, with times in this format, and with or without lines for
+-- acknowledgements; as outlines with or without padding attributes; or in JSON
 pub data View : Type 0 where
+  lines : Bool → TimeFormat → Bool → View
   outline : Bool → View
-  one_line : View
-  brief : Bool → View
+  in_json : View
 
 -- whether an outline ends with a fault
 abbrev pub has_fault : Message → Bool
@@ -50,31 +53,46 @@ has_fault m = is_some (message_fault (items_of_message (what_of (root_of m)) m.p
 abbrev pub lines_with : List (ℕ × List ℕ) → Bool → Message → List ℕ
 lines_with names all m = shown_lines (record { root = root_place (root_of m); all = all; interfaces = names }) (form_of (root_of m)) m.payload
 
--- an outline: the words of the packet and of the netlink header, which the lines of the message continue; the line of its fault, if it has one;
--- an empty line
-pub record IsOutline (all : Bool) (m : Message) (text : List ℕ) : Type 0 where
+-- an outline with these names of interfaces: the words of the packet and of the netlink header, which the lines of the message continue; the
+-- line of its fault, if it has one; an empty line
+pub record IsOutline (names : List (ℕ × List ℕ)) (all : Bool) (m : Message) (text : List ℕ) : Type 0 where
   pub head : List ℕ
-  pub names : List (ℕ × List ℕ)
   pub fault : List ℕ
   pub printable : IsShown false head
   pub written : text ≡ ended (ended ((head ++ lines_with names all m) ++ fault))
   pub no_fault : has_fault m ≡ false → fault ≡ []
 
--- the text of a message in each view, after these requests
-abbrev pub IsViewOf : View → List Request → Message → List ℕ → Type 0
-IsViewOf (outline all) before m text = IsOutline all m text
-IsViewOf one_line before m text = ⊤
-IsViewOf (brief statistics) before m text = IsLines before statistics m text
+-- the text of a message in each view
+abbrev pub IsViewOf : View → Known → Message → List ℕ → Type 0
+IsViewOf (lines statistics format acks) known m text = IsLines known.past statistics format m text
+IsViewOf (outline all) known m text = IsOutline (names_by known) all m text
+IsViewOf in_json known m text = ⊤
 
 -- for a message its JSON line, or a page in this view
-abbrev pub ShowsMessage : Bool → View → List Request → Message → List ℕ → Bool → Type 0
-ShowsMessage true view before m text bad = (line : List ℕ) × IsLineOf m line × IsEscaped line text × (bad ≡ is_refused m)
-ShowsMessage false view before m text bad = IsPage text × IsViewOf view before m text × (bad ≡ has_fault m)
+abbrev pub ShowsMessage : Bool → View → Known → Message → List ℕ → Bool → Type 0
+ShowsMessage true view known m text bad = (line : List ℕ) × IsLineOf m line × IsEscaped line text × (bad ≡ is_refused m)
+ShowsMessage false view known m text bad = IsPage text × IsViewOf view known m text × (bad ≡ has_fault m)
+
+-- the text of an answer in each view
+abbrev pub IsAnswerIn : View → Known → Reason → Message → List ℕ → Type 0
+IsAnswerIn (lines statistics format acks) known r m text = IsAnswer known.past statistics format r m text
+IsAnswerIn (outline all) known r m text = ⊤
+IsAnswerIn in_json known r m text = ⊤
 
 -- for an answer its JSON line, or a page
-abbrev pub ShowsAnswer : Bool → Header → Reason → Message → List ℕ → Type 0
-ShowsAnswer true h r m text = (line : List ℕ) × IsAnswered h r m line × IsEscaped line text
-ShowsAnswer false h r m text = IsPage text
+abbrev pub ShowsAnswer : Bool → View → Known → Header → Reason → Message → List ℕ → Type 0
+ShowsAnswer true view known h r m text = (line : List ℕ) × IsAnswered h r m line × IsEscaped line text
+ShowsAnswer false view known h r m text = IsPage text × IsAnswerIn view known r m text
+
+-- whether acknowledgements without a text are shown: in lines, if they are asked for
+abbrev pub has_acks : View → Bool
+has_acks (lines statistics format acks) = acks
+has_acks (outline all) = false
+has_acks in_json = false
+
+-- whether an answer is shown: if the filter matches its request
+abbrev pub is_answer_shown : View → Known → Filter → Reason → Message → Bool
+is_answer_shown view known filter r m = (not (is_silent r) || has_acks view) && is_matched (names_by known) filter m
 
 -- for a place without a message a notice
 abbrev pub ShowsNotice : Bool → List ℕ → Type 0
@@ -95,25 +113,37 @@ abbrev pub IfTaken : Bool → Type 0 → List ℕ → Bool → Type 0
 IfTaken true Shown text bad = Shown
 IfTaken false Shown text bad = Nothing text bad
 
--- the text of a thing after these requests
-abbrev pub Shows : Bool → View → Filter → List Request → Thing → List ℕ → Bool → Type 0
-Shows json view filter before (message m) text bad = IfTaken (is_included filter m) (ShowsMessage json view before m text bad) text bad
-Shows json view filter before (answer h r m) text bad = IfTaken (is_matched filter m) (ShowsAnswer json h r m text × (bad ≡ false)) text bad
-Shows json view filter before other text bad = Nothing text bad
-Shows json view filter before (hole fault) text bad = ShowsNotice json text × (bad ≡ fault)
+-- whether the filter matches the request of a dump
+abbrev pub is_request_matched : Known → Filter → Option Message → Bool
+is_request_matched known filter None = false
+is_request_matched known filter (Some request) = is_matched (names_by known) filter request
 
--- the requests before the next thing; whether a filter matches them doesn't matter
-abbrev pub after : List Request → Thing → List Request
-after before (message m) = noted_if before m.header
-after before thing = before
+-- whether the end of a dump is shown: in lines, if it failed or was interrupted, and the filter matches its request
+abbrev pub is_done_shown : View → Known → Filter → Origin → Netlink → Bool
+is_done_shown (lines statistics format acks) known filter origin m = is_request_matched known filter (dump_of known.past origin m)
+is_done_shown (outline all) known filter origin m = false
+is_done_shown in_json known filter origin m = false
 
-abbrev pub after_all : List Request → List Thing → List Request
-after_all before [] = before
-after_all before (x ∷ xs) = after_all (after before x) xs
+abbrev pub ShowsDone : View → Known → Origin → Netlink → List ℕ → Type 0
+ShowsDone (lines statistics format acks) known origin m text = IsPage text × IsEnd known.past statistics format origin m text
+ShowsDone (outline all) known origin m text = text ≡ []
+ShowsDone in_json known origin m text = text ≡ []
+
+-- the text of a thing, if this is known before it
+abbrev pub Shows : Bool → View → Filter → Known → Thing → List ℕ → Bool → Type 0
+Shows json view filter known (message m) text bad =
+    IfTaken (is_included (names_by known) filter m) (ShowsMessage json view known m text bad) text bad
+Shows json view filter known (answer h r m) text bad =
+    IfTaken (is_answer_shown view known filter r m) (ShowsAnswer json view known h r m text × (bad ≡ false)) text bad
+Shows json view filter known (link named) text bad = Nothing text bad
+Shows json view filter known (done origin m) text bad =
+    IfTaken (is_done_shown view known filter origin m) (ShowsDone view known origin m text × (bad ≡ false)) text bad
+Shows json view filter known other text bad = Nothing text bad
+Shows json view filter known (hole fault) text bad = ShowsNotice json text × (bad ≡ fault)
 
 -- for several things one text after the other
-abbrev pub ShowsEach : Bool → View → Filter → List Request → List Thing → List ℕ → Bool → Type 0
-ShowsEach json view filter before [] text bad = Nothing text bad
-ShowsEach json view filter before (x ∷ xs) text bad =
-    (first : List ℕ) × (later : List ℕ) × (b : Bool) × (c : Bool) × Shows json view filter before x first b
-    × ShowsEach json view filter (after before x) xs later c × (text ≡ first ++ later) × (bad ≡ (b || c))
+abbrev pub ShowsEach : Bool → View → Filter → Known → List Thing → List ℕ → Bool → Type 0
+ShowsEach json view filter known [] text bad = Nothing text bad
+ShowsEach json view filter known (x ∷ xs) text bad =
+    (first : List ℕ) × (later : List ℕ) × (b : Bool) × (c : Bool) × Shows json view filter known x first b
+    × ShowsEach json view filter (after known x) xs later c × (text ≡ first ++ later) × (bad ≡ (b || c))

@@ -5,7 +5,7 @@ use Rattle.tc_capture.specs.declared.kind.MessageType.{MessageType}
 use Rattle.tc_select.specs.declared.filter.Filter.{Filter}
 use Rattle.tcshow_input.specs.declared.options.Options.{Options}
 use Rattle.tcshow_input.specs.declared.options.OutputFormat.{OutputFormat}
-use Rattle.tcshow_input.specs.declared.options.OutputFormat.TheVariants.{Brief, Lines, OneLine, Json}
+use Rattle.tcshow_input.specs.declared.options.OutputFormat.TheVariants.{Lines, Outline, Json}
 use Rattle.tcshow_input.specs.declared.stop.Stop.{Stop}
 use Rattle.tcshow_input.specs.declared.stop.Stop.TheVariants.{NoMemory}
 use Rattle.tcshow_input.specs.declared.counts.Counts.{Counts}
@@ -14,9 +14,11 @@ use Rattle.tcshow_json.specs.Messages.{Thing}
 use Rattle.tcshow_input.specs.Reading.{AreIn, AreFirstIn, GivesFirst}
 use Rattle.tc_outline.specs.declared.page.Layout.{Layout}
 use Rattle.tc_outline.specs.declared.page.Layout.TheVariants as layout
-use Rattle.tcshow_input.specs.Shown.{View, after_all, brief, outline, one_line, ended, Shows, ShowsEach, ShowsSummary}
-use Rattle.tcshow_lines.specs.Verbs.{requests_view}
-use Rattle.tcshow_lines.specs.declared.verb.Request.{Request}
+use Rattle.tc_columns.specs.Names.{names_in}
+use Rattle.tcshow_input.specs.Known.{Known, after_all, given_in, known_first}
+use Rattle.tcshow_input.specs.Shown.{View, in_json, lines, outline, ended, Shows, ShowsEach, ShowsSummary}
+use Rattle.tcshow_lines.specs.Past.{past_of}
+use Rattle.tcshow_lines.specs.declared.times.TimeFormat.{TimeFormat}
 
 pub record State : Type 0 where
   -- the output is JSON
@@ -29,43 +31,42 @@ pub record State : Type 0 where
   pub filter : Filter
   -- a summary is asked for
   pub summary : Bool
-  -- the requests so far
-  pub before : List Request
+  -- what is known before the next thing
+  pub before : Known
   -- the text that isn't written yet
   pub text : List ℕ
   -- something was refused, broken or cut
   pub bad : Bool
 
 abbrev pub is_json : OutputFormat → Bool
-is_json (Brief statistics) = false
-is_json Lines = false
-is_json OneLine = false
+is_json (Lines statistics) = false
+is_json Outline = false
 is_json Json = true
 
--- the view of each format, with or without padding attributes
-abbrev pub view_of : OutputFormat → Bool → View
-view_of (Brief statistics) all = brief statistics
-view_of Lines all = outline all
-view_of OneLine all = one_line
-view_of Json all = one_line
+-- the view of each format, with these times, with or without acknowledgements and padding attributes
+abbrev pub view_with : OutputFormat → TimeFormat → Bool → Bool → View
+view_with (Lines statistics) time acks all = lines statistics time acks
+view_with Outline time acks all = outline all
+view_with Json time acks all = in_json
 
--- whether lines for people have statistics
+abbrev pub view_of : Options → View
+view_of options = view_with options.format options.time options.acks options.all
+
+-- whether lines of objects have statistics
 abbrev pub statistics_in : OutputFormat → Option Bool
-statistics_in (Brief statistics) = Some statistics
+statistics_in (Lines statistics) = Some statistics
 statistics_in format = None
 
 -- the layout of pages
 abbrev pub layout_of : OutputFormat → Layout
-layout_of (Brief statistics) = layout.OneLine
-layout_of Lines = layout.Lines
-layout_of OneLine = layout.OneLine
+layout_of (Lines statistics) = layout.OneLine
+layout_of Outline = layout.Lines
 layout_of Json = layout.OneLine
 
 -- a page in the output: a paragraph, or a line
 abbrev pub laid_out : OutputFormat → List ℕ → List ℕ
-laid_out (Brief statistics) page = ended page
-laid_out Lines page = ended (ended page)
-laid_out OneLine page = ended page
+laid_out (Lines statistics) page = ended page
+laid_out Outline page = ended (ended page)
 laid_out Json page = ended page
 
 abbrev pub is_bad : Counts → Bool
@@ -74,11 +75,11 @@ is_bad c = not (c.refused == 0) || not (c.broken == 0) || not (c.cut == 0)
 abbrev pub state_of : {A : Type 0} → Printer A → State
 state_of s = record {
   json = s.output.is_json;
-  view = view_of s.options.now.format s.options.now.all;
+  view = view_of s.options.now;
   header = s.options.now.without_header;
   filter = s.options.now.filter;
   summary = s.options.now.has_summary;
-  before = requests_view s.requests;
+  before = record { given = given_in s.options.now; links = names_in s.links.names; past = past_of s.requests };
   text = s.output.bytes.items;
   bad = is_bad s.counts;
 }
@@ -170,11 +171,11 @@ BreaksIn stop file old new first last = stop ≢ NoMemory → (things : List Thi
 abbrev pub start : Options → State
 start options = record {
   json = is_json options.format;
-  view = view_of options.format options.all;
+  view = view_of options;
   header = options.without_header;
   filter = options.filter;
   summary = options.has_summary;
-  before = [];
+  before = known_first (given_in options);
   text = [];
   bad = false;
 }
@@ -184,7 +185,7 @@ start options = record {
 abbrev pub Ran : Options → Bool → Option (List ℕ) → Option (List ℕ) → Option (List ℕ) → Type 0
 Ran options fault file old new =
     (things : List Thing) × (text : List ℕ) × (summary : List ℕ) × AreIn file options.without_header things
-    × ShowsEach (is_json options.format) (view_of options.format options.all) options.filter [] things text fault
+    × ShowsEach (is_json options.format) (view_of options) options.filter (known_first (given_in options)) things text fault
     × ShowsSummary (is_json options.format) options.has_summary summary × Appends old new (text ++ summary)
 
 -- a run that ends early: of the text of the first things in its input, and of a summary, a front is written, and the fault says whether one of
@@ -192,5 +193,5 @@ Ran options fault file old new =
 abbrev pub RanOn : Options → Bool → Option (List ℕ) → Option (List ℕ) → Option (List ℕ) → Type 0
 RanOn options fault file old new =
     (things : List Thing) × (text : List ℕ) × (summary : List ℕ) × (out : List ℕ) × (rest : List ℕ) × AreFirstIn file options.without_header things
-    × ShowsEach (is_json options.format) (view_of options.format options.all) options.filter [] things text fault
+    × ShowsEach (is_json options.format) (view_of options) options.filter (known_first (given_in options)) things text fault
     × ShowsSummary (is_json options.format) options.has_summary summary × Appends old new out × (text ++ summary ≡ out ++ rest)

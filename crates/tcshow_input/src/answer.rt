@@ -18,7 +18,7 @@ impl<'a, A: Allocator + Copy> Printer<'a, A> {
         ensures put { OnOk result (Puts (message (message_view found.now) ∷ []) (state_of self.old) (state_of self.new)) }
     {
         self.put_matched(found)?;
-        self.requests.note(&found.header)
+        self.requests.note(found)
     }
 
     // Prints a message if the filter matches it.
@@ -64,8 +64,9 @@ impl<'a, A: Allocator + Copy> Printer<'a, A> {
             self.json,
             options.names.names,
             self.links.names(),
-            self.requests.all(),
+            &self.requests,
             statistics,
+            options.time,
             found,
         )?;
         self.output.lines(&lines.text)?;

@@ -18,7 +18,7 @@ use std::alloc::{AllocError, Allocator};
 use std::io::{Read, Write};
 use tc_capture::{Capture, CaptureError, Contents, Messages, NetlinkMessage, Packet, Piece, Res};
 use tc_input::{Gap, Input, next_piece, read_on};
-use tcshow_json::{Message, Notice, Origin, Reply};
+use tcshow_json::{Message, Notice, Origin, Reply, link_in};
 
 /// Prints the messages of a capture, from its next piece to its end.
 pub fn show_capture<A: Allocator + Copy, R: Read, W: Write>(
@@ -104,6 +104,9 @@ fn goes_on<A: Allocator + Copy, R: Read, W: Write>(
     Ok(is_passed(gap))
 }
 
+// The end of a dump (`linux/netlink.h`).
+const NLMSG_DONE: u16 = 3;
+
 // True if the capture goes on after the gap.
 fn is_passed(gap: Gap) -> bool
     ensures { result ≡ is_passed gap }
@@ -146,7 +149,7 @@ impl<'a, A: Allocator + Copy> Printer<'a, A> {
     ghost use Rattle.tc_capture.specs.Answer.{answer_in};
     ghost use Rattle.tc_capture.specs.Message.{message_of};
     ghost use Rattle.tcshow_input.specs.Reading.{things_in_piece, things_in_gap, packets_after, count_after, number_after};
-    ghost use Rattle.tcshow_json.specs.Messages.{hole, is_fault, thing_of, answer_with};
+    ghost use Rattle.tcshow_json.specs.Messages.{alone, hole, is_fault, link_in, link_or_other, thing_of, answer_with};
     ghost use Rattle.tcshow_input.specs.Things.{thing_in, things_in, things_held, things_of};
     ghost use Rattle.tcshow_input.specs.Things.{cut_after, origin_of};
     ghost use Rattle.tcshow_input.specs.State.{state_of, Puts};
@@ -340,7 +343,7 @@ impl<'a, A: Allocator + Copy> Printer<'a, A> {
         }
     }
 
-    // Prints an answer of the kernel to a traffic control request, or counts another netlink message.
+    // Prints an answer of the kernel to a traffic control request, or handles another netlink message.
     fn put_other(&mut self, origin: Origin, message: &NetlinkMessage<'_>) -> Result<(), AllocError>
         ensures form { self.new.output.is_json ≡ self.old.output.is_json }
         ensures put { OnOk result (Puts (answer_with origin (message_of message.now) (answer_in (message_of message.now)) ∷ [])
@@ -348,10 +351,30 @@ impl<'a, A: Allocator + Copy> Printer<'a, A> {
     {
         match Reply::in_netlink(origin, message) {
             Some(reply) => self.put_reply(&reply),
-            None => {
-                self.counts.others = self.counts.others.saturating_add(1);
-                self.learn(message)
-            }
+            None => self.put_alone(origin, message),
+        }
+    }
+
+    // Prints the end of a dump, or counts another netlink message.
+    fn put_alone(&mut self, origin: Origin, message: &NetlinkMessage<'_>) -> Result<(), AllocError>
+        ensures form { self.new.output.is_json ≡ self.old.output.is_json }
+        ensures put { OnOk result (Puts (alone origin (message_of message.now) ∷ []) (state_of self.old) (state_of self.new)) }
+    {
+        if message.kind == NLMSG_DONE {
+            return self.put_done(origin, message);
+        }
+        self.counts.others = self.counts.others.saturating_add(1);
+        self.learn(message)
+    }
+
+    // Keeps the name of an interface, if the message has one.
+    fn learn(&mut self, message: &NetlinkMessage<'_>) -> Result<(), AllocError>
+        ensures form { self.new.output.is_json ≡ self.old.output.is_json }
+        ensures put { OnOk result (Puts (link_or_other (link_in (message_of message.now)) ∷ []) (state_of self.old) (state_of self.new)) }
+    {
+        match link_in(message) {
+            Some((index, name)) => self.links.learn(index, name),
+            None => Ok(()),
         }
     }
 

@@ -3,16 +3,15 @@
 use tc_capture::MessageType;
 use tc_outline::Interfaces;
 use tc_select::Filter;
+use tcshow_lines::TimeFormat;
 
 /// How messages are printed.
 #[derive(Clone, Copy, PartialEq, Eq)]
 pub enum OutputFormat {
-    /// A line for each object, as people read it, with statistics or without.
-    Brief(bool),
+    /// A line for each object, with statistics or without.
+    Lines(bool),
     /// An outline: a line for the header, a line for each attribute, and an empty line.
-    Lines,
-    /// An outline on one line.
-    OneLine,
+    Outline,
     /// A line of JSON.
     Json,
 }
@@ -25,6 +24,10 @@ pub struct Options<'a> {
     pub without_header: Option<MessageType>,
     /// Which messages are printed.
     pub filter: Filter<'a>,
+    /// How lines of objects show times.
+    pub time: TimeFormat,
+    /// True if lines of objects are printed for acknowledgements without a text, too.
+    pub acks: bool,
     /// True if outlines have padding attributes too.
     pub all: bool,
     /// Names of interfaces, beside those in the capture.

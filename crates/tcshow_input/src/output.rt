@@ -71,7 +71,7 @@ impl<A: Allocator> Output<A> {
         self.bytes.extend_from_slice(page.bytes())
     }
 
-    /// Appends lines for people.
+    /// Appends lines of objects.
     pub(crate) fn lines(&mut self, text: &[u8]) -> Result<(), AllocError>
         requires { IsShown true text.now }
         ensures form { self.new.is_json ≡ self.old.is_json }

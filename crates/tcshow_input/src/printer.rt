@@ -33,7 +33,7 @@ pub struct Printer<'a, A: Allocator> {
     pub counts: Counts,
     /// Names of interfaces in the capture.
     pub(crate) links: Links,
-    /// Requests so far, which tell who speaks.
+    /// Messages so far, which tell who speaks.
     pub(crate) requests: Requests,
     /// Offset in the input of the current dump, in bytes.
     pub(crate) dump_at: u64,
@@ -47,17 +47,17 @@ pub(crate) fn layout_of(form: OutputFormat) -> Layout
     ensures { result ≡ layout_of form }
 {
     match form {
-        OutputFormat::Lines => Layout::Lines,
-        OutputFormat::Brief(_) | OutputFormat::OneLine | OutputFormat::Json => Layout::OneLine,
+        OutputFormat::Outline => Layout::Lines,
+        OutputFormat::Lines(_) | OutputFormat::Json => Layout::OneLine,
     }
 }
 
-/// Whether lines for people have statistics. `None` for another format.
+/// Whether lines of objects have statistics. `None` for another format.
 pub(crate) fn statistics_in(form: OutputFormat) -> Option<bool>
     ensures { result ≡ statistics_in form }
 {
     match form {
-        OutputFormat::Brief(statistics) => Some(statistics),
+        OutputFormat::Lines(statistics) => Some(statistics),
         _ => None,
     }
 }
@@ -66,6 +66,7 @@ impl<'a, A: Allocator + Copy> Printer<'a, A> {
     ghost use Rattle.std.specs.Prelude.{◌≡◌, true, false, List, ℕ, [], OnOk, is_some, string_bytes};
     ghost use Rattle.tc_outline.specs.Page.{IsShown};
     ghost use Rattle.tc_outline.specs.Text.{text_on};
+    ghost use Rattle.tcshow_input.specs.Known.{known_first};
     ghost use Rattle.tcshow_input.specs.Shown.{ended, IsEscaped, ShowsName, ShowsNotice, ShowsSummary};
     ghost use Rattle.tcshow_input.specs.State.{laid_out, start, state_of, Grows, Halts, Progress};
     ghost use Rattle.tcshow_input.specs.Writing.{GrowsClean};
@@ -92,7 +93,7 @@ impl<'a, A: Allocator + Copy> Printer<'a, A> {
     /// Begins another input: forgets the text that isn't written, and the names of interfaces and the requests in the input before.
     pub fn restart(&mut self)
         ensures form { self.new.output.is_json ≡ self.old.output.is_json }
-        ensures empty { state_of self.new ≡ record (state_of self.old) { text = []; before = [] } }
+        ensures empty { state_of self.new ≡ record (state_of self.old) { text = []; before = known_first (state_of self.old).before.given } }
     {
         self.output.clear();
         self.links = Links::new(self.json);
@@ -123,8 +124,8 @@ impl<'a, A: Allocator + Copy> Printer<'a, A> {
         let format = self.options.format;
         self.put_page_line()?;
         match format {
-            OutputFormat::Lines => self.output.line_feed(),
-            OutputFormat::Brief(_) | OutputFormat::OneLine | OutputFormat::Json => Ok(()),
+            OutputFormat::Outline => self.output.line_feed(),
+            OutputFormat::Lines(_) | OutputFormat::Json => Ok(()),
         }
     }
 
@@ -272,7 +273,7 @@ fn is_json(form: OutputFormat) -> bool
     ensures { result ≡ is_json form }
 {
     match form {
-        OutputFormat::Brief(_) | OutputFormat::Lines | OutputFormat::OneLine => false,
+        OutputFormat::Lines(_) | OutputFormat::Outline => false,
         OutputFormat::Json => true,
     }
 }

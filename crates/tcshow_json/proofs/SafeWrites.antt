@@ -1,8 +1,11 @@
 -- The text with escapes as it is written.
-use Rattle.std.proofs.Common.{◌≡◌, ℕ, suc, ◌<◌, true, List, [], ◌∷◌, ◌++◌, length, refl, sym, ap, ◌∙◌, arith, append_assoc, append-nil, IsUtf8}
+use Rattle.std.proofs.Common.{◌≡◌, ◌↔◌, ℕ, suc, ◌<◌, true, List, [], ◌∷◌, ◌++◌, length, refl, sym, ap, ◌∙◌, arith, append_assoc, append-nil, IsUtf8}
 use Rattle.std.proofs.lemmas.Bool.{and_from, and_parts, leb-true, lt-ltb}
 use Rattle.std.proofs.lemmas.Str.{IsUtf8-past_char, chars_past_char}
+use Rattle.std.proofs.lemmas.List.Sums.{AllPass-from_list_all, list_all-from_AllPass}
+use Rattle.std.specs.List.{list_all}
 use Rattle.std.specs.Prelude.{flat_map, chars, encode_utf8}
+use Rattle.tc_texts.specs.Escape.{is_printable}
 use Rattle.tc_outline.specs.Page.{IsPrintable}
 use Rattle.tcshow_json.specs.Safe.{safe_char, safe_text}
 use Rattle.tcshow_json.proofs.SafeTexts.{are_below, safe_all, safe_nil}
@@ -17,6 +20,10 @@ printable_below (x ∷ xs) h =
 -- printable text stays
 pub printable_kept : (text : List ℕ) → IsPrintable text → safe_text text ≡ text
 printable_kept text h = safe_all text (printable_below text h)
+
+-- each byte is printable
+pub all_printable : (xs : List ℕ) → (list_all is_printable xs ≡ true) ↔ IsPrintable xs
+all_printable xs = (AllPass-from_list_all is_printable xs, list_all-from_AllPass is_printable xs)
 
 -- one character more
 pub safe_step : (c : ℕ) (old rest out done whole : List ℕ) → IsUtf8 old → old ≡ encode_utf8 c ++ rest → out ≡ done ++ safe_char c

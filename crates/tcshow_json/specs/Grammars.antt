@@ -1,12 +1,13 @@
 -- The grammar of each message type, and the JSON line of a message by its grammar.
-use Rattle.std.specs.Prelude.{ℕ, Bool, true, false, List, Ok, Err}
+use Rattle.std.specs.Prelude.{ℕ, Bool, true, false, List, Option, Some, Ok, Err}
+use Rattle.serde_json.specs.Sent.{IsTextOf}
 use Rattle.nla_frames.specs.Fault.{Outcome}
 use Rattle.tc_capture.specs.declared.kind.MessageType.{MessageType}
 use Rattle.tc_capture.specs.declared.kind.MessageType.TheVariants.{Tc, Action}
 use Rattle.tc_meaning.specs.Message.{Message as Meaning}
 use Rattle.tc_meaning.specs.Whole.{Words, tc_words, action_words}
 use Rattle.tcshow_json.specs.Messages.{Message}
-use Rattle.tcshow_json.specs.Line.{IsLine}
+use Rattle.tcshow_json.specs.Line.{IsLine, line_events, read_events, time_of}
 
 abbrev pub grammar_of : MessageType → Words Meaning
 grammar_of Tc = tc_words
@@ -23,3 +24,11 @@ is_refused m = is_fault ((grammar_of m.holds).read m.payload)
 -- the JSON line of a message
 unfoldable pub IsLineOf : Message → List ℕ → Type 0
 IsLineOf m line = IsLine (grammar_of m.holds) m line
+
+-- the JSON line of a message that fits and is settled, and whose bytes are canonical
+unfoldable pub IsCanonicalLine : Message → List ℕ → Type 0
+IsCanonicalLine m line = IsTextOf (Some (line_events (time_of m) m (read_events true true true))) line
+
+-- whether the bytes of a message are canonical
+unfoldable pub IsCanonical : Message → Type 0
+IsCanonical m = (grammar_of m.holds).Canonical m.payload

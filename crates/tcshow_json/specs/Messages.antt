@@ -1,11 +1,13 @@
 -- The things found in an input: messages, answers of the kernel, other netlink messages, and places without a message. They are the code's values
 -- with lists instead of references.
 use Rattle.std.specs.Prelude.{ℕ, Bool, true, false, List, Option, Some, None, codes, option_map}
-use Rattle.std.specs.Prelude.{◌==◌, ◌&&◌, is_some, not, if◌then◌else◌}
+use Rattle.std.specs.Prelude.{◌%◌, ◌==◌, ◌&&◌, is_some, not, if◌then◌else◌}
 use Rattle.tc_capture.specs.declared.kind.MessageType.{MessageType}
 use Rattle.tc_capture.specs.Answer.{Answer, answer_in}
 use Rattle.tc_capture.specs.Kind.{Named, rtm_at}
 use Rattle.tc_capture.specs.Message.{Message as Netlink}
+use Rattle.tc_select.specs.Links.{Link, link_of_message}
+use Rattle.tc_select.specs.Names.{if_utf8}
 use Rattle.tcshow_json.specs.declared.message.Message.{Message as CodeMessage}
 use Rattle.tcshow_json.specs.declared.message.NetlinkHeader.{NetlinkHeader as CodeHeader}
 use Rattle.tcshow_json.specs.declared.message.Origin.{Origin}
@@ -35,11 +37,13 @@ pub record Reason : Type 0 where
   pub offset : Option ℕ
   pub is_capped : Bool
 
--- a thing found in an input: a traffic control message; an answer of the kernel, with the request that it quotes; another netlink message; a
--- place without a message, which is a fault unless something was only too long
+-- a thing found in an input: a traffic control message; an answer of the kernel, with the request that it quotes; an interface that the kernel
+-- names; the end of a dump; another netlink message; a place without a message, which is a fault unless something was only too long
 pub data Thing : Type 0 where
   message : Message → Thing
   answer : Header → Reason → Message → Thing
+  link : Link → Thing
+  done : Origin → Netlink → Thing
   other : Thing
   hole : Bool → Thing
 
@@ -62,18 +66,30 @@ message_in origin m = option_map (message_with origin m) (rtm_at m.kind)
 abbrev pub reason_of : Answer → Reason
 reason_of a = record { error = a.error; text = a.text; offset = a.offset; is_capped = a.is_capped }
 
--- an error or a warning about a traffic control request
-abbrev pub answer_to : Netlink → Reason → Option Message → Thing
-answer_to m reason (Some request) = answer (header_with (codes "NLMSG_ERROR") m) reason request
-answer_to m reason None = other
-
 -- an acknowledgement without a text
-abbrev pub is_silent : Answer → Bool
-is_silent a = a.error == 0 && not (is_some a.text)
+abbrev pub is_silent : Reason → Bool
+is_silent r = r.error == 0 && not (is_some r.text)
+
+-- the interface in a link message of the kernel (RTM_NEWLINK, 16), whose name is UTF-8; a request (NLM_F_REQUEST, 1) may be refused
+abbrev pub link_in : Netlink → Option Link
+link_in m = if m.kind == 16 && m.flags % 2 == 0 then if_utf8 (link_of_message m.payload) else None
+
+abbrev pub link_or_other : Option Link → Thing
+link_or_other None = other
+link_or_other (Some named) = link named
+
+-- a netlink message without a request: the end of a dump (NLMSG_DONE, 3), the name of an interface, or another
+abbrev pub alone : Origin → Netlink → Thing
+alone origin m = if m.kind == 3 then done origin m else link_or_other (link_in m)
+
+-- an answer about a traffic control request
+abbrev pub answer_to : Origin → Netlink → Reason → Option Message → Thing
+answer_to origin m reason (Some request) = answer (header_with (codes "NLMSG_ERROR") m) reason request
+answer_to origin m reason None = alone origin m
 
 abbrev pub answer_with : Origin → Netlink → Option Answer → Thing
-answer_with origin m (Some a) = if is_silent a then other else answer_to m (reason_of a) (message_in origin a.request)
-answer_with origin m None = other
+answer_with origin m (Some a) = answer_to origin m (reason_of a) (message_in origin a.request)
+answer_with origin m None = alone origin m
 
 abbrev pub netlink_or : Thing → Option Message → Thing
 netlink_or later (Some found) = message found

@@ -6,6 +6,7 @@
 
 pub mod laws;
 mod line;
+mod links;
 mod message;
 mod notice;
 mod pages;
@@ -16,6 +17,7 @@ mod time;
 mod verdict;
 
 pub use line::{Line, json_of, line_of};
+pub use links::link_in;
 pub use message::{Message, NO_ORIGIN, NetlinkHeader, Origin};
 pub use notice::{Notice, NoticeLine};
 pub use pages::{begin_message, show_netlink, show_word, text_of};

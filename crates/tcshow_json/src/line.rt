@@ -5,7 +5,7 @@ ghost use Rattle.serde.specs.Event.{Log};
 ghost use Rattle.serde_json.specs.Sent.{IsTextOf};
 ghost use Rattle.tcshow_json.specs.Grammars.{IsLineOf, is_refused, is_fault};
 ghost use Rattle.tcshow_json.specs.Messages.{message_view};
-ghost use Rattle.tcshow_json.specs.Line.{IsAccepted, IsRefused, IsLine, line_events, time_of, verdict_events};
+ghost use Rattle.tcshow_json.specs.Line.{IsAccepted, IsRefused, IsLine, line_events, read_events, time_of, verdict_events};
 
 use crate::message::Message;
 use crate::pages::{show_place, text_of};
@@ -25,7 +25,7 @@ pub struct Line {
     pub fault: Option<&'static str>,
 }
 
-/// Writes the JSON line of a message, without a line feed.
+/// Writes the JSON line of a message, without a line feed. A canonical message isn't parsed.
 pub fn line_of<A: Allocator + Copy>(
     alloc: A,
     json: Global,
@@ -40,12 +40,45 @@ pub fn line_of<A: Allocator + Copy>(
     }
 }
 
-#[tactic(auto, using(crate::proofs::Grammars::read_is, crate::proofs::Grammars::fault_is))]
+#[tactic(auto, using(crate::proofs::Grammars::canonical_is, crate::proofs::Grammars::line_of_canonical))]
 fn line_as<A: Allocator + Copy, M: WholeMessage<A> + Drop>(
     alloc: A,
     json: Global,
     found: &Message<'_>,
 ) -> Result<Line, AllocError>
+    ensures line { IfOk result (λ line. IsLine M.words (message_view found.now) (string_bytes line.json)) }
+    ensures fault { IfOk result (λ line. is_some line.fault ≡ is_fault (M.words.read found.now.payload.now)) }
+{
+    M::correspond(found.payload);
+    if M::is_canonical(found.payload) {
+        return canonical_line(json, found);
+    }
+    parsed_line::<A, M>(alloc, json, found)
+}
+
+// The line of a canonical message.
+fn canonical_line(json: Global, found: &Message<'_>) -> Result<Line, AllocError>
+    ensures fault { IfOk result (λ line. line.fault ≡ None) }
+    ensures line { IfOk result (λ line. IsTextOf (Some (line_events (time_of (message_view found.now)) (message_view found.now) (read_events true true true)))
+        (string_bytes line.json)) }
+{
+    let verdict = Verdict::Read {
+        fits: true,
+        settled: true,
+        canonical: true,
+    };
+    let json = json_with(json, found, verdict)?;
+    Ok(Line { json, fault: None })
+}
+
+// The line of a message that isn't canonical.
+#[tactic(auto, using(crate::proofs::Grammars::read_is, crate::proofs::Grammars::fault_is))]
+fn parsed_line<A: Allocator + Copy, M: WholeMessage<A> + Drop>(
+    alloc: A,
+    json: Global,
+    found: &Message<'_>,
+) -> Result<Line, AllocError>
+    requires { M.words.Canonical found.now.payload.now → ⊥ }
     ensures line { IfOk result (λ line. IsLine M.words (message_view found.now) (string_bytes line.json)) }
     ensures fault { IfOk result (λ line. is_some line.fault ≡ is_fault (M.words.read found.now.payload.now)) }
 {
@@ -57,12 +90,13 @@ fn line_as<A: Allocator + Copy, M: WholeMessage<A> + Drop>(
     }
 }
 
-// The line of a message that the codec reads.
+// The line of a message that the codec reads, and that isn't canonical.
 fn accepted_line<A: Allocator + Copy, M: WholeMessage<A>>(
     json: Global,
     found: &Message<'_>,
     message: &M,
 ) -> Result<Line, AllocError>
+    requires { M.words.Canonical found.now.payload.now → ⊥ }
     ensures fault { IfOk result (λ line. line.fault ≡ None) }
     ensures line { IfOk result (λ line. IsAccepted M.words (message_view found.now) (M.message message.now) (string_bytes line.json)) }
 {
@@ -70,20 +104,21 @@ fn accepted_line<A: Allocator + Copy, M: WholeMessage<A>>(
     Ok(Line { json, fault: None })
 }
 
+#[tactic(auto, using(crate::proofs::Grammars::accepted_is))]
 fn accepted_json<A: Allocator + Copy, M: WholeMessage<A>>(
     json: Global,
     found: &Message<'_>,
     message: &M,
 ) -> Result<String, AllocError>
+    requires { M.words.Canonical found.now.payload.now → ⊥ }
     ensures { IfOk result (λ line. IsAccepted M.words (message_view found.now) (M.message message.now) (string_bytes line)) }
 {
     let fits = message.is_writable();
     let settled = message.is_settled();
-    let canonical = M::is_canonical(found.payload);
     let verdict = Verdict::Read {
         fits,
         settled,
-        canonical,
+        canonical: false,
     };
     json_with(json, found, verdict)
 }

@@ -4,7 +4,7 @@ ghost use Rattle.std.specs.Prelude.{◌≡◌, ◌++◌, IfOk, IsAscii, OnOk, So
 ghost use Rattle.serde_json.specs.Sent.{IsTextOf};
 ghost use Rattle.tc_capture.specs.Answer.{answer_of};
 ghost use Rattle.tc_texts.specs.Escape.{escaped_byte};
-ghost use Rattle.tcshow_json.specs.Messages.{header_view, is_silent, message_view, reason_of};
+ghost use Rattle.tcshow_json.specs.Messages.{header_view, message_view, reason_of};
 ghost use Rattle.tcshow_json.specs.Line.{IsAnswered, answered_events, error_events, escaped_text, some_text, time_of};
 
 use crate::line::json_of;
@@ -20,14 +20,7 @@ use tc_capture::{Answer, NLMSG_HEADER_LEN, NetlinkMessage, answer_in, errno_name
 use tc_outline::{Layout, Page, path_at};
 use tc_texts::put_escaped_byte;
 
-// True if the answer is an acknowledgement without a text. With a text it is a warning.
-fn is_silent(answer: &Answer<'_>) -> bool
-    ensures { result ≡ is_silent (answer_of answer.now) }
-{
-    answer.error == 0 && answer.text.is_none()
-}
-
-/// An error or a warning of the kernel about a traffic control request.
+/// An answer of the kernel to a traffic control request: an error, a warning or an acknowledgement.
 #[derive(Clone, Copy)]
 pub struct Reply<'a> {
     pub header: NetlinkHeader,
@@ -40,24 +33,28 @@ impl<'a> Reply<'a> {
     ghost use Rattle.std.specs.Prelude.{◌≡◌, IfOk, IsAscii};
     ghost use Rattle.tc_capture.specs.Answer.{answer_in, answer_of};
     ghost use Rattle.tc_capture.specs.Message.{message_of};
-    ghost use Rattle.tcshow_json.specs.Messages.{answer_with, reason_of};
+    ghost use Rattle.tcshow_json.specs.Messages.{answer_with, is_silent, reason_of};
     ghost use Rattle.tcshow_json.specs.Line.{errno_text, escaped_text, offset_in_message};
     ghost use Rattle.tcshow_json.specs.Replies.{reply_thing};
 
-    /// The answer in a netlink message. `None` if it isn't an answer, is an acknowledgement without a text, or answers another request.
+    /// The answer in a netlink message. `None` if it isn't an answer, or answers another request.
     pub fn in_netlink(origin: Origin, message: &NetlinkMessage<'a>) -> Option<Reply<'a>>
-        ensures { reply_thing result ≡ answer_with origin (message_of message.now) (answer_in (message_of message.now)) }
+        ensures { reply_thing origin (message_of message.now) result ≡ answer_with origin (message_of message.now) (answer_in (message_of message.now)) }
     {
         let answer = answer_in(message)?;
-        if is_silent(&answer) {
-            return None;
-        }
         let request = Message::in_netlink(origin, &answer.request)?;
         Some(Reply {
             header: header_of("NLMSG_ERROR", message),
             answer,
             request,
         })
+    }
+
+    /// True for an acknowledgement without a text. With a text it is a warning.
+    pub fn is_silent(&self) -> bool
+        ensures { result ≡ is_silent (reason_of (answer_of self.now.answer)) }
+    {
+        self.answer.error == 0 && self.answer.text.is_none()
     }
 
     /// The name of the error, such as `EINVAL`. Its number if it has no name, or `warning` for error 0.

@@ -6,7 +6,7 @@ ghost use Rattle.tc_outline.specs.Page.{IsPrintable};
 ghost use Rattle.tcshow_json.specs.Safe.{escape_of, is_hidden, safe_char, safe_text};
 
 use std::alloc::{AllocError, Global};
-use tc_texts::hex_digit;
+use tc_texts::{hex_digit, is_printable};
 
 /// The same JSON with control characters that JSON leaves as they are, and those that change the direction of text, as
 /// escapes such as `\u009b`.
@@ -20,11 +20,16 @@ pub fn safe_text(alloc: Global, json: String) -> Result<String, AllocError>
     escaped(alloc, json.as_str())
 }
 
-// True if each byte is printable ASCII.
+// True if each byte is printable ASCII. It looks at all of them, several at a time.
+#[tactic(auto, using(crate::proofs::SafeWrites::all_printable))]
 fn are_printable(json: &[u8]) -> bool
     ensures { IsTrue result ↔ IsPrintable json.now }
 {
-    json.iter().all(|byte| 0x20 <= *byte && *byte <= 0x7e)
+    let mut printable = true;
+    for byte in json {
+        printable &= is_printable(*byte);
+    }
+    printable
 }
 
 fn escaped(alloc: Global, text: &str) -> Result<String, AllocError>

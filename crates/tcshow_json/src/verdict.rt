@@ -10,7 +10,7 @@ use std::alloc::{AllocError, Allocator};
 use tc_capture::MessageType;
 use tc_wire::{TcActionMessage, TcMessage, WholeMessage};
 
-/// True if the codec refuses the message.
+/// True if the codec refuses the message. A canonical message isn't parsed.
 pub fn is_refused<A: Allocator + Copy>(alloc: A, found: &Message<'_>) -> Result<bool, AllocError>
     ensures { IfOk result (λ refused. refused ≡ is_refused (message_view found.now)) }
 {
@@ -20,7 +20,7 @@ pub fn is_refused<A: Allocator + Copy>(alloc: A, found: &Message<'_>) -> Result<
     }
 }
 
-#[tactic(auto, using(crate::proofs::Grammars::read_is, crate::proofs::Grammars::fault_is))]
+#[tactic(auto, using(crate::proofs::Grammars::read_is, crate::proofs::Grammars::fault_is, crate::proofs::Grammars::canonical_is))]
 fn is_refused_as<A: Allocator + Copy, M: WholeMessage<A> + Drop>(
     alloc: A,
     payload: &[u8],
@@ -28,6 +28,9 @@ fn is_refused_as<A: Allocator + Copy, M: WholeMessage<A> + Drop>(
     ensures { IfOk result (λ refused. refused ≡ is_fault (M.words.read payload.now)) }
 {
     M::correspond(payload);
+    if M::is_canonical(payload) {
+        return Ok(false);
+    }
     match M::read(alloc, payload) {
         Ok(_) => Ok(false),
         Err(DecodeError::OutOfMemory) => Err(AllocError),

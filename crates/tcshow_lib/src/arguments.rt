@@ -1,6 +1,6 @@
 //! Arguments of the program.
 
-use crate::options::OutputFormat;
+use crate::options::{OutputFormat, TimeFormat};
 use clap::{Arg, ArgAction, ArgGroup, ArgMatches, Command, Error, value_parser};
 use std::alloc::{AllocError, Global};
 use std::convert::AsStr;
@@ -24,10 +24,16 @@ pub struct Arguments<'a> {
     pub task: Task<'a>,
     /// Input files. Standard input if there are none, and for `-`.
     pub files: Vec<&'a str>,
+    /// True if the stored capture is the input (`--example`).
+    pub example: bool,
     /// File with names of interfaces (`--names`).
     pub names: Option<&'a str>,
     /// Output format.
     pub format: OutputFormat,
+    /// How times of lines are written (`--time`).
+    pub time: TimeFormat,
+    /// True if lines have acknowledgements without a text too (`--acks`).
+    pub acks: bool,
     /// True if outlines have padding attributes too (`--all`).
     pub all: bool,
     /// Message type of lines of hex that have no netlink header (`--no-header`).
@@ -85,29 +91,42 @@ impl Colours {
 const ABOUT: &str =
     "Decode Linux traffic control messages (tc: qdiscs, classes, filters, chains, actions)
 
-FILE is a capture (pcap, pcapng), a file written by rtmon, a stream of netlink messages, or text
-with messages in hex. The format is detected. Without FILE, or if it is -, tcshow reads standard
-input. With several, a line ==> FILE <== precedes the messages of each, except with --json.";
+FILE is a capture (pcap, pcapng), a file written by rtmon, a stream of netlink messages, text with
+messages in hex, or lines of JSON as tcsave and tcshow --json write them. The format is detected.
+Without FILE, or if it is -, tcshow reads standard input. With several, a line ==> FILE <== precedes
+the messages of each, except with --json.";
 
 const NOTES: &str = "Examples:
-  tcshow f.pcap                                 every message, one attribute per line
-  tcshow --oneline --kind htb --dev 7 f.pcap    htb messages of interface 7, one line each
-  tcshow --refused f.pcap                       malformed messages and requests the kernel rejected
-  tcshow --json f.pcap | jq .message            messages as JSON
-  tcshow --explain fq_codel                     the attributes of a kind
+  tcshow --example                       a first look, without a capture
+  tcshow f.pcap                          each object on a line, in the words of tc
+  tcshow -s --kind htb --dev 7 f.pcap    htb of interface 7, with statistics
+  tcshow --outline f.pcap                every attribute, each on a line
+  tcshow --refused f.pcap                malformed messages and requests the kernel rejected
+  tcshow --json f.pcap | jq .message     messages as JSON
+  tcshow --explain fq_codel              the attributes of a kind
+
+Lines:
+  A line has the time of day (UTC), a verb, the object, its kind and its handle, then what tc shows
+  of it. add, replace, change, del, get and dump are requests. is, new, gone, ok, refused, warned
+  and interrupted are the kernel's, and by 21644 is the port (often the process) that caused it.
+  What has its usual value is left out. No word has a blank. A line is no command: tc does not take
+  it back.
 
 Notes:
   Repeat a filter to allow several values; different filters must all match.
   Handles are such as 1:10, ffff:, root, 800::800 or 0x1.
   Times are such as 1764028801.25 or 2026-11-26T14:00:00Z, or 20:00 (UTC) on the day of the first
   packet that has a time. --since and --until also drop messages that have no time.
-  --dev takes a name only if --names lists it. --type tclass stands for newtclass, deltclass and
-  gettclass. Hex that is a message only has no netlink header. Without --color, outlines have
-  color on a terminal, unless NO_COLOR is set.
+  --dev takes a number or a name: one in the capture (tcnl monitor --links), or one in --names.
+  --type tclass stands for newtclass, deltclass and gettclass. Hex that is a message only has no
+  netlink header. --time delta counts from the message before, relative from the first. --since
+  takes what --time date and epoch print. Without --color, outlines have color on a terminal, unless
+  NO_COLOR is set.
   Hex may contain spaces, colons, 0x prefixes and # comments. One message per line; or a dump with
   offsets (xxd, hexdump -C, tcpdump -x, Wireshark), in which offset 0 starts a new message; or lines
   of 60 digits and a shorter last one (xxd -p).
-  Packets, blocks and messages larger than 1 MiB are skipped and reported.
+  Packets, blocks and messages larger than 1 MiB are skipped and reported. Of JSON, all messages are
+  made before the first is printed, by the rules of tcmake; errors that the kernel returned are not.
   In outlines, ticks are packet scheduler ticks of 64 ns and clock_t units are 10 ms.
   Captures made on big-endian hosts can be opened, but their messages are reported as malformed.
 
@@ -147,7 +166,13 @@ enum Value {
 }
 
 // The options: name, value, heading and text of the help.
-static OPTIONS: [(&str, Value, &str, &str); 21] = [
+static OPTIONS: [(&str, Value, &str, &str); 24] = [
+    (
+        "example",
+        Value::Nothing,
+        INPUT,
+        "Read a small capture that tcshow has, instead of a file",
+    ),
     (
         "no-header",
         Value::Word("WHAT", &["tc", "action"]),
@@ -161,22 +186,28 @@ static OPTIONS: [(&str, Value, &str, &str); 21] = [
         "Read interface names from FILE: lines like '7 eth0', or 'ip -o link'",
     ),
     (
-        "lines",
-        Value::Nothing,
-        FORMS,
-        "Print a line for each object: time, verb, and the words of tc",
-    ),
-    (
         "statistics",
         Value::Nothing,
         FORMS,
-        "With --lines, print statistics on the same line",
+        "Print statistics on the line of each object",
     ),
     (
-        "oneline",
+        "time",
+        Value::Word("FORMAT", &["date", "epoch", "delta", "relative"]),
+        FORMS,
+        "Print times so, instead of the time of day",
+    ),
+    (
+        "acks",
         Value::Nothing,
         FORMS,
-        "Print each message on one line",
+        "Print acknowledgements without a text too",
+    ),
+    (
+        "outline",
+        Value::Nothing,
+        FORMS,
+        "Print an outline of each message, with every attribute on a line",
     ),
     (
         "json",
@@ -185,10 +216,16 @@ static OPTIONS: [(&str, Value, &str, &str); 21] = [
         "Print each message as one line of JSON",
     ),
     (
+        "oneline",
+        Value::Nothing,
+        FORMS,
+        "Print lines, as without it; the next release lacks it",
+    ),
+    (
         "all",
         Value::Nothing,
         FORMS,
-        "Print padding attributes and fields as well",
+        "With --outline, print padding attributes and fields as well",
     ),
     (
         "color",
@@ -292,6 +329,7 @@ fn with_letter<'a>(option: Arg<'a>, name: &str) -> Arg<'a> {
     match name {
         "read" => option.short('r'),
         "statistics" => option.short('s'),
+        "outline" => option.short('v'),
         _ => option,
     }
 }
@@ -346,12 +384,11 @@ fn or_nothing<'a>(option: Arg<'a>) -> Arg<'a> {
 }
 
 // The input files, which `--read` can name too.
-fn files<'a>(alloc: Global) -> Result<Arg<'a>, AllocError> {
+fn files<'a>(alloc: Global) -> Arg<'a> {
     Arg::new(alloc, "FILE")
         .value_name("FILE")
         .action(ArgAction::Append)
         .help("Files to read")
-        .conflicts_with("read")
 }
 
 fn read<'a>(alloc: Global) -> Arg<'a> {
@@ -359,20 +396,43 @@ fn read<'a>(alloc: Global) -> Arg<'a> {
 }
 
 fn begun<'a>(alloc: Global) -> Result<Command<'a>, AllocError> {
-    let files = files(alloc)?;
     Command::new(alloc, "tcshow")
         .version("0.3.0")
         .about(ABOUT)
         .after_help(NOTES)
-        .arg(files)
+        .arg(files(alloc))
+}
+
+// Inputs, which exclude one another.
+fn input_group<'a>(alloc: Global) -> Result<ArgGroup<'a>, AllocError> {
+    ArgGroup::new(alloc, "inputs")
+        .arg("FILE")?
+        .arg("read")?
+        .arg("example")
 }
 
 // Output formats, which exclude one another.
 fn form_group<'a>(alloc: Global) -> Result<ArgGroup<'a>, AllocError> {
     ArgGroup::new(alloc, "forms")
-        .arg("lines")?
+        .arg("outline")?
         .arg("oneline")?
         .arg("json")
+}
+
+// Options of lines, which outlines and JSON exclude.
+fn lines_group<'a>(alloc: Global) -> Result<ArgGroup<'a>, AllocError> {
+    ArgGroup::new(alloc, "of_lines")
+        .multiple(true)
+        .arg("statistics")?
+        .arg("time")?
+        .arg("acks")
+}
+
+fn with_conflicts<'a>(option: Arg<'a>, name: &str) -> Result<Arg<'a>, AllocError> {
+    match name {
+        "outline" | "json" => option.conflicts_with("of_lines"),
+        _ => Ok(option),
+    }
 }
 
 // Options about the tables, which exclude one another.
@@ -380,20 +440,31 @@ fn table_group<'a>(alloc: Global) -> Result<ArgGroup<'a>, AllocError> {
     ArgGroup::new(alloc, "tables").arg("explain")?.arg("schema")
 }
 
+fn with_inputs<'a>(alloc: Global) -> Result<Command<'a>, AllocError> {
+    let inputs = input_group(alloc)?;
+    begun(alloc)?.group(inputs)
+}
+
 fn with_forms<'a>(alloc: Global) -> Result<Command<'a>, AllocError> {
     let forms = form_group(alloc)?;
-    begun(alloc)?.group(forms)
+    with_inputs(alloc)?.group(forms)
+}
+
+fn with_lines<'a>(alloc: Global) -> Result<Command<'a>, AllocError> {
+    let lines = lines_group(alloc)?;
+    with_forms(alloc)?.group(lines)
 }
 
 fn with_groups<'a>(alloc: Global) -> Result<Command<'a>, AllocError> {
     let tables = table_group(alloc)?;
-    with_forms(alloc)?.group(tables)
+    with_lines(alloc)?.group(tables)
 }
 
 fn command<'a>(alloc: Global) -> Result<Command<'a>, AllocError> {
     let mut command = with_groups(alloc)?.arg(read(alloc))?;
     for (name, value, heading, help) in &OPTIONS {
-        command = command.arg(option(alloc, *name, *value, *heading, *help))?;
+        let option = option(alloc, *name, *value, *heading, *help);
+        command = command.arg(with_conflicts(option, *name)?)?;
     }
     Ok(command)
 }
@@ -401,12 +472,20 @@ fn command<'a>(alloc: Global) -> Result<Command<'a>, AllocError> {
 fn format_of(matches: &ArgMatches<'_>) -> OutputFormat {
     if matches.get_flag("json") {
         OutputFormat::Json
-    } else if matches.get_flag("lines") {
-        OutputFormat::Brief(matches.get_flag("statistics"))
-    } else if matches.get_flag("oneline") {
-        OutputFormat::OneLine
+    } else if matches.get_flag("outline") {
+        OutputFormat::Outline
     } else {
-        OutputFormat::Lines
+        OutputFormat::Lines(matches.get_flag("statistics"))
+    }
+}
+
+fn time_of(matches: &ArgMatches<'_>) -> TimeFormat {
+    match matches.get_str("time") {
+        Some("date") => TimeFormat::Date,
+        Some("epoch") => TimeFormat::Epoch,
+        Some("delta") => TimeFormat::Delta,
+        Some("relative") => TimeFormat::Relative,
+        _ => TimeFormat::Clock,
     }
 }
 
@@ -467,8 +546,11 @@ fn base_arguments<'a>(alloc: Global, matches: &ArgMatches<'a>) -> Arguments<'a> 
     Arguments {
         task: task_of(matches),
         files: Vec::new(alloc),
+        example: matches.get_flag("example"),
         names: matches.get_str("names"),
         format: format_of(matches),
+        time: time_of(matches),
+        acks: matches.get_flag("acks"),
         all: matches.get_flag("all"),
         without_header: without_header(matches),
         kinds: Vec::new(alloc),

@@ -17,6 +17,7 @@ pub struct FilterValues<'r, 'a> {
     arguments: &'r Arguments<'a>,
     types: Vec<Types>,
     interfaces: Vec<u32>,
+    names: Vec<&'a str>,
     handles: Vec<u32>,
     parents: Vec<u32>,
     since: Option<Moment>,
@@ -78,6 +79,7 @@ impl<'r, 'a> FilterValues<'r, 'a> {
             arguments,
             types: Vec::new(alloc),
             interfaces: Vec::new(alloc),
+            names: Vec::new(alloc),
             handles: Vec::new(alloc),
             parents: Vec::new(alloc),
             since: None,
@@ -91,6 +93,7 @@ impl<'r, 'a> FilterValues<'r, 'a> {
         let arguments = self.arguments;
         put_types(arguments.types.as_slice(), &mut self.types)?;
         put_interfaces(names, arguments.interfaces.as_slice(), &mut self.interfaces)?;
+        put_names(arguments.interfaces.as_slice(), &mut self.names)?;
         put_handles(arguments.handles.as_slice(), &mut self.handles)?;
         put_u32_handles(arguments.handles.as_slice(), &mut self.handles)?;
         put_handles(arguments.parents.as_slice(), &mut self.parents)?;
@@ -120,7 +123,7 @@ impl<'r, 'a> FilterValues<'r, 'a> {
             kinds: self.arguments.kinds.as_slice(),
             types: self.types.as_slice(),
             interfaces: self.interfaces.as_slice(),
-            names: &[],
+            names: self.names.as_slice(),
             handles: self.handles.as_slice(),
             parents: self.parents.as_slice(),
             chains: self.arguments.chains.as_slice(),
@@ -190,18 +193,25 @@ fn u32_handle_of(word: &str) -> Option<u32> {
     Some(table * 0x10_0000 + bucket * 0x1000)
 }
 
-// The forms of an interface.
-const INTERFACE_FORMS: &str = "an interface is a number, or a name in the file of --names";
-
-fn put_interfaces<'a>(
+// Adds the numbers among the words, and those of the names that are known.
+fn put_interfaces(
     names: &[(u32, &str)],
-    words: &[&'a str],
+    words: &[&str],
     all: &mut Vec<u32>,
-) -> Result<(), FilterError<'a>> {
+) -> Result<(), AllocError> {
     for word in words {
-        match interface_of(names, *word) {
-            Some(number) => put(number, all)?,
-            None => return Err(FilterError::Word("interface", *word, INTERFACE_FORMS)),
+        if let Some(number) = interface_of(names, *word) {
+            put(number, all)?;
+        }
+    }
+    Ok(())
+}
+
+// Adds the words that aren't numbers: the input may name these interfaces.
+fn put_names<'a>(words: &[&'a str], all: &mut Vec<&'a str>) -> Result<(), AllocError> {
+    for word in words {
+        if word.parse::<u32>().is_err() {
+            put(*word, all)?;
         }
     }
     Ok(())

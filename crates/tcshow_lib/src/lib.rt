@@ -1,12 +1,14 @@
-//! The program `tcshow`: prints the traffic control messages of a capture, or of lines of hex, as outlines or as JSON.
+//! The program `tcshow`: prints the traffic control messages of a capture, or of lines of hex, as lines, as outlines or as JSON.
 //!
 //! Its arguments, filter, run and exit status are here. `tcshow_input` reads the input and prints messages, `tcshow_json` writes the lines of JSON.
 #![tactic(auto)]
 
 pub mod arguments;
 mod day;
+pub mod example;
 pub mod filter;
 pub mod inputs;
+pub mod json;
 pub mod kinds;
 pub mod names;
 mod nearest;

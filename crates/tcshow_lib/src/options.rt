@@ -4,6 +4,7 @@ use crate::arguments::Arguments;
 use tc_outline::Interfaces;
 use tc_select::Filter;
 pub use tcshow_input::{Options, OutputFormat};
+pub use tcshow_lines::TimeFormat;
 
 /// The options in arguments, with this filter and these names of interfaces.
 pub fn options_of<'a>(
@@ -15,6 +16,8 @@ pub fn options_of<'a>(
         format: arguments.format,
         without_header: arguments.without_header,
         filter,
+        time: arguments.time,
+        acks: arguments.acks,
         all: arguments.all,
         names: Interfaces { names },
         has_summary: arguments.has_summary,

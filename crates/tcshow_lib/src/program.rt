@@ -10,8 +10,10 @@ ghost use Rattle.tcshow_lib.specs.Streams.{ShowsEnd};
 
 use crate::arguments::{Arguments, Task, arguments_of};
 use crate::day::first_time;
+use crate::example::EXAMPLE;
 use crate::filter::{FilterError, FilterValues};
 use crate::inputs::{run_next, worse};
+use crate::json::{Made, form_by, joined, made_of, names_in_head, with_fault};
 use crate::kinds::{explain, is_known, put_schema_of_line, write_all_kinds};
 use crate::names::names_in;
 use crate::options::{Options, OutputFormat, options_of};
@@ -23,7 +25,9 @@ use std::alloc::{AllocError, Allocator, Global};
 use std::io::{self, Input, Print, Read, Write};
 use std::rt::{Env, Files};
 use std::{env, fs};
+use tc_input::Input as Begun;
 use tc_select::{Filter, LINK_FORMS};
+use tcmake_lines::OutputFormat as MadeFormat;
 use tcshow_input::{Packets, Printer, Stop};
 
 /// The program `tcshow`: reads its arguments, prints the messages of its input on standard output, and returns how it
@@ -54,7 +58,7 @@ fn obey<R: Env + AllocGlobal + Files + Input + Print, E: Write>(
 ) -> Ended {
     match arguments_of(rt.alloc(), words) {
         Ok(mut arguments) => {
-            arguments.in_colours = arguments.format == OutputFormat::Lines
+            arguments.in_colours = arguments.format == OutputFormat::Outline
                 && arguments.colours.are_on(is_terminal && allows_colours(rt));
             perform(rt, &arguments, errors)
         }
@@ -179,7 +183,7 @@ fn show_named<R: AllocGlobal + Files + Input + Print, E: Write>(
     }
 }
 
-// Prints the messages of all files, or of standard input.
+// Prints the messages of all files, of standard input, or of the stored capture.
 fn show_files<R: AllocGlobal + Files + Input + Print, E: Write>(
     rt: &R,
     arguments: &Arguments<'_>,
@@ -187,6 +191,9 @@ fn show_files<R: AllocGlobal + Files + Input + Print, E: Write>(
     values: FilterValues<'_, '_>,
     errors: &mut E,
 ) -> Ended {
+    if arguments.example {
+        return show_reader(rt, arguments, names, values, "example", EXAMPLE, errors);
+    }
     match arguments.files.as_slice() {
         [] => show_reader(rt, arguments, names, values, INPUT, rt.reader(), errors),
         [file] => show_file(rt, arguments, names, values, *file, errors),
@@ -220,8 +227,121 @@ fn show_file<R: AllocGlobal + Files + Input + Print, E: Write>(
     }
 }
 
-// Prints the messages of an input of this name. A time of day is in the day of its first packet that has a time, which is read before.
+// Prints the messages of an input of this name: of lines of JSON the messages that they show.
 fn show_reader<R: AllocGlobal + Print, I: Read + Drop, E: Write>(
+    rt: &R,
+    arguments: &Arguments<'_>,
+    names: &[(u32, &str)],
+    values: FilterValues<'_, '_>,
+    name: &str,
+    reader: I,
+    errors: &mut E,
+) -> Ended {
+    let mut reader = Reader::new(reader);
+    match Begun::begin(rt.alloc(), &mut reader) {
+        Ok(input) => match form_by(input.first()) {
+            None => {
+                let whole = input.rest().chain(reader.into_inner());
+                show_bytes(rt, arguments, names, values, name, whole, errors)
+            }
+            Some(form) => show_lines(rt, arguments, names, name, form, input, reader, errors),
+        },
+        Err(stop) => fail_to_read(rt.alloc(), stop, name, &reader, errors),
+    }
+}
+
+// Prints the messages that lines of JSON show, with the names of interfaces in their head too.
+fn show_lines<R: AllocGlobal + Print, I: Read + Drop, E: Write>(
+    rt: &R,
+    arguments: &Arguments<'_>,
+    names: &[(u32, &str)],
+    name: &str,
+    form: MadeFormat,
+    mut input: Begun<Global>,
+    mut reader: Reader<I>,
+    errors: &mut E,
+) -> Ended {
+    match names_in_head(rt.alloc(), &mut input, &mut reader) {
+        Ok(saved) => {
+            let whole = input.rest().chain(reader.into_inner());
+            show_named_lines(rt, arguments, names, &saved, name, form, whole, errors)
+        }
+        Err(stop) => fail_to_read(rt.alloc(), stop, name, &reader, errors),
+    }
+}
+
+fn show_named_lines<R: AllocGlobal + Print, I: Read + Drop, E: Write>(
+    rt: &R,
+    arguments: &Arguments<'_>,
+    names: &[(u32, &str)],
+    saved: &[(u32, String)],
+    name: &str,
+    form: MadeFormat,
+    reader: I,
+    errors: &mut E,
+) -> Ended {
+    let Ok(names) = joined(rt.alloc(), names, saved) else {
+        return fail_without_memory(errors);
+    };
+    match FilterValues::of_arguments(rt.alloc(), arguments, names.as_slice()) {
+        Ok(values) => {
+            show_json(
+                rt,
+                arguments,
+                names.as_slice(),
+                values,
+                name,
+                form,
+                reader,
+                errors,
+            )
+        }
+        Err(none) => complain_of_filter(rt.alloc(), none, errors),
+    }
+}
+
+// Prints the messages that lines of JSON show.
+fn show_json<R: AllocGlobal + Print, I: Read + Drop, E: Write>(
+    rt: &R,
+    arguments: &Arguments<'_>,
+    names: &[(u32, &str)],
+    values: FilterValues<'_, '_>,
+    name: &str,
+    form: MadeFormat,
+    reader: I,
+    errors: &mut E,
+) -> Ended {
+    match made_of(rt.alloc(), name, form, reader, errors) {
+        Ok(Made { bytes, has_wrong }) => {
+            if bytes.is_empty() {
+                return with_fault(Ended::well(), has_wrong);
+            }
+            let bytes = bytes.as_slice();
+            let ended = show_bytes(rt, arguments, names, values, name, bytes, errors);
+            with_fault(ended, has_wrong)
+        }
+        Err(Stop::NoMemory) => fail_without_memory(errors),
+        Err(stop) => Ended::early(stop),
+    }
+}
+
+// Complains about an input whose first bytes can't be read.
+fn fail_to_read<I, E: Write>(
+    alloc: Global,
+    stop: program_io::Stop,
+    name: &str,
+    reader: &Reader<I>,
+    errors: &mut E,
+) -> Ended {
+    if stop != program_io::Stop::Read {
+        return fail_without_memory(errors);
+    }
+    say_failure(alloc, errors, name, reader.failure());
+    Ended::early(Stop::Read)
+}
+
+// Prints the messages of a capture or of lines of hex. A time of day is in the day of its first packet that has a time, which is read before.
+fn show_bytes<R: AllocGlobal + Print, I: Read + Drop, E: Write>(
     rt: &R,
     arguments: &Arguments<'_>,
     names: &[(u32, &str)],
@@ -242,11 +362,7 @@ fn show_reader<R: AllocGlobal + Print, I: Read + Drop, E: Write>(
             let reader = first.rest().chain(reader.into_inner());
             show_filtered(rt, arguments, names, values.filter(), name, reader, errors)
         }
-        Err(program_io::Stop::Read) => {
-            say_failure(rt.alloc(), errors, name, reader.failure());
-            Ended::early(Stop::Read)
-        }
-        Err(_) => fail_without_memory(errors),
+        Err(stop) => fail_to_read(rt.alloc(), stop, name, &reader, errors),
     }
 }
 
@@ -335,24 +451,20 @@ fn show_next<R: AllocGlobal + Files + Input, W: Write, E: Write>(
 ) -> Ended {
     let alloc = rt.alloc();
     if file == "-" {
-        let mut reader = Reader::new(rt.reader());
-        return serve_next(alloc, printer, INPUT, &mut reader, writer, errors);
+        return serve_next(alloc, printer, INPUT, rt.reader(), writer, errors);
     }
     match fs::open(rt, file) {
-        Ok(reader) => {
-            let mut reader = Reader::new(reader);
-            serve_next(alloc, printer, file, &mut reader, writer, errors)
-        }
+        Ok(reader) => serve_next(alloc, printer, file, reader, writer, errors),
         Err(error) => complain_of_file(alloc, file, &error, errors),
     }
 }
 
 // Prints the name of the next of several inputs, and its messages. Why it ended early is written to `errors`.
-fn serve_next<I: Read, W: Write, E: Write>(
+fn serve_next<I: Read + Drop, W: Write, E: Write>(
     alloc: Global,
     printer: &mut Printer<'_, Global>,
     name: &str,
-    reader: &mut Reader<I>,
+    reader: I,
     writer: &mut Writer<W>,
     errors: &mut E,
 ) -> Ended {
@@ -360,8 +472,55 @@ fn serve_next<I: Read, W: Write, E: Write>(
     if printer.put_name(name).is_err() {
         return fail_without_memory(errors);
     }
-    let ended = run_next(printer, reader, writer);
-    say_end(alloc, errors, name, &ended, reader, writer);
+    let mut reader = Reader::new(reader);
+    match Begun::begin(alloc, &mut reader) {
+        Ok(input) => {
+            let form = form_by(input.first());
+            let whole = input.rest().chain(reader.into_inner());
+            match form {
+                None => serve_bytes(alloc, printer, name, whole, writer, errors),
+                Some(form) => serve_json(alloc, printer, name, form, whole, writer, errors),
+            }
+        }
+        Err(stop) => fail_to_read(alloc, stop, name, &reader, errors),
+    }
+}
+
+// Prints the messages that lines of JSON show.
+fn serve_json<I: Read + Drop, W: Write, E: Write>(
+    alloc: Global,
+    printer: &mut Printer<'_, Global>,
+    name: &str,
+    form: MadeFormat,
+    reader: I,
+    writer: &mut Writer<W>,
+    errors: &mut E,
+) -> Ended {
+    match made_of(alloc, name, form, reader, errors) {
+        Ok(Made { bytes, has_wrong }) => {
+            if bytes.is_empty() {
+                return with_fault(Ended::well(), has_wrong);
+            }
+            let ended = serve_bytes(alloc, printer, name, bytes.as_slice(), writer, errors);
+            with_fault(ended, has_wrong)
+        }
+        Err(Stop::NoMemory) => fail_without_memory(errors),
+        Err(stop) => Ended::early(stop),
+    }
+}
+
+// Prints the messages of a capture or of lines of hex. Why it ended early is written to `errors`.
+fn serve_bytes<I: Read + Drop, W: Write, E: Write>(
+    alloc: Global,
+    printer: &mut Printer<'_, Global>,
+    name: &str,
+    reader: I,
+    writer: &mut Writer<W>,
+    errors: &mut E,
+) -> Ended {
+    let mut reader = Reader::new(reader);
+    let ended = run_next(printer, &mut reader, writer);
+    say_end(alloc, errors, name, &ended, &reader, writer);
     ended
 }
 

@@ -1,1 +1,4 @@
+pub mod Beginning
+pub mod Kept
+pub mod Places
 pub mod Printable

@@ -1,21 +1,23 @@
 -- Lines are printable, and end with a line feed.
 use Rattle.std.proofs.Common.{◌≡◌, ◌∙◌, ◌++◌, ◌∷◌, [], List, ℕ, Bool, true, false, refl, sym, ap, subst, append_assoc, append-nil, arith, true≢false}
-use Rattle.std.specs.Prelude.{IsTrue, Option, Some, None, if◌then◌else◌, is_some, option_map, ◌&&◌, ◌||◌}
+use Rattle.nla_frames.specs.Value.{strip}
+use Rattle.std.specs.Prelude.{IsTrue, Option, Some, None, if◌then◌else◌, not, option_map, ◌&&◌, ◌==◌, ◌||◌}
 use Rattle.std.proofs.lemmas.List.Elements.{All-append, All-cons, All-nil, All-push, All-same, All-weaker}
 use Rattle.tc_brief.specs.Leaves.{Leaf}
-use Rattle.tc_brief.specs.Lines.{Said, has_action, is_action, is_of_actions, line, message_lines, object_words, one_action, own_action_words, own_actions}
-use Rattle.tc_brief.specs.Words.{is_of_word, spaced, word, written}
+use Rattle.tc_brief.specs.Lines.{Said, has_action, is_of_actions, line, message_lines, object_words, one_action, own_action_words, own_actions, begins}
+use Rattle.tc_brief.specs.Words.{is_of_word, spaced, word, word_byte, written}
 use Rattle.tc_brief.proofs.Bare.{word_is}
 use Rattle.tc_outline.specs.Page.{IsShown, is_shown}
 use Rattle.tc_brief.specs.declared.line.Object.{Object}
 use Rattle.tc_columns.specs.declared.root.Root.{Root}
-use Rattle.tcshow_json.specs.Messages.{Message}
+use Rattle.tcshow_json.specs.Messages.{Message, Reason}
 use Rattle.tcshow_json.specs.Objects.{root_of}
-use Rattle.tcshow_lines.specs.Begins.{timed, words_text}
-use Rattle.tcshow_lines.specs.Lines.{IsEnded, IsLines, fault_of, leaves_at, options_with}
-use Rattle.tcshow_lines.specs.Verbs.{object_in, speech_of, verb_words}
-use Rattle.tcshow_lines.specs.declared.verb.Request.{Request}
-use Rattle.tcshow_lines.specs.declared.verb.Speech.{Speech}
+use Rattle.tcshow_lines.specs.Answers.{IsAsked, request_begin, sentence, sentence_byte, sentence_bytes, told_text, told_words}
+use Rattle.tcshow_lines.specs.Begins.{time_in, timed, words_text}
+use Rattle.tcshow_lines.specs.Lines.{IsEnded, IsFault, IsSaid, fault_of, leaves_at, leaves_with, options_with, said_as}
+use Rattle.tcshow_lines.specs.Past.{Past}
+use Rattle.tcshow_lines.specs.Verbs.{asked_verb, object_in, verb_words}
+use Rattle.tcshow_lines.specs.declared.times.TimeFormat.{TimeFormat}
 
 abbrev Clean : ℕ → Type 0
 Clean b = IsTrue (is_shown true b)
@@ -36,7 +38,7 @@ written_shown : (raws : List (List ℕ)) → IsShown true (written raws)
 written_shown [] = All-nil Clean
 written_shown (r ∷ rs) = All-append Clean (spaced r) (written rs) (All-cons Clean 32 (word r) blank_shown (word_shown r)) (written_shown rs)
 
-words_shown : (words : List (List ℕ)) → IsShown true (words_text words)
+pub words_shown : (words : List (List ℕ)) → IsShown true (words_text words)
 words_shown [] = All-nil Clean
 words_shown (w ∷ ws) = All-append Clean (word w) (written ws) (word_shown w) (written_shown ws)
 
@@ -71,12 +73,12 @@ module _ (said : Said) (begin : IsShown true said.begin) (end : IsShown true sai
   none_left : (all ls : List Leaf) → has_action ls ≡ false → own_actions said all ls ≡ []
   none_left all [] h = refl
   none_left all (l ∷ ls) h =
-      none_step (line said (own_words all l ls)) (own_actions said all ls) (is_action l) (has_action ls) h (λ k. none_left all ls k)
+      none_step (line said (own_words all l ls)) (own_actions said all ls) (begins l) (has_action ls) h (λ k. none_left all ls k)
 
   own_ended : (all ls : List Leaf) → has_action ls ≡ true → IsEnded (own_actions said all ls)
   own_ended all [] h = absurd (true≢false (sym h))
   own_ended all (l ∷ ls) h =
-      own_step (line said (own_words all l ls)) (own_actions said all ls) (is_action l) (has_action ls) h (line_ended (own_words all l ls))
+      own_step (line said (own_words all l ls)) (own_actions said all ls) (begins l) (has_action ls) h (line_ended (own_words all l ls))
       (λ k. own_ended all ls k) (λ k. none_left all ls k)
 
   lines_ended : (ls : List Leaf) → IsEnded (message_lines said ls)
@@ -91,42 +93,75 @@ module _ (said : Said) (begin : IsShown true said.begin) (end : IsShown true sai
   found_ended None text h = absurd (cc h)
   found_ended (Some ls) text h = subst IsEnded (cc h) (lines_ended ls)
 
--- lines that begin with words, and end with printable text
-pub are_ended : (words : List (List ℕ)) (begin end : List ℕ) (object : Object) (stats : Bool) (port : ℕ) (found : Option (List Leaf)) (text : List ℕ)
-    → begin ≡ words_text words → IsShown true end
-    → option_map (message_lines (record { begin = begin; object = object; statistics = stats; port = port; end = end })) found ≡ Some text → IsEnded text
-are_ended words begin end object stats port found text b e h =
-    found_ended (record { begin = begin; object = object; statistics = stats; port = port; end = end }) (subst (IsShown true) (sym b) (words_shown words))
-    e found text h
-
--- lines that begin with printable text
-pub are_ended_after : (begin end : List ℕ) (object : Object) (stats : Bool) (port : ℕ) (found : Option (List Leaf)) (text : List ℕ)
-    → IsShown true begin → end ≡ []
-    → option_map (message_lines (record { begin = begin; object = object; statistics = stats; port = port; end = end })) found ≡ Some text → IsEnded text
-are_ended_after begin end object stats port found text b e h =
-    found_ended (record { begin = begin; object = object; statistics = stats; port = port; end = end }) b (subst (IsShown true) (sym e) (All-nil Clean)) found text h
+-- lines of a message that begin with printable text
+pub said_ended : (begin : List ℕ) (stats : Bool) (port : ℕ) (m : Message) (text : List ℕ) → IsShown true begin → IsSaid begin stats port m text
+    → IsEnded text
+said_ended begin stats port m text b h =
+    found_ended (said_as begin stats port (written h.fault) m) b (written_shown h.fault) (leaves_with h.names m) text h.line
 
 -- what the code knows of a message's lines
-pub are_lines : (before : List Request) (stats : Bool) (m : Message) (speech : Speech) (begin end page : List ℕ) (object : Object) (port : ℕ) (about : Root)
-    → (names : List (ℕ × List ℕ)) (text : List ℕ) → speech ≡ speech_of before m → begin ≡ words_text (timed m.origin.time (verb_words speech.verb))
-    → object ≡ object_in about → port ≡ speech.port → about ≡ root_of m
+pub is_said : (begin : List ℕ) (stats : Bool) (port : ℕ) (m : Message) (object : Object) (about : Root) (names : List (ℕ × List ℕ))
+    → (fault : List (List ℕ)) (end text : List ℕ) → object ≡ object_in about → about ≡ root_of m → IsFault (fault_of m) fault → end ≡ written fault
     → option_map (message_lines (record { begin = begin; object = object; statistics = stats; port = port; end = end }))
-    (leaves_at (options_with names about) about m.payload) ≡ Some text
-    → end ≡ page → IsShown false page → (is_some (fault_of m) ≡ false → page ≡ []) → IsLines before stats m text
-are_lines before stats m speech begin end page object port about names text s b o p r h is_page printable none =
-    let with : List ℕ → Object → ℕ → Root → Option (List ℕ) = λ x y z t.
-    option_map (message_lines (record { begin = x; object = y; statistics = stats; port = z; end = end })) (leaves_at (options_with names t) t m.payload) in
-    let said = speech_of before m in
-    let begins = words_text (timed m.origin.time (verb_words said.verb)) in
-    let is_begun : begin ≡ begins = b ∙ ap (λ (x : Speech). words_text (timed m.origin.time (verb_words x.verb))) s in
-    let same : with begin object port about ≡ with begins (object_in (root_of m)) said.port (root_of m) =
-    ap (λ (x : List ℕ). with x object port about) is_begun ∙ ap (λ (x : Object). with begins x port about) (o ∙ ap object_in r)
-    ∙ ap (λ (x : ℕ). with begins (object_in (root_of m)) x about) (p ∙ ap (λ (x : Speech). x.port) s)
-    ∙ ap (λ (x : Root). with begins (object_in (root_of m)) said.port x) r in
-    record {
-      names = names;
-      fault = end;
-      printable = subst (IsShown false) (sym is_page) printable;
-      written = sym same ∙ h;
-      no_fault = λ q. is_page ∙ none q;
-    }
+    (leaves_at (options_with names about) about m.payload) ≡ Some text → IsSaid begin stats port m text
+is_said begin stats port m object about names fault end text o r f e h =
+    let with : Object → Root → List ℕ → Option (List ℕ) = λ y t z.
+    option_map (message_lines (record { begin = begin; object = y; statistics = stats; port = port; end = z }))
+    (leaves_at (options_with names t) t m.payload) in
+    let same : with object about end ≡ with (object_in (root_of m)) (root_of m) (written fault) =
+    ap (λ (y : Object). with y about end) (o ∙ ap object_in r) ∙ ap (λ (t : Root). with (object_in (root_of m)) t end) r
+    ∙ ap (λ (z : List ℕ). with (object_in (root_of m)) (root_of m) z) e in
+    record { names = names; fault = fault; is_fault = f; line = sym same ∙ h }
+
+pub said_equal : (b c : List ℕ) (stats : Bool) (p q : ℕ) (m : Message) (text : List ℕ) → b ≡ c → p ≡ q → IsSaid b stats p m text → IsSaid c stats q m text
+said_equal b c stats p q m text e f h = subst (λ (n : ℕ). IsSaid c stats n m text) f (subst (λ (begin : List ℕ). IsSaid begin stats p m text) e h)
+
+-- ---- answers
+
+byte_shown : (b : ℕ) → IsShown true (word_byte b)
+byte_shown b = subst (IsShown true) (append-nil (word_byte b)) (word_shown (b ∷ []))
+
+sentence_byte_shown : (last b : ℕ) → IsShown true (sentence_byte last b)
+sentence_byte_shown last b = go (b == 32 && not (last == 32))
+  where
+    go : (p : Bool) → IsShown true (if p then 32 ∷ [] else word_byte b)
+    go true = All-cons Clean 32 [] blank_shown (All-nil Clean)
+    go false = byte_shown b
+
+sentence_bytes_shown : (last : ℕ) (bytes : List ℕ) → IsShown true (sentence_bytes last bytes)
+sentence_bytes_shown last [] = All-nil Clean
+sentence_bytes_shown last (b ∷ bs) = All-append Clean (sentence_byte last b) (sentence_bytes b bs) (sentence_byte_shown last b) (sentence_bytes_shown b bs)
+
+quote_shown : Clean 34
+quote_shown = refl
+
+sentence_shown : (text : Option (List ℕ)) → IsShown true (sentence text)
+sentence_shown None = All-nil Clean
+sentence_shown (Some text) =
+    All-append Clean (32 ∷ 34 ∷ []) (sentence_bytes 32 (strip text) ++ 34 ∷ [])
+    (All-cons Clean 32 (34 ∷ []) blank_shown (All-cons Clean 34 [] quote_shown (All-nil Clean)))
+    (All-append Clean (sentence_bytes 32 (strip text)) (34 ∷ []) (sentence_bytes_shown 32 (strip text)) (All-cons Clean 34 [] quote_shown (All-nil Clean)))
+
+pub told_shown : (past : Past) (format : TimeFormat) (r : Reason) (m : Message) (place : List (List ℕ)) → IsShown true (told_text past format r m place)
+told_shown past format r m place =
+    All-append Clean (words_text (timed (time_in format past m.origin.time) (told_words r))) (sentence r.text ++ written place)
+    (words_shown (timed (time_in format past m.origin.time) (told_words r)))
+    (All-append Clean (sentence r.text) (written place) (sentence_shown r.text) (written_shown place))
+
+begin_shown : (begin : List ℕ) (m : Message) → IsShown true begin → IsShown true (request_begin begin m)
+begin_shown begin m b =
+    All-append Clean begin (written (verb_words (asked_verb (object_in (root_of m)) m.header))) b
+    (written_shown (verb_words (asked_verb (object_in (root_of m)) m.header)))
+
+pub asked_ended : (begin : List ℕ) (stats : Bool) (m : Message) (bytes : Option (List ℕ)) (text : List ℕ) → IsShown true begin
+    → IsAsked begin stats m bytes text → IsEnded text
+asked_ended begin stats m None text b h =
+    subst IsEnded (sym h) (lines_ended (said_as (request_begin begin m) stats 0 [] m) (begin_shown begin m b) (All-nil Clean) [])
+asked_ended begin stats m (Some bytes) text b h =
+    said_ended (request_begin begin (record m { payload = bytes })) stats 0 (record m { payload = bytes }) text
+    (begin_shown begin (record m { payload = bytes }) b) h
+
+pub asked_equal : (b c : List ℕ) (stats : Bool) (m : Message) (bytes others : Option (List ℕ)) (text : List ℕ) → b ≡ c → bytes ≡ others
+    → IsAsked b stats m bytes text → IsAsked c stats m others text
+asked_equal b c stats m bytes others text e f h =
+    subst (λ (o : Option (List ℕ)). IsAsked c stats m o text) f (subst (λ (begin : List ℕ). IsAsked begin stats m bytes text) e h)

@@ -1,3 +1,6 @@
-pub mod Verbs
+pub mod Answers
 pub mod Begins
 pub mod Lines
+pub mod Past
+pub mod Times
+pub mod Verbs

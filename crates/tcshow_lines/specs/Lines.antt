@@ -3,10 +3,12 @@ use Rattle.forms_json.specs.Shown.{shown_of}
 use Rattle.forms_kinds.specs.Table.{tc_tables}
 use Rattle.forms_values.specs.Sent.{events}
 use Rattle.nla_frames.specs.declared.error.DecodeError.{DecodeError}
-use Rattle.std.specs.Prelude.{Bool, List, None, Option, Some, [], false, is_some, option_map, true, ℕ, ◌++◌, ◌≡◌, ◌∷◌}
+use Rattle.nla_frames.specs.declared.error.DecodeError.TheVariants as error
+use Rattle.std.specs.Prelude.{Bool, List, None, Option, Some, [], codes, decimal, false, if◌then◌else◌, option_map, true, ℕ, ◌++◌, ◌==◌, ◌≡◌, ◌∷◌}
 use Rattle.tc_brief.specs.Leaves.{Leaf}
 use Rattle.tc_brief.specs.Lines.{Said, message_lines}
 use Rattle.tc_brief.specs.Walk.{leaves}
+use Rattle.tc_brief.specs.Words.{written}
 use Rattle.tc_columns.specs.Kinds.{kind_table, root_place}
 use Rattle.tc_columns.specs.declared.root.Root.{Root}
 use Rattle.tc_lines.specs.Columns.{Options}
@@ -16,10 +18,10 @@ use Rattle.tc_outline.specs.Page.{IsShown}
 use Rattle.tc_words.specs.Tables.{all_rows}
 use Rattle.tcshow_json.specs.Messages.{Message}
 use Rattle.tcshow_json.specs.Objects.{root_of}
-use Rattle.tcshow_lines.specs.Begins.{timed, words_text}
+use Rattle.tcshow_lines.specs.Begins.{time_in, timed, words_text}
+use Rattle.tcshow_lines.specs.Past.{Past}
 use Rattle.tcshow_lines.specs.Verbs.{object_in, speech_of, verb_words}
-use Rattle.tcshow_lines.specs.declared.verb.Request.{Request}
-use Rattle.tcshow_lines.specs.declared.verb.Speech.{Speech}
+use Rattle.tcshow_lines.specs.declared.times.TimeFormat.{TimeFormat}
 
 -- the columns of a root, with these names of interfaces
 abbrev pub options_with : List (ℕ × List ℕ) → Root → Options
@@ -32,28 +34,62 @@ leaves_at options about payload = leaves (kind_table options) all_rows options.r
 abbrev pub leaves_with : List (ℕ × List ℕ) → Message → Option (List Leaf)
 leaves_with names m = leaves_at (options_with names (root_of m)) (root_of m) m.payload
 
--- what is known of a message beside its bytes, if its lines end with this text
-abbrev pub said_as : Bool → Speech → List ℕ → Message → Said
-said_as stats s end m =
-    record {
-      begin = words_text (timed m.origin.time (verb_words s.verb));
-      object = object_in (root_of m);
-      statistics = stats;
-      port = s.port;
-      end = end;
-    }
+-- what is known of a message beside its bytes, if its lines begin and end with these texts
+abbrev pub said_as : List ℕ → Bool → ℕ → List ℕ → Message → Said
+said_as begin stats port end m = record { begin = begin; object = object_in (root_of m); statistics = stats; port = port; end = end }
+
+-- ---- what is malformed
+
+abbrev pub lengths_words : ℕ → ℕ → List (List ℕ)
+lengths_words len expected =
+    decimal len ∷ (if len == 1 then codes "byte," else codes "bytes,") ∷ decimal expected ∷ codes "expected," ∷ []
+
+abbrev pub error_words : DecodeError → List (List ℕ)
+error_words (error.BufferTooSmall len needed) = lengths_words len needed
+error_words (error.SelectorShort len needed) = lengths_words len needed
+error_words (error.FrameHeaderShort left) = lengths_words left 4
+error_words (error.FrameTooLong length left) = lengths_words left length
+error_words (error.FrameTooShort length) = lengths_words length 4
+error_words (error.WrongLength expected got) = lengths_words got expected
+error_words (error.XstatsShort len) = decimal len ∷ codes "bytes" ∷ codes "of" ∷ codes "statistics," ∷ []
+error_words error.NotUtf8 = codes "not" ∷ codes "UTF-8," ∷ []
+error_words error.MissingKind = codes "no" ∷ codes "kind," ∷ []
+error_words error.DuplicateKind = codes "two" ∷ codes "kinds," ∷ []
+error_words error.OutOfMemory = codes "too" ∷ codes "long," ∷ []
+
+-- a place in a message: the names of the attributes on the way to it, if it is at one, and its byte, counted from the message's header
+abbrev pub place_words : Option (List ℕ) → ℕ → List (List ℕ)
+place_words None n = codes "at" ∷ codes "byte" ∷ decimal n ∷ []
+place_words (Some names) n = codes "at" ∷ names ∷ codes "(byte" ∷ (decimal n ++ codes ")") ∷ []
+
+-- what a line of a malformed message ends with: `malformed: 3 bytes, 4 expected, at Options/FqCodel/Limit (byte 44)`
+abbrev pub malformed_words : DecodeError → List ℕ → ℕ → List (List ℕ)
+malformed_words e names n = codes "malformed:" ∷ (error_words e ++ place_words (Some names) n)
+
+abbrev pub IsFault : Option DecodeError → List (List ℕ) → Type 0
+IsFault None words = words ≡ []
+IsFault (Some e) words = (names : List ℕ) × (n : ℕ) × (words ≡ malformed_words e names n)
 
 -- the first fault of a message
 abbrev pub fault_of : Message → Option DecodeError
 fault_of m = message_fault (items_of_message (what_of (root_of m)) m.payload)
 
--- the lines of a message after these requests: its words, and the words of its fault, if it has one
-pub record IsLines (before : List Request) (stats : Bool) (m : Message) (text : List ℕ) : Type 0 where
+-- ---- lines
+
+-- the lines of a message that begin with a text: its words, and its fault, if it has one
+pub record IsSaid (begin : List ℕ) (stats : Bool) (port : ℕ) (m : Message) (text : List ℕ) : Type 0 where
   pub names : List (ℕ × List ℕ)
-  pub fault : List ℕ
-  pub printable : IsShown false fault
-  pub written : option_map (message_lines (said_as stats (speech_of before m) fault m)) (leaves_with names m) ≡ Some text
-  pub no_fault : is_some (fault_of m) ≡ false → fault ≡ []
+  pub fault : List (List ℕ)
+  pub is_fault : IsFault (fault_of m) fault
+  pub line : option_map (message_lines (said_as begin stats port (written fault) m)) (leaves_with names m) ≡ Some text
+
+-- what a message's lines begin with, after these messages: its time, if it has one, and what it does
+abbrev pub begin_of : Past → TimeFormat → Message → List ℕ
+begin_of past format m = words_text (timed (time_in format past m.origin.time) (verb_words (speech_of past.requests m).verb))
+
+-- the lines of a message after these messages
+abbrev pub IsLines : Past → Bool → TimeFormat → Message → List ℕ → Type 0
+IsLines past stats format m text = IsSaid (begin_of past format m) stats (speech_of past.requests m).port m text
 
 -- printable ASCII and line feeds, and the line feed that ends it
 abbrev pub IsEnded : List ℕ → Type 0

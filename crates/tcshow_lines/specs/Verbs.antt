@@ -1,6 +1,6 @@
 -- What a message does, and who says so: by its netlink header, the requests before it, and the packet that it came in.
-use Rattle.std.specs.Prelude.{Bool, List, None, Option, Some, [], codes, false, if◌then◌else◌, is_some, map, not, true, ℕ, ◌%◌, ◌&&◌, ◌*◌, ◌+◌}
-use Rattle.std.specs.Prelude.{◌++◌, ◌/◌, ◌==◌, ◌||◌, ◌∷◌, drop, length, nat_lt}
+use Rattle.std.specs.Prelude.{Bool, List, None, Option, Some, [], codes, false, if◌then◌else◌, is_some, not, true, ℕ, ◌%◌, ◌&&◌, ◌*◌, ◌+◌}
+use Rattle.std.specs.Prelude.{◌/◌, ◌==◌, ◌||◌, ◌∷◌}
 use Rattle.tc_brief.specs.declared.line.Object.{Object}
 use Rattle.tc_brief.specs.declared.line.Object.TheVariants as object
 use Rattle.tc_columns.specs.declared.root.Root.{Root}
@@ -9,8 +9,7 @@ use Rattle.tc_units.specs.Numerals.{hex_text}
 use Rattle.tcshow_json.specs.Messages.{Header, Message}
 use Rattle.tcshow_json.specs.Objects.{root_of}
 use Rattle.tcshow_json.specs.declared.message.Origin.{Origin}
-use Rattle.tcshow_lines.specs.declared.verb.Request.{Request}
-use Rattle.tcshow_lines.specs.declared.verb.Requests.{Requests}
+use Rattle.tcshow_lines.specs.Past.{Request, has_flag}
 use Rattle.tcshow_lines.specs.declared.verb.Speech.{Speech}
 use Rattle.tcshow_lines.specs.declared.verb.Verb.{Verb}
 use Rattle.tcshow_lines.specs.declared.verb.Verb.TheVariants as verb
@@ -50,10 +49,6 @@ abbrev pub verb_words : Verb → List (List ℕ)
 verb_words v = verb_word v ∷ flags_words v
 
 -- ---- netlink headers
-
--- a bit of nlmsg_flags
-abbrev pub has_flag : ℕ → ℕ → Bool
-has_flag flags bit = flags / bit % 2 == 1
 
 -- the four flags whose meaning depends on the type: of RTM_NEW* NLM_F_REPLACE (1), NLM_F_EXCL (2), NLM_F_CREATE (4) and
 -- NLM_F_APPEND (8); of RTM_GET* NLM_F_ROOT (1) and NLM_F_MATCH (2); of RTM_DELACTION NLM_F_ROOT (1)
@@ -108,11 +103,16 @@ get_verb flags = if modifiers flags == 0 then verb.Get else if modifiers flags =
 abbrev pub request_verb : Object → Header → Verb
 request_verb o h = if is_new h.kind then new_verb o h.flags else if is_del h.kind then del_verb o h.flags else get_verb h.flags
 
+-- what a message does if it is a request
+abbrev pub asked_verb : Object → Option Header → Verb
+asked_verb o None = verb.Unsaid
+asked_verb o (Some h) = request_verb o h
+
 -- ---- who speaks
 
 -- a request before: it has the message's sequence number, and its port id or 0
 abbrev pub is_before : ℕ → Header → Request → Bool
-is_before kind h r = r.kind == kind && (r.sequence == h.sequence && (r.port == h.port || r.port == 0))
+is_before kind h r = r.header.kind == kind && (r.header.sequence == h.sequence && (r.header.port == h.port || r.header.port == 0))
 
 abbrev pub was_sent : List Request → ℕ → Header → Bool
 was_sent [] kind h = false
@@ -159,22 +159,3 @@ speech_in before origin o (Some h) = speech_by before origin o h
 -- what a message does, after these requests; without a netlink header nobody says it
 abbrev pub speech_of : List Request → Message → Speech
 speech_of before m = speech_in before m.origin (object_in (root_of m)) m.header
-
--- ---- the requests before
-
--- the last 1,024 are kept
-abbrev pub kept : List Request → List Request
-kept before = if nat_lt (length before) 1024 then before else drop 1 before
-
-abbrev pub noted : List Request → Header → List Request
-noted before h =
-    if has_flag h.flags 1 then kept before ++ record { kind = h.kind; sequence = h.sequence; port = h.port } ∷ [] else before
-
-abbrev pub noted_if : List Request → Option Header → List Request
-noted_if before None = before
-noted_if before (Some h) = noted before h
-
--- ---- abstract values of the code's types
-
-abbrev pub requests_view : Requests → List Request
-requests_view r = r.all.items

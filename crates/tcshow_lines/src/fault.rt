@@ -1,68 +1,155 @@
-//! What is malformed in a message, at the end of its lines.
+//! What is malformed in a message, at the end of its lines, and places in a message.
 
-ghost use Rattle.std.specs.Prelude.{OnOk};
-ghost use Rattle.tc_outline.specs.Text.{Continues};
+ghost use Rattle.std.specs.Prelude.{◌≡◌, ◌∷◌, ◌++◌, ◌==◌, [], IfOk, OnOk, List, ℕ, Some, codes, decimal, if◌then◌else◌, option_map};
+ghost use Rattle.tc_brief.specs.Words.{written};
+ghost use Rattle.tcshow_lines.specs.Lines.{IsFault, error_words, lengths_words, malformed_words, place_words};
 
 use nla_frames::DecodeError;
 use std::alloc::{AllocError, Global};
+use tc_brief::put_word;
 use tc_outline::{Fault, Layout, Page, Path};
+use tc_units::put_decimal;
 use tcshow_json::text_of;
 
-/// Writes what is malformed, and where: ` malformed: 3 bytes, 4 expected, at Options/FqCodel/Limit (byte 44)`.
-#[tactic(auto, using(tc_outline::proofs::Continued::continues_none, tc_outline::proofs::Continued::continues_then))]
-pub(crate) fn show_fault(
-    alloc: Global,
-    page: &mut Page<Global>,
-    fault: &Fault,
-) -> Result<(), AllocError>
-    ensures { OnOk result (Continues page.old page.new) }
+/// The text that the lines of a message with this fault end with; empty without one.
+pub(crate) fn end_of(alloc: Global, fault: &Option<Fault>) -> Result<Vec<u8>, AllocError>
+    ensures { IfOk result (λ text. (words : List (List ℕ)) × IsFault (option_map (λ fault. fault.error) fault.now) words × (text.items ≡ written words)) }
 {
-    page.text(" malformed: ")?;
-    show_error(page, &fault.error)?;
-    let place = place_of(alloc, &fault.path, fault.offset as u64)?;
-    page.text(place.as_str())
-}
-
-/// The place of a path: ` at Options/FqCodel/Limit (byte 44)`.
-pub(crate) fn place_of(alloc: Global, path: &Path, offset: u64) -> Result<String, AllocError> {
-    let mut page = Page::new(alloc, Layout::OneLine);
-    path.show(&mut page)?;
-    let names = names_in(alloc, text_of(&page))?;
-    let names = names.as_str();
-    format!(in alloc; " at {names} (byte {offset})")
-}
-
-// Writes what is wrong.
-#[tactic(auto, using(tc_outline::proofs::Continued::continues_none, tc_outline::proofs::Continued::continues_then))]
-fn show_error(page: &mut Page<Global>, error: &DecodeError) -> Result<(), AllocError>
-    ensures { OnOk result (Continues page.old page.new) }
-{
-    match error {
-        DecodeError::BufferTooSmall { len, needed } | DecodeError::SelectorShort { len, needed } =>
-            { show_lengths(page, *len, *needed) }
-        DecodeError::FrameHeaderShort { left } => show_lengths(page, *left, 4),
-        DecodeError::FrameTooLong { length, left } => show_lengths(page, *left, *length),
-        DecodeError::FrameTooShort { length } => show_lengths(page, *length, 4),
-        DecodeError::WrongLength { expected, got } => show_lengths(page, *got, *expected),
-        DecodeError::XstatsShort { len } => {
-            page.number(*len as u64)?;
-            page.text(" bytes of statistics,")
-        }
-        DecodeError::NotUtf8 => page.text("not UTF-8,"),
-        DecodeError::MissingKind => page.text("no kind,"),
-        DecodeError::DuplicateKind => page.text("two kinds,"),
-        DecodeError::OutOfMemory => page.text("too long,"),
+    match fault {
+        Some(fault) => malformed(alloc, fault),
+        None => Ok(Vec::new(alloc)),
     }
 }
 
-#[tactic(auto, using(tc_outline::proofs::Continued::continues_none, tc_outline::proofs::Continued::continues_then))]
-fn show_lengths(page: &mut Page<Global>, len: usize, expected: usize) -> Result<(), AllocError>
-    ensures { OnOk result (Continues page.old page.new) }
+// What is malformed, and where.
+fn malformed(alloc: Global, fault: &Fault) -> Result<Vec<u8>, AllocError>
+    ensures { IfOk result (λ text. (words : List (List ℕ)) × IsFault (Some fault.now.error) words × (text.items ≡ written words)) }
 {
-    page.number(len as u64)?;
-    page.text(if len == 1 { " byte, " } else { " bytes, " })?;
-    page.number(expected as u64)?;
-    page.text(" expected,")
+    let names = names_of(alloc, &fault.path)?;
+    malformed_at(alloc, &fault.error, names.as_str(), fault.offset as u64)
+}
+
+#[tactic(auto, using(tc_brief::proofs::Written::written_append))]
+fn malformed_at(
+    alloc: Global,
+    error: &DecodeError,
+    names: &str,
+    offset: u64,
+) -> Result<Vec<u8>, AllocError>
+    ensures { IfOk result (λ text. text.items ≡ written (malformed_words error.now names.now offset)) }
+{
+    let mut text = Vec::with_capacity(alloc, 64)?;
+    put_word(&mut text, b"malformed:")?;
+    put_error(alloc, &mut text, error)?;
+    put_place(alloc, &mut text, Some(names), offset)?;
+    Ok(text)
+}
+
+// Appends a number after a blank.
+fn put_number(alloc: Global, out: &mut Vec<u8>, n: u64) -> Result<(), AllocError>
+    ensures { OnOk result (out.new.items ≡ out.old.items ++ written (decimal n ∷ [])) }
+{
+    let mut text = Vec::new(alloc);
+    put_decimal(&mut text, n)?;
+    put_word(out, &text)
+}
+
+/// Appends a place in a message, with the names of the attributes on the way to it.
+pub(crate) fn put_place(
+    alloc: Global,
+    out: &mut Vec<u8>,
+    names: Option<&str>,
+    offset: u64,
+) -> Result<(), AllocError>
+    ensures { OnOk result (out.new.items ≡ out.old.items ++ written (place_words (option_map (λ names. names.now) names.entry) offset)) }
+{
+    put_word(out, b"at")?;
+    match names {
+        Some(names) => {
+            put_word(out, names.as_bytes())?;
+            put_word(out, b"(byte")?;
+            put_closed(alloc, out, offset)
+        }
+        None => {
+            put_word(out, b"byte")?;
+            put_number(alloc, out, offset)
+        }
+    }
+}
+
+// Appends a number and a bracket after a blank.
+fn put_closed(alloc: Global, out: &mut Vec<u8>, n: u64) -> Result<(), AllocError>
+    ensures { OnOk result (out.new.items ≡ out.old.items ++ written ((decimal n ++ codes ")") ∷ [])) }
+{
+    let mut text = Vec::new(alloc);
+    put_decimal(&mut text, n)?;
+    text.extend_from_slice(b")")?;
+    put_word(out, &text)
+}
+
+// Appends what is wrong.
+fn put_error(alloc: Global, out: &mut Vec<u8>, error: &DecodeError) -> Result<(), AllocError>
+    ensures { OnOk result (out.new.items ≡ out.old.items ++ written (error_words error.now)) }
+{
+    match error {
+        DecodeError::BufferTooSmall { len, needed } | DecodeError::SelectorShort { len, needed } =>
+            { put_lengths(alloc, out, *len, *needed) }
+        DecodeError::FrameHeaderShort { left } => put_lengths(alloc, out, *left, 4),
+        DecodeError::FrameTooLong { length, left } => put_lengths(alloc, out, *left, *length),
+        DecodeError::FrameTooShort { length } => put_lengths(alloc, out, *length, 4),
+        DecodeError::WrongLength { expected, got } => put_lengths(alloc, out, *got, *expected),
+        DecodeError::XstatsShort { len } => put_statistics(alloc, out, *len),
+        DecodeError::NotUtf8 => put_two(out, b"not", b"UTF-8,"),
+        DecodeError::MissingKind => put_two(out, b"no", b"kind,"),
+        DecodeError::DuplicateKind => put_two(out, b"two", b"kinds,"),
+        DecodeError::OutOfMemory => put_two(out, b"too", b"long,"),
+    }
+}
+
+fn put_two(out: &mut Vec<u8>, first: &[u8], second: &[u8]) -> Result<(), AllocError>
+    ensures { OnOk result (out.new.items ≡ out.old.items ++ written (first.now ∷ second.now ∷ [])) }
+{
+    put_word(out, first)?;
+    put_word(out, second)
+}
+
+fn put_statistics(alloc: Global, out: &mut Vec<u8>, len: usize) -> Result<(), AllocError>
+    ensures { OnOk result (out.new.items
+        ≡ out.old.items ++ written (decimal len ∷ codes "bytes" ∷ codes "of" ∷ codes "statistics," ∷ [])) }
+{
+    put_number(alloc, out, len as u64)?;
+    put_word(out, b"bytes")?;
+    put_two(out, b"of", b"statistics,")
+}
+
+fn put_lengths(
+    alloc: Global,
+    out: &mut Vec<u8>,
+    len: usize,
+    expected: usize,
+) -> Result<(), AllocError>
+    ensures { OnOk result (out.new.items ≡ out.old.items ++ written (lengths_words len expected)) }
+{
+    put_number(alloc, out, len as u64)?;
+    put_word(out, bytes_word(len))?;
+    put_number(alloc, out, expected as u64)?;
+    put_word(out, b"expected,")
+}
+
+fn bytes_word(len: usize) -> &'static [u8]
+    ensures { result.now ≡ (if len == 1 then codes "byte," else codes "bytes,") }
+{
+    if len == 1 {
+        return b"byte,";
+    }
+    b"bytes,"
+}
+
+/// The names of the attributes on a path: `Options/FqCodel/Limit`.
+pub(crate) fn names_of(alloc: Global, path: &Path) -> Result<String, AllocError> {
+    let mut page = Page::new(alloc, Layout::OneLine);
+    path.show(&mut page)?;
+    names_in(alloc, text_of(&page))
 }
 
 // True for the digits of a number.

@@ -10,10 +10,15 @@
 
 mod answer;
 mod begin;
+mod ending;
 mod fault;
 mod line;
+mod past;
+mod times;
 mod verb;
 
 pub use answer::lines_of_reply;
+pub use ending::{dump_of, lines_of_end};
 pub use line::{Lines, lines_of_message};
-pub use verb::{Request, Requests, Speech, Verb, speech_of};
+pub use past::{Request, Requests};
+pub use times::TimeFormat;

@@ -1,22 +1,23 @@
 //! The lines of a message.
 
-ghost use Rattle.std.specs.Prelude.{◌≡◌, ℕ, [], List, IfOk, Some, false, is_some, option_map};
+ghost use Rattle.std.specs.Prelude.{◌≡◌, ℕ, [], List, IfOk, Some, is_some, option_map};
 ghost use Rattle.tc_outline.specs.Outline.{form_of};
-ghost use Rattle.tc_outline.specs.Page.{IsShown};
-ghost use Rattle.tc_outline.specs.Text.{text_on};
 ghost use Rattle.tc_brief.specs.Lines.{message_lines, said_view};
 ghost use Rattle.tcshow_json.specs.Messages.{message_view};
-ghost use Rattle.tcshow_lines.specs.Lines.{IsEnded, IsLines, fault_of, leaves_at, options_with};
+ghost use Rattle.tcshow_lines.specs.Lines.{IsEnded, IsLines, IsSaid, fault_of, leaves_at, options_with, said_as};
+ghost use Rattle.tcshow_lines.specs.Past.{past_of};
 
 use crate::begin::begin;
-use crate::fault::show_fault;
-use crate::verb::{Request, object_in, speech_of};
+use crate::fault::end_of;
+use crate::past::Requests;
+use crate::times::TimeFormat;
+use crate::verb::{object_in, speech_of};
 use forms_json::Form;
 use forms_kinds::{ACTION_MESSAGE, TC_MESSAGE, TcTables};
 use std::alloc::{AllocError, Global};
-use tc_brief::{Said, lines_of};
+use tc_brief::{Said, lines_of, lines_of_nothing};
 use tc_columns::{KindColumns, LinkNames, Root};
-use tc_outline::{Fault, Layout, Page, locate};
+use tc_outline::{Fault, locate};
 use tc_words::TcWords;
 use tcshow_json::Message;
 
@@ -37,8 +38,8 @@ fn form_of(root: Root) -> Form
     }
 }
 
-/// The lines of bytes with these names of interfaces.
-pub(crate) fn lines_with(
+// The lines of bytes with these names of interfaces.
+fn lines_with(
     alloc: Global,
     interfaces: &[(u32, &str)],
     links: &LinkNames,
@@ -78,46 +79,81 @@ fn name_of(fault: &Option<Fault>) -> Option<&'static str>
     }
 }
 
-// What lines end with: the fault, if there is one.
-fn end_of(alloc: Global, fault: &Option<Fault>) -> Result<Page<Global>, AllocError>
-    ensures printable { IfOk result (λ page. IsShown false (text_on page)) }
-    ensures none { IfOk result (λ page. is_some (option_map (λ fault. fault.error) fault.now) ≡ false → text_on page ≡ []) }
-{
-    let mut page = Page::new(alloc, Layout::OneLine);
-    if let Some(fault) = fault {
-        show_fault(alloc, &mut page, fault)?;
-    }
-    Ok(page)
-}
-
-/// The lines of a message after these requests, with the caller's names of interfaces, and those of the capture.
-pub fn lines_of_message(
+/// The lines of a message that begin with a text.
+pub(crate) fn lines_said(
     alloc: Global,
     interfaces: &[(u32, &str)],
     links: &LinkNames,
-    before: &[Request],
+    begin: &[u8],
     statistics: bool,
+    port: u32,
     found: &Message<'_>,
 ) -> Result<Lines, AllocError>
-    ensures lines { IfOk result (λ lines. IsLines before.now statistics (message_view found.now) lines.text.items) }
-    ensures ended { IfOk result (λ lines. IsEnded lines.text.items) }
+    ensures lines { IfOk result (λ lines. IsSaid begin.now statistics port (message_view found.now) lines.text.items) }
     ensures fault { IfOk result (λ lines. is_some lines.fault ≡ is_some (fault_of (message_view found.now))) }
 {
-    let speech = speech_of(before, found);
-    let front = begin(alloc, &found.origin.time, speech.verb)?;
     let fault = locate(found.payload, found.what());
     let end = end_of(alloc, &fault)?;
     let about = found.root();
     let said = Said {
-        begin: front.as_slice(),
+        begin,
         object: object_in(about),
         statistics,
-        port: speech.port as u64,
-        end: end.bytes(),
+        port: port as u64,
+        end: end.as_slice(),
     };
     let text = lines_with(alloc, interfaces, links, about, &said, found.payload)?;
     Ok(Lines {
         text,
         fault: name_of(&fault),
     })
+}
+
+/// The line of a message whose bytes aren't known: its object.
+pub(crate) fn line_without_bytes(
+    alloc: Global,
+    begin: &[u8],
+    statistics: bool,
+    found: &Message<'_>,
+) -> Result<Vec<u8>, AllocError>
+    ensures { IfOk result (λ text. text.items ≡ message_lines (said_as begin.now statistics 0 [] (message_view found.now)) []) }
+{
+    let said = Said {
+        begin,
+        object: object_in(found.root()),
+        statistics,
+        port: 0,
+        end: &[],
+    };
+    match lines_of_nothing(alloc, &said) {
+        Ok(text) => Ok(text),
+        Err(_) => Err(AllocError),
+    }
+}
+
+/// The lines of a message after these messages, with the caller's names of interfaces, and those of the capture.
+pub fn lines_of_message(
+    alloc: Global,
+    interfaces: &[(u32, &str)],
+    links: &LinkNames,
+    past: &Requests,
+    statistics: bool,
+    format: TimeFormat,
+    found: &Message<'_>,
+) -> Result<Lines, AllocError>
+    ensures lines { IfOk result (λ lines. IsLines (past_of past.now) statistics format (message_view found.now) lines.text.items) }
+    ensures ended { IfOk result (λ lines. IsEnded lines.text.items) }
+    ensures fault { IfOk result (λ lines. is_some lines.fault ≡ is_some (fault_of (message_view found.now))) }
+{
+    let speech = speech_of(past, found);
+    let front = begin(alloc, past, format, &found.origin.time, speech.verb)?;
+    lines_said(
+        alloc,
+        interfaces,
+        links,
+        front.as_slice(),
+        statistics,
+        speech.port,
+        found,
+    )
 }

@@ -1,18 +1,16 @@
 //! What a message does, and who says so.
 
-ghost use Rattle.std.specs.Prelude.{◌≡◌, ◌<◌};
+ghost use Rattle.std.specs.Prelude.{◌≡◌, option_map};
 ghost use Rattle.tcshow_json.specs.Messages.{header_view, message_view};
-ghost use Rattle.tcshow_lines.specs.Verbs.{changes, del_verb, flushes, get_of, get_verb, has_flag, is_before, is_del, is_new, is_of_rtmon, is_request};
+ghost use Rattle.tcshow_lines.specs.Past.{past_of, request_view, requests_view};
+ghost use Rattle.tcshow_lines.specs.Verbs.{asked_verb, changes, del_verb, flushes, get_of, get_verb, is_before, is_del, is_new, is_of_rtmon, is_request};
 ghost use Rattle.tcshow_lines.specs.Verbs.{kernels_verb, modifiers, new_verb, object_in, port_of, replaces, request_verb, speech_by};
 ghost use Rattle.tcshow_lines.specs.Verbs.{speech_of, was_asked, was_sent};
 
-use std::alloc::{AllocError, Global};
+use crate::past::{Request, Requests, has_flag};
 use tc_brief::Object;
 use tc_columns::Root;
 use tcshow_json::{Message, NetlinkHeader, Origin};
-
-// The most requests that are kept.
-const MOST_REQUESTS: usize = 1024;
 
 // `NLM_F_REQUEST` and `NLM_F_MULTI` (`linux/netlink.h`).
 const NLM_F_REQUEST: u16 = 1;
@@ -21,7 +19,7 @@ const NLM_F_MULTI: u16 = 2;
 
 /// What a message does: a request by iproute2's flags for its object, or what the kernel says.
 #[derive(Clone, Copy, PartialEq, Eq, Debug)]
-pub enum Verb {
+pub(crate) enum Verb {
     Add,
     Replace,
     Change,
@@ -42,16 +40,8 @@ pub enum Verb {
 
 /// What a message does, and the port id of a notification. 0 for none.
 #[derive(Clone, Copy)]
-pub struct Speech {
+pub(crate) struct Speech {
     pub verb: Verb,
-    pub port: u32,
-}
-
-/// What is kept of a request: `nlmsg_type`, `nlmsg_seq` and `nlmsg_pid`.
-#[derive(Clone, Copy, Drop)]
-pub struct Request {
-    pub kind: u16,
-    pub sequence: u32,
     pub port: u32,
 }
 
@@ -66,13 +56,6 @@ pub(crate) fn object_in(root: Root) -> Object
         Root::Chain => Object::Chain,
         Root::Action | Root::Flush => Object::Action,
     }
-}
-
-fn has_flag(flags: u16, bit: u16) -> bool
-    requires { 0 < bit }
-    ensures { result ≡ has_flag flags bit }
-{
-    flags / bit % 2 == 1
 }
 
 // The four flags whose meaning depends on the type.
@@ -160,8 +143,8 @@ fn get_verb(flags: u16) -> Verb
     }
 }
 
-/// What a request of this type with these flags does.
-pub(crate) fn request_verb(object: Object, header: &NetlinkHeader) -> Verb
+// What a request of this type with these flags does.
+fn request_verb(object: Object, header: &NetlinkHeader) -> Verb
     ensures { result ≡ request_verb object (header_view header.now) }
 {
     if is_new(header.kind) {
@@ -175,16 +158,16 @@ pub(crate) fn request_verb(object: Object, header: &NetlinkHeader) -> Verb
 
 // True for a request of this type with the message's sequence number, and its port id or 0.
 fn is_before(kind: u32, header: &NetlinkHeader, request: &Request) -> bool
-    ensures { result ≡ is_before kind (header_view header.now) request.now }
+    ensures { result ≡ is_before kind (header_view header.now) (request_view request.now) }
 {
-    u32::from(request.kind) == kind
-        && (request.sequence == header.sequence
-            && (request.port == header.port || request.port == 0))
+    u32::from(request.header.kind) == kind
+        && (request.header.sequence == header.sequence
+            && (request.header.port == header.port || request.header.port == 0))
 }
 
 // True if one of the requests was of this type.
 fn was_sent(before: &[Request], kind: u32, header: &NetlinkHeader) -> bool
-    ensures { result ≡ was_sent before.now kind (header_view header.now) }
+    ensures { result ≡ was_sent (requests_view before.now) kind (header_view header.now) }
 {
     let mut left = before;
     'each: while let [request, rest @ ..] = left {
@@ -205,7 +188,7 @@ fn get_of(kind: u16) -> u32
 
 // True if one of the requests was of the message's type, or to get its object.
 fn was_asked(before: &[Request], header: &NetlinkHeader) -> bool
-    ensures { result ≡ was_asked before.now (header_view header.now) }
+    ensures { result ≡ was_asked (requests_view before.now) (header_view header.now) }
 {
     was_sent(before, u32::from(header.kind), header)
         || was_sent(before, get_of(header.kind), header)
@@ -219,7 +202,7 @@ fn is_of_rtmon(origin: &Origin) -> bool
 }
 
 fn is_request(before: &[Request], origin: &Origin, header: &NetlinkHeader) -> bool
-    ensures { result ≡ is_request before.now origin.now (header_view header.now) }
+    ensures { result ≡ is_request (requests_view before.now) origin.now (header_view header.now) }
 {
     has_flag(header.flags, NLM_F_REQUEST)
         && (!is_of_rtmon(origin)
@@ -227,7 +210,7 @@ fn is_request(before: &[Request], origin: &Origin, header: &NetlinkHeader) -> bo
 }
 
 fn kernels_verb(before: &[Request], header: &NetlinkHeader) -> Verb
-    ensures { result ≡ kernels_verb before.now (header_view header.now) }
+    ensures { result ≡ kernels_verb (requests_view before.now) (header_view header.now) }
 {
     if is_del(header.kind) {
         return Verb::Gone;
@@ -251,7 +234,7 @@ fn port_of(verb: Verb, port: u32) -> u32
 }
 
 fn speech_by(before: &[Request], origin: &Origin, object: Object, header: &NetlinkHeader) -> Speech
-    ensures { result ≡ speech_by before.now origin.now object (header_view header.now) }
+    ensures { result ≡ speech_by (requests_view before.now) origin.now object (header_view header.now) }
 {
     if is_request(before, origin, header) {
         return Speech {
@@ -266,64 +249,30 @@ fn speech_by(before: &[Request], origin: &Origin, object: Object, header: &Netli
     }
 }
 
+/// What a message that is a request does.
+pub(crate) fn asked_verb(object: Object, header: &Option<NetlinkHeader>) -> Verb
+    ensures { result ≡ asked_verb object (option_map header_view header.now) }
+{
+    match header {
+        Some(header) => request_verb(object, header),
+        None => Verb::Unsaid,
+    }
+}
+
 /// What a message does, after these requests. Without a netlink header nobody says it.
-pub fn speech_of(before: &[Request], found: &Message<'_>) -> Speech
-    ensures { result ≡ speech_of before.now (message_view found.now) }
+pub(crate) fn speech_of(before: &Requests, found: &Message<'_>) -> Speech
+    ensures { result ≡ speech_of (past_of before.now).requests (message_view found.now) }
 {
     match &found.header {
-        Some(header) => speech_by(before, &found.origin, object_in(found.root()), header),
+        Some(header) => speech_by(
+            before.requests.as_slice(),
+            &found.origin,
+            object_in(found.root()),
+            header,
+        ),
         None => Speech {
             verb: Verb::Unsaid,
             port: 0,
         },
-    }
-}
-
-/// The last 1,024 requests.
-#[derive(Drop)]
-pub struct Requests {
-    all: Vec<Request>,
-}
-
-impl Requests {
-    ghost use Rattle.std.specs.Prelude.{◌≡◌, [], OnOk, option_map};
-    ghost use Rattle.tcshow_json.specs.Messages.{header_view};
-    ghost use Rattle.tcshow_lines.specs.Verbs.{requests_view};
-    ghost use Rattle.tcshow_lines.specs.Verbs.{noted_if};
-
-    pub fn new(alloc: Global) -> Requests
-        ensures { requests_view result ≡ [] }
-    {
-        Requests {
-            all: Vec::new(alloc),
-        }
-    }
-
-    pub fn all(&self) -> &[Request]
-        ensures { result.now ≡ requests_view self.now }
-    {
-        self.all.as_slice()
-    }
-
-    /// Keeps a message, if it is a request.
-    pub fn note(&mut self, header: &Option<NetlinkHeader>) -> Result<(), AllocError>
-        ensures { OnOk result (requests_view self.new ≡ noted_if (requests_view self.old) (option_map header_view header.now)) }
-    {
-        let header = match header {
-            Some(header) => header,
-            None => return Ok(()),
-        };
-        if !has_flag(header.flags, NLM_F_REQUEST) {
-            return Ok(());
-        }
-        if self.all.len() >= MOST_REQUESTS {
-            self.all.remove(0);
-        }
-        self.all.push(Request {
-            kind: header.kind,
-            sequence: header.sequence,
-            port: header.port,
-        })?;
-        Ok(())
     }
 }

@@ -20,7 +20,10 @@ static ACTION_CONNMARK: Known = Known {
     line: &[
         "is action connmark - zone 555 cookie aabbccddeeff112233445566778800a1 index 5 pipe acts 1",
     ],
-    counted: &[],
+    counted: &[
+        "is action connmark - zone 555 cookie aabbccddeeff112233445566778800a1 index 5 pipe acts 1 ; sent 0B 0p dropped 0 overlimits 0 backlog 0B 0p ",
+        "ref 1 installed 680ms used 680ms",
+    ],
 };
 
 // tdc612.answer.getaction.gact.0080
@@ -680,14 +683,53 @@ static TFILTER_ROUTE: Known = Known {
     counted: &[],
 };
 
+// tdc61.answer.newtfilter.basic.0007: `tc` prints `u32(01000000/0f000000 at 0)`
+#[rattlefmt::skip]
+static FILTER_BASIC_U32: Known = Known {
+    root: Root::Filter,
+    object: Object::Filter,
+    verb: "is",
+    port: 0,
+    digits: &[
+        "0000000003000000010000000000ffff080001000a000100626173696300000008000b00000000004c0002000800010001000100140005000600000000000000000000000000",
+        "00002c0002000800010001000000200002001c00010000000300000000000f000000010000000000000000000000",
+    ],
+    line: &[
+        "is filter basic 0x1 dev 3 parent ffff: pref 1 protocol ip classid 1:1 ematch {U32={flags=0,match={mask=0xf000000,val=0x1000000,off=0B}}}",
+    ],
+    counted: &[],
+};
+
+// The actions of two messages above in one, with their attributes before their kinds, and a cookie.
+#[rattlefmt::skip]
+static ACTIONS_BEFORE_KINDS: Known = Known {
+    root: Root::Action,
+    object: Object::Action,
+    verb: "is",
+    port: 0,
+    digits: &[
+        "000000008c010100b800010044000400140001000000000000000000000000000000000014000700000000000000000000000000000000001800030000000000000000000000",
+        "000000000000000000000600060000ff00000c000900000000000300000008000a00000000000b0001006d6972726564000048000200200002000700000000000000ffffffff",
+        "01000000000000000400000002000000240001001d000000000000001d0000000000000000000000000000000000000000000000d000020006000600c1a00000040005005000",
+        "04000400060014000100000000000000000000000000000000000400060014000700000000000000000000000000000000000400060018000300000000000000000000000000",
+        "00000000000000000c000900000000000300000008000a000000000009000100676163740000000050000200180002005a000000000000000000000001000000000000000c00",
+        "0300020002000200000004000400240001000500000000000000050000000000000000000000000000000000000000000000",
+    ],
+    line: &[
+        "is action mirred - ingress mirror dev 2 cookie 00ff index 7 continue\n",
+        "is action gact - random {ptype=determ,pval=2,paction=drop} cookie c1a0 index 90 pass",
+    ],
+    counted: &[],
+};
+
 /// All of them.
 #[rattlefmt::skip]
-pub(crate) fn all() -> [&'static Known; 32] {
+pub(crate) fn all() -> [&'static Known; 34] {
     [
         &ACTION_CONNMARK, &ACTION_GACT, &ACTION_MIRRED, &ACTION_MPLS, &ACTION_NAT, &ACTION_POLICE, &ACTION_VLAN,
         &CHAIN_FLOWER, &QDISC_BFIFO, &QDISC_CAKE, &QDISC_CLSACT, &QDISC_CODEL, &QDISC_FQ, &QDISC_FQ_CODEL,
         &QDISC_HHF, &QDISC_HTB, &QDISC_INGRESS, &QDISC_NETEM, &QDISC_NOQUEUE, &QDISC_PRIO, &QDISC_TBF,
         &TCLASS_ETS, &TCLASS_FQ_CODEL, &TCLASS_HFSC, &TCLASS_HTB, &TCLASS_QFQ, &TCLASS_TAPRIO, &TFILTER_BPF,
-        &TFILTER_FLOWER, &TFILTER_FW, &TFILTER_MATCHALL, &TFILTER_ROUTE,
+        &TFILTER_FLOWER, &TFILTER_FW, &TFILTER_MATCHALL, &TFILTER_ROUTE, &FILTER_BASIC_U32, &ACTIONS_BEFORE_KINDS,
     ]
 }

@@ -14,6 +14,7 @@ mod holes;
 mod inputs;
 mod known;
 mod lines;
+mod made;
 mod memory;
 mod random;
 mod runs;

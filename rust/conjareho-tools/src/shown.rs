@@ -4,7 +4,7 @@ use crate::netlink::Fault;
 use crate::program_io::{Reader, Writer};
 use crate::tc_select::Filter;
 use crate::tc_outline::Interfaces;
-use crate::tcshow_lib::options::{Options, OutputFormat};
+use crate::tcshow_lib::options::{Options, OutputFormat, TimeFormat};
 use crate::tcshow_lib::program::serve;
 
 /// What `tcshow --json` writes of messages.
@@ -26,6 +26,8 @@ pub fn lines_of(messages: &[Vec<u8>]) -> Result<Shown, Fault> {
         format: OutputFormat::Json,
         without_header: None,
         filter: Filter::ALL,
+        time: TimeFormat::Clock,
+        acks: false,
         all: false,
         names: Interfaces { names: &[] },
         has_summary: false,

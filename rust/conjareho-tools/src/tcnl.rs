@@ -14,7 +14,7 @@ use std::process::ExitCode;
 const NOTES: &str = "\
 Examples:
   tcnl dump --links dev wan | tcshow
-  tcnl monitor --links | tcshow --oneline
+  tcnl monitor --links | tcshow
   tcnl dump dev wan | tcshow --json | tcmake --request --stream | tcnl send
 
 DEV is the name of an interface, one of its altnames, or its index. send and clear take

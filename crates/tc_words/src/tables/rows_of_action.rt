@@ -9,6 +9,7 @@ use tc_brief::{LeftOut, Row, Style};
 #[rattlefmt::skip]
 static ROWS_OF_ACTION: [&'static [Row<'static>]; 9] = [
     &[ // 0, `list action`
+        Row { key: "Kind", word: "", style: Style::Alone, with: "", left: LeftOut::Never },
         Row { key: "Index", word: "index", style: Style::Value, with: "", left: LeftOut::Never },
         Row { key: "Stats", word: "", style: Style::Statistics, with: "", left: LeftOut::Never },
         Row { key: "Pad", word: "", style: Style::Value, with: "", left: LeftOut::Always },
@@ -20,6 +21,7 @@ static ROWS_OF_ACTION: [&'static [Row<'static>]; 9] = [
         Row { key: "Options", word: "", style: Style::Flat, with: "", left: LeftOut::Never },
     ],
     &[ // 1, `list action`: the rows of all kinds
+        Row { key: "Kind", word: "", style: Style::Alone, with: "", left: LeftOut::Never },
         Row { key: "Index", word: "index", style: Style::Value, with: "", left: LeftOut::Never },
         Row { key: "Stats", word: "", style: Style::Statistics, with: "", left: LeftOut::Never },
         Row { key: "Pad", word: "", style: Style::Value, with: "", left: LeftOut::Always },

@@ -13,7 +13,7 @@ static ROWS_OF_ELEMENTS: [&'static [Row<'static>]; 4] = [
         Row { key: "tab", word: "", style: Style::Value, with: "", left: LeftOut::Always },
     ],
     &[ // 507, what an array holds
-        Row { key: "tab", word: "", style: Style::Value, with: "", left: LeftOut::Always },
+        Row { key: "tab", word: "", style: Style::Begin, with: "", left: LeftOut::Always },
     ],
 ];
 

@@ -295,9 +295,8 @@ static ROWS_OF_FILTERS_U32: [&'static [Row<'static>]; 6] = [
         Row { key: "keys", word: "", style: Style::Keys, with: "", left: LeftOut::Never },
     ],
     &[ // 794, `struct tc_u32_key`
-        Row { key: "mask", word: "match", style: Style::Key, with: "", left: LeftOut::Never },
-        Row { key: "val", word: "", style: Style::Value, with: "", left: LeftOut::Always },
-        Row { key: "off", word: "", style: Style::Value, with: "", left: LeftOut::Always },
+        Row { key: "mask", word: "match", style: Style::Key, with: "val", left: LeftOut::Never },
+        Row { key: "val", word: "", style: Style::KeyValue, with: "off", left: LeftOut::Never },
         Row { key: "offmask", word: "", style: Style::Value, with: "", left: LeftOut::Equal(0) },
     ],
     &[ // 795, `struct tc_u32_pcnt`

@@ -15,9 +15,10 @@ static ROWS_OF_ROOTS_250: [&'static [Row<'static>]; 23] = [
         Row { key: "RootTimeDelta", word: "since", style: Style::Value, with: "", left: LeftOut::Never },
     ],
     &[ // 6021, of the answer to a flush
-        Row { key: "tab", word: "", style: Style::Value, with: "", left: LeftOut::Always },
+        Row { key: "tab", word: "", style: Style::Begin, with: "", left: LeftOut::Always },
     ],
     &[ // 6022, of the answer to a flush
+        Row { key: "Kind", word: "", style: Style::Alone, with: "", left: LeftOut::Never },
         Row { key: "Index", word: "index", style: Style::Value, with: "", left: LeftOut::Never },
         Row { key: "Stats", word: "", style: Style::Statistics, with: "", left: LeftOut::Never },
         Row { key: "Pad", word: "", style: Style::Value, with: "", left: LeftOut::Always },

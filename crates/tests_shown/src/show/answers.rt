@@ -58,10 +58,6 @@ summary
   0 broken
 "#;
 
-static ONE_LINE: &str =
-    r#"1700000000.123456000 NLMSG_ERROR EINVAL ack_tlvs seq 155 port 77 "NLA_F_NESTED is missing" at 44 /attributes/1/Options/1/Flower/Actions {RTM_NEWTFILTER create excl seq 155 index 3 handle 0x0 parent ffff:fff2 pref 601 protocol ip (0x0800) kind flower options {ip_proto tcp (6) actions {action 1 {kind gact}}}}
-"#;
-
 static JSON: &str =
     r#"{"time":"1700000000.123456000","packet":1,"packet_type":7,"type":"NLMSG_ERROR","flags":512,"seq":155,"portid":77,"errno":"EINVAL","text":"NLA_F_NESTED is missing","offset":44,"path":"/attributes/1/Options/1/Flower/Actions","request":{"type":"RTM_NEWTFILTER","flags":1536,"seq":155,"message":{"header":{"family":"Unspec","index":3,"handle":"0:0","parent":"ffff:fff2","info":39387144},"attributes":[{"Kind":"flower"},{"Options":[{"Flower":{"IpProto":6}},{"Flower":{"Actions":[{"tab":1,"attributes":[{"Kind":"gact"}]}]}}]}]}}}
 {"time":"1700000000.123456000","packet":2,"type":"NLMSG_ERROR","flags":768,"seq":155,"errno":"EINVAL","text":"NLA_F_NESTED is missing","offset":44,"request":{"type":"RTM_NEWTFILTER","flags":1536,"seq":155}}
@@ -69,9 +65,12 @@ static JSON: &str =
 {"time":"1700000000.123456000","packet":7,"type":"NLMSG_ERROR","flags":768,"seq":155,"errno":"warning","text":"quantum is big","request":{"type":"RTM_NEWTFILTER","flags":1536,"seq":155}}
 "#;
 
-static BRIEF: &str =
+static REFUSED_LINE: &str =
     r#"22:13:20.123456 refused EINVAL "NLA_F_NESTED is missing" at Options/Flower/Actions (byte 44) add filter flower - dev 3 ingress pref 601 protocol ip ip_proto tcp action gact
-22:13:20.123456 refused EINVAL "NLA_F_NESTED is missing" at byte 44 add filter - - raw=
+"#;
+
+static OTHER_LINES: &str =
+    r#"22:13:20.123456 refused EINVAL "NLA_F_NESTED is missing" at byte 44 add filter - - raw=
 22:13:20.123456 refused 777 add qdisc - - raw=00000000
 22:13:20.123456 warned "quantum is big" add filter - - raw=
 "#;
@@ -86,20 +85,29 @@ static REFUSED_FLOWER: Filter<'static> = Filter {
 
 #[test]
 fn answers(rt: HostRuntime) {
-    let options = counted_in(OutputFormat::Lines);
+    let options = counted_in(OutputFormat::Outline);
     assert!(rt; gives_of_hex(rt.alloc(), &options, ANSWERS, 0, Written::Is(&[LINES]), ""));
     let options = all_in(OutputFormat::Json);
     assert!(rt; gives_of_hex(rt.alloc(), &options, ANSWERS, 0, Written::Is(&[JSON]), ""));
-    let options = all_in(OutputFormat::Brief(false));
-    assert!(rt; gives_of_hex(rt.alloc(), &options, ANSWERS, 0, Written::Is(&[BRIEF]), ""));
-    let options = chosen_in(OutputFormat::OneLine, REFUSED_FLOWER);
+    let options = all_in(OutputFormat::Lines(false));
     assert!(rt;
         gives_of_hex(
             rt.alloc(),
             &options,
             ANSWERS,
             0,
-            Written::Is(&[ONE_LINE]),
+            Written::Is(&[REFUSED_LINE, OTHER_LINES]),
+            ""
+        )
+    );
+    let options = chosen_in(OutputFormat::Lines(false), REFUSED_FLOWER);
+    assert!(rt;
+        gives_of_hex(
+            rt.alloc(),
+            &options,
+            ANSWERS,
+            0,
+            Written::Is(&[REFUSED_LINE]),
             ""
         )
     );

@@ -3,13 +3,16 @@
 use std::alloc::Global;
 use tc_capture::MessageType;
 use tcshow_lib::arguments::{Arguments, Colours, Task, arguments_of};
-use tcshow_lib::options::OutputFormat;
+use tcshow_lib::options::{OutputFormat, TimeFormat};
 
 // A part of the arguments.
 #[derive(Clone, Copy)]
 enum Part {
     Task(Task<'static>),
     Format(OutputFormat),
+    Time(TimeFormat),
+    Acks,
+    Example,
     Files(&'static [&'static str]),
     Names(&'static str),
     WithoutHeader(MessageType),
@@ -34,6 +37,9 @@ fn has(arguments: &Arguments<'_>, part: Part) -> bool {
     match part {
         Part::Task(task) => arguments.task == task,
         Part::Format(form) => arguments.format == form,
+        Part::Time(format) => arguments.time == format,
+        Part::Acks => arguments.acks,
+        Part::Example => arguments.example,
         Part::Files(files) => arguments.files.as_slice() == files,
         Part::Names(file) => arguments.names == Some(file),
         Part::WithoutHeader(holds) => arguments.without_header == Some(holds),
@@ -55,8 +61,11 @@ fn has(arguments: &Arguments<'_>, part: Part) -> bool {
 }
 
 fn is_default(arguments: &Arguments<'_>) -> bool {
-    arguments.format == OutputFormat::Lines
+    arguments.format == OutputFormat::Lines(false)
         && arguments.files.is_empty()
+        && arguments.time == TimeFormat::Clock
+        && !arguments.acks
+        && !arguments.example
         && arguments.names.is_none()
         && arguments.without_header.is_none()
         && !arguments.all
@@ -75,15 +84,24 @@ fn chooses_all(arguments: &Arguments<'_>) -> bool {
 }
 
 // Words, and what they say.
-static WORDS: [(&[&str], &[Part]); 16] = [
+static WORDS: [(&[&str], &[Part]); 18] = [
     (&["tcshow"], &[Part::Defaults]),
     (
-        &["tcshow", "--lines"],
-        &[Part::Format(OutputFormat::Brief(false))],
+        &["tcshow", "-s"],
+        &[Part::Format(OutputFormat::Lines(true))],
+    ),
+    (&["tcshow", "-v"], &[Part::Format(OutputFormat::Outline)]),
+    (
+        &["tcshow", "-s", "--time", "delta", "--acks"],
+        &[
+            Part::Format(OutputFormat::Lines(true)),
+            Part::Time(TimeFormat::Delta),
+            Part::Acks,
+        ],
     ),
     (
-        &["tcshow", "-s", "--lines"],
-        &[Part::Format(OutputFormat::Brief(true))],
+        &["tcshow", "--time", "date", "--example"],
+        &[Part::Time(TimeFormat::Date), Part::Example],
     ),
     (
         &[
@@ -108,7 +126,7 @@ static WORDS: [(&[&str], &[Part]); 16] = [
             "tc",
         ],
         &[
-            Part::Format(OutputFormat::OneLine),
+            Part::Format(OutputFormat::Lines(false)),
             Part::Types(&["RTM_NEWQDISC"]),
             Part::Interfaces(&["7"]),
             Part::WithoutHeader(MessageType::Tc),
@@ -146,7 +164,10 @@ static WORDS: [(&[&str], &[Part]); 16] = [
         &[Part::Task(Task::Explain(Some("htb")))],
     ),
     (&["tcshow", "a", "-", "b"], &[Part::Files(&["a", "-", "b"])]),
-    (&["tcshow", "--all"], &[Part::Paddings]),
+    (
+        &["tcshow", "--outline", "--all"],
+        &[Part::Format(OutputFormat::Outline), Part::Paddings],
+    ),
     (
         &["tcshow", "--color", "auto"],
         &[Part::Colours(Colours::Auto)],
@@ -186,13 +207,20 @@ fn each_option(rt: HostRuntime) {
 }
 
 // Words that aren't taken, and the status.
-static OTHERS: [(&[&str], i32); 8] = [
+static OTHERS: [(&[&str], i32); 15] = [
     (&["tcshow", "--help"], 0),
     (&["tcshow", "--version"], 0),
     (&["tcshow", "a", "--read", "a"], 2),
     (&["tcshow", "--pref", "65536"], 2),
     (&["tcshow", "--schema", "--explain"], 2),
-    (&["tcshow", "--json", "--oneline"], 2),
+    (&["tcshow", "--json", "--outline"], 2),
+    (&["tcshow", "-s", "--outline"], 2),
+    (&["tcshow", "-s", "--json"], 2),
+    (&["tcshow", "--time", "date", "--outline"], 2),
+    (&["tcshow", "--acks", "--json"], 2),
+    (&["tcshow", "--time", "local"], 2),
+    (&["tcshow", "--example", "a"], 2),
+    (&["tcshow", "--lines"], 2),
     (&["tcshow", "--no-header", "qdisc"], 2),
     (&["tcshow", "--color", "on"], 2),
 ];

@@ -146,24 +146,21 @@ static MODIFIED_BIG: &str =
      0d00010066715f636f64656c000000000c0002000800020000280000";
 
 // The message on a line: with the time of its packet, after 250 seconds, and without a time.
-static TIMED: &str =
-    "1700000000.123456000 RTM_NEWQDISC create excl seq 5 index 2 handle 1: parent root kind fq_codel options {limit 10240p}\n";
+static TIMED: &str = "22:13:20.123456 new qdisc fq_codel 1: dev 2 root limit 10240p\n";
 
-static EARLY: &str =
-    "250.000000000 RTM_NEWQDISC create excl seq 5 index 2 handle 1: parent root kind fq_codel options {limit 10240p}\n";
+static EARLY: &str = "00:04:10.000000 new qdisc fq_codel 1: dev 2 root limit 10240p\n";
 
-static UNTIMED: &str =
-    "RTM_NEWQDISC create excl seq 5 index 2 handle 1: parent root kind fq_codel options {limit 10240p}\n";
+static UNTIMED: &str = "new qdisc fq_codel 1: dev 2 root limit 10240p\n";
 
 // True if these texts are written of a capture, and the run ends with this status.
 fn is_shown(alloc: Global, capture: &str, status: u8, texts: &[&str]) -> bool {
-    let options = all_in(OutputFormat::OneLine);
+    let options = all_in(OutputFormat::Lines(false));
     gives_of_hex(alloc, &options, capture, status, Written::Is(texts), "")
 }
 
 // True if nothing is written of a capture, and this is the complaint.
 fn is_refused(alloc: Global, capture: &str, complaint: &str) -> bool {
-    let options = all_in(OutputFormat::OneLine);
+    let options = all_in(OutputFormat::Lines(false));
     gives_of_hex(alloc, &options, capture, 2, Written::Is(&[]), complaint)
 }
 
@@ -251,7 +248,7 @@ static BLOCK_COUNTS: &str = "
 
 // True if what is written of a capture, and counted, ends with this.
 fn ends_with(alloc: Global, capture: &str, counts: &str) -> bool {
-    let options = counted_in(OutputFormat::Lines);
+    let options = counted_in(OutputFormat::Outline);
     gives_of_hex(alloc, &options, capture, 0, Written::Ends(counts), "")
 }
 

@@ -152,7 +152,7 @@ fn times(rt: HostRuntime) {
 }
 
 // Options with words that aren't known, and a part of the complaint.
-static UNKNOWN: [(&str, &str, &str); 9] = [
+static UNKNOWN: [(&str, &str, &str); 8] = [
     (
         "--kind",
         "fq_code",
@@ -164,11 +164,6 @@ static UNKNOWN: [(&str, &str, &str); 9] = [
         "--type",
         "newclass",
         "unknown type 'newclass': a type is one of qdisc, tclass,",
-    ),
-    (
-        "--dev",
-        "eth0",
-        "unknown interface 'eth0': an interface is a number, or a name",
     ),
     (
         "--handle",
@@ -275,19 +270,17 @@ static QDISCS: &str = "\
 34000000240000060400000000000000000000000800000000000100ffffffff000000000d00010066715f636f64656c00000000
 ";
 
-static CHOSEN: &str =
-    "RTM_NEWQDISC create excl seq 1 index 7 (eth7) handle 1: parent root kind fq_codel\n";
+static CHOSEN: &str = "new qdisc fq_codel 1: dev eth7 root\n";
 
 // An action message without a netlink header, and what is shown of it.
 static BARE: &str = "00000000100001000c000100080001006e617400\n";
 
-static BARE_LINE: &str = "action actions {action 1 {kind nat}}\n";
+static BARE_LINE: &str = "- action nat -\n";
 
 // A filter without a netlink header: its kind says that it is one.
 static BARE_FILTER: &str = "0000000003000000010000000000ffff080001000a0001006261736963000000\n";
 
-static BARE_FILTER_LINE: &str =
-    "tc index 3 handle 0x1 parent ffff: pref 1 protocol ip (0x0800) kind basic\n";
+static BARE_FILTER_LINE: &str = "- filter basic 0x1 dev 3 parent ffff: pref 1 protocol ip\n";
 
 // True if a run by these words, where interfaces have these names, writes this and nothing else.
 fn writes(alloc: Global, words: &[&str], names: &[(u32, &str)], input: &str, want: &str) -> bool {
@@ -334,9 +327,8 @@ static U32: &str = "\
 0000000003000000000800800000ffff080001000800010075333200
 ";
 
-static U32_WORDS: [&str; 8] = [
+static U32_WORDS: [&str; 7] = [
     "tcshow",
-    "--oneline",
     "--no-header",
     "tc",
     "--handle",
@@ -345,13 +337,13 @@ static U32_WORDS: [&str; 8] = [
     "800:1",
 ];
 
-static U32_LINES: &str = "tc index 3 handle 800: parent ffff: pref 1 protocol ip (0x0800) kind u32
-tc index 3 handle 800:1 parent ffff: pref 1 protocol ip (0x0800) kind u32
+static U32_LINES: &str = "- filter u32 800: dev 3 parent ffff: pref 1 protocol ip
+- filter u32 800:1 dev 3 parent ffff: pref 1 protocol ip
 ";
 
-static BARE_WORDS: [&str; 4] = ["tcshow", "--oneline", "--no-header", "action"];
+static BARE_WORDS: [&str; 3] = ["tcshow", "--no-header", "action"];
 
-static BARE_FILTER_WORDS: [&str; 4] = ["tcshow", "--oneline", "--no-header", "tc"];
+static BARE_FILTER_WORDS: [&str; 3] = ["tcshow", "--no-header", "tc"];
 
 #[test]
 fn words_of_a_command_line(rt: HostRuntime) {
@@ -381,13 +373,27 @@ static LINKS: &str =
 34000000240000060100000000000000000000000100000000000100ffffffff000000000d00010066715f636f64656c00000000
 ";
 
+// A message about an interface is chosen by the name that the capture has given it before.
+#[test]
+fn names_choose(rt: HostRuntime) {
+    assert!(rt;
+        writes(
+            rt.alloc(),
+            &["tcshow", "--dev", "dsl0"],
+            &[],
+            LINKS,
+            "new qdisc fq_codel 1: dev dsl0 root\n"
+        )
+    );
+}
+
 #[test]
 fn links_name(rt: HostRuntime) {
-    let options = all_in(OutputFormat::OneLine);
+    let options = all_in(OutputFormat::Lines(false));
     for part in [
-        "index 2 (eth9) handle 1: parent root",
-        "index 2 (dsl0) handle 1: parent root",
-        "index 1 (wan0) handle 1: parent root",
+        "new qdisc fq_codel 1: dev eth9 root\n",
+        "new qdisc fq_codel 1: dev dsl0 root\n",
+        "new qdisc fq_codel 1: dev wan0 root\n",
     ] {
         assert!(rt;
             gives(

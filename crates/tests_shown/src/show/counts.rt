@@ -102,6 +102,6 @@ fn ends_with(alloc: Global, form: OutputFormat, counts: &str) -> bool {
 
 #[test]
 fn counts(rt: HostRuntime) {
-    assert!(rt; ends_with(rt.alloc(), OutputFormat::Lines, LINES));
+    assert!(rt; ends_with(rt.alloc(), OutputFormat::Outline, LINES));
     assert!(rt; ends_with(rt.alloc(), OutputFormat::Json, JSON));
 }

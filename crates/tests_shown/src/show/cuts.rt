@@ -9,7 +9,7 @@ use tests_data::{FORMATS, Format};
 // What a run says of a place where a capture is cut, up to the numbers.
 fn note_of(form: OutputFormat) -> &'static [u8] {
     match form {
-        OutputFormat::Brief(_) | OutputFormat::Lines | OutputFormat::OneLine => b"byte ",
+        OutputFormat::Lines(_) | OutputFormat::Outline => b"byte ",
         OutputFormat::Json => b"{\"note\":\"truncated: ",
     }
 }
@@ -97,7 +97,7 @@ fn ends(alloc: Global, form: OutputFormat, file: &mut [u8], at: usize, mask: u8)
 // The same of each fifth byte.
 fn each_ends(alloc: Global, file: &mut [u8]) -> bool {
     for at in (0..file.len()).step_by(5) {
-        if !ends(alloc, OutputFormat::Lines, file, at, 0x1a)
+        if !ends(alloc, OutputFormat::Outline, file, at, 0x1a)
             || !ends(alloc, OutputFormat::Json, file, at, 0x80)
         {
             return false;

@@ -12,10 +12,20 @@ static HEADERS: &str = "14000000 2400 3f0e 01000000 02010000 00000000
 ";
 
 static LINES: &str =
-    "RTM_NEWQDISC request multi ack echo dump_intr dump_filtered create excl append seq 1 port 258 raw 00000000 refused BufferTooSmall len 4 needed 20 offset 0 path /header
-RTM_GETTFILTER request root match seq 2 raw 00000000 refused BufferTooSmall len 4 needed 20 offset 0 path /header
-RTM_DELQDISC request ack dump_filtered nonrec 0x8000 seq 3 raw 00000000 refused BufferTooSmall len 4 needed 20 offset 0 path /header
+    "RTM_NEWQDISC request multi ack echo dump_intr dump_filtered create excl append seq 1 port 258
+raw 00000000
+refused BufferTooSmall len 4 needed 20 offset 0 path /header
+
+RTM_GETTFILTER request root match seq 2
+raw 00000000
+refused BufferTooSmall len 4 needed 20 offset 0 path /header
+
+RTM_DELQDISC request ack dump_filtered nonrec 0x8000 seq 3
+raw 00000000
+refused BufferTooSmall len 4 needed 20 offset 0 path /header
+
 RTM_DELACTION request root seq 4
+
 ";
 
 #[test]
@@ -23,7 +33,7 @@ fn flags_in_words(rt: HostRuntime) {
     assert!(rt;
         writes(
             rt.alloc(),
-            &all_in(OutputFormat::OneLine),
+            &all_in(OutputFormat::Outline),
             HEADERS,
             1,
             LINES

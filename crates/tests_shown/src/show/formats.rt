@@ -73,17 +73,13 @@ fn are_formats_shown(alloc: Global, form: OutputFormat) -> Result<bool, Fail> {
         }
     }
     let lines = lines_of(&want);
-    Ok(lines == 20 || form == OutputFormat::Lines && 20 < lines)
+    Ok(lines == 20 || form == OutputFormat::Outline && 20 < lines)
 }
 
-// Lines for people are left out: their verbs differ between a file of rtmon and a capture.
+// Lines of objects are left out: their verbs differ between a file of rtmon and a capture.
 #[test]
 fn each_format_is_shown_the_same(rt: HostRuntime) -> Result<(), Fail> {
-    for form in [
-        OutputFormat::Lines,
-        OutputFormat::OneLine,
-        OutputFormat::Json,
-    ] {
+    for form in [OutputFormat::Outline, OutputFormat::Json] {
         assert!(rt; are_formats_shown(rt.alloc(), form)?);
     }
     Ok(())

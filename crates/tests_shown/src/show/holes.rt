@@ -57,7 +57,7 @@ fn long_stream(alloc: Global) -> Result<Vec<u8>, AllocError> {
     Ok(stream)
 }
 
-static STREAM_LINES: [&str; 2] = ["byte 0: skipped: 1048592 bytes", "RTM_NEWQDISC "];
+static STREAM_LINES: [&str; 2] = ["byte 0: skipped: 1048592 bytes", "new qdisc - "];
 
 #[test]
 fn long_messages_are_skipped(rt: HostRuntime) -> Result<(), Fail> {
@@ -66,7 +66,7 @@ fn long_messages_are_skipped(rt: HostRuntime) -> Result<(), Fail> {
     assert!(rt;
         gives(
             rt.alloc(),
-            &all_in(OutputFormat::OneLine),
+            &all_in(OutputFormat::Lines(false)),
             &stream,
             0,
             lines,
@@ -88,19 +88,19 @@ fn long_text(alloc: Global) -> Result<Vec<u8>, AllocError> {
 
 static TEXT_LINES: [&str; 5] = [
     "byte 0: not hex",
-    "action raw 00 refused BufferTooSmall len 1 needed 4 offset 0 path /header",
+    "- action - - raw=00 malformed: 1 byte, 4 expected, at header (byte 0)",
     "byte 6: skipped: ",
-    "action",
+    "- action - -",
     "byte 3300036: not hex",
 ];
 
 #[test]
 fn long_lines_are_skipped(rt: HostRuntime) -> Result<(), Fail> {
     let text = long_text(rt.alloc())?;
-    let options = alone_in(OutputFormat::OneLine, MessageType::Action);
+    let options = alone_in(OutputFormat::Lines(false), MessageType::Action);
     let lines = Written::BeginsWithLines(&TEXT_LINES);
     assert!(rt; gives(rt.alloc(), &options, &text, 1, lines, ""));
-    let end = Written::Ends("\naction\nbyte 3300036: not hex\n");
+    let end = Written::Ends("\n- action - -\nbyte 3300036: not hex\n");
     assert!(rt; gives(rt.alloc(), &options, &text, 1, end, ""));
     Ok(())
 }

@@ -52,7 +52,7 @@ fn each_has_its_name(rt: HostRuntime) -> Result<(), Fail> {
         file_of_first(alloc, 3, Format::Stream, false)?,
     );
     let inputs: [(&str, &[u8]); 3] = [("a", &a), ("text", TEXT), ("b\u{1b}", &b)];
-    for form in [OutputFormat::Lines, OutputFormat::OneLine] {
+    for form in [OutputFormat::Outline, OutputFormat::Lines(false)] {
         let options = all_in(form);
         let (one, other) = (shown(alloc, &options, &a), shown(alloc, &options, &b));
         let wanted = joined(
@@ -84,7 +84,7 @@ fn json_has_no_names(rt: HostRuntime) -> Result<(), Fail> {
 #[test]
 fn a_summary_counts_all(rt: HostRuntime) -> Result<(), Fail> {
     let alloc = rt.alloc();
-    let options = counted_in(OutputFormat::OneLine);
+    let options = counted_in(OutputFormat::Lines(false));
     let a = file_of_first(alloc, 2, Format::Microseconds, false)?;
     let (written, _) = shown_each(alloc, &options, &[("a", &a), ("b", &a)])?;
     let text = std::str::from_utf8(&written)?;

@@ -48,7 +48,13 @@ summary
   0 broken
 ";
 
-const ONE_LINE: &str = "RTM_NEWACTION seq 7 actions {action 1 {index 5 kind mirred}}\n";
+const ACTION: &str = "RTM_NEWACTION seq 7
+actions
+  action 1
+    index 5
+    kind mirred
+
+";
 
 const JSON: &str =
     r#"{"type":"RTM_NEWQDISC","flags":1536,"seq":5,"fits":true,"settled":true,"canonical":true,"message":{"header":{"family":"Unspec","index":2,"handle":"1:","parent":"root","info":0},"attributes":[{"Kind":"fq_codel"},{"Options":[{"FqCodel":{"Limit":10240}}]}]}}
@@ -62,8 +68,8 @@ static CHOICES: [(Filter<'static>, OutputFormat, &str, u8); 4] = [
             kinds: &["mirred"],
             ..Filter::ALL
         },
-        OutputFormat::OneLine,
-        ONE_LINE,
+        OutputFormat::Outline,
+        ACTION,
         0,
     ),
     (
@@ -74,8 +80,8 @@ static CHOICES: [(Filter<'static>, OutputFormat, &str, u8); 4] = [
             }],
             ..Filter::ALL
         },
-        OutputFormat::OneLine,
-        ONE_LINE,
+        OutputFormat::Outline,
+        ACTION,
         0,
     ),
     (
@@ -100,7 +106,7 @@ static CHOICES: [(Filter<'static>, OutputFormat, &str, u8); 4] = [
 
 #[test]
 fn known_messages(rt: HostRuntime) {
-    let mut options = counted_in(OutputFormat::Lines);
+    let mut options = counted_in(OutputFormat::Outline);
     options.names = Interfaces {
         names: &[(2, "eth0")],
     };
@@ -128,7 +134,7 @@ static NO_MESSAGES: [&str; 3] = ["#", "\n\n\n\n\n", "# text"];
 
 #[test]
 fn no_capture(rt: HostRuntime) {
-    let options = all_in(OutputFormat::Lines);
+    let options = all_in(OutputFormat::Outline);
     for input in &NO_CAPTURES {
         assert!(rt;
             gives(
@@ -154,7 +160,11 @@ fn control_characters(rt: HostRuntime) {
     let alloc = rt.alloc();
     for (form, shown) in [
         (OutputFormat::Json, r#"{"Kind":"a\u009b\u202e\u007f"}"#),
-        (OutputFormat::OneLine, r#"kind "a\xc2\x9b\xe2\x80\xae\x7f""#),
+        (OutputFormat::Outline, r#"kind "a\xc2\x9b\xe2\x80\xae\x7f""#),
+        (
+            OutputFormat::Lines(false),
+            r"- qdisc a\xc2\x9b\xe2\x80\xae\x7f ",
+        ),
     ] {
         let options = alone_in(form, MessageType::Tc);
         assert!(rt;

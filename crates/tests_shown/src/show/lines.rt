@@ -5,7 +5,7 @@ use std::alloc::{AllocError, Global};
 use std::test::Fail;
 use tc_outline::Interfaces;
 use tc_select::Filter;
-use tcshow_lib::options::OutputFormat;
+use tcshow_lib::options::{OutputFormat, TimeFormat};
 use tests_data::{Format, file_of};
 
 // In hex: a qdisc of fq_codel with a limit of 10240 packets, and of three bytes; a list of actions with an index of 5.
@@ -23,7 +23,7 @@ new action mirred - index 5
 
 #[test]
 fn lines_are_known(rt: HostRuntime) {
-    let mut options = all_in(OutputFormat::Brief(false));
+    let mut options = all_in(OutputFormat::Lines(false));
     options.names = Interfaces {
         names: &[(2, "eth0")],
     };
@@ -32,7 +32,7 @@ fn lines_are_known(rt: HostRuntime) {
         refused: true,
         ..Filter::ALL
     };
-    let options = chosen_in(OutputFormat::Brief(true), filter);
+    let options = chosen_in(OutputFormat::Lines(true), filter);
     assert!(rt;
         gives(
             rt.alloc(),
@@ -43,7 +43,7 @@ fn lines_are_known(rt: HostRuntime) {
             ""
         )
     );
-    let options = counted_in(OutputFormat::Brief(false));
+    let options = counted_in(OutputFormat::Lines(false));
     assert!(rt;
         gives(
             rt.alloc(),
@@ -136,7 +136,7 @@ fn are_said(alloc: Global, input: &[u8], time: &str, all: &[Said]) -> Result<boo
         )?;
         lines.push_str(line.as_str())?;
     }
-    let run = shown(alloc, &all_in(OutputFormat::Brief(false)), input);
+    let run = shown(alloc, &all_in(OutputFormat::Lines(false)), input);
     Ok(run.written.as_slice() == lines.as_bytes())
 }
 
@@ -183,5 +183,92 @@ fn verbs_are_known(rt: HostRuntime) -> Result<(), Fail> {
     let noted = [row(36, 0x605, 0, "new", ""), row(38, 0x301, 77, "is", "")];
     let file = file_with(alloc, Format::Stream, &noted)?;
     assert!(rt; are_said(alloc, &file, TIME, &noted)?);
+    Ok(())
+}
+
+// Of a pcap, the file header, and a packet with a qdisc of fq_codel.
+static FILE_HEADER: [u8; 24] = *b"\xd4\xc3\xb2\xa1\x02\0\x04\0\0\0\0\0\0\0\0\0\0\0\x10\0\xfd\0\0\0";
+
+static PACKET: &str =
+    "0004033800000000000000000000000034000000240000060500000000000000000000000200000000000100ffffffff000000000d00010066715f636f64656c00000000";
+
+// A pcap of such packets at these times: seconds and microseconds.
+fn capture_at(alloc: Global, times: &[(u32, u32)]) -> Result<Vec<u8>, Fail> {
+    let packet = hex::decode(alloc, PACKET)?;
+    let mut file = FILE_HEADER.to_vec(alloc)?;
+    for (seconds, microseconds) in times {
+        file.extend_from_slice(&seconds.to_le_bytes())?;
+        file.extend_from_slice(&microseconds.to_le_bytes())?;
+        file.extend_from_slice(&[68, 0, 0, 0, 68, 0, 0, 0])?;
+        file.extend_from_slice(&packet)?;
+    }
+    Ok(file)
+}
+
+// True if the lines of packets at these times begin so.
+fn begin_so(
+    alloc: Global,
+    format: TimeFormat,
+    times: &[(u32, u32)],
+    fronts: &[&str],
+) -> Result<bool, Fail> {
+    let file = capture_at(alloc, times)?;
+    let mut options = all_in(OutputFormat::Lines(false));
+    options.time = format;
+    Ok(gives(
+        alloc,
+        &options,
+        &file,
+        0,
+        Written::BeginsWithLines(fronts),
+        "",
+    ))
+}
+
+// Three packets, the last of which is the earliest.
+static TIMES: [(u32, u32); 3] = [
+    (1_700_000_000, 123_456),
+    (1_700_000_001, 0),
+    (1_699_999_999, 500_000),
+];
+
+// What `date -u` of coreutils prints of seconds.
+static DATES: [(u32, &str); 8] = [
+    (0, "1970-01-01T00:00:00"),
+    (946_684_799, "1999-12-31T23:59:59"),
+    (951_782_400, "2000-02-29T00:00:00"),
+    (1_700_000_000, "2023-11-14T22:13:20"),
+    (1_709_164_800, "2024-02-29T00:00:00"),
+    (1_735_689_599, "2024-12-31T23:59:59"),
+    (4_102_444_799, "2099-12-31T23:59:59"),
+    (4_107_542_400, "2100-03-01T00:00:00"),
+];
+
+#[test]
+fn times_are_known(rt: HostRuntime) -> Result<(), Fail> {
+    let alloc = rt.alloc();
+    let clocks = [
+        "22:13:20.123456 new ",
+        "22:13:21.000000 ",
+        "22:13:19.500000 ",
+    ];
+    assert!(rt; begin_so(alloc, TimeFormat::Clock, &TIMES, &clocks)?);
+    let seconds = [
+        "1700000000.123456 new ",
+        "1700000001.000000 ",
+        "1699999999.500000 ",
+    ];
+    assert!(rt; begin_so(alloc, TimeFormat::Epoch, &TIMES, &seconds)?);
+    let deltas = ["0.000000 new ", "0.876544 new ", "-1.500000 new "];
+    assert!(rt; begin_so(alloc, TimeFormat::Delta, &TIMES, &deltas)?);
+    let relatives = ["0.000000 new ", "0.876544 new ", "-0.623456 new "];
+    assert!(rt; begin_so(alloc, TimeFormat::Relative, &TIMES, &relatives)?);
+    for (seconds, date) in &DATES {
+        let line = format!(in alloc; "{date}.000000Z new qdisc fq_codel 1: dev 2 root")?;
+        assert!(rt;
+            begin_so(alloc, TimeFormat::Date, &[(*seconds, 0)], &[line.as_str()])?,
+            "{date}"
+        );
+    }
     Ok(())
 }

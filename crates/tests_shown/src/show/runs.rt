@@ -7,15 +7,14 @@ use std::test::Fail;
 use tc_capture::MessageType;
 use tc_outline::Interfaces;
 use tc_select::Filter;
-use tcshow_lib::options::{Options, OutputFormat};
+use tcshow_lib::options::{Options, OutputFormat, TimeFormat};
 use tcshow_lib::program::serve;
 use tests_data::{Format, file_of, messages};
 
 /// The output formats.
-pub(crate) static FORMS: [OutputFormat; 4] = [
-    OutputFormat::Brief(true),
-    OutputFormat::Lines,
-    OutputFormat::OneLine,
+pub(crate) static FORMS: [OutputFormat; 3] = [
+    OutputFormat::Lines(true),
+    OutputFormat::Outline,
     OutputFormat::Json,
 ];
 
@@ -26,6 +25,8 @@ pub(crate) fn chosen_in<'a>(form: OutputFormat, chosen: Filter<'a>) -> Options<'
         all: false,
         without_header: None,
         filter: chosen,
+        time: TimeFormat::Clock,
+        acks: false,
         names: Interfaces { names: &[] },
         has_summary: false,
     }

@@ -15,7 +15,7 @@ fn run(alloc: Global, file: &[u8], reader: Stream, writer: Stream) -> Outcome {
     let mut from = slowly(file, reader);
     let mut to = slowly(Vec::new(alloc), writer);
     let mut errors = Vec::new(alloc);
-    let options = all_in(OutputFormat::OneLine);
+    let options = all_in(OutputFormat::Lines(false));
     let ended = serve(
         alloc,
         alloc,
@@ -66,7 +66,7 @@ fn reads_of(whole: &Answered) -> usize {
 // A stream of two messages.
 fn stored(alloc: Global) -> std::result::Result<Answered, Fail> {
     let file = file_of_first(alloc, 2, Format::Stream, false)?;
-    let written = shown(alloc, &all_in(OutputFormat::OneLine), &file).written;
+    let written = shown(alloc, &all_in(OutputFormat::Lines(false)), &file).written;
     Ok(Answered { file, written })
 }
 

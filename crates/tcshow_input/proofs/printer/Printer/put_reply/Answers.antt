@@ -1,3 +1,4 @@
+use Rattle.std.proofs.Common.{◌∙◌, sym}
 use Rattle.std.proofs.lemmas.Result.{on_ok_weaker}
 use Rattle.tc_capture.specs.Answer.{answer_of}
 use Rattle.tcshow_json.specs.Messages.{header_view, message_view, reason_of}
@@ -7,13 +8,13 @@ use Rattle.tcshow_input.proofs.printer.Printer.put_reply.Goals as goal
 
 pub returns-clause-put : goal.returns-clause-put
 returns-clause-put g c =
-    on_ok_weaker c.show_reply.result
-    (λ x. puts_answer (header_view c.args.reply.now.header) (reason_of (answer_of c.args.reply.now.answer)) (message_view c.args.reply.now.request) x.0 c.matches_request.result
-    (state_of c.args.self.now) (state_of c.show_reply.new.self) c.if-not-matches_request.false c.matches_request.ensures x.1 x.2)
-    c.show_reply.ensures.put
+    on_ok_weaker c.put_told.result
+    (λ x. puts_answer (header_view c.args.reply.now.header) (reason_of (answer_of c.args.reply.now.answer)) (message_view c.args.reply.now.request) x.0
+    (state_of c.args.self.now) (state_of c.put_told.new.self) (sym c.tells.ensures ∙ c.if-not-tells.false) x.1 x.2)
+    c.put_told.ensures.put
 
-pub returns-then-not-matches_request-clause-put : goal.returns-then-not-matches_request-clause-put
-returns-then-not-matches_request-clause-put g c =
+pub returns-then-not-tells-clause-put : goal.returns-then-not-tells-clause-put
+returns-then-not-tells-clause-put g c =
     let s = state_of c.args.self.now in
-    puts_no_answer (header_view c.args.reply.now.header) (reason_of (answer_of c.args.reply.now.answer)) (message_view c.args.reply.now.request) c.matches_request.result s s
-    c.if-not-matches_request.true c.matches_request.ensures (grows_none s)
+    puts_no_answer (header_view c.args.reply.now.header) (reason_of (answer_of c.args.reply.now.answer)) (message_view c.args.reply.now.request) s s
+    (sym c.tells.ensures ∙ c.if-not-tells.true) (grows_none s)

@@ -1,7 +1,7 @@
 use Rattle.std.proofs.Common.{length, ◌++◌, ◌≡◌}
 use Rattle.tc_brief.specs.Leaves.{leaves_view}
-use Rattle.tc_brief.specs.Lines.{count_in}
-use Rattle.tc_brief.proofs.line.count_in.Given as goal
+use Rattle.tc_brief.specs.Parts.{count_in}
+use Rattle.tc_brief.proofs.parts.count_in.Given as goal
 
 -- what the leaves that are left add to what there is, is what all add
 

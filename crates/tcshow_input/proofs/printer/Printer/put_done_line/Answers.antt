@@ -1,0 +1,19 @@
+use Rattle.std.proofs.Common.{◌∙◌, ◌++◌, ap}
+use Rattle.std.proofs.lemmas.Result.{on_ok_weaker}
+use Rattle.tcshow_input.specs.State.{state_of}
+use Rattle.tcshow_input.proofs.Puts.{more_text}
+use Rattle.tcshow_input.proofs.printer.Printer.put_done_line.Goals as goal
+
+pub returns-clause-put : goal.returns-clause-put
+returns-clause-put g c =
+    let s = state_of c.args.self.now in
+    let text = c.in_ok-text.text.items in
+    let now = c.lines.new.self in
+    on_ok_weaker c.lines.result
+    (λ put. (
+      text,
+      c.in_ok-text.ensures.ended c.requires.known,
+      c.in_ok-text.ensures.end,
+      more_text s now.is_json now.bytes.items text c.lines.ensures.form (put ∙ ap (λ l. s.text ++ l) c.deref.ensures.value),
+    ))
+    c.lines.ensures.put

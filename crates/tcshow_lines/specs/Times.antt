@@ -1,0 +1,76 @@
+-- The time that a line begins with.
+use Rattle.std.specs.Prelude.{List, Option, [], if◌then◌else◌, ℕ, zero, suc, ◌%◌, ◌+◌, ◌-◌, ◌++◌, ◌/◌, ◌==◌, ◌&&◌, ◌||◌, ◌∷◌, Bool, decimal, nat_le, nat_lt, unwrap_or}
+use Rattle.tc_capture.specs.declared.time.Time.{Time}
+use Rattle.tc_select.specs.Calendar.{is_leap, month_length, year_length}
+use Rattle.tcshow_lines.specs.declared.times.Place.{Place}
+use Rattle.tcshow_lines.specs.declared.times.TimeFormat.{TimeFormat}
+use Rattle.tcshow_lines.specs.declared.times.TimeFormat.TheVariants.{Clock, Date, Epoch, Delta, Relative}
+
+-- the last digits of a number in decimal
+abbrev pub two_digits : ℕ → List ℕ
+two_digits n = (48 + n / 10 % 10) ∷ (48 + n % 10) ∷ []
+
+abbrev pub three_digits : ℕ → List ℕ
+three_digits n = (48 + n / 100 % 10) ∷ two_digits n
+
+abbrev pub four_digits : ℕ → List ℕ
+four_digits n = (48 + n / 1000 % 10) ∷ three_digits n
+
+-- six digits of a second, or nine if it isn't whole microseconds
+abbrev pub fraction : ℕ → List ℕ
+fraction n = three_digits (n / 1000000) ++ (three_digits (n / 1000) ++ (if n % 1000 == 0 then [] else three_digits n))
+
+-- a time of the day in UTC, `14:00:01.123456`
+unfoldable pub clock_text : Time → List ℕ
+clock_text t =
+    two_digits (t.seconds / 3600 % 24) ++ (58 ∷ two_digits (t.seconds / 60 % 60))
+    ++ ((58 ∷ two_digits (t.seconds % 60)) ++ (46 ∷ fraction t.nanoseconds))
+
+-- seconds, `1764028801.123456`
+abbrev pub epoch_text : Time → List ℕ
+epoch_text t = decimal t.seconds ++ (46 ∷ fraction t.nanoseconds)
+
+-- ---- dates
+
+-- consecutive parts, such as years, have these lengths: the part that has the place n, and how much of it is before this place. There are at most so
+-- many parts after the first.
+unfoldable pub place_in : (ℕ → ℕ) → ℕ → ℕ → ℕ → Place
+place_in length zero first n = record { part = first; before = n }
+place_in length (suc more) first n =
+    if nat_lt n (length first) then record { part = first; before = n } else place_in length more (first + 1) (n - length first)
+
+-- month and day; year, month and day
+abbrev pub month_text : Place → List ℕ
+month_text month = two_digits month.part ++ (45 ∷ two_digits (month.before + 1))
+
+abbrev pub day_text : Place → List ℕ
+day_text year = four_digits year.part ++ (45 ∷ month_text (place_in (month_length (is_leap year.part)) 11 1 year.before))
+
+-- a date and a time of the day, `2026-11-26T14:00:01.123456Z`, up to the year 9999; later the seconds
+abbrev pub date_text : Time → List ℕ
+date_text t =
+    if nat_le 253402300800 t.seconds then epoch_text t
+    else day_text (place_in year_length 8029 1970 (t.seconds / 86400)) ++ ((84 ∷ clock_text t) ++ 90 ∷ [])
+
+-- ---- differences
+
+abbrev pub is_before : Time → Time → Bool
+is_before a b = nat_lt a.seconds b.seconds || (a.seconds == b.seconds && nat_lt a.nanoseconds b.nanoseconds)
+
+-- the time from one to another that isn't before it
+abbrev pub time_since : Time → Time → Time
+time_since a b =
+    if nat_le a.nanoseconds b.nanoseconds then record { seconds = b.seconds - a.seconds; nanoseconds = b.nanoseconds - a.nanoseconds }
+    else record { seconds = (b.seconds - a.seconds) - 1; nanoseconds = 1000000000 - (a.nanoseconds - b.nanoseconds) }
+
+-- the seconds from one to another; below zero if it is before
+abbrev pub difference_text : Time → Time → List ℕ
+difference_text a b = if is_before b a then 45 ∷ epoch_text (time_since b a) else epoch_text (time_since a b)
+
+-- a time in a format, after messages of which the first and the last had these times
+abbrev pub time_text : TimeFormat → Option Time → Option Time → Time → List ℕ
+time_text Clock first last t = clock_text t
+time_text Date first last t = date_text t
+time_text Epoch first last t = epoch_text t
+time_text Delta first last t = difference_text (unwrap_or last t) t
+time_text Relative first last t = difference_text (unwrap_or first t) t

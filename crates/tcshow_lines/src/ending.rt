@@ -1,0 +1,209 @@
+//! The lines of dumps that end with an error, or were interrupted.
+
+ghost use Rattle.byteorder.specs.Endian.{little_number};
+ghost use Rattle.std.specs.Prelude.{◌≡◌, ◌≤◌, ◌<◌, IfOk, None, is_some, length, option_map, true};
+ghost use Rattle.tc_capture.specs.Message.{message_of};
+ghost use Rattle.tcshow_json.specs.Line.{errno_text};
+ghost use Rattle.tcshow_json.specs.Messages.{header_view, message_view};
+ghost use Rattle.tcshow_lines.specs.Answers.{IsEnd, dump_of, end_error, end_words, ended_dump, is_any, is_dumped_by, is_interrupted, is_same_dump};
+ghost use Rattle.tcshow_lines.specs.Answers.{last_where, request_at};
+ghost use Rattle.tcshow_lines.specs.Begins.{time_in, timed, words_text};
+ghost use Rattle.tcshow_lines.specs.Lines.{IsEnded};
+ghost use Rattle.tcshow_lines.specs.Past.{headers_view, past_of, request_view, requests_view};
+
+use crate::answer::{bytes_of, lines_asked, refused};
+use crate::begin::begin_with;
+use crate::past::{Request, Requests, has_flag};
+use crate::times::TimeFormat;
+use byteorder::{ByteOrder, LittleEndian};
+use itoa::Buffer;
+use std::alloc::{AllocError, Global};
+use tc_capture::{NetlinkMessage, errno_name};
+use tc_columns::LinkNames;
+use tcshow_json::{Message, NetlinkHeader, Origin};
+
+// The type `NLMSG_DONE`, and the flag `NLM_F_DUMP_INTR` (`linux/netlink.h`).
+const NLMSG_DONE: u16 = 3;
+
+const NLM_F_DUMP_INTR: u16 = 16;
+
+// The first four bytes as a number.
+fn first_number(bytes: &[u8]) -> u32
+    requires { 4 ≤ length bytes.now }
+    ensures { result ≡ little_number 4 bytes.now }
+{
+    LittleEndian::read_u32(bytes)
+}
+
+// The error at the end of a dump. 0 for none.
+fn end_error(payload: &[u8]) -> u32
+    ensures { result ≡ end_error payload.now }
+{
+    if payload.len() < 4 {
+        return 0;
+    }
+    let number = first_number(payload);
+    if number < 0x8000_0000 {
+        return 0;
+    }
+    (0x1_0000_0000 - u64::from(number)) as u32
+}
+
+fn is_same_dump(message: &NetlinkMessage<'_>, header: &NetlinkHeader) -> bool
+    ensures { result ≡ is_same_dump (message_of message.now) (header_view header.now) }
+{
+    header.sequence == message.sequence && header.port == message.port
+}
+
+fn is_any(message: &NetlinkMessage<'_>, headers: &[NetlinkHeader]) -> bool
+    ensures { result ≡ is_any (is_same_dump (message_of message.now)) (headers_view headers.now) }
+{
+    let mut left = headers;
+    'each: while let [header, rest @ ..] = left {
+        if is_same_dump(message, header) {
+            return true;
+        }
+        left = rest;
+    }
+    false
+}
+
+// True if one of the messages of a dump has `NLM_F_DUMP_INTR`.
+fn is_interrupted(past: &Requests, message: &NetlinkMessage<'_>) -> bool
+    ensures { result ≡ is_interrupted (past_of past.now) (message_of message.now) }
+{
+    has_flag(message.flags, NLM_F_DUMP_INTR) || is_any(message, past.interrupted.as_slice())
+}
+
+// True for a request to dump, to which the end of a dump belongs.
+fn is_dumped_by(message: &NetlinkMessage<'_>, request: &Request) -> bool
+    ensures { result ≡ is_dumped_by (message_of message.now) (request_view request.now) }
+{
+    request.header.kind % 4 == 2
+        && (request.header.sequence == message.sequence
+            && (request.header.port == message.port || request.header.port == 0))
+}
+
+fn last_dumped<'r>(requests: &'r [Request], message: &NetlinkMessage<'_>) -> Option<&'r Request>
+    ensures { option_map (λ r. request_view r.now) result ≡ last_where (is_dumped_by (message_of message.now)) None (requests_view requests.now) }
+{
+    let mut found = None;
+    let mut left = requests;
+    'each: while let [request, rest @ ..] = left {
+        if is_dumped_by(message, request) {
+            found = Some(request);
+        }
+        left = rest;
+    }
+    found
+}
+
+// The request of a dump that ends with an error or was interrupted.
+fn ended_dump<'r>(past: &'r Requests, message: &NetlinkMessage<'_>) -> Option<&'r Request>
+    ensures { option_map (λ r. request_view r.now) result ≡ ended_dump (past_of past.now) (message_of message.now) }
+{
+    if message.kind != NLMSG_DONE {
+        return None;
+    }
+    if end_error(message.payload) == 0 && !is_interrupted(past, message) {
+        return None;
+    }
+    last_dumped(past.requests.as_slice(), message)
+}
+
+// A request without its bytes, at the time of its end.
+fn request_at<'r>(origin: Origin, request: &Request) -> Message<'r>
+    ensures { message_view result ≡ request_at origin (request_view request.now) }
+{
+    Message {
+        origin,
+        header: Some(request.header),
+        holds: request.holds,
+        payload: &[],
+    }
+}
+
+/// The request of a dump that ends with an error or was interrupted. `None` if it ended well, or its request isn't known.
+pub fn dump_of<'r>(
+    past: &'r Requests,
+    origin: Origin,
+    message: &NetlinkMessage<'_>,
+) -> Option<Message<'r>>
+    ensures { option_map message_view result ≡ dump_of (past_of past.now) origin (message_of message.now) }
+{
+    let request = ended_dump(past, message)?;
+    let found = request_at(origin, request);
+    match bytes_of(request) {
+        Some(payload) => Some(Message { payload, ..found }),
+        None => Some(found),
+    }
+}
+
+// The time, and how a dump ends.
+fn ending(
+    alloc: Global,
+    past: &Requests,
+    format: TimeFormat,
+    origin: &Origin,
+    message: &NetlinkMessage<'_>,
+) -> Result<Vec<u8>, AllocError>
+    ensures { IfOk result (λ text. text.items
+        ≡ words_text (timed (time_in format (past_of past.now) origin.now.time) (end_words (message_of message.now)))) }
+{
+    let error = end_error(message.payload);
+    if error == 0 {
+        return begin_with(alloc, past, format, &origin.time, b"interrupted");
+    }
+    let mut buffer = Buffer::new();
+    refused(
+        alloc,
+        past,
+        format,
+        &origin.time,
+        name_of(error, &mut buffer),
+    )
+}
+
+// The name of an error, or its number.
+#[tactic(auto, unfolding(tcshow_json::specs::Line::errno_text))]
+fn name_of<'b>(error: u32, buffer: &'b mut Buffer) -> &'b str
+    requires { 0 < error }
+    ensures { result.now ≡ errno_text error }
+{
+    match errno_name(error) {
+        Some(name) => name,
+        None => buffer.format(error),
+    }
+}
+
+/// The line of a dump that ends with an error or was interrupted, after these messages: `refused` and the error, or `interrupted`, then the line of its
+/// request. Nothing if it ended well, or its request isn't known.
+pub fn lines_of_end(
+    alloc: Global,
+    interfaces: &[(u32, &str)],
+    links: &LinkNames,
+    past: &Requests,
+    statistics: bool,
+    format: TimeFormat,
+    origin: Origin,
+    message: &NetlinkMessage<'_>,
+) -> Result<Vec<u8>, AllocError>
+    ensures end { IfOk result (λ text. IsEnd (past_of past.now) statistics format origin (message_of message.now) text.items) }
+    ensures ended { is_some (dump_of (past_of past.now) origin (message_of message.now)) ≡ true → IfOk result (λ text. IsEnded text.items) }
+{
+    let request = match ended_dump(past, message) {
+        Some(request) => request,
+        None => return Ok(Vec::new(alloc)),
+    };
+    let begin = ending(alloc, past, format, &origin, message)?;
+    let asked = request_at(origin, request);
+    lines_asked(
+        alloc,
+        interfaces,
+        links,
+        begin,
+        statistics,
+        &asked,
+        bytes_of(request),
+    )
+}

@@ -1,0 +1,202 @@
+//! What was in the capture before.
+
+ghost use Rattle.std.specs.Prelude.{◌<◌, ◌≡◌, ◌++◌, ◌∷◌, [], OnOk, IfOk, Some, length, option_map};
+ghost use Rattle.tcshow_json.specs.Messages.{header_view, message_view};
+ghost use Rattle.tcshow_lines.specs.Past.{bytes_kept, has_flag, headers_view, interrupted_with, kept, or_time, request_view, requests_view, requests_with};
+
+use std::alloc::{AllocError, Global};
+use tc_capture::{MessageType, Time};
+use tcshow_json::{Message, NetlinkHeader};
+
+// The most requests that are kept, and the most headers of interrupted dumps.
+const MOST_REQUESTS: usize = 1024;
+
+// The most bytes that are kept of a request. So 4 MiB are kept at most.
+const MOST_BYTES: usize = 4096;
+
+// `NLM_F_REQUEST` and `NLM_F_DUMP_INTR` (`linux/netlink.h`).
+const NLM_F_REQUEST: u16 = 1;
+
+const NLM_F_DUMP_INTR: u16 = 16;
+
+/// True if a flag is set.
+pub(crate) fn has_flag(flags: u16, bit: u16) -> bool
+    requires { 0 < bit }
+    ensures { result ≡ has_flag flags bit }
+{
+    flags / bit % 2 == 1
+}
+
+/// A request: its netlink header, its type, and its bytes, if there are at most 4,096.
+#[derive(Drop)]
+pub struct Request {
+    pub header: NetlinkHeader,
+    pub holds: MessageType,
+    pub payload: Option<Vec<u8>>,
+}
+
+// The bytes that are kept of a request.
+fn bytes_kept(alloc: Global, payload: &[u8]) -> Result<Option<Vec<u8>>, AllocError>
+    ensures { IfOk result (λ kept. option_map (λ bytes. bytes.items) kept ≡ bytes_kept payload.now) }
+{
+    if payload.len() > MOST_BYTES {
+        return Ok(None);
+    }
+    let mut bytes = Vec::with_capacity(alloc, payload.len())?;
+    bytes.extend_from_slice(payload)?;
+    Ok(Some(bytes))
+}
+
+fn request_of(
+    alloc: Global,
+    header: &NetlinkHeader,
+    found: &Message<'_>,
+) -> Result<Request, AllocError>
+    ensures { IfOk result (λ request. request_view request
+        ≡ record { header = header_view header.now; holds = found.now.holds; payload = bytes_kept found.now.payload.now }) }
+{
+    let payload = bytes_kept(alloc, found.payload)?;
+    Ok(Request {
+        header: *header,
+        holds: found.holds,
+        payload,
+    })
+}
+
+// The first time, unless it isn't known.
+fn or_time(time: Option<Time>, other: Option<Time>) -> Option<Time>
+    ensures { result ≡ or_time time other }
+{
+    match time {
+        Some(time) => Some(time),
+        None => other,
+    }
+}
+
+/// The last 1,024 requests with at most 4 MiB in all, which dumps were interrupted, and the times of the first message and of the last.
+#[derive(Drop)]
+pub struct Requests {
+    pub(crate) alloc: Global,
+    pub(crate) requests: Vec<Request>,
+    pub(crate) interrupted: Vec<NetlinkHeader>,
+    pub(crate) first: Option<Time>,
+    pub(crate) last: Option<Time>,
+}
+
+impl Requests {
+    ghost use Rattle.std.specs.Prelude.{◌≡◌, OnOk, option_map};
+    ghost use Rattle.tcshow_json.specs.Messages.{header_view, message_view};
+    ghost use Rattle.tcshow_lines.specs.Past.{headers_view, interrupted_with, no_past, noted, past_of, requests_view, requests_with};
+
+    pub fn new(alloc: Global) -> Requests
+        ensures { past_of result ≡ no_past }
+    {
+        Requests {
+            alloc,
+            requests: Vec::new(alloc),
+            interrupted: Vec::new(alloc),
+            first: None,
+            last: None,
+        }
+    }
+
+    /// Keeps a message, if it is a request, and its time.
+    pub fn note(&mut self, found: &Message<'_>) -> Result<(), AllocError>
+        ensures { OnOk result (past_of self.new ≡ noted (past_of self.old) (message_view found.now)) }
+    {
+        note_request(self.alloc, &mut self.requests, found)?;
+        note_interrupted(&mut self.interrupted, &found.header)?;
+        self.first = or_time(self.first, found.origin.time);
+        self.last = or_time(found.origin.time, self.last);
+        Ok(())
+    }
+}
+
+// Keeps a message, if it is a request.
+fn note_request(
+    alloc: Global,
+    requests: &mut Vec<Request>,
+    found: &Message<'_>,
+) -> Result<(), AllocError>
+    ensures { OnOk result (requests_view requests.new.items
+        ≡ requests_with (requests_view requests.old.items) (message_view found.now) (option_map header_view found.now.header)) }
+{
+    match &found.header {
+        Some(header) => note_headed(alloc, requests, header, found),
+        None => Ok(()),
+    }
+}
+
+// Keeps a message with this header, if it is a request.
+fn note_headed(
+    alloc: Global,
+    requests: &mut Vec<Request>,
+    header: &NetlinkHeader,
+    found: &Message<'_>,
+) -> Result<(), AllocError>
+    ensures { OnOk result (requests_view requests.new.items
+        ≡ requests_with (requests_view requests.old.items) (message_view found.now) (Some (header_view header.now))) }
+{
+    if !has_flag(header.flags, NLM_F_REQUEST) {
+        return Ok(());
+    }
+    let request = request_of(alloc, header, found)?;
+    keep_request(requests, request)
+}
+
+// Removes the first if there are 1,024.
+fn make_room<T: Drop>(all: &mut Vec<T>)
+    ensures { all.new.items ≡ kept all.old.items }
+{
+    if all.len() >= MOST_REQUESTS {
+        let _ = all.remove(0);
+    }
+}
+
+// Keeps one more.
+fn keep<T: Drop>(all: &mut Vec<T>, one: T) -> Result<(), AllocError>
+    ensures { OnOk result (all.new.items ≡ kept all.old.items ++ one ∷ []) }
+{
+    make_room(all);
+    all.push(one)?;
+    Ok(())
+}
+
+fn keep_request(requests: &mut Vec<Request>, request: Request) -> Result<(), AllocError>
+    ensures { OnOk result (requests_view requests.new.items ≡ kept (requests_view requests.old.items) ++ request_view request ∷ []) }
+{
+    keep(requests, request)
+}
+
+fn keep_header(headers: &mut Vec<NetlinkHeader>, header: NetlinkHeader) -> Result<(), AllocError>
+    ensures { OnOk result (headers_view headers.new.items ≡ kept (headers_view headers.old.items) ++ header_view header ∷ []) }
+{
+    keep(headers, header)
+}
+
+// Keeps the header of a message of an interrupted dump.
+fn note_interrupted(
+    interrupted: &mut Vec<NetlinkHeader>,
+    header: &Option<NetlinkHeader>,
+) -> Result<(), AllocError>
+    ensures { OnOk result (headers_view interrupted.new.items
+        ≡ interrupted_with (headers_view interrupted.old.items) (option_map header_view header.now)) }
+{
+    match header {
+        Some(header) => note_header(interrupted, header),
+        None => Ok(()),
+    }
+}
+
+fn note_header(
+    interrupted: &mut Vec<NetlinkHeader>,
+    header: &NetlinkHeader,
+) -> Result<(), AllocError>
+    ensures { OnOk result (headers_view interrupted.new.items
+        ≡ interrupted_with (headers_view interrupted.old.items) (Some (header_view header.now))) }
+{
+    if !has_flag(header.flags, NLM_F_DUMP_INTR) {
+        return Ok(());
+    }
+    keep_header(interrupted, *header)
+}

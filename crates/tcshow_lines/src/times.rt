@@ -1,0 +1,281 @@
+//! The time that a line begins with.
+
+ghost use Rattle.std.specs.Prelude.{◌≡◌, ◌≤◌, ◌++◌, IfOk, OnOk, unwrap_or};
+ghost use Rattle.tc_select.specs.Calendar.{is_leap, month_length, year_length};
+ghost use Rattle.tcshow_lines.specs.Times.{clock_text, date_text, day_text, difference_text, epoch_text, four_digits};
+ghost use Rattle.tcshow_lines.specs.Times.{fraction, is_before, place_in, three_digits, time_since, time_text, two_digits};
+
+use std::alloc::{AllocError, Global};
+use tc_capture::Time;
+use tc_units::put_decimal;
+
+/// How times are written.
+#[derive(Clone, Copy, PartialEq, Eq, Debug)]
+pub enum TimeFormat {
+    /// The time of the day in UTC: `14:00:01.123456`.
+    Clock,
+    /// The date and the time of the day in UTC: `2026-11-26T14:00:01.123456Z`.
+    Date,
+    /// Seconds after the first of January 1970, UTC: `1764028801.123456`.
+    Epoch,
+    /// Seconds after the message before: `0.000123`.
+    Delta,
+    /// Seconds after the first message.
+    Relative,
+}
+
+// One of consecutive parts, such as a year, and how much is before a place in it.
+#[derive(Clone, Copy)]
+pub(crate) struct Place {
+    part: u64,
+    before: u64,
+}
+
+// Appends the last two digits of a number.
+fn put_two(out: &mut Vec<u8>, n: u64) -> Result<(), AllocError>
+    ensures { OnOk result (out.new.items ≡ out.old.items ++ two_digits n) }
+{
+    out.extend_from_slice(&[b'0' + (n / 10 % 10) as u8, b'0' + (n % 10) as u8])
+}
+
+// Appends the last three digits of a number.
+fn put_three(out: &mut Vec<u8>, n: u64) -> Result<(), AllocError>
+    ensures { OnOk result (out.new.items ≡ out.old.items ++ three_digits n) }
+{
+    out.extend_from_slice(&[b'0' + (n / 100 % 10) as u8])?;
+    put_two(out, n)
+}
+
+// Appends the last four digits of a number.
+fn put_four(out: &mut Vec<u8>, n: u64) -> Result<(), AllocError>
+    ensures { OnOk result (out.new.items ≡ out.old.items ++ four_digits n) }
+{
+    out.extend_from_slice(&[b'0' + (n / 1000 % 10) as u8])?;
+    put_three(out, n)
+}
+
+// Appends nanoseconds as a fraction of a second.
+fn put_fraction(out: &mut Vec<u8>, n: u64) -> Result<(), AllocError>
+    ensures { OnOk result (out.new.items ≡ out.old.items ++ fraction n) }
+{
+    put_three(out, n / 1000000)?;
+    put_three(out, n / 1000)?;
+    if n % 1000 == 0 {
+        return Ok(());
+    }
+    put_three(out, n)
+}
+
+// A time of the day in UTC.
+#[tactic(auto, unfolding(crate::specs::Times::clock_text))]
+fn clock_text(alloc: Global, time: &Time) -> Result<Vec<u8>, AllocError>
+    ensures { IfOk result (λ text. text.items ≡ clock_text time.now) }
+{
+    let mut text = Vec::with_capacity(alloc, 18)?;
+    put_two(&mut text, time.seconds / 3600 % 24)?;
+    text.extend_from_slice(b":")?;
+    put_two(&mut text, time.seconds / 60 % 60)?;
+    text.extend_from_slice(b":")?;
+    put_two(&mut text, time.seconds % 60)?;
+    text.extend_from_slice(b".")?;
+    put_fraction(&mut text, u64::from(time.nanoseconds))?;
+    Ok(text)
+}
+
+// Appends a time of the day in UTC.
+fn put_clock(alloc: Global, out: &mut Vec<u8>, time: &Time) -> Result<(), AllocError>
+    ensures { OnOk result (out.new.items ≡ out.old.items ++ clock_text time.now) }
+{
+    let text = clock_text(alloc, time)?;
+    out.extend_from_slice(&text)
+}
+
+// Appends seconds with a fraction.
+fn put_epoch(out: &mut Vec<u8>, time: &Time) -> Result<(), AllocError>
+    ensures { OnOk result (out.new.items ≡ out.old.items ++ epoch_text time.now) }
+{
+    put_decimal(out, time.seconds)?;
+    out.extend_from_slice(b".")?;
+    put_fraction(out, u64::from(time.nanoseconds))
+}
+
+// ---- dates
+
+fn is_leap(year: u64) -> bool
+    ensures { result ≡ is_leap year }
+{
+    year % 4 == 0 && (year % 100 != 0 || year % 400 == 0)
+}
+
+fn year_length(year: u64) -> u64
+    ensures { result ≡ year_length year }
+{
+    if is_leap(year) { 366 } else { 365 }
+}
+
+// The days of each month, without the leap day.
+const MONTH_LENGTHS: [u64; 12] = [31, 28, 31, 30, 31, 30, 31, 31, 30, 31, 30, 31];
+
+fn month_length(leap: bool, month: u64) -> u64
+    requires month { 1 ≤ month }
+    requires months { month ≤ 12 }
+    ensures { result ≡ month_length leap month }
+{
+    let days = MONTH_LENGTHS[(month - 1) as usize];
+    if leap && month == 2 { days + 1 } else { days }
+}
+
+// The year of a day, given the days from the first of January 1970 to it, at most so many years later.
+fn year_at(years: u64, days: u64) -> Place
+    requires { years ≤ 8029 }
+    ensures place { result ≡ place_in year_length years 1970 days }
+    ensures few { result.before ≤ days }
+{
+    let mut place = Place {
+        part: 1970,
+        before: days,
+    };
+    for _year in 0..years {
+        let length = year_length(place.part);
+        if place.before < length {
+            return place;
+        }
+        place = Place {
+            part: place.part + 1,
+            before: place.before - length,
+        };
+    }
+    place
+}
+
+// The month of a day, given the days before it in its year, at most so many months later.
+fn month_at(leap: bool, months: u64, days: u64) -> Place
+    requires { months ≤ 11 }
+    ensures place { result ≡ place_in (month_length leap) months 1 days }
+    ensures few { result.before ≤ days }
+{
+    let mut place = Place {
+        part: 1,
+        before: days,
+    };
+    for _month in 0..months {
+        let length = month_length(leap, place.part);
+        if place.before < length {
+            return place;
+        }
+        place = Place {
+            part: place.part + 1,
+            before: place.before - length,
+        };
+    }
+    place
+}
+
+// Appends the date of a day in a year.
+fn put_day(out: &mut Vec<u8>, year: &Place) -> Result<(), AllocError>
+    requires { year.now.before ≤ 4000000 }
+    ensures { OnOk result (out.new.items ≡ out.old.items ++ day_text year.now) }
+{
+    put_four(out, year.part)?;
+    out.extend_from_slice(b"-")?;
+    let month = month_at(is_leap(year.part), 11, year.before);
+    put_two(out, month.part)?;
+    out.extend_from_slice(b"-")?;
+    put_two(out, month.before + 1)
+}
+
+// The first second of the year 10000.
+const YEAR_10000: u64 = 253_402_300_800;
+
+// Appends a date and a time of the day.
+fn put_date(alloc: Global, out: &mut Vec<u8>, time: &Time) -> Result<(), AllocError>
+    ensures { OnOk result (out.new.items ≡ out.old.items ++ date_text time.now) }
+{
+    if time.seconds >= YEAR_10000 {
+        return put_epoch(out, time);
+    }
+    put_day(out, &year_at(8029, time.seconds / 86400))?;
+    out.extend_from_slice(b"T")?;
+    put_clock(alloc, out, time)?;
+    out.extend_from_slice(b"Z")
+}
+
+// ---- differences
+
+fn is_before(a: &Time, b: &Time) -> bool
+    ensures { result ≡ is_before a.now b.now }
+{
+    a.seconds < b.seconds || a.seconds == b.seconds && a.nanoseconds < b.nanoseconds
+}
+
+// The time from one to another that isn't before it.
+fn time_since(a: &Time, b: &Time) -> Time
+    ensures { result ≡ time_since a.now b.now }
+{
+    let seconds = b.seconds.saturating_sub(a.seconds);
+    if a.nanoseconds <= b.nanoseconds {
+        return Time {
+            seconds,
+            nanoseconds: b.nanoseconds - a.nanoseconds,
+        };
+    }
+    Time {
+        seconds: seconds.saturating_sub(1),
+        nanoseconds: 1_000_000_000u32.saturating_sub(a.nanoseconds - b.nanoseconds),
+    }
+}
+
+// Appends the seconds from one time to another.
+fn put_difference(out: &mut Vec<u8>, a: &Time, b: &Time) -> Result<(), AllocError>
+    ensures { OnOk result (out.new.items ≡ out.old.items ++ difference_text a.now b.now) }
+{
+    if is_before(b, a) {
+        out.extend_from_slice(b"-")?;
+        return put_epoch(out, &time_since(b, a));
+    }
+    put_epoch(out, &time_since(a, b))
+}
+
+/// A time in a format, after messages of which the first and the last had these times.
+pub(crate) fn time_text(
+    alloc: Global,
+    format: TimeFormat,
+    first: &Option<Time>,
+    last: &Option<Time>,
+    time: &Time,
+) -> Result<Vec<u8>, AllocError>
+    ensures { IfOk result (λ text. text.items ≡ time_text format first.now last.now time.now) }
+{
+    let mut text = Vec::with_capacity(alloc, 32)?;
+    put_time(alloc, &mut text, format, first, last, time)?;
+    Ok(text)
+}
+
+fn put_time(
+    alloc: Global,
+    out: &mut Vec<u8>,
+    format: TimeFormat,
+    first: &Option<Time>,
+    last: &Option<Time>,
+    time: &Time,
+) -> Result<(), AllocError>
+    ensures { OnOk result (out.new.items ≡ out.old.items ++ time_text format first.now last.now time.now) }
+{
+    match format {
+        TimeFormat::Clock => put_clock(alloc, out, time),
+        TimeFormat::Date => put_date(alloc, out, time),
+        TimeFormat::Epoch => put_epoch(out, time),
+        TimeFormat::Delta => put_after(out, last, time),
+        TimeFormat::Relative => put_after(out, first, time),
+    }
+}
+
+// Appends the seconds after another time, if there is one.
+fn put_after(out: &mut Vec<u8>, other: &Option<Time>, time: &Time) -> Result<(), AllocError>
+    ensures { OnOk result (out.new.items ≡ out.old.items ++ difference_text (unwrap_or other.now time.now) time.now) }
+{
+    match other {
+        Some(other) => put_difference(out, other, time),
+        None => put_difference(out, time, time),
+    }
+}

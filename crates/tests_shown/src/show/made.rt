@@ -1,0 +1,54 @@
+//! Lines of JSON as an input.
+
+use crate::show::runs::{all_in, shown};
+use std::alloc::Global;
+use std::str;
+use tcmake_lines::OutputFormat as MadeFormat;
+use tcshow_lib::json::{form_by, made_of};
+use tcshow_lib::options::OutputFormat;
+
+// A save, a line with the time of its packet, and one with a misspelt option.
+static SAVE: &str = r#"{"save":1,"devs":{"wan":{"index":2}},"names":{"2":"wan"}}
+{"type":"RTM_NEWQDISC","flags":2,"seq":5,"message":{"header":{"family":"Unspec","index":2,"handle":"1:","parent":"root","info":0},"attributes":[{"Kind":"fq_codel"},{"Options":[{"FqCodel":{"Limit":10240}}]}]}}
+{"end":1}
+"#;
+
+static TIMED: &str =
+    r#"{"time":"1700000000.123456000","packet":1,"type":"RTM_NEWQDISC","flags":1536,"seq":5,"message":{"header":{"family":"Unspec","index":2,"handle":"1:","parent":"root","info":0},"attributes":[{"Kind":"fq_codel"},{"Options":[{"FqCodel":{"Limit":10240}}]}]}}
+"#;
+
+static MISSPELT: &str =
+    r#"{"type":"RTM_NEWQDISC","flags":2,"seq":5,"message":{"header":{"family":"Unspec","index":2,"handle":"1:","parent":"root","info":0},"attributes":[{"Kind":"fq_codel"},{"Options":[{"FqCodel":{"Limmit":10240}}]}]}}
+"#;
+
+// True if lines of JSON are shown so, and a complaint about them begins so.
+fn are_shown(alloc: Global, json: &str, lines: &str, complaint: &str) -> bool {
+    let Some(form) = form_by(json.as_bytes()) else {
+        return false;
+    };
+    let mut errors = Vec::new(alloc);
+    match made_of(alloc, "input", form, json.as_bytes(), &mut errors) {
+        Ok(made) => {
+            let run = shown(alloc, &all_in(OutputFormat::Lines(false)), &made.bytes);
+            let said = str::from_utf8(&errors).unwrap_or("?");
+            run.written.as_slice() == lines.as_bytes()
+                && made.has_wrong == !complaint.is_empty()
+                && said.starts_with(complaint)
+                && said.is_empty() == complaint.is_empty()
+        }
+        Err(_) => false,
+    }
+}
+
+#[test]
+fn lines_of_json(rt: HostRuntime) {
+    let alloc = rt.alloc();
+    assert!(rt; form_by(b"{\"ti") == Some(MadeFormat::Capture));
+    assert!(rt; form_by(b"{\"sa") == Some(MadeFormat::Stream));
+    assert!(rt; form_by(b"3800").is_none() && form_by(b"").is_none());
+    let line = "is qdisc fq_codel 1: dev 2 root limit 10240p\n";
+    assert!(rt; are_shown(alloc, SAVE, line, ""));
+    let line = "22:13:20.123456 new qdisc fq_codel 1: dev 2 root limit 10240p\n";
+    assert!(rt; are_shown(alloc, TIMED, line, ""));
+    assert!(rt; are_shown(alloc, MISSPELT, "", "tcshow: input: line 1: "));
+}
