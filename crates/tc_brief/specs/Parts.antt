@@ -9,6 +9,8 @@ use Rattle.tc_brief.specs.Values.{assigned, bytes_text, depth_after, equals, is_
 use Rattle.tc_brief.specs.Values.{is_count, is_hollow, is_number, within_word}
 use Rattle.tc_brief.specs.declared.leaf.Section.{Section}
 use Rattle.tc_brief.specs.declared.leaf.Section.TheVariants as section
+use Rattle.tc_brief.specs.declared.leaf.Shape.{Shape}
+use Rattle.tc_brief.specs.declared.leaf.Shape.TheVariants.{Braces}
 use Rattle.tc_brief.specs.declared.parts.Scope.{Scope}
 use Rattle.tc_brief.specs.declared.row.Style.{Style}
 use Rattle.tc_brief.specs.declared.row.Style.TheVariants as style
@@ -232,12 +234,16 @@ styled_words style.Key c rest l = key_words l (number_in l.value) rest
 styled_words style.Count c rest l = count_words c.leaves l
 styled_words s c rest l = plain l
 
--- a list or record of one word, unless it has nothing
-abbrev pub opened_words : Leaf → List ℕ → List Leaf → List (List ℕ)
-opened_words l bracket rest = if is_hollow rest then [] else valued l (bracket ++ within_word 1 true rest)
+-- a list or record of one word, unless it is a record without a member
+abbrev pub is_braces : Shape → Bool
+is_braces Braces = true
+is_braces s = false
+
+abbrev pub opened_words : Leaf → Shape → List Leaf → List (List ℕ)
+opened_words l s rest = if is_braces s && is_hollow rest then [] else valued l (open_text s ++ within_word 1 true rest)
 
 abbrev pub words_by : Value → Around → List Leaf → Leaf → List (List ℕ)
-words_by (leaf.opens s) c rest l = opened_words l (open_text s) rest
+words_by (leaf.opens s) c rest l = opened_words l s rest
 words_by (leaf.closes s) c rest l = []
 words_by v c rest l = styled_words l.row.style c rest l
 

@@ -737,7 +737,7 @@ pub fn lines_of<T: Tables, C: Columns + Drop, W: Words + Drop>(
     Ok(text)
 }
 
-/// The line of a message of which nothing but the object is known.
+/// The line of a message if only its object is known.
 pub fn lines_of_nothing(alloc: Global, said: &Said<'_>) -> Result<Vec<u8>, BriefError>
     ensures { IfOk result (λ text. text.items ≡ message_lines (said_view said.now) []) }
 {

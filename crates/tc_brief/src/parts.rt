@@ -6,7 +6,7 @@ ghost use Rattle.tc_brief.specs.Leaves.{leaf_view, leaves_view, value_view};
 ghost use Rattle.tc_brief.specs.Parts.{bare, begun, bit_words, burst_text, choice, choice_at, chosen, control, end_text, hardware, hex_words, is_bar};
 ghost use Rattle.tc_brief.specs.Parts.{is_blank, is_in, is_rate};
 ghost use Rattle.tc_brief.specs.Parts.{is_taken, is_with, key_text, key_words, mask_text, match_words, next_with, number_of, number_of_section, opened_words};
-ghost use Rattle.tc_brief.specs.Parts.{agrees, count_in, count_words, is_counted, or_key};
+ghost use Rattle.tc_brief.specs.Parts.{agrees, is_braces, count_in, count_words, is_counted, or_key};
 ghost use Rattle.tc_brief.specs.Parts.{own_word, phrase, plain, protocol_words, rate_named, rate_of, rate_text, scope_view, section_words, styled_words};
 ghost use Rattle.tc_brief.specs.Parts.{takes, valued, verdict_words, words_by, words_of};
 ghost use Rattle.tc_brief.specs.Values.{assigned, name_of_leaf, number_in, open_text, value_text, within_word};
@@ -368,9 +368,9 @@ impl Line {
     #[tactic(auto, using(crate::proofs::Written::written_append))]
     fn opened(&mut self, leaf: &Leaf<'_>, shape: Shape, rest: &[Leaf<'_>]) -> Result<(), BriefError>
         ensures { OnOk result (self.new.text.items ≡ self.old.text.items
-            ++ written (opened_words (leaf_view leaf.now) (open_text shape) (leaves_view rest.now))) }
+            ++ written (opened_words (leaf_view leaf.now) shape (leaves_view rest.now))) }
     {
-        if is_hollow(rest) {
+        if is_braces(shape) && is_hollow(rest) {
             return Ok(());
         }
         self.begin_valued(leaf)?;
@@ -474,6 +474,12 @@ fn is_same(a: &str, b: &str) -> bool
     ensures { result ≡ bytes_eq a.now b.now }
 {
     a == b
+}
+
+fn is_braces(shape: Shape) -> bool
+    ensures { result ≡ is_braces shape }
+{
+    matches!(shape, Shape::Braces)
 }
 
 /// The leaf without its unit.

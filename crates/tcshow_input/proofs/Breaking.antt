@@ -1,6 +1,6 @@
 -- Runs over an input that end early.
-use Rattle.std.proofs.Common.{◌≡◌, ◌≢◌, ◌⊎◌, inl, inr, ◌∙◌, ℕ, Bool, true, false, List, [], ◌∷◌, ◌++◌, length, take, refl, sym, ap, subst, arith, append_assoc, append-nil}
-use Rattle.std.proofs.KnownBytes.{Appends-nil, Appends-trans}
+use Rattle.std.proofs.Common.{◌≡◌, ◌≢◌, ◌⊎◌, inl, inr, ◌∙◌, ℕ, Bool, true, false, List, [], ◌∷◌, ◌++◌, take, refl, sym, ap, subst, arith, append_assoc, append-nil}
+use Rattle.std.proofs.KnownBytes.{Appends-trans}
 use Rattle.std.specs.Prelude.{Option, Some, None, Result, Ok, Err, IfErr, IfSome, ◌||◌, if◌then◌else◌}
 use Rattle.std.specs.Io.KnownBytes.{Keeps}
 use Rattle.tc_capture.specs.Capture.{State as CaptureState, capture_at}
@@ -16,6 +16,7 @@ use Rattle.tcshow_input.specs.declared.stop.Stop.{Stop}
 use Rattle.tcshow_input.specs.declared.stop.Stop.TheVariants.{NoMemory}
 use Rattle.tcshow_input.specs.Reading.{AreFirst, AreFirstIn, AreIn, Begins, BeginsWith, GivesFirst, capture_left, is_hex_text, text_left, things_by, things_in_file, things_in_pieces, things_on_lines}
 use Rattle.tcshow_input.specs.Shown.{ShowsEach, ShowsSummary}
+use Rattle.tcshow_input.specs.Known.{given_in, known_first}
 use Rattle.tcshow_input.specs.State.{State, Breaks, Ends, Halts, RanOn, is_json, start, view_of}
 use Rattle.tcshow_input.proofs.Halting.{halts_write}
 use Rattle.tcshow_input.proofs.Puts.{or_false}
@@ -164,7 +165,8 @@ pub ran_on : (options : Options) (file a b : Option (List ℕ)) (s n : State) (f
 ran_on options file a b s n fault start same h =
     let begun = subst (λ (x : State). Breaks h.0 a b x n) start h.2 in
     let is_fault = same ∙ begun.bad in
-    let shown = subst (λ x. ShowsEach (is_json options.format) (view_of options.format options.all) options.filter [] h.0 begun.text x) (sym is_fault) begun.shown in (
+    let known = known_first (given_in options) in
+    let shown = subst (λ x. ShowsEach (is_json options.format) (view_of options) options.filter known h.0 begun.text x) (sym is_fault) begun.shown in (
       h.0,
       begun.text,
       begun.summary,

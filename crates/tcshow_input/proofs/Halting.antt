@@ -1,8 +1,7 @@
 -- Runs that end early.
-use Rattle.std.proofs.Common.{◌≡◌, ◌∙◌, ◌≢◌, ℕ, Bool, false, List, [], ◌∷◌, ◌++◌, refl, sym, ap, subst, append_assoc, append-nil}
-use Rattle.std.proofs.KnownBytes.{Appends-nil, Appends-trans}
-use Rattle.std.specs.Prelude.{Option, Some, Result, Ok, Err, IfErr, IsErrAnd, ◌||◌}
-use Rattle.std.specs.Io.KnownBytes.{Appends}
+use Rattle.std.proofs.Common.{◌≡◌, ◌∙◌, ◌≢◌, ℕ, false, List, [], ◌++◌, refl, sym, ap, subst, append_assoc, append-nil}
+use Rattle.std.proofs.KnownBytes.{Appends-trans}
+use Rattle.std.specs.Prelude.{Option, Result, Ok, Err, IfErr, IsErrAnd, ◌||◌}
 use Rattle.tc_capture.specs.declared.kind.MessageType.{MessageType}
 use Rattle.tc_input.specs.Dumps.{Dump}
 use Rattle.tc_input.specs.Left.{Gives}
@@ -11,7 +10,7 @@ use Rattle.program_io.specs.Written.{GrowsByFront}
 use Rattle.tcshow_input.specs.declared.stop.Stop.{Stop}
 use Rattle.tcshow_input.specs.declared.stop.Stop.TheVariants.{NoMemory}
 use Rattle.tcshow_input.specs.Reading.{GivesFirst, text_left}
-use Rattle.tcshow_input.specs.Shown.{after_all}
+use Rattle.tcshow_input.specs.Known.{after_all}
 use Rattle.tcshow_input.specs.State.{State, Halts, Progress, Puts, Stops}
 use Rattle.tcshow_input.proofs.InOrder.{gives_none, gives_then}
 use Rattle.tcshow_input.proofs.Progress.{progress_none, progress_puts}

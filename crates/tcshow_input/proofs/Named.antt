@@ -24,8 +24,10 @@ module _ {A : Type 0} where
       → map bytes_of (insert_entry nat_cmp es k v) ≡ insert_entry nat_cmp (map bytes_of es) k (string_bytes v)
   map_insert [] k v = refl
   map_insert (e ∷ es) k v =
-      map_ordered (nat_cmp k e.0) _ _ _ ∙ ap (λ (l : List (ℕ × List ℕ)). match_ordering (nat_cmp k e.0) ((k, string_bytes v) ∷ map bytes_of (e ∷ es)) ((e.0, string_bytes v) ∷ map bytes_of es) (bytes_of e ∷ l))
-      (map_insert es k v)
+      let before = (k, string_bytes v) ∷ map bytes_of (e ∷ es) in
+      let here = (e.0, string_bytes v) ∷ map bytes_of es in
+      map_ordered (nat_cmp k e.0) _ _ _
+      ∙ ap (λ (l : List (ℕ × List ℕ)). match_ordering (nat_cmp k e.0) before here (bytes_of e ∷ l)) (map_insert es k v)
 
   -- a name that is put into the map is the last of its interface
   pub named : (old new : BTreeMap ℕ (String A)) (index : ℕ) (name : String A) (text : List ℕ) → new.entries ≡ insert_entry nat_cmp old.entries index name

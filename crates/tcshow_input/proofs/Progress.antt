@@ -6,7 +6,8 @@ use Rattle.std.specs.Io.KnownBytes.{Appends}
 use Rattle.tcshow_input.specs.declared.options.Options.{Options}
 use Rattle.tcshow_json.specs.Messages.{Thing}
 use Rattle.tcshow_input.specs.Reading.{AreIn}
-use Rattle.tcshow_input.specs.Shown.{after_all, ShowsEach, ShowsSummary}
+use Rattle.tcshow_input.specs.Known.{after_all, given_in, known_first}
+use Rattle.tcshow_input.specs.Shown.{ShowsEach, ShowsSummary}
 use Rattle.tcshow_input.specs.State.{State, Puts, Progress, Ends, Completes, Ran, start, is_json, view_of}
 use Rattle.program_io.specs.Written.{GrowsByFront}
 use Rattle.tcshow_input.proofs.Puts.{after_append, each_append, each_in, or_assoc, or_false, puts_none}
@@ -119,5 +120,6 @@ pub ran : (options : Options) (file a b : Option (List ℕ)) (s n : State) (faul
 ran options file a b s n fault start same h =
     let begun = subst (λ (x : State). Completes h.0 a b x n) start h.2 in
     let is_fault = same ∙ begun.6 in
-    let shown = subst (λ x. ShowsEach (is_json options.format) (view_of options.format options.all) options.filter [] h.0 begun.0 x) (sym is_fault) begun.3 in
+    let known = known_first (given_in options) in
+    let shown = subst (λ x. ShowsEach (is_json options.format) (view_of options) options.filter known h.0 begun.0 x) (sym is_fault) begun.3 in
     (h.0, begun.0, begun.2, subst (λ (x : State). AreIn file x.header h.0) start h.1, shown, begun.4, begun.5)

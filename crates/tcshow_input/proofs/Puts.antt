@@ -10,9 +10,9 @@ use Rattle.tc_select.specs.Links.{Link}
 use Rattle.tcshow_json.specs.Safe.{safe_text}
 use Rattle.tc_select.specs.declared.filter.Filter.{Filter}
 use Rattle.tcshow_input.specs.Selection.{is_matched, is_included}
-use Rattle.tcshow_input.specs.Known.{Known, after, after_all, names_by, with_name}
+use Rattle.tcshow_input.specs.Known.{Known, after, after_all, names_by}
 use Rattle.tcshow_input.specs.Shown.{ended, IsEscaped, IsPage, IsOutline, IsAnswerIn, IsViewOf, View, has_acks, has_fault, lines_with, IfTaken}
-use Rattle.tcshow_input.specs.Shown.{is_answer_shown, is_done_shown, is_request_matched}
+use Rattle.tcshow_input.specs.Shown.{is_done_shown, is_request_matched}
 use Rattle.tcshow_input.specs.Shown.{Nothing, Shows, ShowsDone, ShowsEach, ShowsMessage, ShowsAnswer, ShowsNotice, ShowsSummary}
 use Rattle.tc_outline.specs.declared.page.Page.{Page}
 use Rattle.tc_outline.specs.Text.{Continues, is_in_lines, text_on}
@@ -320,14 +320,16 @@ pub puts_answer : (h : Header) (r : Reason) (m : Message) (t : List ℕ) (s n : 
     → Grows t false s n → Puts (answer h r m ∷ []) s n
 puts_answer h r m t s n told shown g =
     puts_one (answer h r m) t false s n
-    (subst (λ x. IfTaken (x && is_matched (names_by s.before) s.filter m) (ShowsAnswer s.json s.view s.before h r m t × (false ≡ false)) t false) (sym told) shown)
+    (subst (λ x. IfTaken (x && is_matched (names_by s.before) s.filter m) (ShowsAnswer s.json s.view s.before h r m t × (false ≡ false)) t false)
+    (sym told) shown)
     (same_requests (after_all s.before (answer h r m ∷ [])) t false s n refl g)
 
 pub puts_no_answer : (h : Header) (r : Reason) (m : Message) (s n : State) → (not (is_silent r) || has_acks s.view) ≡ false → Grows [] false s n
     → Puts (answer h r m ∷ []) s n
 puts_no_answer h r m s n silent g =
     puts_one (answer h r m) [] false s n
-    (subst (λ x. IfTaken (x && is_matched (names_by s.before) s.filter m) (ShowsAnswer s.json s.view s.before h r m [] × (false ≡ false)) [] false) (sym silent) nothing)
+    (subst (λ x. IfTaken (x && is_matched (names_by s.before) s.filter m) (ShowsAnswer s.json s.view s.before h r m [] × (false ≡ false)) [] false)
+    (sym silent) nothing)
     (same_requests (after_all s.before (answer h r m ∷ [])) [] false s n refl g)
 
 -- the end of a dump, with a line or without

@@ -2,8 +2,6 @@
 use Rattle.std.specs.BTreeMap.{insert_entry}
 use Rattle.std.specs.Ordering.{nat_cmp}
 use Rattle.std.specs.Prelude.{ℕ, List, [], ◌∷◌, ◌++◌, map}
-use Rattle.tc_columns.specs.Names.{names_in}
-use Rattle.tc_select.specs.Links.{Link}
 use Rattle.tcshow_input.specs.declared.options.Options.{Options}
 use Rattle.tcshow_json.specs.Messages.{Thing, message, link}
 use Rattle.tcshow_lines.specs.Past.{Past, no_past, noted}

@@ -73,8 +73,9 @@ impl<'a, A: Allocator + Copy> Printer<'a, A> {
 
     fn show_reply(&mut self, reply: &Reply<'_>) -> Result<(), AllocError>
         ensures form { self.new.output.is_json ≡ self.old.output.is_json }
-        ensures put { OnOk result ((text : List ℕ) × ShowsAnswer self.old.output.is_json (state_of self.old).view (state_of self.old).before (header_view reply.now.header)
-            (reason_of (answer_of reply.now.answer)) (message_view reply.now.request) text × Grows text false (state_of self.old) (state_of self.new)) }
+        ensures put { OnOk result ((text : List ℕ) × ShowsAnswer self.old.output.is_json (state_of self.old).view (state_of self.old).before
+            (header_view reply.now.header) (reason_of (answer_of reply.now.answer)) (message_view reply.now.request) text
+            × Grows text false (state_of self.old) (state_of self.new)) }
     {
         self.count_row("NLMSG_ERROR", reply.errno(&mut Buffer::new()))?;
         if self.output.is_json() {

@@ -125,8 +125,9 @@ Notes:
   Hex may contain spaces, colons, 0x prefixes and # comments. One message per line; or a dump with
   offsets (xxd, hexdump -C, tcpdump -x, Wireshark), in which offset 0 starts a new message; or lines
   of 60 digits and a shorter last one (xxd -p).
-  Packets, blocks and messages larger than 1 MiB are skipped and reported. Of JSON, all messages are
-  made before the first is printed, by the rules of tcmake; errors that the kernel returned are not.
+  Packets, blocks and messages larger than 1 MiB are skipped and reported. Lines of JSON have to be
+  the only FILE. All messages are made of them, by the rules of tcmake, before the first is printed.
+  Errors that the kernel returned are not.
   In outlines, ticks are packet scheduler ticks of 64 ns and clock_t units are 10 ms.
   Captures made on big-endian hosts can be opened, but their messages are reported as malformed.
 

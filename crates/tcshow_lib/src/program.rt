@@ -451,20 +451,24 @@ fn show_next<R: AllocGlobal + Files + Input, W: Write, E: Write>(
 ) -> Ended {
     let alloc = rt.alloc();
     if file == "-" {
-        return serve_next(alloc, printer, INPUT, rt.reader(), writer, errors);
+        let mut reader = Reader::new(rt.reader());
+        return serve_next(alloc, printer, INPUT, &mut reader, writer, errors);
     }
     match fs::open(rt, file) {
-        Ok(reader) => serve_next(alloc, printer, file, reader, writer, errors),
+        Ok(reader) => {
+            let mut reader = Reader::new(reader);
+            serve_next(alloc, printer, file, &mut reader, writer, errors)
+        }
         Err(error) => complain_of_file(alloc, file, &error, errors),
     }
 }
 
 // Prints the name of the next of several inputs, and its messages. Why it ended early is written to `errors`.
-fn serve_next<I: Read + Drop, W: Write, E: Write>(
+fn serve_next<I: Read, W: Write, E: Write>(
     alloc: Global,
     printer: &mut Printer<'_, Global>,
     name: &str,
-    reader: I,
+    reader: &mut Reader<I>,
     writer: &mut Writer<W>,
     errors: &mut E,
 ) -> Ended {
@@ -472,55 +476,8 @@ fn serve_next<I: Read + Drop, W: Write, E: Write>(
     if printer.put_name(name).is_err() {
         return fail_without_memory(errors);
     }
-    let mut reader = Reader::new(reader);
-    match Begun::begin(alloc, &mut reader) {
-        Ok(input) => {
-            let form = form_by(input.first());
-            let whole = input.rest().chain(reader.into_inner());
-            match form {
-                None => serve_bytes(alloc, printer, name, whole, writer, errors),
-                Some(form) => serve_json(alloc, printer, name, form, whole, writer, errors),
-            }
-        }
-        Err(stop) => fail_to_read(alloc, stop, name, &reader, errors),
-    }
-}
-
-// Prints the messages that lines of JSON show.
-fn serve_json<I: Read + Drop, W: Write, E: Write>(
-    alloc: Global,
-    printer: &mut Printer<'_, Global>,
-    name: &str,
-    form: MadeFormat,
-    reader: I,
-    writer: &mut Writer<W>,
-    errors: &mut E,
-) -> Ended {
-    match made_of(alloc, name, form, reader, errors) {
-        Ok(Made { bytes, has_wrong }) => {
-            if bytes.is_empty() {
-                return with_fault(Ended::well(), has_wrong);
-            }
-            let ended = serve_bytes(alloc, printer, name, bytes.as_slice(), writer, errors);
-            with_fault(ended, has_wrong)
-        }
-        Err(Stop::NoMemory) => fail_without_memory(errors),
-        Err(stop) => Ended::early(stop),
-    }
-}
-
-// Prints the messages of a capture or of lines of hex. Why it ended early is written to `errors`.
-fn serve_bytes<I: Read + Drop, W: Write, E: Write>(
-    alloc: Global,
-    printer: &mut Printer<'_, Global>,
-    name: &str,
-    reader: I,
-    writer: &mut Writer<W>,
-    errors: &mut E,
-) -> Ended {
-    let mut reader = Reader::new(reader);
-    let ended = run_next(printer, &mut reader, writer);
-    say_end(alloc, errors, name, &ended, &reader, writer);
+    let ended = run_next(printer, reader, writer);
+    say_end(alloc, errors, name, &ended, reader, writer);
     ended
 }
 

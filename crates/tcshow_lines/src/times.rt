@@ -236,7 +236,7 @@ fn put_difference(out: &mut Vec<u8>, a: &Time, b: &Time) -> Result<(), AllocErro
     put_epoch(out, &time_since(a, b))
 }
 
-/// A time in a format, after messages of which the first and the last had these times.
+/// A time in a format, after messages with these first and last times.
 pub(crate) fn time_text(
     alloc: Global,
     format: TimeFormat,

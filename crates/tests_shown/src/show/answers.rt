@@ -70,9 +70,9 @@ static REFUSED_LINE: &str =
 "#;
 
 static OTHER_LINES: &str =
-    r#"22:13:20.123456 refused EINVAL "NLA_F_NESTED is missing" at byte 44 add filter - - raw=
+    r#"22:13:20.123456 refused EINVAL "NLA_F_NESTED is missing" at byte 44 add filter - -
 22:13:20.123456 refused 777 add qdisc - - raw=00000000
-22:13:20.123456 warned "quantum is big" add filter - - raw=
+22:13:20.123456 warned "quantum is big" add filter - -
 "#;
 
 // Refused messages of a kind and an interface.

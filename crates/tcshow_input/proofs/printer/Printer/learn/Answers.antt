@@ -1,6 +1,6 @@
-use Rattle.std.proofs.Common.{◌≡◌, ◌∙◌, ◌∷◌, [], ℕ, List, ap, sym, subst, option_map}
+use Rattle.std.proofs.Common.{◌∙◌, ◌∷◌, [], ℕ, List, ap, sym, subst, option_map}
 use Rattle.std.proofs.lemmas.Result.{on_ok_weaker}
-use Rattle.tc_capture.specs.Message.{message_of}
+use Rattle.tc_columns.specs.Names.{names_in}
 use Rattle.tc_select.specs.Links.{Link}
 use Rattle.tc_select.specs.Names.{name_view}
 use Rattle.tcshow_json.specs.Messages.{Thing, link_or_other}
@@ -13,9 +13,10 @@ returns-in-Some-clause-put g c =
     let s = state_of c.args.self.now in
     let l : Link = record { index = c.in-Some.index; name = c.in-Some.name.now } in
     let same = ap link_or_other (sym (ap (option_map name_view) c.in-Some.is) ∙ c.link_in.ensures) in
+    let n = record s { before = record s.before { links = names_in c.learn.new.self.names } } in
     on_ok_weaker c.learn.result
-    (λ learned. subst (λ (t : Thing). Puts (t ∷ []) s _) same
-    (puts_link l s _ (ap (λ (links : List (ℕ × List ℕ)). record s { before = record s.before { links = links } }) learned)))
+    (λ learned. subst (λ (t : Thing). Puts (t ∷ []) s n) same
+    (puts_link l s n (ap (λ (links : List (ℕ × List ℕ)). record s { before = record s.before { links = links } }) learned)))
     c.learn.ensures
 
 pub returns-in-None-clause-put : goal.returns-in-None-clause-put

@@ -2,11 +2,15 @@ use Rattle.std.proofs.Common.{◌∙◌, sym}
 use Rattle.std.proofs.lemmas.Result.{on_ok_weaker}
 use Rattle.tc_capture.specs.Message.{message_of}
 use Rattle.tcshow_input.specs.State.{state_of}
+use Rattle.tcshow_lines.specs.Answers.{dump_of}
 use Rattle.tcshow_input.proofs.Puts.{done_by, grows_none, is_done_line, matched_some, puts_done, puts_no_done}
 use Rattle.tcshow_input.proofs.printer.Printer.put_done_if.Goals as goal
 
 pub put_done_line-requires-clause-known : goal.put_done_line-requires-clause-known
-put_done_line-requires-clause-known g c = matched_some _ _ _ (sym c.takes_done.ensures ∙ c.if-not-takes_done.false)
+put_done_line-requires-clause-known g c =
+    let s = state_of c.args.self.now in
+    matched_some s.before s.filter (dump_of s.before.past c.args.origin (message_of c.args.message.now))
+    (sym c.takes_done.ensures ∙ c.if-not-takes_done.false)
 
 pub returns-clause-put : goal.returns-clause-put
 returns-clause-put g c =

@@ -6,14 +6,14 @@ use Rattle.tcshow_input.specs.State.{laid_out, state_of, Grows}
 use Rattle.tcshow_input.proofs.Puts.{paragraph}
 use Rattle.tcshow_input.proofs.printer.Printer.put_page.Goals as goal
 
-pub returns-in-Lines-clause-put : goal.returns-in-Lines-clause-put
-returns-in-Lines-clause-put g c =
+pub returns-in-Outline-clause-put : goal.returns-in-Outline-clause-put
+returns-in-Outline-clause-put g c =
     let s = state_of c.args.self.now in
     let page = text_on c.args.self.now.page in
     let now = c.line_feed.new.self in
     let line = state_of c.put_page_line.new.self in
     on_ok_weaker c.line_feed.result
     (λ fed. subst (λ (text : List ℕ). Grows text false s (record line { json = now.is_json; text = now.bytes.items }))
-    (sym (ap (λ format. laid_out format page) c.in-Lines.is))
+    (sym (ap (λ format. laid_out format page) c.in-Outline.is))
     (paragraph s line now.is_json now.bytes.items (ended page) c.line_feed.ensures.form c.in_ok-put_page_line.ensures.put fed))
     c.line_feed.ensures.put
