@@ -1,12 +1,16 @@
 -- Handles that become others.
-use Rattle.std.proofs.Common.{◌≡◌, ℕ, ℤ, Bool, true, false, ◌&&◌, List, [], ◌∷◌, map, refl, sym, ap, ◌∙◌}
+use Rattle.std.proofs.Common.{◌≡◌, ◌⊎◌, ℕ, ℤ, ◌*◌, Bool, true, false, ◌&&◌, List, [], ◌∷◌, ◌++◌, Option, Some, map, refl, sym, ap, subst, ◌∙◌, inl, inr}
 use Rattle.std.specs.Prelude.{◌==◌, if◌then◌else◌}
 use Rattle.std.specs.Ordering.{int_eq}
-use Rattle.std.proofs.lemmas.Bool.Decides.{Decides-eqb}
+use Rattle.std.proofs.lemmas.List.Folds.{list_all-append}
+use Rattle.std.proofs.lemmas.Bool.Decides.{Decides-eqb, Decides-int_eq}
 use Rattle.tc_restore.specs.declared.restore_messages.Object.TheVariants.{Qdisc, Class, Filter, Chain}
 use Rattle.tc_changes.proofs.Lookups.{and_left, and_right}
-use Rattle.tc_objects.specs.States.{is_chosen, IsRenaming, dump_renamed}
-use Rattle.tc_objects.specs.Renamings.{major_by, AreChosen}
+use Rattle.tc_changes.specs.declared.key.Key.{Key}
+use Rattle.tc_changes.specs.declared.key.Key.TheVariants as key
+use Rattle.tc_objects.specs.States.{is_chosen, IsRenaming, IsOfNow, dump_renamed}
+use Rattle.tc_objects.specs.Renamings.{major_by, AreChosen, AreFound, IsFound}
+use Rattle.tc_objects.proofs.Confined.{both_all}
 use Rattle.tc_objects.specs.declared.renamed.Renaming.{Renaming}
 use Rattle.tc_objects.specs.declared.dump.Dump.{Dump}
 use Rattle.tc_objects.specs.declared.dump.Dump.TheVariants.{Of, Actions}
@@ -42,6 +46,9 @@ module _ {A : Type 0} where
 same_number : (a b : ℕ) → (a == b) ≡ true → a ≡ b
 same_number a b is = (Decides-eqb a b).0 is
 
+same_int : (a b : ℤ) → int_eq a b ≡ true → a ≡ b
+same_int a b is = (Decides-int_eq a b).0 is
+
 -- only handles that the kernel chose become others
 pub only_chosen : (renamings : List Renaming) → AreChosen renamings → IsRenaming (major_by renamings)
 only_chosen [] all index major is = refl
@@ -54,3 +61,45 @@ only_chosen (r ∷ renamings) all index major is =
         absurd (cc (sym (and_left (is_chosen r.from) _ all)
         ∙ ap is_chosen (same_number r.from major (and_right (int_eq r.index index) _ here)) ∙ is))
     step false here later = later
+
+and_both : (a b : Bool) → a ≡ true → b ≡ true → (a && (b && true)) ≡ true
+and_both true true one two = refl
+and_both true false one two = two
+and_both false b one two = one
+
+-- a handle that becomes another one becomes one that is found
+module _ (find : Key → Option ℕ) where
+  found_by : (renamings : List Renaming) (index : ℤ) (major : ℕ) → AreFound find renamings
+      → (major_by renamings index major ≡ major) ⊎ ((parent : ℕ) × (find (key.Place index parent) ≡ Some (major_by renamings index major * 0x10000)))
+  found_by [] index major all = inl refl
+  found_by (r ∷ renamings) index major all =
+      step (int_eq r.index index) (r.from == major) (λ is. same_int r.index index is) (found_by renamings index major all.1)
+    where
+      step : (a b : Bool) → (a ≡ true → r.index ≡ index)
+          → (major_by renamings index major ≡ major) ⊎ ((parent : ℕ) × (find (key.Place index parent) ≡ Some (major_by renamings index major * 0x10000)))
+          → ((if a && b then r.to else major_by renamings index major) ≡ major)
+          ⊎ ((parent : ℕ) × (find (key.Place index parent) ≡ Some ((if a && b then r.to else major_by renamings index major) * 0x10000)))
+      step true true same later = inr (all.0.0, ap (λ i. find (key.Place i all.0.0)) (sym (same refl)) ∙ all.0.1)
+      step true false same later = later
+      step false b same later = later
+
+  -- after one renaming, another one
+  pub found_then : (renamings : List Renaming) (before : ℤ → ℕ → ℕ) → AreFound find renamings → IsOfNow find before
+      → IsOfNow find (λ index major. major_by renamings index (before index major))
+  found_then renamings before all old index major = joined (found_by renamings index (before index major) all) (old index major)
+    where
+      joined : (major_by renamings index (before index major) ≡ before index major)
+          ⊎ ((parent : ℕ) × (find (key.Place index parent) ≡ Some (major_by renamings index (before index major) * 0x10000)))
+          → (before index major ≡ major) ⊎ ((parent : ℕ) × (find (key.Place index parent) ≡ Some (before index major * 0x10000)))
+          → (major_by renamings index (before index major) ≡ major)
+          ⊎ ((parent : ℕ) × (find (key.Place index parent) ≡ Some (major_by renamings index (before index major) * 0x10000)))
+      joined (inr found) is = inr found
+      joined (inl same) (inl is) = inl (same ∙ is)
+      joined (inl same) (inr found) = inr (found.0, found.1 ∙ ap (λ n. Some (n * 0x10000)) (sym same))
+
+  -- one renaming more
+  pub one_more : (old new : List Renaming) (r : Renaming) → new ≡ old ++ r ∷ [] → is_chosen r.from ≡ true → IsFound find r
+      → AreChosen old × AreFound find old → AreChosen new × AreFound find new
+  one_more old new r more chosen found all =
+      subst (λ l. AreChosen l × AreFound find l) (sym more)
+      (list_all-append (λ x. is_chosen x.from) old (r ∷ []) ∙ and_both _ _ all.0 chosen, both_all (IsFound find) old (r ∷ []) all.1 (found, tt))

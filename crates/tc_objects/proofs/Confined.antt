@@ -20,7 +20,7 @@ right_of : (a b : Bool) → (a && b) ≡ true → b ≡ true
 right_of true b is = is
 right_of false b is = absurd (cc is)
 
-both_all : {X : Type 0} (P : X → Type 0) (xs ys : List X) → AllByRecursion P xs → AllByRecursion P ys → AllByRecursion P (xs ++ ys)
+pub both_all : {X : Type 0} (P : X → Type 0) (xs ys : List X) → AllByRecursion P xs → AllByRecursion P ys → AllByRecursion P (xs ++ ys)
 both_all P [] ys one two = two
 both_all P (x ∷ xs) ys one two = (one.0, both_all P xs ys one.1 two)
 

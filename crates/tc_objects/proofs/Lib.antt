@@ -3,3 +3,4 @@ pub mod Confined
 pub mod Put
 pub mod Chosen
 pub mod Kept
+mod Configs

@@ -1,14 +1,17 @@
 -- The configuration of an object: what a kernel does with it, and after their lengths the types of the options that stay as they are (0 for the cookie
 -- of an action), what a change can't alter, the message that changes another one into it, and the message that makes it.
-use Rattle.std.specs.Prelude.{ℕ, Bool, ◌==◌, ◌&&◌, ◌||◌, not, nat_eq, nat_le, List, [], ◌∷◌, length, take, drop, bytes_eq, if◌then◌else◌, true, false}
+use Rattle.std.specs.Prelude.{ℕ, Bool, ◌==◌, ◌&&◌, ◌||◌, not, nat_eq, nat_le, List, [], ◌∷◌, ◌++◌, length, take, drop, bytes_eq, if◌then◌else◌, true, false}
 use Rattle.std.specs.List.{list_any, list_all}
 use Rattle.std.specs.Cmp.Lexicographic.{pointwise}
-use Rattle.nla_frames.specs.Value.{le_value}
+use Rattle.nla_frames.specs.Value.{le_bytes, le_value}
 use Rattle.tc_changes.specs.Objects.{KernelThing, same_key}
 use Rattle.tc_changes.specs.declared.key.Key.{Key}
 use Rattle.tc_changes.specs.declared.key.Key.TheVariants as key
 
--- a part after its length, and what is after it
+-- a part after its length; the part that bytes begin with, and what is after it
+abbrev pub part_of : List ℕ → List ℕ
+part_of part = le_bytes 4 (length part) ++ part
+
 abbrev pub part_in : List ℕ → List ℕ
 part_in bytes = if nat_le 4 (length bytes) then take (le_value (take 4 bytes)) (drop 4 bytes) else []
 

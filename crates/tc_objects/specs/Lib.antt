@@ -1,6 +1,8 @@
 pub mod Names
+pub mod Normal
 pub mod Needs
 pub mod Config
+pub mod Configs
 pub mod Sent
 pub mod Confined
 pub mod States

@@ -1,8 +1,10 @@
 -- The keys of the objects that dumps show.
 use Rattle.std.specs.Prelude.{
   ◌≡◌,
+  ◌⊎◌,
   ℕ,
   ℤ,
+  ◌*◌,
   ◌/◌,
   Bool,
   true,
@@ -137,6 +139,11 @@ is_chosen major = nat_le 0x8000 major && nat_lt major 0xffff
 -- upper halves of handles become others, of each interface by itself; only those that the kernel chose
 abbrev pub IsRenaming : (ℤ → ℕ → ℕ) → Type 0
 IsRenaming renaming = (index : ℤ) (major : ℕ) → is_chosen major ≡ false → renaming index major ≡ major
+
+-- each becomes that of a qdisc that the interface has now, by the handles of now
+abbrev pub IsOfNow : (Key → Option ℕ) → (ℤ → ℕ → ℕ) → Type 0
+IsOfNow find renaming =
+    (index : ℤ) (major : ℕ) → (renaming index major ≡ major) ⊎ ((parent : ℕ) × (find (key.Place index parent) ≡ Some (renaming index major * 0x10000)))
 
 abbrev pub handle_renamed : (ℕ → ℕ) → TcHandle → TcHandle
 handle_renamed renaming h = record { major = renaming h.major; minor = h.minor }

@@ -6,13 +6,14 @@ use std::alloc::{AllocError, Allocator};
 use tc_flower::TcFilterFlowerOption;
 use tc_messages::{TcAttribute, TcMessage};
 use tc_options::{TcFilterBpfOption, TcFilterMatchAllOption, TcFilterU32Option, TcOption};
+use tc_restore::kind_of_message;
 
 /// The handles of the classes that a filter of any kind names.
 pub(crate) fn classes_of<A: Allocator + Copy>(
     alloc: A,
     filter: &TcMessage<A>,
 ) -> Result<Vec<u32, A>, AllocError> {
-    let wanted = class_type(kind_of(filter));
+    let wanted = class_type(kind_of_message(filter));
     let mut classes = Vec::new(alloc);
     for attribute in &filter.attributes {
         match attribute {
@@ -24,16 +25,6 @@ pub(crate) fn classes_of<A: Allocator + Copy>(
         }
     }
     Ok(classes)
-}
-
-/// The kind of a message, or "".
-pub(crate) fn kind_of<A: Allocator>(message: &TcMessage<A>) -> &str {
-    for attribute in &message.attributes {
-        if let TcAttribute::Kind(kind) = attribute {
-            return kind.as_str();
-        }
-    }
-    ""
 }
 
 fn with_classes<A: Allocator>(

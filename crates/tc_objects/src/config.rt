@@ -1,8 +1,8 @@
 //! The configuration of an object: what a change can't alter, and the messages of the requests that make it and that change another
 //! one into it.
 
-ghost use Rattle.std.specs.Prelude.{◌≡◌, ◌==◌, length, if◌then◌else◌};
-ghost use Rattle.tc_objects.specs.Config.{part_in, after_part, making_in, kept_in, fixed_in, change_in, message_in, changing_in};
+ghost use Rattle.std.specs.Prelude.{◌≡◌, ◌++◌, ◌==◌, ◌<◌, ◌^◌, length, if◌then◌else◌, IfOk};
+ghost use Rattle.tc_objects.specs.Config.{part_of, part_in, after_part, making_in, kept_in, fixed_in, change_in, message_in};
 
 use nla_frames::u32_bytes;
 use std::alloc::{AllocError, Allocator};
@@ -39,10 +39,13 @@ pub(crate) fn changing<'a>(change: &'a [u8], message: &'a [u8]) -> &'a [u8]
 }
 
 /// The bytes of a configuration: what a kernel does, then each part after its length, and the message.
-pub(crate) fn written<A: Allocator>(
-    alloc: A,
-    config: &Config<'_>,
-) -> Result<Vec<u8, A>, AllocError> {
+pub(crate) fn written<A: Allocator>(alloc: A, config: &Config<'_>) -> Result<Vec<u8, A>, AllocError>
+    ensures making { IfOk result (λ bytes. making_in bytes.items ≡ config.now.making) }
+    ensures kept { IfOk result (λ bytes. kept_in bytes.items ≡ config.now.kept.now) }
+    ensures fixed { IfOk result (λ bytes. fixed_in bytes.items ≡ config.now.fixed.now) }
+    ensures change { IfOk result (λ bytes. change_in bytes.items ≡ config.now.change.now) }
+    ensures message { IfOk result (λ bytes. message_in bytes.items ≡ config.now.message.now) }
+{
     let mut bytes = Vec::new(alloc);
     bytes.push(config.making)?;
     let bytes = with_part(bytes, config.kept)?;
@@ -54,7 +57,10 @@ pub(crate) fn written<A: Allocator>(
 }
 
 // Bytes, and a part after its length. Fails of a part that is too long, too.
-fn with_part<A: Allocator>(bytes: Vec<u8, A>, part: &[u8]) -> Result<Vec<u8, A>, AllocError> {
+fn with_part<A: Allocator>(bytes: Vec<u8, A>, part: &[u8]) -> Result<Vec<u8, A>, AllocError>
+    ensures bytes { IfOk result (λ made. made.items ≡ bytes.items ++ part_of part.now) }
+    ensures short { IfOk result (λ made. length part.now < 2 ^ 32) }
+{
     match u32::try_from(part.len()) {
         Ok(len) => {
             let mut bytes = bytes;
@@ -86,6 +92,13 @@ pub(crate) fn read(bytes: &[u8]) -> Config<'_>
         change,
         message,
     }
+}
+
+/// The message of the request that makes an object with this configuration, or the dump of an object that no request makes.
+pub fn message_of(bytes: &[u8]) -> &[u8]
+    ensures { result.now ≡ message_in bytes.now }
+{
+    read(bytes).message
 }
 
 // The first part, and what is after it.

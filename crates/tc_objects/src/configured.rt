@@ -1,5 +1,8 @@
 //! The configuration of what a request makes.
 
+ghost use Rattle.std.specs.Prelude.{◌≡◌, IfOk};
+ghost use Rattle.tc_objects.specs.Config.{making_in, message_in};
+
 use crate::config::{CHANGED, Config, MADE, written};
 use crate::frames::{bytes_of, frames_of, type_of};
 use crate::kinds::{Change, Rule, rule_of};
@@ -27,7 +30,10 @@ pub(crate) fn configured<A: Allocator + Copy>(
     sort: Sort,
     kind: &str,
     message: &[u8],
-) -> Result<Vec<u8, A>, AllocError> {
+) -> Result<Vec<u8, A>, AllocError>
+    ensures making { IfOk result (λ made. making_in made.items ≡ 0 → ⊥) }
+    ensures message { IfOk result (λ made. message_in made.items ≡ message.now) }
+{
     let rule = rule_of(sort, kind);
     if rule.change == Change::Never {
         return plain(alloc, MADE, message);
@@ -56,7 +62,10 @@ pub(crate) fn plain<A: Allocator>(
     alloc: A,
     making: u8,
     message: &[u8],
-) -> Result<Vec<u8, A>, AllocError> {
+) -> Result<Vec<u8, A>, AllocError>
+    ensures making { IfOk result (λ made. making_in made.items ≡ making) }
+    ensures message { IfOk result (λ made. message_in made.items ≡ message.now) }
+{
     written(
         alloc,
         &Config {

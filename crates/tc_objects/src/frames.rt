@@ -1,7 +1,9 @@
 //! Attributes as frames.
 
-ghost use Rattle.std.specs.Prelude.{◌≡◌, map, IfOk};
+ghost use Rattle.std.specs.Prelude.{◌≡◌, map, take, drop, IfOk, IfSome};
 ghost use Rattle.nla_frames.specs.DefaultNla.{kept_frame};
+ghost use Rattle.nla_frames.specs.Frame.{type_of};
+ghost use Rattle.tc_objects.specs.Normal.{frames_in};
 ghost use Rattle.tc_objects.specs.Sent.{frame_bytes};
 
 use nla_frames::{
@@ -13,7 +15,9 @@ use std::alloc::{AllocError, Allocator};
 pub(crate) fn frames_of<A: Allocator + Copy>(
     alloc: A,
     bytes: &[u8],
-) -> Result<Vec<DefaultNla<A>, A>, AllocError> {
+) -> Result<Vec<DefaultNla<A>, A>, AllocError>
+    ensures { IfOk result (λ frames. map kept_frame frames.items ≡ frames_in bytes.now) }
+{
     match parse_list(alloc, bytes) {
         Ok(frames) => Ok(frames),
         Err(DecodeError::OutOfMemory) => Err(AllocError),
@@ -40,7 +44,9 @@ pub(crate) fn bytes_of<A: Allocator + Copy>(
 pub(crate) fn emitted<A: Allocator + Copy, M: Emitable>(
     alloc: A,
     message: &M,
-) -> Result<Option<Vec<u8, A>>, AllocError> {
+) -> Result<Option<Vec<u8, A>>, AllocError>
+    ensures { IfOk result (λ made. IfSome made (λ bytes. bytes.items ≡ M.codec.write (M.see message.now))) }
+{
     match message.checked_len() {
         Some(len) => {
             let mut bytes = vec![in alloc; 0u8; len]?;
@@ -52,7 +58,9 @@ pub(crate) fn emitted<A: Allocator + Copy, M: Emitable>(
 }
 
 /// The type of a frame, without flags.
-pub(crate) fn type_of<A: Allocator>(frame: &DefaultNla<A>) -> u16 {
+pub(crate) fn type_of<A: Allocator>(frame: &DefaultNla<A>) -> u16
+    ensures { result ≡ type_of (kept_frame frame.now).word }
+{
     frame.kind() & NLA_TYPE_MASK
 }
 
@@ -71,4 +79,20 @@ pub(crate) fn framed<A: Allocator + Copy>(
         }
         None => Err(AllocError),
     }
+}
+
+/// The first bytes, up to so many.
+pub(crate) fn front(bytes: &[u8], len: usize) -> &[u8]
+    ensures { result.now ≡ take len bytes.now }
+{
+    let (front, _) = bytes.split_at(usize::min(len, bytes.len()));
+    front
+}
+
+/// The bytes after so many.
+pub(crate) fn after(bytes: &[u8], len: usize) -> &[u8]
+    ensures { result.now ≡ drop len bytes.now }
+{
+    let (_, rest) = bytes.split_at(usize::min(len, bytes.len()));
+    rest
 }

@@ -12,6 +12,7 @@ ghost use Rattle.tc_changes.specs.Model.{among};
 ghost use Rattle.tc_changes.specs.Objects.{same_key};
 ghost use Rattle.tc_changes.specs.declared.key.Key.{Key as KeyModel};
 ghost use Rattle.tc_changes.specs.declared.key.Key.TheVariants.{Action as ActionKey, Filter as FilterKey, Priority as PriorityKey};
+ghost use Rattle.tc_objects.specs.Configs.{IsConfigOf};
 ghost use Rattle.tc_objects.specs.Needs.{key_of};
 ghost use Rattle.tc_objects.specs.Put.{key_at, keys_read, Puts};
 ghost use Rattle.tc_objects.specs.States.{keys_by, key_named, handle_named, priority_named, is_by_kernel, is_implied};
@@ -19,15 +20,15 @@ ghost use Rattle.tc_objects.specs.States.{action_named, actions_named};
 ghost use Rattle.tc_objects.specs.declared.dump.Dump.TheVariants.{Of};
 ghost use Rattle.tc_objects.specs.declared.shown.Sort.TheVariants.{Class as ClassSort, Qdisc as QdiscSort};
 
-use crate::classes::{classes_of, kind_of};
+use crate::classes::classes_of;
 use crate::config::{MADE, NEVER};
 use crate::configured::{configured, plain};
 use crate::dump::Dump;
 use crate::frames::emitted;
 use crate::known::Known;
 use crate::made::{handle_named, is_by_kernel};
-use crate::normal::normal;
 use crate::objects::key_of;
+use crate::requested::{Configured, config_of};
 use crate::shown::{Shown, Sort};
 use crate::state_error::StateError;
 use std::alloc::{AllocError, Allocator};
@@ -36,13 +37,13 @@ use std::hash::{BuildHasherDefault, FoldHasher};
 use tc_action_messages::{TcActionMessage, TcActionMessageAttribute};
 use tc_actions::TcAction;
 use tc_changes::Key;
-use tc_messages::{TcAttribute, TcMessage};
+use tc_messages::TcMessage;
 use tc_plan::{
     Entry, Fate, Key as PlanKey, Named, entry_of, has_action, name_of_action, newest_first,
 };
-use tc_records::{TcActionMessageHeader, TcHandle};
+use tc_records::TcActionMessageHeader;
 use tc_restore::{
-    Object, RestoreError, actions_of_filter, kind_of_action, request_of, request_of_actions,
+    Object, RestoreError, actions_of_filter, kind_of_action, kind_of_message, request_of_actions,
     standalone_index,
 };
 
@@ -427,7 +428,7 @@ fn with_priority<A: Allocator + Copy>(
 {
     let protocol = message.header.info % 0x1_0000;
     let mut text = Vec::from_slice(alloc, &protocol.to_le_bytes())?;
-    text.extend_from_slice(kind_of(message).as_bytes())?;
+    text.extend_from_slice(kind_of_message(message).as_bytes())?;
     let others = with_places(Vec::new(alloc), known, at)?;
     let config = plain(alloc, MADE, &text)?;
     let shown = priority_shown(alloc, at, others, config);
@@ -472,31 +473,20 @@ fn shown_of<A: Allocator + Copy>(
     others: Vec<Key, A>,
     message: TcMessage<A>,
 ) -> Result<Shown<A>, StateError>
-    ensures { IfOk result (λ made. key_of made
+    ensures key { IfOk result (λ made. key_of made
         ≡ key_at at.sort at.index at.parent at.chain at.priority (handle_named known.now.roots.items object message)) }
+    ensures config { IfOk result (λ made. IsConfigOf known.now.roots.items object at.parent message made.config.items) }
 {
     let handle = handle_named(&known.roots, object, &message);
-    let kind = String::from_str(alloc, kind_of(&message))?;
     let classes = match object {
         Object::Filter => classes_of(alloc, &message)?,
         _ => Vec::new(alloc),
     };
-    let copy = message.clone()?;
-    let (message, can_make) = match request_of(alloc, &known.roots, object, message) {
-        Ok(request) => (request.message, true),
-        Err(RestoreError::OutOfMemory) => return Err(StateError::OutOfMemory),
-        Err(_) => (without_counts(copy), false),
-    };
-    let message = settled(object, at, message);
-    let Some(bytes) = emitted(alloc, &message)? else {
+    let Some(configured) = config_of(alloc, &known.roots, object, at.sort, at.parent, message)?
+    else {
         return Err(StateError::TooLong { place });
     };
-    let bytes = normal(alloc, kind.as_str(), bytes)?;
-    let config = if can_make {
-        configured(alloc, at.sort, kind.as_str(), &bytes)?
-    } else {
-        plain(alloc, NEVER, &bytes)?
-    };
+    let Configured { message, config } = configured;
     let others = match object {
         Object::Filter => with_shared(others, actions_of_filter(alloc, message)?)?,
         _ => others,
@@ -517,6 +507,7 @@ fn shown_at<A: Allocator>(
     ensures chain { result.chain ≡ at.chain }
     ensures priority { result.priority ≡ at.priority }
     ensures handle { result.handle ≡ handle }
+    ensures config { result.config ≡ config }
 {
     Shown {
         sort: at.sort,
@@ -529,33 +520,6 @@ fn shown_at<A: Allocator>(
         others,
         config,
     }
-}
-
-// A message with one parent for all that is under ingress, and without the word of a qdisc or a class (`tcm_info`), which isn't
-// configured.
-fn settled<A: Allocator>(object: Object, at: Whereabouts, message: TcMessage<A>) -> TcMessage<A> {
-    let mut message = message;
-    message.header.parent = TcHandle::from(at.parent);
-    if object == Object::Qdisc || object == Object::Class {
-        message.header.info = 0;
-    }
-    message
-}
-
-// A dump without the attributes that only the kernel writes.
-fn without_counts<A: Allocator>(message: TcMessage<A>) -> TcMessage<A> {
-    let mut message = message;
-    message.attributes.retain(|attribute| {
-        !matches!(
-            attribute,
-            TcAttribute::Stats(_)
-                | TcAttribute::Xstats(_)
-                | TcAttribute::Stats2(_)
-                | TcAttribute::Fcnt(_)
-                | TcAttribute::HwOffload(_)
-        )
-    });
-    message
 }
 
 // Keys, and those of the actions that a filter shares.

@@ -1,9 +1,11 @@
 //! Handles of qdiscs that the kernel chose: a wanted one becomes the handle that the same place has now.
 
 ghost use Rattle.std.specs.Prelude.{◌≡◌, List, ℕ, ℤ, map, true, IfOk, IfSome};
+ghost use Rattle.std.specs.HashMap as hash;
 ghost use Rattle.std.specs.List.{list_all};
-ghost use Rattle.tc_objects.specs.States.{IsRenaming, is_chosen, dump_renamed, header_renamed, handle_renamed};
-ghost use Rattle.tc_objects.specs.Renamings.{major_by, AreChosen};
+ghost use Rattle.tc_changes.specs.Objects.{same_key};
+ghost use Rattle.tc_objects.specs.States.{IsRenaming, IsOfNow, is_chosen, dump_renamed, header_renamed, handle_renamed};
+ghost use Rattle.tc_objects.specs.Renamings.{major_by, AreChosen, AreFound, IsFound};
 
 use crate::classes::classes_of;
 use crate::dump::Dump;
@@ -34,7 +36,8 @@ pub(crate) fn renamed<A: Allocator + Copy>(
     now: &Handles<A>,
     dumps: Vec<Dump<A>, A>,
 ) -> Result<Vec<Dump<A>, A>, AllocError>
-    ensures { IfOk result (λ made. (renaming : ℤ → ℕ → ℕ) × (IsRenaming renaming × (made.items ≡ map (dump_renamed renaming) dumps.items))) }
+    ensures { IfOk result (λ made. (renaming : ℤ → ℕ → ℕ) × (IsRenaming renaming
+        × (IsOfNow (hash.get same_key now.now) renaming × (made.items ≡ map (dump_renamed renaming) dumps.items)))) }
 {
     let mut dumps = dumps;
     for _ in 0..DEPTH {
@@ -63,7 +66,8 @@ fn renamed_by<A: Allocator + Copy>(
 
 // True for the handle of a qdisc that the kernel chooses: 8000: to fffe:.
 fn is_chosen(handle: TcHandle) -> bool
-    ensures { result ≡ true → is_chosen handle.major ≡ true }
+    ensures major { result ≡ true → is_chosen handle.major ≡ true }
+    ensures minor { result ≡ true → handle.minor ≡ 0 }
 {
     0x8000 <= handle.major && handle.major < 0xffff && handle.minor == 0
 }
@@ -74,7 +78,8 @@ fn renamings_of<A: Allocator + Copy>(
     now: &Handles<A>,
     dumps: &[Dump<A>],
 ) -> Result<Vec<Renaming, A>, AllocError>
-    ensures { IfOk result (λ renamings. AreChosen renamings.items) }
+    ensures chosen { IfOk result (λ renamings. AreChosen renamings.items) }
+    ensures found { IfOk result (λ renamings. AreFound (hash.get same_key now.now) renamings.items) }
 {
     let mut renamings = Vec::new(alloc);
     for dump in dumps {
@@ -92,7 +97,8 @@ fn renaming_in<A: Allocator + Copy>(
     dumps: &[Dump<A>],
     dump: &Dump<A>,
 ) -> Result<Option<Renaming>, AllocError>
-    ensures { IfOk result (λ made. IfSome made (λ renaming. is_chosen renaming.from ≡ true)) }
+    ensures chosen { IfOk result (λ made. IfSome made (λ renaming. is_chosen renaming.from ≡ true)) }
+    ensures found { IfOk result (λ made. IfSome made (IsFound (hash.get same_key now.now))) }
 {
     let Dump::Of(Object::Qdisc, message) = dump else {
         return Ok(None);
@@ -107,7 +113,8 @@ fn renaming_in<A: Allocator + Copy>(
 }
 
 fn renaming_of<A: Allocator>(now: &Handles<A>, header: &TcHeader) -> Option<Renaming>
-    ensures { IfSome result (λ renaming. is_chosen renaming.from ≡ true) }
+    ensures chosen { IfSome result (λ renaming. is_chosen renaming.from ≡ true) }
+    ensures found { IfSome result (IsFound (hash.get same_key now.now)) }
 {
     let place = Key::Place {
         index: header.index,

@@ -10,7 +10,7 @@ ghost use Rattle.tc_objects.specs.Sent.{seen, sent, sent_by, new_type, message_b
 ghost use Rattle.tc_objects.specs.Sent.{action_bytes, frame_bytes, name_in};
 
 use crate::config::{changing, read};
-use crate::frames::framed;
+use crate::frames::{after, framed};
 use nla_frames::{DefaultNla, i32_bytes, u32_bytes};
 use std::alloc::{AllocError, Allocator};
 use std::collections::HashMap;
@@ -167,14 +167,6 @@ fn addressed<A: Allocator + Copy>(
         None => made.extend_from_slice(after(message, 8))?,
     }
     Ok(made)
-}
-
-// The bytes after so many.
-fn after(bytes: &[u8], len: usize) -> &[u8]
-    ensures { result.now ≡ drop len bytes.now }
-{
-    let (_, rest) = bytes.split_at(usize::min(len, bytes.len()));
-    rest
 }
 
 // The first bytes of `struct tcmsg`: no family, and an interface.

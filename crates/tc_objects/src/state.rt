@@ -5,11 +5,13 @@ ghost use Rattle.tc_changes.specs.Model.{ready, has, among};
 ghost use Rattle.tc_changes.specs.declared.key.Key.{Key as KeyModel};
 ghost use Rattle.tc_objects.specs.Needs.{key_of};
 ghost use Rattle.tc_objects.specs.Put.{key_in, keys_made, keys_read};
-ghost use Rattle.tc_objects.specs.States.{keys_shown, dump_renamed, IsRenaming};
+ghost use Rattle.tc_objects.specs.States.{keys_shown, dump_renamed, IsRenaming, IsOfNow};
+ghost use Rattle.std.specs.HashMap as hash;
 ghost use Rattle.tc_changes.specs.Objects.{things, same_key};
 
 use crate::dump::Dump;
 use crate::known::known_of;
+use crate::label::{Dumped, Label};
 use crate::names::names_of;
 use crate::objects::{key_of, object_of};
 use crate::reading::{Origin, Reading, readings_of};
@@ -63,10 +65,11 @@ pub fn state_after<A: Allocator + Copy>(
     now: &State<A>,
 ) -> Result<State<A>, StateError>
     ensures ready { IfOk result (λ state. ready same_key [] (things state.objects.items) ≡ true) }
-    // The keys of its objects are the keys that the dumps show after some renaming, which changes only handles that the kernel chose. The clause
-    // doesn't say which renaming.
-    ensures shown { IfOk result (λ state. (renaming : ℤ → ℕ → ℕ) × (IsRenaming renaming × ((k : KeyModel) →
-        has same_key (things state.objects.items) k ≡ among same_key (keys_shown (map (dump_renamed renaming) dumps.items)) k))) }
+    // The keys of its objects are the keys that the dumps show after a renaming: handles that the kernel chose become handles that qdiscs of
+    // the same interface have now.
+    ensures shown { IfOk result (λ state. (renaming : ℤ → ℕ → ℕ) × (IsRenaming renaming
+        × (IsOfNow (hash.get same_key now.now.handles) renaming × ((k : KeyModel) →
+        has same_key (things state.objects.items) k ≡ among same_key (keys_shown (map (dump_renamed renaming) dumps.items)) k)))) }
 {
     let wanted = renamed(alloc, &now.handles, dumps)?;
     let state = state_by(alloc, wanted, &now.handles, true)?;
@@ -91,7 +94,7 @@ fn state_by<A: Allocator + Copy>(
     let order = ordered(alloc, last)?;
     match stuck_in(&order.unordered) {
         None => {}
-        Some(place) => return Err(StateError::Circle { place }),
+        Some(fault) => return Err(fault),
     }
     let state = in_order(alloc, order.sorted)?;
     let is = is_ready(alloc, &state.objects)?;
@@ -103,13 +106,16 @@ fn state_by<A: Allocator + Copy>(
     }
 }
 
-// The place of the first of steps.
-fn stuck_in<A: Allocator>(steps: &[Step<Item<A>, Key, A>]) -> Option<usize>
+// That the first of steps can't be put into an order.
+fn stuck_in<A: Allocator>(steps: &[Step<Item<A>, Key, A>]) -> Option<StateError>
     ensures { IfNone result (steps.now ≡ []) }
 {
     match steps {
         [] => None,
-        [step, ..] => Some(step.item.origin.place),
+        [step, ..] => Some(StateError::Circle(Dumped {
+            place: step.item.origin.place,
+            object: Label(step.item.object.key),
+        })),
     }
 }
 
@@ -263,14 +269,17 @@ fn newer_of<A: Allocator + Copy>(
 fn fault_of<A: Allocator + Copy>(alloc: A, state: &State<A>) -> Result<StateError, AllocError> {
     let mut before: HashSet<Key, BuildHasherDefault<FoldHasher>, A> = HashSet::new(alloc);
     for (object, origin) in state.objects.iter().zip(state.origins.iter()) {
-        let place = origin.place;
+        let dumped = Dumped {
+            place: origin.place,
+            object: Label(object.key),
+        };
         if before.contains(&object.key) {
-            return Ok(StateError::Twice { place });
+            return Ok(StateError::Twice(dumped));
         }
         if !object.under.iter().all(|key| before.contains(key))
             || !object.refers.iter().all(|key| before.contains(key))
         {
-            return Ok(StateError::Missing { place });
+            return Ok(StateError::Missing(dumped));
         }
         before.insert(object.key)?;
     }

@@ -3,6 +3,7 @@
 ghost use Rattle.std.specs.Prelude.{◌≡◌};
 ghost use Rattle.tc_objects.specs.declared.state_error.StateError.TheVariants.{OutOfMemory};
 
+use crate::label::Dumped;
 use std::alloc::{AllocError, AllocFailed};
 use thiserror::Error;
 
@@ -18,16 +19,16 @@ pub enum StateError {
     TooLong { place: usize },
 
     /// Another dump shows the same object.
-    #[error("a second dump of this")]
-    Twice { place: usize },
+    #[error("a second dump of {0}")]
+    Twice(Dumped),
 
     /// No dump has an object that another one is under or refers to.
-    #[error("what it is under, or an action or a hash table that it shares, is missing")]
-    Missing { place: usize },
+    #[error("{0}: what it is under, or an action or a hash table that it shares, is missing")]
+    Missing(Dumped),
 
     /// It needs itself, by way of others.
-    #[error("it needs itself, in a circle")]
-    Circle { place: usize },
+    #[error("{0} needs itself, in a circle")]
+    Circle(Dumped),
 
     /// The allocator failed.
     #[error("out of memory")]
@@ -38,11 +39,9 @@ impl StateError {
     /// The number of the dump.
     pub fn place(&self) -> Option<usize> {
         match self {
-            StateError::Unnamed { place }
-            | StateError::TooLong { place }
-            | StateError::Twice { place }
-            | StateError::Missing { place }
-            | StateError::Circle { place } => Some(*place),
+            StateError::Unnamed { place } | StateError::TooLong { place } => Some(*place),
+            StateError::Twice(dumped) | StateError::Missing(dumped) | StateError::Circle(dumped) =>
+                Some(dumped.place),
             StateError::OutOfMemory => None,
         }
     }

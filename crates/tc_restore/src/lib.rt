@@ -37,8 +37,11 @@ pub use filter_actions::actions_of_filter;
 pub use notice::{Notice, notice_of};
 pub use restore_error::RestoreError;
 pub use restore_messages::{
-    NEW_FLAGS, Object, RTM_NEWACTION, Request, request_of, request_of_actions,
+    NEW_FLAGS, Object, RTM_NEWACTION, Request, is_made, kind_of_message, request_of,
+    request_of_actions,
 };
-pub use root_tables::{RootTable, chain_number, root_table};
+pub use root_tables::{
+    RootTable, chain_number, has_two_roots, is_at_root, root_table, within_table,
+};
 pub use standalone::{kind_of_action, standalone_index, use_of_action};
 pub use uses::Use;

@@ -218,8 +218,9 @@ fn has_times(kind: &str) -> bool
     matches!(kind, "fq_codel" | "codel")
 }
 
-// True if the kernel makes the object itself.
-fn is_made<A: Allocator>(object: Object, dump: &TcMessage<A>) -> bool
+/// True if the kernel makes the object itself: a default qdisc, a root class and a class of a kind that makes its classes, a classifier, and
+/// a root table of u32.
+pub fn is_made<A: Allocator>(object: Object, dump: &TcMessage<A>) -> bool
     ensures { result ≡ is_made object dump.now }
 {
     match object {
@@ -286,8 +287,8 @@ fn is_own_class<A: Allocator>(dump: &TcMessage<A>) -> bool
     has_own_classes(kind_of_message(dump))
 }
 
-// The one kind that a message sets, or "".
-pub(crate) fn kind_of_message<A: Allocator>(dump: &TcMessage<A>) -> &str
+/// The one kind that a message sets (`TCA_KIND`), or "".
+pub fn kind_of_message<A: Allocator>(dump: &TcMessage<A>) -> &str
     ensures { result.now ≡ kind_of_message dump.now }
 {
     sole_kind(&dump.attributes)

@@ -58,8 +58,8 @@ fn table_number(handle: u32) -> u32
     handle / 0x10_0000
 }
 
-// The lower 20 bits of a handle: bucket and key, or 0 for the table itself.
-pub(crate) fn within_table(handle: u32) -> u32
+/// The lower 20 bits of a handle of u32: bucket and key, or 0 for the table itself.
+pub fn within_table(handle: u32) -> u32
     ensures { result ≡ within_table handle }
 {
     handle % 0x10_0000
@@ -168,8 +168,8 @@ fn is_another(table: RootTable, root: &RootTable) -> bool
     is_of_priority(table, root) && root.number != table.number
 }
 
-// True if a filter's table is a root table, or is this table itself.
-fn is_at_root<A: Allocator>(roots: &[RootTable], object: Object, dump: &TcMessage<A>) -> bool
+/// True for a u32 filter in one of these root tables, and for such a table itself.
+pub fn is_at_root<A: Allocator>(roots: &[RootTable], object: Object, dump: &TcMessage<A>) -> bool
     ensures { result ≡ is_at_root roots.now object dump.now }
 {
     let table = root_of(dump);
@@ -199,12 +199,8 @@ pub(crate) fn is_in_root<A: Allocator>(
     is_at_root(roots, object, dump) && within_table(u32::from(dump.header.handle)) != 0
 }
 
-// True if the filter's priority has two root tables.
-pub(crate) fn has_two_roots<A: Allocator>(
-    roots: &[RootTable],
-    object: Object,
-    dump: &TcMessage<A>,
-) -> bool
+/// True for a u32 filter in one of these root tables, and for such a table itself, if there is another one of the same priority.
+pub fn has_two_roots<A: Allocator>(roots: &[RootTable], object: Object, dump: &TcMessage<A>) -> bool
     ensures { result ≡ has_two_roots roots.now object dump.now }
 {
     let table = root_of(dump);

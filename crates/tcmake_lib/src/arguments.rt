@@ -46,7 +46,7 @@ const NOTES: &str = "Examples:
   tcshow --json a.pcap | tcmake --pcap > b.pcap             copy the messages of a capture
   tcshow --json a.pcap | sed 's/\"Limit\":10240/\"Limit\":500/' | tcmake --pcap > b.pcap
   tcshow --json dump.pcap | tcmake --request --stream > r   requests that restore a dump
-  tcmake --plan now.json --stream < wanted.json > r         requests that lead from one dump to another
+  tcmake --plan now.json --stream < wanted.json > r         requests that lead from one to another
 
 Checks:
   By default the bytes must match what the line says about them (fits, settled and canonical, or
@@ -91,10 +91,10 @@ static OPTIONS: [(&str, Value, &str, &str); 13] = [
     ("settle", Value::Nothing, BUILD, "Build the canonical message instead, and report each change"),
     ("as-given", Value::Nothing, BUILD, "Build the bytes shown, without checking them"),
     ("request", Value::Nothing, BUILD, "Build the requests that restore a dump, in an order that works"),
-    ("plan", Value::File, BUILD, "Build the requests that lead from FILE (tcshow --json of today's dump) to what is read: deletes, changes and what is new"),
+    ("plan", Value::File, BUILD, "Build the requests that lead from FILE (tcshow --json) to what is read"),
     ("in-order", Value::Nothing, REQUESTS, "Keep the order of the input, and don't compare lines with each other"),
     ("index", Value::Index, REQUESTS, "Address the requests to the interface with index N"),
-    ("now", Value::File, REQUESTS, "Leave actions that FILE (tcshow --json of today's dump) has as they are, and change those that differ"),
+    ("now", Value::File, REQUESTS, "Leave actions that are as in FILE (tcshow --json), change those that differ"),
     ("replace-actions", Value::Nothing, REQUESTS, "Change actions that differ even if filters of other interfaces use them"),
     ("names", Value::File, REQUESTS, "Find the interfaces of a save by name in FILE (ip -o link)"),
     ("verbose", Value::Nothing, REQUESTS, "Report dumps that need no request because another request creates them"),

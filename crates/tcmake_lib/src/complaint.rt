@@ -4,7 +4,7 @@ use crate::save::SaveFault;
 use nla_frames::DecodeError;
 use std::alloc::{AllocError, AllocFailed};
 use std::fmt;
-use tc_objects::StateError;
+use tc_objects::{Label, StateError};
 use tc_restore::RestoreError;
 use tcmake_messages::{LineError, Place};
 
@@ -27,8 +27,12 @@ pub(crate) enum Complaint {
     NoNames,
     /// It can't be part of a state.
     State(StateError),
-    /// It can't be made, and isn't there as it is wanted.
-    Unmade,
+    /// Something changed during its dump, which may lack objects.
+    Interrupted,
+    /// This object can't be made, and isn't there as it is wanted.
+    Unmade(Label),
+    /// It is of an interface that what there is now doesn't have.
+    OtherInterface(i32),
     /// With `--in-order` it can't be checked that a save is whole.
     LineByLine,
 }
@@ -42,6 +46,7 @@ impl Complaint {
                 | Complaint::NoName(_)
                 | Complaint::NoInterface(_)
                 | Complaint::NoNames
+                | Complaint::OtherInterface(_)
         )
     }
 }
@@ -101,9 +106,18 @@ impl fmt::Display for Complaint {
                 "no names of interfaces: the first line of a save, with /names, is missing",
             ),
             Complaint::State(error) => write!(f, "{error}"),
-            Complaint::Unmade => f.write_str(
-                "it can't be made from a dump, and isn't there as it is wanted, or has to be made again",
+            Complaint::Interrupted => f.write_str(
+                "the dump was interrupted: something changed meanwhile, and objects may be missing",
             ),
+            Complaint::Unmade(object) => {
+                write!(
+                    f,
+                    "{object} can't be made from a dump, and isn't there as it is wanted, or has to be made again"
+                )
+            }
+            Complaint::OtherInterface(index) => {
+                write!(f, "interface {index} isn't one of those that there are now")
+            }
             Complaint::LineByLine => f.write_str(
                 "a save can't be checked with --in-order, which reads a line at a time",
             ),

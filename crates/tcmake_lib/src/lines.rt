@@ -59,6 +59,8 @@ pub(crate) struct Lines {
     pub(crate) remarks: Vec<Remark>,
     /// True if something is wrong with all of them.
     pub(crate) is_void: bool,
+    /// The interfaces that they are of, if the first line of a save has them.
+    pub(crate) devices: Option<Vec<i32>>,
 }
 
 /// How lines are read.
@@ -78,6 +80,7 @@ impl Lines {
             dumps: Vec::new(alloc),
             remarks: Vec::new(alloc),
             is_void: false,
+            devices: None,
         }
     }
 
@@ -130,6 +133,7 @@ pub(crate) fn read_lines<T: Tables, R: BufRead>(
         }
     }
     end(alloc, reading, &save, &mut lines)?;
+    lines.devices = save.into_devices();
     Ok(lines)
 }
 

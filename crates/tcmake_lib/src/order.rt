@@ -4,7 +4,7 @@ use crate::arguments::Request;
 use crate::complaint::Complaint;
 use crate::lines::{Dumped, Lines, Reading, Remark, RemarkKind, Source, read_lines};
 use crate::now::{Counts, Single, now_of, singles_of, unlisted_in};
-use crate::plans::plan_by;
+use crate::plans::{of_interfaces, plan_by};
 use crate::restore::{Dump, dump_of, restored};
 use forms_json::Tables;
 use nla_frames::{NLA_TYPE_MASK, Nla, ParseableBytes};
@@ -319,6 +319,7 @@ pub fn requests_of<T: Tables, R: BufRead>(
         Some(text) => {
             if asked.plans {
                 let there = lines_of_now(alloc, forms, asked.index, text)?;
+                let lines = of_interfaces(alloc, &there, lines)?;
                 return plan_by(alloc, &KindRules, there, lines);
             }
             let mut there = lines_of_now(alloc, forms, None, text)?;
@@ -387,6 +388,7 @@ fn requests_by(
         dumps,
         mut remarks,
         is_void,
+        ..
     } = lines;
     let mut requests = Requests::new(alloc);
     keep_all(

@@ -5,25 +5,27 @@ ghost use Rattle.tc_changes.specs.Model.{ready};
 ghost use Rattle.tc_changes.specs.Objects.{same_key, things};
 
 use crate::complaint::Complaint;
-use crate::lines::{Lines, RemarkKind, Source};
+use crate::lines::{Lines, Reading, Remark, RemarkKind, Source, read_lines};
 use crate::order::{LineRequest, Restored};
 use crate::restore::{Dump, dump_of};
+use forms_json::Tables;
 use nla_frames::ParseableBytes;
 use program_io::Stop;
 use std::alloc::{AllocError, Global};
 use std::collections::HashMap;
 use std::hash::{BuildHasherDefault, FoldHasher};
+use std::io::BufRead;
 use tc_action_messages::TcActionMessage;
 use tc_capture::{MessageType, Time};
 use tc_changes::{Key, Plan, Rules};
 use tc_messages::TcMessage;
 use tc_objects::{
-    DELETE_FLAGS, Dump as Shown, PlanRequest, Planned, State, StateError, plan_between,
+    DELETE_FLAGS, Dump as Shown, Label, PlanRequest, Planned, State, StateError, plan_between,
     state_after, state_of,
 };
 use tc_restore::RTM_NEWACTION;
 use tcmake_lines::{NetlinkHeader, packet_at};
-use tcmake_messages::Made;
+use tcmake_messages::{Forms, Made};
 
 // The number of the line of each object.
 type Numbers = HashMap<Key, u64, BuildHasherDefault<FoldHasher>, Global>;
@@ -46,6 +48,56 @@ pub fn plan_of_dumps<R: Rules<Global>>(
     let now = lines_of(alloc, now)?;
     let want = lines_of(alloc, want)?;
     plan_by(alloc, rules, now, want)
+}
+
+/// The wanted lines. One of an interface that the present lines aren't of is wrong, so that no other interface loses what it has.
+pub(crate) fn of_interfaces(alloc: Global, now: &Lines, want: Lines) -> Result<Lines, AllocError> {
+    let known = interfaces_of(alloc, now)?;
+    let mut others = Vec::new(alloc);
+    for dump in &want.dumps {
+        if let Some(index) = interface_of(&dump.made) {
+            if !known.is_empty() && !known.contains(&index) {
+                others.push((dump.number, index))?;
+            }
+        }
+    }
+    let mut want = want;
+    for (number, index) in others {
+        want.fail_with(
+            alloc,
+            Source::Wanted,
+            number,
+            &Complaint::OtherInterface(index),
+        )?;
+    }
+    Ok(want)
+}
+
+// The interfaces of lines: those of their dumps, and those in the first line of a save. None if there is neither.
+fn interfaces_of(alloc: Global, lines: &Lines) -> Result<Vec<i32>, AllocError> {
+    let mut known = Vec::new(alloc);
+    if let Some(devices) = &lines.devices {
+        known.extend_from_slice(devices)?;
+    }
+    for dump in &lines.dumps {
+        if let Some(index) = interface_of(&dump.made) {
+            if !known.contains(&index) {
+                known.push(index)?;
+            }
+        }
+    }
+    Ok(known)
+}
+
+// The interface of a dump (`tcm_ifindex`). Actions have none, nor has what is in a block that interfaces share.
+fn interface_of(made: &Made) -> Option<i32> {
+    match (made.given.holds, made.bytes.as_slice()) {
+        (MessageType::Tc, [_, _, _, _, a, b, c, d, ..]) => {
+            let index = i32::from_le_bytes([*a, *b, *c, *d]);
+            if index == -1 { None } else { Some(index) }
+        }
+        _ => None,
+    }
 }
 
 // Dumps as lines.
@@ -100,6 +152,46 @@ pub(crate) fn plan_by<R: Rules<Global>>(
     })
 }
 
+/// The state that lines show.
+#[derive(Drop)]
+pub struct LineState {
+    /// `None` if something is wrong with a line.
+    pub state: Option<State<Global>>,
+    /// Remarks on the lines.
+    pub remarks: Vec<Remark>,
+}
+
+/// The state that lines of JSON show, which are a whole dump or a save. After another state, qdiscs whose handles the kernel chose have the
+/// handles that the same places have there.
+pub fn state_of_lines<T: Tables, R: BufRead>(
+    alloc: Global,
+    forms: Forms<T>,
+    there: Option<&State<Global>>,
+    reader: &mut R,
+) -> Result<LineState, Stop> {
+    let reading = Reading {
+        source: Source::Wanted,
+        index: None,
+        names: None,
+    };
+    let lines = read_lines(alloc, forms, reading, reader)?;
+    let mut remarks = Lines::new(alloc);
+    let found = state_in(alloc, Source::Wanted, there, lines, &mut remarks)?;
+    let Lines {
+        remarks,
+        is_void,
+        ..
+    } = remarks;
+    let state = if is_void { None } else { state_alone(found) };
+    Ok(LineState { state, remarks })
+}
+
+// The state without the numbers of lines.
+fn state_alone(found: Option<(State<Global>, Numbers)>) -> Option<State<Global>> {
+    let (state, _numbers) = found?;
+    Some(state)
+}
+
 // The state that lines show, and the numbers of their lines; what is wrong with them is kept.
 fn state_in(
     alloc: Global,
@@ -114,6 +206,7 @@ fn state_in(
         dumps,
         remarks: said,
         is_void,
+        ..
     } = lines;
     remarks.is_void = remarks.is_void || is_void;
     for remark in said {
@@ -152,7 +245,13 @@ fn state_in(
     }
 }
 
+// `NLM_F_DUMP_INTR` of `linux/netlink.h`.
+const NLM_F_DUMP_INTR: u16 = 0x10;
+
 fn parsed_dump(alloc: Global, made: &Made) -> Result<Shown<Global>, Complaint> {
+    if made.given.flags & NLM_F_DUMP_INTR != 0 {
+        return Err(Complaint::Interrupted);
+    }
     match dump_of(made.given.kind)? {
         Dump::Of(object) => Ok(Shown::Of(object, TcMessage::parse(alloc, &made.bytes)?)),
         Dump::Actions => Ok(Shown::Actions(TcActionMessage::parse(alloc, &made.bytes)?)),
@@ -209,7 +308,8 @@ fn line_requests(
         Plan::Refused(keys) => {
             for key in keys {
                 let number = is.get(&key).copied().unwrap_or(0);
-                fail_all(alloc, Source::Wanted, number, &Complaint::Unmade, remarks)?;
+                let complaint = Complaint::Unmade(Label(key));
+                fail_all(alloc, Source::Wanted, number, &complaint, remarks)?;
             }
         }
     }

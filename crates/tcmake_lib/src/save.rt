@@ -1,8 +1,8 @@
 //! The first and the last line of a save: `{"save":1,"names":{"2":"wan"},..}` and `{"end":39}`.
 
 use crate::complaint::Complaint;
-use serde_json::Value;
-use std::alloc::Global;
+use serde_json::{Map, Value};
+use std::alloc::{AllocError, Global};
 use std::fmt;
 use tcmake_messages::{Numbered, is_end, is_head, number_of, wrong};
 
@@ -50,6 +50,8 @@ pub(crate) type Names = Vec<(u32, String)>;
 pub(crate) struct Save {
     // The names in its first line, if it has one.
     names: Option<Names>,
+    // The interfaces that it is of, by its first line.
+    devices: Option<Vec<i32>>,
     // How many lines were read that aren't blank, behind the first line of a save.
     lines: u64,
     // The number of the last line that was read; 0 before the first.
@@ -63,6 +65,7 @@ impl Save {
     pub(crate) fn new() -> Save {
         Save {
             names: None,
+            devices: None,
             lines: 0,
             last: 0,
             is_ended: false,
@@ -72,6 +75,11 @@ impl Save {
     /// The names in the first line of a save.
     pub(crate) fn names(&self) -> Option<&Names> {
         self.names.as_ref()
+    }
+
+    /// The indices of the interfaces that the save is of, if its first line has them.
+    pub(crate) fn into_devices(self) -> Option<Vec<i32>> {
+        self.devices
     }
 
     /// Takes a line that isn't blank, and that isn't read as JSON. Fails after the last line of a save.
@@ -111,6 +119,7 @@ impl Save {
         }
         let names = names_in(alloc, json)?;
         self.names = Some(names);
+        self.devices = devices_in(alloc, json)?;
         Ok(())
     }
 
@@ -180,6 +189,28 @@ fn names_in(alloc: Global, json: &Value) -> Result<Names, Complaint> {
         }
     }
     Ok(names)
+}
+
+// The indices of the interfaces in the first line of a save.
+fn devices_in(alloc: Global, json: &Value) -> Result<Option<Vec<i32>>, AllocError> {
+    let Some(devices) = members_of(json, "devs") else {
+        return Ok(None);
+    };
+    let mut indices = Vec::new(alloc);
+    for (_, device) in devices {
+        if let Some(index) = index_of(device) {
+            indices.push(index)?;
+        }
+    }
+    Ok(Some(indices))
+}
+
+fn members_of<'a>(json: &'a Value, name: &str) -> Option<&'a Map<String, Value>> {
+    json.get(name)?.as_object()
+}
+
+fn index_of(device: &Value) -> Option<i32> {
+    i32::try_from(device.get("index")?.as_i64()?).ok()
 }
 
 const NAMES: &str = "names of interfaces by their indices";

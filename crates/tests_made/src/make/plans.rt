@@ -145,6 +145,7 @@ fn refusals(rt: HostRuntime) -> Result<(), Fail> {
     let twice = format!(in alloc; "{HTB}{HTB}")?;
     let run = planned(alloc, "", twice.as_str())?;
     assert!(rt; run.status == 1 && run.written.is_empty());
-    assert!(rt; run.errors.as_slice() == "tcmake: line 2: a second dump of this\n".as_bytes());
+    let said = "tcmake: line 2: a second dump of the qdisc at root of interface 1\n";
+    assert!(rt; run.errors.as_slice() == said.as_bytes());
     Ok(())
 }

@@ -290,6 +290,11 @@ fn actions_that_are_there(rt: HostRuntime) {
             ""
         )
     );
+}
+
+#[test]
+fn actions_that_differ(rt: HostRuntime) {
+    let alloc = rt.alloc();
     let unlisted =
         "tcmake: line 1: the action mirred 7 is there and differs, and no line has it by itself\n";
     assert!(rt; makes(alloc, &HEX, &now(OWN, false), &[FILTERS], 1, &[], unlisted));
@@ -355,6 +360,12 @@ fn interfaces_by_name(rt: HostRuntime) {
             ""
         )
     );
+}
+
+#[test]
+fn interfaces_without_names(rt: HostRuntime) {
+    let alloc = rt.alloc();
+    let lines = [HEAD, QDISCS, ACTIONS, "{\"end\":true}\n"];
     let missing = "tcmake: line 4: there is no interface ids\n";
     assert!(rt;
         makes(

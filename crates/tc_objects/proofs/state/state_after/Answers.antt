@@ -7,4 +7,4 @@ use Rattle.tc_objects.proofs.state.state_after.Goals as goal
 pub returns-clause-shown : goal.returns-clause-shown
 returns-clause-shown g c =
     let made = c.in_ok-wanted.ensures in
-    (made.0, (made.1.0, λ k. c.in_ok-state.ensures.shown k ∙ ap (λ l. among same_key (keys_shown l) k) made.1.1))
+    (made.0, (made.1.0, (made.1.1.0, λ k. c.in_ok-state.ensures.shown k ∙ ap (λ l. among same_key (keys_shown l) k) made.1.1.1)))

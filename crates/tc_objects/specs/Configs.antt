@@ -1,0 +1,55 @@
+-- The configuration of an object: the request that restores its dump, in normal form.
+use Rattle.std.specs.Prelude.{◌≡◌, ◌⊎◌, ℕ, List, Ok}
+use Rattle.tc_meaning.specs.Whole.{tc_bytes, SettledTc}
+use Rattle.tc_records.specs.Header.{handle_of}
+use Rattle.tc_records.specs.declared.header.TcHeader.{TcHeader}
+use Rattle.tc_messages.specs.Message.{tc_message}
+use Rattle.tc_messages.specs.declared.message.TcMessage.{TcMessage}
+use Rattle.tc_restore.specs.RequestOf.{request_restored, RefusedBy}
+use Rattle.tc_restore.specs.RestoredMessages.{kind_of_message, tc_restored}
+use Rattle.tc_restore.specs.RootTables.{is_in_root}
+use Rattle.tc_restore.specs.Steady.{Unsteady}
+use Rattle.tc_restore.specs.declared.restore_error.RestoreError.{RestoreError}
+use Rattle.tc_restore.specs.declared.restore_error.RestoreError.TheVariants.{OutOfMemory}
+use Rattle.tc_restore.specs.declared.restore_messages.Object.{Object}
+use Rattle.tc_restore.specs.declared.restore_messages.Object.TheVariants.{Qdisc, Class, Filter, Chain}
+use Rattle.tc_restore.specs.declared.root_tables.RootTable.{RootTable}
+use Rattle.tc_objects.specs.Config.{making_in, message_in}
+use Rattle.tc_objects.specs.Normal.{normal}
+
+-- the word of a qdisc and of a class (`tcm_info`) isn't configured; of a filter it is its priority and its protocol
+abbrev pub info_settled : Object → ℕ → ℕ
+info_settled Qdisc info = 0
+info_settled Class info = 0
+info_settled Filter info = info
+info_settled Chain info = info
+
+-- a message under this parent: ingress has two ways to write it
+abbrev pub header_settled : Object → ℕ → TcHeader → TcHeader
+header_settled object parent h = record {
+  family = h.family;
+  index = h.index;
+  handle = h.handle;
+  parent = handle_of parent;
+  info = info_settled object h.info;
+}
+
+abbrev pub settled : {A : Type 0} → Object → ℕ → TcMessage A → TcMessage A
+settled object parent m = record { header = header_settled object parent m.header; attributes = m.attributes }
+
+-- the message of the request that restores a dump, in normal form
+abbrev pub IsRequestOf : {A : Type 0} → List RootTable → Object → ℕ → TcMessage A → List ℕ → Type 0
+IsRequestOf {A = A} roots object parent m message =
+    (request : TcMessage A) × (request_restored roots object m ≡ Ok (tc_message request))
+    × (message ≡ normal (kind_of_message m) (tc_bytes (tc_message (settled object parent request))))
+
+-- no request restores a dump
+abbrev pub IsRefusedOf : {A : Type 0} → List RootTable → Object → TcMessage A → Type 0
+IsRefusedOf {A = A} roots object m =
+    (e : RestoreError) × (e ≡ OutOfMemory → ⊥)
+    × RefusedBy SettledTc (Unsteady (tc_message {A = A}) (tc_restored (is_in_root roots object m))) (request_restored roots object m) e
+
+-- the configuration of what a dump shows: its request; or none, if no request restores it
+abbrev pub IsConfigOf : {A : Type 0} → List RootTable → Object → ℕ → TcMessage A → List ℕ → Type 0
+IsConfigOf roots object parent m config =
+    ((making_in config ≡ 0 → ⊥) × IsRequestOf roots object parent m (message_in config)) ⊎ ((making_in config ≡ 0) × IsRefusedOf roots object m)

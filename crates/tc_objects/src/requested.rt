@@ -1,0 +1,154 @@
+//! The configuration of what a dump shows: the request that restores it, in normal form.
+
+ghost use Rattle.std.specs.Prelude.{◌≡◌, true, false, Ok, IfOk, IfSome};
+ghost use Rattle.tc_meaning.specs.Whole.{tc_bytes};
+ghost use Rattle.tc_messages.specs.Message.{tc_message};
+ghost use Rattle.tc_restore.specs.RequestOf.{request_restored};
+ghost use Rattle.tc_restore.specs.declared.restore_error.RestoreError.TheVariants.{OutOfMemory};
+ghost use Rattle.tc_objects.specs.Config.{making_in, message_in};
+ghost use Rattle.tc_objects.specs.Configs.{IsConfigOf, IsRefusedOf, settled, header_settled, info_settled};
+ghost use Rattle.tc_objects.specs.Normal.{normal};
+
+use crate::config::NEVER;
+use crate::configured::{configured, plain};
+use crate::frames::emitted;
+use crate::normal::normal;
+use crate::shown::Sort;
+use std::alloc::{AllocError, Allocator};
+use tc_messages::{TcAttribute, TcMessage};
+use tc_records::{TcHandle, TcHeader};
+use tc_restore::{Object, RestoreError, RootTable, kind_of_message, request_of};
+
+/// A configuration, and its request.
+#[derive(Drop)]
+pub struct Configured<A: Allocator> {
+    /// The request that makes the object, or the dump of one that no request makes.
+    pub message: TcMessage<A>,
+    /// The bytes of the configuration.
+    pub config: Vec<u8, A>,
+}
+
+/// The configuration of the object that a dump shows, which has this type and is named by this parent: the request that restores the dump,
+/// with counters of 0. `roots` are the root tables of u32 in all dumps. `None` if the message is too long to be written.
+pub fn config_of<A: Allocator + Copy>(
+    alloc: A,
+    roots: &[RootTable],
+    object: Object,
+    sort: Sort,
+    parent: u32,
+    dump: TcMessage<A>,
+) -> Result<Option<Configured<A>>, AllocError>
+    ensures config { IfOk result (λ made. IfSome made (λ c. IsConfigOf roots.now object parent dump c.config.items)) }
+{
+    let kind = String::from_str(alloc, kind_of_message(&dump))?;
+    let (request, can_make) = request_or_dump(alloc, roots, object, dump)?;
+    let message = settled(object, parent, request);
+    match written_config(alloc, sort, kind.as_str(), &message, can_make)? {
+        Some(config) => Ok(Some(Configured { message, config })),
+        None => Ok(None),
+    }
+}
+
+// The request that restores a dump, and true; or if there is none, the dump and false.
+fn request_or_dump<A: Allocator + Copy>(
+    alloc: A,
+    roots: &[RootTable],
+    object: Object,
+    dump: TcMessage<A>,
+) -> Result<(TcMessage<A>, bool), AllocError>
+    ensures made { IfOk result (λ made. made.1 ≡ true → request_restored roots.now object dump ≡ Ok (tc_message made.0)) }
+    ensures refused { IfOk result (λ made. made.1 ≡ false → IsRefusedOf roots.now object dump) }
+{
+    let copy = dump.clone()?;
+    match request_of(alloc, roots, object, dump) {
+        Ok(request) => Ok((request.message, true)),
+        Err(error) => {
+            other_than_memory(error)?;
+            Ok((without_counts(copy), false))
+        }
+    }
+}
+
+// Fails if memory ran out.
+fn other_than_memory(error: RestoreError) -> Result<(), AllocError>
+    ensures { IfOk result (λ _. error ≡ OutOfMemory → ⊥) }
+{
+    match error {
+        RestoreError::OutOfMemory => Err(AllocError),
+        _ => Ok(()),
+    }
+}
+
+// The configuration of a request that makes an object of this kind, or of a dump. None if its message is too long.
+fn written_config<A: Allocator + Copy>(
+    alloc: A,
+    sort: Sort,
+    kind: &str,
+    message: &TcMessage<A>,
+    can_make: bool,
+) -> Result<Option<Vec<u8, A>>, AllocError>
+    ensures making { IfOk result (λ made. IfSome made (λ config. making_in config.items ≡ 0 → can_make ≡ false)) }
+    ensures never { IfOk result (λ made. IfSome made (λ config. can_make ≡ false → making_in config.items ≡ 0)) }
+    ensures message { IfOk result (λ made. IfSome made (λ config.
+        message_in config.items ≡ normal kind.now (tc_bytes (tc_message message.now)))) }
+{
+    let Some(bytes) = emitted(alloc, message)? else {
+        return Ok(None);
+    };
+    let bytes = normal(alloc, kind, bytes)?;
+    let config = if can_make {
+        configured(alloc, sort, kind, &bytes)?
+    } else {
+        plain(alloc, NEVER, &bytes)?
+    };
+    Ok(Some(config))
+}
+
+// A message with one parent for all that is under ingress, and without the word of a qdisc or a class (`tcm_info`), which isn't
+// configured.
+fn settled<A: Allocator>(object: Object, parent: u32, message: TcMessage<A>) -> TcMessage<A>
+    ensures { result ≡ settled object parent message }
+{
+    let TcMessage { header, attributes } = message;
+    TcMessage {
+        header: header_settled(object, parent, header),
+        attributes,
+    }
+}
+
+fn header_settled(object: Object, parent: u32, header: TcHeader) -> TcHeader
+    ensures { result ≡ header_settled object parent header }
+{
+    TcHeader {
+        family: header.family,
+        index: header.index,
+        handle: header.handle,
+        parent: TcHandle::from(parent),
+        info: info_settled(object, header.info),
+    }
+}
+
+fn info_settled(object: Object, info: u32) -> u32
+    ensures { result ≡ info_settled object info }
+{
+    match object {
+        Object::Qdisc | Object::Class => 0,
+        Object::Filter | Object::Chain => info,
+    }
+}
+
+// A dump without the attributes that only the kernel writes.
+fn without_counts<A: Allocator>(message: TcMessage<A>) -> TcMessage<A> {
+    let mut message = message;
+    message.attributes.retain(|attribute| {
+        !matches!(
+            attribute,
+            TcAttribute::Stats(_)
+                | TcAttribute::Xstats(_)
+                | TcAttribute::Stats2(_)
+                | TcAttribute::Fcnt(_)
+                | TcAttribute::HwOffload(_)
+        )
+    });
+    message
+}
