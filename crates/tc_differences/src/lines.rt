@@ -12,7 +12,6 @@ ghost use Rattle.tc_changes.specs.Objects.{things};
 ghost use Rattle.tc_differences.specs.Differences.{IsSame};
 
 use crate::difference::Difference;
-use crate::message::message_of;
 use crate::places::{index_of, look_up};
 use crate::states::differences;
 use crate::values::put_values;
@@ -24,6 +23,7 @@ use std::alloc::Global;
 use tc_brief::{Object as Words, Said, lines_of};
 use tc_changes::{Key, Object};
 use tc_columns::{KindColumns, Root};
+use tc_objects::message_of;
 use tc_select::kind_of;
 use tc_words::TcWords;
 
