@@ -135,8 +135,8 @@ Notes:
 
 Exit status:
   0  no problem; with --diff, no difference
-  1  a message that was shown is malformed, or the input is damaged or truncated; with --diff, a
-     difference
+  1  a message that was shown is malformed, or the input is damaged or truncated; with --diff,
+     a difference
   2  bad arguments, a file that can't be opened, or input that is not a capture or has no route
      netlink
   3  an I/O error, or out of memory; with --diff, an input that is malformed, cut or interrupted";
