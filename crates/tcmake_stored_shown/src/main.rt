@@ -8,6 +8,7 @@ use std::alloc::Global;
 use std::fs;
 use std::io::{self, BufReader, IsTerminal, Print, Read, Write};
 use std::process::ExitCode;
+use tc_differences::StateDiffer;
 use tc_outline::Interfaces;
 use tc_select::Filter;
 use tcmake_lib::arguments::Request;
@@ -17,7 +18,7 @@ use tcshow_lib::options::Options;
 use tcshow_lib::program::tcshow;
 
 fn main(rt: HostRuntime) -> ExitCode {
-    let status = tcshow(&rt, rt.stdout().is_terminal(), &mut rt.stderr()).status();
+    let status = tcshow(&rt, rt.stdout().is_terminal(), &StateDiffer, &mut rt.stderr()).status();
     if status != 0 {
         return ExitCode::from(status);
     }

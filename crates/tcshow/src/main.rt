@@ -3,8 +3,9 @@
 
 use std::io::IsTerminal;
 use std::process::ExitCode;
+use tc_differences::StateDiffer;
 use tcshow_lib::program::tcshow;
 
 fn main(rt: HostRuntime) -> ExitCode {
-    ExitCode::from(tcshow(&rt, rt.stdout().is_terminal(), &mut rt.stderr()).status())
+    ExitCode::from(tcshow(&rt, rt.stdout().is_terminal(), &StateDiffer, &mut rt.stderr()).status())
 }

@@ -15,6 +15,8 @@ pub enum Task<'a> {
     Explain(Option<&'a str>),
     /// Print the JSON Schema of a line.
     Schema,
+    /// Compare two inputs.
+    Diff,
 }
 
 /// Arguments. Values of filters are unparsed.
@@ -132,11 +134,12 @@ Notes:
   Captures made on big-endian hosts can be opened, but their messages are reported as malformed.
 
 Exit status:
-  0  no problem
-  1  a message that was shown is malformed, or the input is damaged or truncated
+  0  no problem; with --diff, no difference
+  1  a message that was shown is malformed, or the input is damaged or truncated; with --diff,
+     a difference
   2  bad arguments, a file that can't be opened, or input that is not a capture or has no route
      netlink
-  3  an I/O error, or out of memory";
+  3  an I/O error, or out of memory; with --diff, an input that is malformed, cut or interrupted";
 
 // Headings of the help.
 const INPUT: &str = "Input";
@@ -167,7 +170,7 @@ enum Value {
 }
 
 // The options: name, value, heading and text of the help.
-static OPTIONS: [(&str, Value, &str, &str); 24] = [
+static OPTIONS: [(&str, Value, &str, &str); 25] = [
     (
         "example",
         Value::Nothing,
@@ -233,6 +236,12 @@ static OPTIONS: [(&str, Value, &str, &str); 24] = [
         Value::Word("WHEN", &["auto", "always", "never"]),
         FORMS,
         "Color outlines (default: auto)",
+    ),
+    (
+        "diff",
+        Value::Nothing,
+        FORMS,
+        "Compare two FILEs: - only in the first, + only in the second, ~ changed",
     ),
     (
         "summary",
@@ -432,9 +441,40 @@ fn lines_group<'a>(alloc: Global) -> Result<ArgGroup<'a>, AllocError> {
 fn with_conflicts<'a>(option: Arg<'a>, name: &str) -> Result<Arg<'a>, AllocError> {
     match name {
         "outline" | "json" => option.conflicts_with("of_lines"),
+        "diff" => option
+            .conflicts_with("forms")?
+            .conflicts_with("of_lines")?
+            .conflicts_with("tables")?
+            .conflicts_with("of_messages"),
         _ => Ok(option),
     }
 }
+
+// Options about single messages, which `--diff` excludes.
+fn messages_group<'a>(alloc: Global) -> Result<ArgGroup<'a>, AllocError> {
+    let mut group = ArgGroup::new(alloc, "of_messages").multiple(true);
+    for name in &OF_MESSAGES {
+        group = group.arg(*name)?;
+    }
+    Ok(group)
+}
+
+static OF_MESSAGES: [&str; 14] = [
+    "example",
+    "no-header",
+    "all",
+    "summary",
+    "kind",
+    "type",
+    "dev",
+    "handle",
+    "parent",
+    "chain",
+    "pref",
+    "since",
+    "until",
+    "refused",
+];
 
 // Options about the tables, which exclude one another.
 fn table_group<'a>(alloc: Global) -> Result<ArgGroup<'a>, AllocError> {
@@ -456,9 +496,14 @@ fn with_lines<'a>(alloc: Global) -> Result<Command<'a>, AllocError> {
     with_forms(alloc)?.group(lines)
 }
 
+fn with_messages<'a>(alloc: Global) -> Result<Command<'a>, AllocError> {
+    let messages = messages_group(alloc)?;
+    with_lines(alloc)?.group(messages)
+}
+
 fn with_groups<'a>(alloc: Global) -> Result<Command<'a>, AllocError> {
     let tables = table_group(alloc)?;
-    with_lines(alloc)?.group(tables)
+    with_messages(alloc)?.group(tables)
 }
 
 fn command<'a>(alloc: Global) -> Result<Command<'a>, AllocError> {
@@ -507,6 +552,9 @@ fn without_header(matches: &ArgMatches<'_>) -> Option<MessageType> {
 }
 
 fn task_of<'a>(matches: &ArgMatches<'a>) -> Task<'a> {
+    if matches.get_flag("diff") {
+        return Task::Diff;
+    }
     if matches.get_flag("schema") {
         return Task::Schema;
     }

@@ -30,16 +30,28 @@ use tc_select::{Filter, LINK_FORMS};
 use tcmake_lines::OutputFormat as MadeFormat;
 use tcshow_input::{Packets, Printer, Stop};
 
+/// The comparison of two inputs (`--diff`). The program brings it, since it needs the crates that make requests of dumps.
+pub trait Differ {
+    /// Compares the two files in the arguments, and prints the differences. `has_refused` is true if there are any.
+    fn diff<R: AllocGlobal + Files + Input + Print, E: Write>(
+        &self,
+        rt: &R,
+        arguments: &Arguments<'_>,
+        errors: &mut E,
+    ) -> Ended;
+}
+
 /// The program `tcshow`: reads its arguments, prints the messages of its input on standard output, and returns how it
 /// ended. Complaints are written to `errors`. `is_terminal` says whether standard output is a terminal.
-pub fn tcshow<R: Env + AllocGlobal + Files + Input + Print, E: Write>(
+pub fn tcshow<R: Env + AllocGlobal + Files + Input + Print, D: Differ, E: Write>(
     rt: &R,
     is_terminal: bool,
+    differ: &D,
     errors: &mut E,
 ) -> Ended {
     match env::args(rt) {
         Ok(words) => match Vec::from_iter(rt.alloc(), words) {
-            Ok(words) => obey(rt, words.as_slice(), is_terminal, errors),
+            Ok(words) => obey(rt, words.as_slice(), is_terminal, differ, errors),
             Err(_) => fail_without_memory(errors),
         },
         Err(_) => complain(
@@ -50,17 +62,18 @@ pub fn tcshow<R: Env + AllocGlobal + Files + Input + Print, E: Write>(
     }
 }
 
-fn obey<R: Env + AllocGlobal + Files + Input + Print, E: Write>(
+fn obey<R: Env + AllocGlobal + Files + Input + Print, D: Differ, E: Write>(
     rt: &R,
     words: &[String],
     is_terminal: bool,
+    differ: &D,
     errors: &mut E,
 ) -> Ended {
     match arguments_of(rt.alloc(), words) {
         Ok(mut arguments) => {
             arguments.in_colours = arguments.format == OutputFormat::Outline
                 && arguments.colours.are_on(is_terminal && allows_colours(rt));
-            perform(rt, &arguments, errors)
+            perform(rt, &arguments, differ, errors)
         }
         Err(error) => say(rt, &error, errors),
     }
@@ -89,12 +102,19 @@ fn allows_colours<R: Env + AllocGlobal>(rt: &R) -> bool {
     }
 }
 
-fn perform<R: AllocGlobal + Files + Input + Print, E: Write>(
+fn perform<R: AllocGlobal + Files + Input + Print, D: Differ, E: Write>(
     rt: &R,
     arguments: &Arguments<'_>,
+    differ: &D,
     errors: &mut E,
 ) -> Ended {
     match arguments.task {
+        Task::Diff if arguments.files.len() != 2 => complain(
+            errors,
+            "tcshow: --diff compares two files\n",
+            Stop::Usage,
+        ),
+        Task::Diff => differ.diff(rt, arguments, errors),
         Task::Show => show(rt, arguments, errors),
         Task::Schema => print_schema(rt, errors),
         Task::Explain(None) => print_kinds(rt, errors),
@@ -526,6 +546,30 @@ pub fn serve<A: Allocator + Copy, R: Read, W: Write, E: Write>(
     let ended = run(alloc, json, options, reader, writer);
     say_end(json, errors, name, &ended, reader, writer);
     ended
+}
+
+/// Appends the lines of JSON of an input of this name. Why it ended early is written to `errors`.
+pub fn put_json<R: Read + Drop, E: Write>(
+    alloc: Global,
+    options: &Options<'_>,
+    name: &str,
+    reader: R,
+    lines: &mut Vec<u8>,
+    errors: &mut E,
+) -> Ended {
+    let options = Options {
+        format: OutputFormat::Json,
+        ..*options
+    };
+    serve(
+        alloc,
+        alloc,
+        &options,
+        name,
+        &mut Reader::new(reader),
+        &mut Writer::new(lines),
+        errors,
+    )
 }
 
 // Writes why a run ended early.

@@ -64,7 +64,7 @@ use tcmake_messages::Forms;
 
 /// Shows the traffic control messages of a capture, or of lines of hex.
 pub fn tcshow() -> ExitCode {
-    ExitCode::from(tcshow_lib::program::tcshow(&HostRuntime, std::io::stdout().is_terminal(), &mut HostRuntime.stderr()).status())
+    ExitCode::from(tcshow_lib::program::tcshow(&HostRuntime, std::io::stdout().is_terminal(), &tc_differences::StateDiffer, &mut HostRuntime.stderr()).status())
 }
 
 /// Makes traffic control messages of JSON.

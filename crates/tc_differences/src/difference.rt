@@ -1,0 +1,21 @@
+//! Differences between states.
+
+use tc_changes::Key;
+
+/// The way in which an object differs.
+#[derive(Clone, Copy, PartialEq, Eq, Drop, Debug)]
+pub enum Change {
+    /// Only the first state has it.
+    Gone,
+    /// Both states have it, with other configurations.
+    Changed,
+    /// Only the second state has it.
+    New,
+}
+
+/// An object in which two states differ.
+#[derive(Clone, Copy, PartialEq, Eq, Drop, Debug)]
+pub struct Difference {
+    pub key: Key,
+    pub change: Change,
+}

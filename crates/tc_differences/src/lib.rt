@@ -1,0 +1,22 @@
+//! The differences between two states: what only one of them has, and what both have with other configurations. `tcshow --diff` prints them.
+//!
+//! [`differences`] compares states, [`difference_lines`] makes lines of their differences, and [`StateDiffer`] reads the states from dumps or
+//! saves. Calls that take an allocator fail with `AllocError` or `Stop::NoMemory` if it fails.
+#![tactic(auto)]
+
+mod difference;
+mod laws;
+pub mod lines;
+mod places;
+pub mod program;
+mod states;
+mod values;
+
+pub use difference::{Change, Difference};
+pub use laws::same_states_dont_differ;
+pub use lines::{DifferenceLines, difference_lines};
+pub use program::StateDiffer;
+pub use states::differences;
+
+#[cfg(test)]
+mod tests;
