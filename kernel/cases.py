@@ -64,6 +64,8 @@ class Run:
             show = self.programs.show(f"{self.file}.stream", f"{self.file}.json")
             dump = f"send {RTM_GETTFILTER} {DUMP} {(tc_header(7, 0, INGRESS, 0) + TERSE).hex()}"
             return [f"into {self.file}.stream", dump, "into /dev/null", f"run {show}"]
+        if verb == "there":
+            return ["dump 7"]
         if verb == "clear":
             return [f"run {self.programs.clear()}"]
         if verb == "restore":
@@ -72,8 +74,11 @@ class Run:
             own = f"{self.file}.{self.count}"
             restore = self.programs.restore(f"{self.file}.json", f"{own}.state", options)
             return [f"run ip -o link > {own}.names", "dump 7", f"watch {own}.sent", f"run {restore}", "unwatch", "dump 7"]
+        if verb == "apply":
+            self.count += 1
+            return ["dump 7", f"run {self.programs.apply(f'{self.file}.json', f'{self.file}.{self.count}.state')}", "dump 7"]
         if verb == "shows":
-            return [f"run {rest.rpartition(': ')[2]}"]
+            return [f"run tc {rest.rpartition(': tc ')[2]}"]
         return []
 
     def judge(self, answers):
@@ -120,6 +125,10 @@ class Run:
         with open(f"{own}.sent", "rb") as file:
             return judged(self.programs, f"{self.file}.json", f"{own}.state", file.read(), rest, f"{own}.names", has_others(self.case))
 
+    def judge_apply(self, rest):
+        self.before, self.said, self.after = self.state(), next(self.answers), self.state()
+        return "" if str(self.said.status) == rest else f"{self.said}"
+
     def judge_says(self, rest):
         return "" if any(re.fullmatch(rest, it) for it in self.said.lines) else f"it says {self.said.lines}"
 
@@ -129,11 +138,14 @@ class Run:
     def judge_same(self, rest):
         return "; ".join(self.saved.differences(self.after)[:4])
 
+    def judge_there(self, rest):
+        return "; ".join(self.saved.differences(self.state())[:4])
+
     def judge_unchanged(self, rest):
         return "; ".join(self.before.differences(self.after)[:4])
 
     def judge_shows(self, rest):
-        pattern, said = rest.rpartition(": ")[0], next(self.answers)
+        pattern, said = rest.rpartition(": tc ")[0], next(self.answers)
         text = "\n".join(said.lines)
         return "" if re.fullmatch(pattern, text) else f"it shows {text!r}"
 

@@ -6,10 +6,13 @@
 //           link NUMBER [QUEUES]        makes the dummy link dNUMBER, which stays down, so that no packet is counted
 //           send TYPE FLAGS PAYLOAD     a request: message type and flags in decimal, the payload after nlmsghdr in hex
 //           dump NUMBER                 asks for all that the link dNUMBER has, and for all actions (see `dump_link`)
+//           steps NUMBER FILE           sends each request of a netlink stream, and after each asks for all that the link dNUMBER has
 //           into FILE                   what comes back from here on is written to FILE too, as a netlink stream
 //           run COMMAND                 runs a command by the shell
 //           watch FILE                  writes all messages of route netlink, in both directions, that processes of the try exchange with
 //                                       the kernel from here on
+//           watch FILE OTHER PART       the same, and kills tcapply at a request that makes, changes or deletes something: the one at this part
+//                                       of those in the file OTHER, which was written so
 //           unwatch                     the end of that
 // answers:  try NAME
 //           got TYPE PAYLOAD            a message that came back, masked (see `mask`)
@@ -22,6 +25,7 @@
 // The last line is `finished`. One eBPF program, which lets every packet through, is open as descriptor 100 in all
 // tries.
 #define _GNU_SOURCE
+#include <dirent.h>
 #include <errno.h>
 #include <fcntl.h>
 #include <linux/bpf.h>
@@ -400,6 +404,38 @@ static void dump_link(int number) {
     fputs("end 0\n", answers);
 }
 
+// ---- Steps
+
+static int is_tried_again(struct nlmsghdr *last) {
+    int error = last && last->nlmsg_type == NLMSG_ERROR ? -((struct nlmsgerr *)NLMSG_DATA(last))->error : 0;
+
+    return error == EBUSY || error == EEXIST || error == EPERM;
+}
+
+// Sends each request of a stream, for up to a second if what was deleted before lives on. After each it writes how that ended, and all that a
+// link has.
+static void send_steps(int number, const char *path) {
+    static unsigned char stream[1 << 20] __attribute__((aligned(NLMSG_ALIGNTO)));
+    FILE *file = fopen(path, "r");
+    int left = file ? (int)fread(stream, 1, sizeof stream, file) : 0;
+
+    for (struct nlmsghdr *h = (struct nlmsghdr *)stream, *last; NLMSG_OK(h, left); h = NLMSG_NEXT(h, left)) {
+        for (int tries = 0; tries < 100; tries++) {
+            last = ask(h->nlmsg_type, h->nlmsg_flags | NLM_F_REQUEST | NLM_F_ACK, NLMSG_DATA(h), h->nlmsg_len - NLMSG_HDRLEN, ignore);
+            if (!is_tried_again(last))
+                break;
+            usleep(10000);
+        }
+        if (last && last->nlmsg_type == NLMSG_ERROR)
+            write_ack(last);
+        else
+            fprintf(answers, "ack %d - no answer\n", errno);
+        dump_link(number);
+    }
+    if (file)
+        fclose(file);
+}
+
 // ---- Links
 
 static void make_link(int number, const char *kind, int flags, int queues) {
@@ -431,9 +467,58 @@ static volatile sig_atomic_t is_over;
 
 static void end_watching(int signal) { is_over = signal; }
 
-static void write_watched(int s, FILE *file) {
-    static unsigned char frame[1 << 17];
+static __u32 newest; // the sequence number of the last request
+
+// How many requests of messages make, change or delete something. A notification has the number of its request.
+static int requests_in(unsigned char *bytes, ssize_t left) {
+    int count = 0;
+
+    for (struct nlmsghdr *h = (struct nlmsghdr *)bytes; NLMSG_OK(h, left); h = NLMSG_NEXT(h, left)) {
+        int is_tc = (h->nlmsg_type >= RTM_NEWQDISC && h->nlmsg_type <= RTM_DELACTION) || h->nlmsg_type == RTM_NEWCHAIN ||
+                    h->nlmsg_type == RTM_DELCHAIN;
+        if (h->nlmsg_pid && h->nlmsg_seq > newest) {
+            newest = h->nlmsg_seq;
+            count += is_tc && h->nlmsg_type % 4 < 2;
+        }
+    }
+    return count;
+}
+
+// The number of the request at this part of those in a file; 0 if there is none.
+static int request_at(const char *path, double part) {
+    static unsigned char bytes[1 << 23] __attribute__((aligned(NLMSG_ALIGNTO)));
+    FILE *file = fopen(path, "r");
+    int count = file ? requests_in(bytes, fread(bytes, 1, sizeof bytes, file)) : 0;
+
+    if (file)
+        fclose(file);
+    newest = 0;
+    return count ? 1 + (int)(part * count) : 0;
+}
+
+// Kills each process of this name.
+static void kill_all(const char *name) {
+    char path[300], own[32];
+    struct dirent *entry;
+    DIR *all = opendir("/proc");
+
+    while (all && (entry = readdir(all))) {
+        snprintf(path, sizeof path, "/proc/%s/comm", entry->d_name);
+        FILE *file = atoi(entry->d_name) > 1 ? fopen(path, "r") : NULL;
+        if (!file)
+            continue;
+        if (fgets(own, sizeof own, file) && !strncmp(own, name, strlen(name)))
+            kill(atoi(entry->d_name), SIGKILL);
+        fclose(file);
+    }
+    if (all)
+        closedir(all);
+}
+
+static void write_watched(int s, FILE *file, int last) {
+    static unsigned char frame[1 << 17] __attribute__((aligned(NLMSG_ALIGNTO)));
     struct sockaddr_ll from;
+    int count = 0;
 
     signal(SIGTERM, end_watching);
     for (;;) {
@@ -441,14 +526,17 @@ static void write_watched(int s, FILE *file) {
         ssize_t got = recvfrom(s, frame, sizeof frame, 0, (struct sockaddr *)&from, &size);
         if (got < 0 && is_over)
             break;
-        if (got > 0 && from.sll_protocol == htons(NETLINK_ROUTE))
+        if (got > 0 && from.sll_protocol == htons(NETLINK_ROUTE)) {
+            if (last && count < last && (count += requests_in(frame, got)) >= last)
+                kill_all("tcapply");
             fwrite(frame, 1, got, file);
+        }
     }
     fclose(file);
     _exit(0);
 }
 
-static void watch(const char *path) {
+static void watch(const char *path, int last) {
     int size = 1 << 23;
     struct timeval wait = {.tv_usec = 20000};
     struct sockaddr_ll monitor = {.sll_family = AF_PACKET, .sll_protocol = htons(ETH_P_ALL), .sll_ifindex = MONITOR};
@@ -463,7 +551,7 @@ static void watch(const char *path) {
     fflush(answers);
     watcher = fork();
     if (!watcher)
-        write_watched(s, file);
+        write_watched(s, file, last);
     fclose(file);
     close(s);
 }
@@ -536,19 +624,23 @@ static void try(char *line) {
 
     open_namespace();
     for (line = strtok_r(line, "\n", &rest); line; line = strtok_r(NULL, "\n", &rest)) {
+        char path[1024], other[1024];
         int type, flags, at, number, queues = 1;
+        double part = -1;
         if (sscanf(line, "link %d %d", &number, &queues) >= 1)
             make_link(number, "dummy", 0, queues);
         else if (sscanf(line, "send %d %d %n", &type, &flags, &at) == 2)
             talk(type, flags, payload, from_hex(line + at, payload));
         else if (sscanf(line, "dump %d", &number) == 1)
             dump_link(number);
+        else if (sscanf(line, "steps %d %n", &number, &at) == 1)
+            send_steps(number, line + at);
         else if (!strncmp(line, "into ", 5))
             stream = fopen(line + 5, "w");
         else if (!strncmp(line, "run ", 4))
             run(line + 4);
-        else if (!strncmp(line, "watch ", 6))
-            watch(line + 6);
+        else if (sscanf(line, "watch %1023s %1023s %lf", path, other, &part) >= 1)
+            watch(path, part < 0 ? 0 : request_at(other, part));
         else if (!strcmp(line, "unwatch"))
             unwatch();
         else

@@ -13,7 +13,7 @@ import time
 HERE = os.path.dirname(os.path.abspath(__file__))
 TOP = os.path.dirname(HERE)
 OUT = f"{HERE}/out"
-SILENCE = 300  # seconds in which a guest writes nothing, before it is stopped
+SILENCE = 900  # seconds in which a guest writes nothing, before it is stopped; a busy machine stops it for minutes
 
 failures = []
 

@@ -7,7 +7,7 @@ import subprocess
 import sys
 import time
 
-from guests import OUT, TOP, lacks
+from guests import HERE, OUT, TOP, lacks
 
 PROVED, SOCKETS = ("tcshow", "tcmake"), ("tcnl", "tcsave", "tcrestore", "tcapply")
 
@@ -73,14 +73,17 @@ class Programs:
         """Restores a save. What was there before is kept in the folder `state`."""
         return self.command(f"timeout 60 $TCRESTORE --state {state} {options} {file}")
 
-    def apply(self, file, state, options="", limit="60"):
-        """Applies a save, with a limit of `timeout`. What was there before is kept in the folder `state`."""
-        return self.command(f"timeout {limit} $TCAPPLY --state {state} {options} {file}")
+    def apply(self, file, state):
+        """Applies a save. What was there before is kept in the folder `state`."""
+        return self.command(f"timeout 100 $TCAPPLY --state {state} {file}")
 
-    def timed(self, command, file):
-        """The same command, and a file with the seconds that it took."""
-        now = "$(date +%s%N)"
-        return f'began={now}; {command}; status=$?; echo "$(({now} - began))e-9" > {file}; (exit $status)'
+    def refused(self, file, part, bad):
+        """A save in which a qdisc or a filter is of a kind that no kernel has: the one at this part of those that no other refers to."""
+        return f"awk -v part={part} -f {HERE}/refused.awk {file} > {bad}"
+
+    def plan(self, file, now, stream):
+        """The requests of a plan that leads from what d7 has to a save, as a netlink stream."""
+        return self.command(f"$TCSAVE d7 > {now} && $TCMAKE --plan {now} --stream < {file} > {stream} 2> /dev/null")
 
     def clear(self, dev="d7"):
         return self.command(f"$TCNL clear dev {dev}")

@@ -75,6 +75,7 @@ def action_of(data):
             if (held, bound) == (1, 1):
                 payload = bytes(4) + payload[4:]
             payload = payload[: places[1]] + bytes(4) + payload[places[1] + 4 :]  # refcnt counts its own request too
+            payload = payload[: places[2]] + bytes(4) + payload[places[2] + 4 :]
         if type_ != TIMES_OF.get(kind, 1) and payload:
             options.append((type_, payload))
     others = [it for it in attributes(data) if it[0] not in COUNTED_OF_ACTION and it[0] != 2]
@@ -122,14 +123,15 @@ class Object:
             return f"chain {where}"
         return f"filter {where}, priority {self.info >> 16}, handle {self.handle:x}"
 
-    def config(self):
-        """All that it has, in a form that can be compared."""
+    def config(self, counts_filters=True):
+        """All that it has, in a form that can be compared; with the number of filters that hold each of its actions, if that counts."""
         options = tuple(it for it in self.options if it[0] not in (PAD_OF.get(self.kind), ACTIONS_OF.get(self.kind) if self.actions else None))
         if self.kind == "u32":  # police of the filter itself, with its times
             options = tuple((n, tuple(y for y in attributes(x) if y[0] != TIMES_OF["police"]) if n == 6 else x) for n, x in options)
         others = tuple(it for it in sorted(self.own.items()) if it[0] not in COUNTED | {2})
         info = 0 if self.type == QDISC else self.info  # of a qdisc a count of references
-        return self.type, self.index, self.handle, self.parent, info, others, options, tuple(it.config for it in self.actions)
+        actions = tuple((it.config, counts_filters and it.bound) for it in self.actions)
+        return self.type, self.index, self.handle, self.parent, info, others, options, actions
 
 
 def root_tables(objects, asked):
@@ -183,9 +185,9 @@ def by_places(objects):
     return objects
 
 
-def renumbered(objects, asked=None):
-    """Renumbers the root table of each priority of u32 to 800:, and filters below ingress one parent: the kernel dumps
-    them with that of the last request."""
+def renumbered(objects, asked=None, chosen=True):
+    """Renumbers the root table of each priority of u32 to 800:, gives filters below ingress one parent, since the kernel dumps them with that of
+    the last request, and renumbers handles that the kernel chose, if that is asked for."""
     ingress = {it.index for it in objects if it.type == QDISC and it.kind == "ingress"}
     objects, roots = own_tables(objects, asked or {})
     objects = without_empty(objects, roots)
@@ -199,7 +201,7 @@ def renumbered(objects, asked=None):
     for it in objects:
         if it.type in (FILTER, CHAIN) and it.index in ingress and it.parent >> 16 == 0xFFFF:
             it.parent = 0xFFFFFFF2
-    return by_places(objects)
+    return by_places(objects) if chosen else objects
 
 
 # TCA_FLOWER_FLAGS, TCA_U32_FLAGS, TCA_MATCHALL_FLAGS and TCA_BPF_FLAGS_GEN.
@@ -222,16 +224,30 @@ def has_offload_flag(filter):
     return bool(int.from_bytes(word[:4], "little") & 3)
 
 
+def roots_asked(messages):
+    """The root table of each priority of u32, as the kernel says."""
+    return {it.place_of_tables()[0]: it.handle for it in (Object(*it) for it in messages if it[0] == ROOT_OF_U32)}
+
+
+def objects_in(messages):
+    """The objects of dumps."""
+    return [Object(*it) for it in messages if it[0] in (QDISC, CLASS, FILTER, CHAIN)]
+
+
+def actions_in(messages):
+    """The actions of dumps of actions."""
+    lists = [some for type_, data in messages if type_ in ACTIONS for number, some in attributes(data[4:]) if number == 1]
+    return [action_of(it) for some in lists for _, it in attributes(some)]
+
+
 class State:
     """What dumps show: objects by their places, in the order in which that counts; and actions that more than one filter
     holds, or none."""
 
     def __init__(self, names, messages):
         self.names = names
-        asked = {it.place_of_tables()[0]: it.handle for it in (Object(*it) for it in messages if it[0] == ROOT_OF_U32)}
-        self.objects = renumbered([Object(*it) for it in messages if it[0] in (QDISC, CLASS, FILTER, CHAIN)], asked)
-        lists = [some for type_, data in messages if type_ in ACTIONS for number, some in attributes(data[4:]) if number == 1]
-        self.actions = [action_of(it) for some in lists for _, it in attributes(some)]
+        self.objects = renumbered(objects_in(messages), roots_asked(messages))
+        self.actions = actions_in(messages)
         self.places = collections.OrderedDict((it.place(), it) for it in self.objects)
         self.shared = {(it.kind, it.number): it for it in self.actions if (it.held, it.bound) != (1, 1)}
 
@@ -252,8 +268,8 @@ class State:
                 out[it.block(), it.info].append(it.handle)
         return out
 
-    def differences(self, other):
-        """What is otherwise in another state, in words."""
+    def differences(self, other, counts_filters=True):
+        """What is otherwise in another state, in words. Filters of other interfaces hold actions too, if `counts_filters` is false."""
         out = []
         for place in dict.fromkeys([*self.places, *other.places]):
             one, two = self.places.get(place), other.places.get(place)
@@ -261,11 +277,11 @@ class State:
                 out.append(f"{place}: {one.kind} is gone")
             elif not one:
                 out.append(f"{place}: {two.kind} is new")
-            elif one.config() != two.config():
+            elif one.config(counts_filters) != two.config(counts_filters):
                 out.append(f"{place}: {self.changes(one, two)}")
         for key in dict.fromkeys([*self.shared, *other.shared]):
             one, two = self.shared.get(key), other.shared.get(key)
-            if not one or not two or one.config != two.config:
+            if not one or not two or one.config != two.config or counts_filters and one.bound != two.bound:
                 what = "is gone" if not two else "is new" if not one else f"{one} → {two}"
                 out.append(f"action {key[0]} {key[1]}: {what}")
         one, two = self.ranks(), other.ranks()

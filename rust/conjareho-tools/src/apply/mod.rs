@@ -138,7 +138,7 @@ fn apply<T: Transport, L: Transport>(
     }
 }
 
-// Plans, and anew if another program changed something meanwhile.
+// Plans, and anew if another program, or the kernel, changed something meanwhile.
 fn begun<T: Transport, L: Transport>(
     arguments: &Arguments,
     wanted: Wanted,
@@ -150,9 +150,9 @@ fn begun<T: Transport, L: Transport>(
         let looked = world
             .check_signal()
             .and_then(|()| world.check_devices(&prepared.place))
-            .and_then(|()| world.look(&prepared.place, None));
+            .and_then(|()| world.look_before(&prepared.place));
         match looked {
-            Ok(_) => return Ok(prepared),
+            Ok(()) => return Ok(prepared),
             Err(Stop::Other { .. }) if left > 0 => wanted = prepared.wanted,
             Err(stop) => return Err(Ended::because(Status::NothingSent, vec![stop.to_string()])),
         }

@@ -5,7 +5,7 @@ use crate::nla_frames::ParseableBytes as _;
 use crate::program_io::Stop;
 use crate::restore::compare::{Key, key_of};
 use crate::restore::messages::{actions_of, payload_of, type_of};
-use crate::restore::plan::dumps_of;
+use crate::restore::plan::{LINES_BEFORE, dumps_of, requests_of_dump};
 use crate::tc_action_messages::TcActionMessage;
 use crate::tc_changes::{self, Rules};
 use crate::tc_messages::TcMessage;
@@ -29,19 +29,35 @@ pub(crate) struct Fault {
     pub(crate) text: String,
 }
 
+// How a remark about what no request makes begins.
+const UNMADE: &str = "it can't be made";
+
 impl Fault {
     fn of(remark: &Remark, now: &[Vec<u8>], wanted: &[Vec<u8>]) -> Fault {
         let is_of_now = remark.source == Source::Now;
         let place = usize::try_from(remark.number).ok().and_then(|number| number.checked_sub(1));
         let dump = place.and_then(|place| if is_of_now { now } else { wanted }.get(place));
         let name = dump.and_then(|dump| key_of(dump)).map(|key| format!("{key}: ")).unwrap_or_default();
-        let why = dump.and_then(|dump| unmade(dump)).map(|why| format!(": {why}")).unwrap_or_default();
+        let own = if is_of_now { now } else { wanted };
+        let why = place.filter(|_| remark.text.starts_with(UNMADE)).and_then(|place| unmade(own, place));
+        let why = why.map(|why| format!(": {why}")).unwrap_or_default();
         Fault { is_of_now, place, text: format!("{name}{}{why}", remark.text) }
     }
 }
 
-// Why no request makes what was dumped, if that is so.
-fn unmade(dump: &[u8]) -> Option<String> {
+// Why no request makes one of these dumps, by its place, if that is so: by itself, or beside the others.
+fn unmade(dumps: &[Vec<u8>], place: usize) -> Option<String> {
+    let by_itself = dumps.get(place).and_then(|dump| unmade_by_itself(dump));
+    by_itself.or_else(|| requests_of_dump(dumps).complaints.into_iter().find_map(|it| after_line(&it, place)))
+}
+
+// What is said of a dump after the number of its line.
+fn after_line(complaint: &str, place: usize) -> Option<String> {
+    let number = u64::try_from(place).ok()? + 1 + LINES_BEFORE;
+    Some(complaint.strip_prefix(&format!("line {number}: "))?.to_string())
+}
+
+fn unmade_by_itself(dump: &[u8]) -> Option<String> {
     let object = match type_of(dump) {
         RTM_NEWQDISC => Object::Qdisc,
         RTM_NEWTCLASS => Object::Class,

@@ -162,10 +162,17 @@ fn what_others_make_is_left() {
     assert!(plain(&ran.objects).contains(&plain(&[theirs()])[0]));
 }
 
-// Of another program's change before the first request there is a new plan, three times at most.
+// Of another program's change before the first request, or of the kernel's own, there is a new plan, three times at most.
 #[test]
 fn others_before_the_first_request() {
-    for (times, status) in [(1, Status::Restored), (2, Status::Restored), (99, Status::NothingSent)] {
+    let ways = [
+        (1, OTHER, Status::Restored),
+        (2, OTHER, Status::Restored),
+        (99, OTHER, Status::NothingSent),
+        (2, 0, Status::Restored),
+        (99, 0, Status::NothingSent),
+    ];
+    for (times, port, status) in ways {
         let fake = Fake::new(taking());
         let mut left = times;
         // The last look at the interfaces before the first request is the fourth, the seventh and the tenth.
@@ -174,14 +181,15 @@ fn others_before_the_first_request() {
                 left -= 1;
                 let quantum = 3000 + number as u32;
                 state.objects[1] = of(RTM_NEWTCLASS, 0x1_0010, 0x1_0000, "drr", &[(1, quantum)]);
-                state.tell(&state.objects[1].clone(), OTHER);
+                state.tell(&state.objects[1].clone(), port);
             }
         };
         fake.state.borrow_mut().on_links = Some(Box::new(hook));
         let ran = run(&saved(tree(1000)), tree(2000), &fake);
         assert_eq!(ran.status, status, "{times}: {}", ran.said);
         if status == Status::NothingSent {
-            assert!(ran.said.contains("netlink port 4242") && ran.sent.is_empty(), "{}", ran.said);
+            let who = if port == 0 { "the kernel changed it" } else { "netlink port 4242" };
+            assert!(ran.said.contains(who) && ran.sent.is_empty(), "{}", ran.said);
         } else {
             assert_eq!(plain(&ran.objects), plain(&tree(1000)));
         }

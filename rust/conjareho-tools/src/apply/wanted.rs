@@ -3,18 +3,20 @@
 use super::arguments::Arguments;
 use super::plan::Fault;
 use crate::forms_kinds::{ACTION_MESSAGE, TC_MESSAGE, TcTables};
-use crate::netlink::message::{MAGIC_BLOCK, request, tcmsg_of};
+use crate::netlink::message::{RTM_NEWQDISC, RTM_NEWTCLASS, Tcmsg, request, tcmsg_of};
 use crate::netlink::{Devices, Transport};
 use crate::restore::compare::{Key, Objects, key_of, objects_of};
 use crate::restore::hardware;
+use crate::restore::messages::{kind_of, type_of};
 use crate::restore::plan::{Wanted as Asked, requests};
 use crate::restore::prepare::{Ended, names_of, save_in};
 use crate::restore::status::Status;
-use crate::restore::targets::{Targets, targets_of};
+use crate::restore::targets::{STRANGE, Targets, targets_of};
 use crate::restore::world::World;
+use crate::tc_texts::handle_text;
 use crate::tcmake_lib::lines::{Dumped, Reading, RemarkKind, Source, read_lines};
 use crate::tcmake_messages::Forms;
-use std::collections::BTreeMap;
+use std::collections::{BTreeMap, BTreeSet};
 
 /// What is wanted.
 #[derive(Debug)]
@@ -124,20 +126,85 @@ fn messages_in(asked: &Asked<'_>) -> Result<BTreeMap<u64, Vec<u8>>, Vec<String>>
     Ok(lines.dumps.iter().map(message).collect())
 }
 
-// What the save has twice, and what is of another interface than those that it is of.
+// What the save has twice, what is of another interface than those that it is of, and what has a class as its parent that it doesn't have.
 fn faults_in(dumps: &BTreeMap<u64, Vec<u8>>, targets: &Targets) -> Vec<String> {
-    let own = targets.own();
     let mut faults = Vec::new();
     let mut seen = BTreeMap::new();
+    let classes = Classes::of(dumps.values());
     for (number, message) in dumps {
-        let Some(header) = tcmsg_of(message) else { continue };
         let Some(key) = key_of(message) else { continue };
-        if header.index != MAGIC_BLOCK && !own.contains(&(header.index as u32)) {
-            faults.push(format!("line {number}: {key}: the save isn't of this interface"));
+        if targets.is_strange(message) {
+            faults.push(format!("line {number}: {key}: {STRANGE}"));
+        }
+        if let Some(parent) = tcmsg_of(message).and_then(|header| classes.missing(header)) {
+            faults.push(format!("line {number}: {key}: the class that is its parent, {parent}, is missing"));
         }
         if let Some(first) = seen.insert(key.clone(), *number) {
             faults.push(format!("line {number}: {key}: line {first} has it too"));
         }
     }
     faults
+}
+
+/// The kinds of qdiscs whose classes are made by requests.
+const WITH_CLASSES: [&[u8]; 6] = [b"htb", b"hfsc", b"drr", b"qfq", b"cbq", b"atm"];
+
+// The classes of dumps, and of the qdiscs that have such the upper halves of their handles, by interface.
+#[derive(Default)]
+struct Classes {
+    handles: BTreeSet<(i32, u32)>,
+    majors: BTreeSet<(i32, u32)>,
+}
+
+impl Classes {
+    fn of<'a>(dumps: impl Iterator<Item = &'a Vec<u8>>) -> Classes {
+        let mut classes = Classes::default();
+        for message in dumps {
+            let Some(header) = tcmsg_of(message) else { continue };
+            if type_of(message) == RTM_NEWTCLASS {
+                classes.handles.insert((header.index, header.handle));
+            } else if type_of(message) == RTM_NEWQDISC
+                && kind_of(message).is_some_and(|kind| WITH_CLASSES.contains(&kind))
+            {
+                classes.majors.insert((header.index, header.handle >> 16));
+            }
+        }
+        classes
+    }
+
+    // The parent of an object, if that is a class of such a qdisc that isn't there.
+    fn missing(&self, header: Tcmsg) -> Option<String> {
+        let parent = header.parent;
+        let is_class = parent & 0xFFFF != 0 && self.majors.contains(&(header.index, parent >> 16));
+        let is_there = self.handles.contains(&(header.index, parent));
+        (is_class && !is_there).then(|| handle_text(parent).as_str().to_string())
+    }
+}
+
+#[cfg(test)]
+mod tests {
+    use super::*;
+    use crate::netlink::attributes::put;
+    use crate::netlink::message::tc_request;
+
+    #[test]
+    fn a_parent_that_is_nowhere() {
+        let of = |kind, handle, parent, name: &str| {
+            let mut message = tc_request(kind, 0, Tcmsg { index: 7, handle, parent, info: 0 });
+            put(&mut message, 1, &[name.as_bytes(), &[0]].concat());
+            let len = message.len() as u32;
+            message[..4].copy_from_slice(&len.to_ne_bytes());
+            message
+        };
+        let tree = [
+            of(RTM_NEWQDISC, 0x1_0000, u32::MAX, "htb"),
+            of(RTM_NEWTCLASS, 0x1_0010, 0x1_0000, "htb"),
+            of(RTM_NEWQDISC, 0x2_0000, 0x1_0010, "prio"),
+        ];
+        let classes = Classes::of(tree.iter());
+        let missing = |parent| classes.missing(Tcmsg { index: 7, parent, ..Tcmsg::default() });
+        assert_eq!(missing(0x1_0020).as_deref(), Some("1:20"));
+        // the qdisc itself, a class that is there, a class that the kernel makes
+        assert_eq!([0x1_0000, 0x1_0010, 0x2_0001].map(missing), [None, None, None]);
+    }
 }

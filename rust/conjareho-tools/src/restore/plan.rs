@@ -10,8 +10,8 @@ use crate::tcmake_lib::order::{Asked, Restored, requests_of, requests_of_dumps};
 use crate::tcmake_lines::{NetlinkHeader, packet_at};
 use crate::tcmake_messages::Forms;
 
-/// The head of a save.
-const LINES_BEFORE: u64 = 1;
+/// The head of a save, a line before those that complaints number.
+pub(crate) const LINES_BEFORE: u64 = 1;
 
 /// What is to be made.
 #[derive(Clone, Copy, Default, Debug)]

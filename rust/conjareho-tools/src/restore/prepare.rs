@@ -1,7 +1,7 @@
 //! What is made and asked before the first request is sent.
 
 use super::arguments::Arguments;
-use super::compare::{Objects, differences_in_blocks, objects_of};
+use super::compare::{Objects, differences_in_blocks, key_of, objects_of};
 use super::file::{Save, read_save};
 use super::hardware;
 use super::messages::{blocks_of, type_of};
@@ -10,7 +10,7 @@ use super::sending::{PATIENCE, PAUSE};
 use super::state;
 use super::status::Status;
 use super::staying::{as_shared, staying, with_actions};
-use super::targets::{Targets, targets_of};
+use super::targets::{STRANGE, Targets, targets_of};
 use super::world::{Place, World, text_of};
 use crate::netlink::message::{MAGIC_BLOCK, RTM_NEWQDISC, tcmsg_of};
 use crate::netlink::{Devices, Fault, Transport};
@@ -79,6 +79,7 @@ pub(crate) fn prepare<T: Transport, L: Transport>(
     let others = blocks_of_others(world, &targets)?;
     let wanted = wanted_of(arguments, &save, &targets, &names);
     let alone = requests(&wanted);
+    check_interfaces(arguments, &alone, &targets)?;
     let Planned { blocks, now, before, beside, has_refused, plan } =
         planned(arguments, &wanted, &alone, &targets, &others, world)?;
     let plan = checked(arguments, plan, said)?;
@@ -177,6 +178,13 @@ fn planned<T: Transport, L: Transport>(
         }
         sleep(PAUSE);
     }
+}
+
+// An error if something is of another interface than those that are restored.
+fn check_interfaces(arguments: &Arguments, plan: &Plan, targets: &Targets) -> Result<(), Ended> {
+    let strange = plan.requests.iter().filter(|request| targets.is_strange(request)).filter_map(|it| key_of(it));
+    let said: Vec<String> = strange.map(|key| format!("{}: {key}: {STRANGE}", arguments.file_name())).collect();
+    if said.is_empty() { Ok(()) } else { Err(Ended::because(Status::NothingSent, said)) }
 }
 
 // An error if something can't be made, and the rest isn't wanted without it.

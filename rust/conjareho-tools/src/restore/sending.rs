@@ -29,7 +29,7 @@ pub(crate) struct Sending<'w, 's, T, L> {
     has_cleared: bool,
     // What is sent is a plan, which deletes too.
     is_plan: bool,
-    // A request of it may have been taken.
+    // A request was sent.
     has_sent: bool,
     // The way back goes on whatever signals come.
     minds_signals: bool,
@@ -89,7 +89,7 @@ impl<'w, 's, T: Transport, L: Transport> Sending<'w, 's, T, L> {
         Ok(())
     }
 
-    /// True if a request of a plan may have been taken.
+    /// True if a request was sent.
     pub(crate) fn has_sent(&self) -> bool {
         self.has_sent
     }
@@ -154,17 +154,12 @@ impl<'w, 's, T: Transport, L: Transport> Sending<'w, 's, T, L> {
     // Sends a request; again for a time, if what was deleted lives on.
     fn send(&mut self, request: &[u8]) -> Result<(), Stop> {
         let until = Instant::now() + PATIENCE;
+        self.has_sent = true;
         loop {
             let refusal = match self.world.kernel.request(request) {
-                Ok(_) => {
-                    self.has_sent = true;
-                    return Ok(());
-                }
+                Ok(_) => return Ok(()),
                 Err(Fault::Refused(refusal)) => refusal,
-                Err(fault) => {
-                    self.has_sent = true;
-                    return Err(Stop::Fault(fault));
-                }
+                Err(fault) => return Err(Stop::Fault(fault)),
             };
             let passes = [Errno::EEXIST, Errno::EPERM, Errno::EBUSY].iter().any(|errno| refusal.is(*errno));
             if !(passes && self.may_wait() && Instant::now() < until) {

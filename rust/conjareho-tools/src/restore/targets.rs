@@ -2,9 +2,13 @@
 
 use super::arguments::Arguments;
 use super::file::{self, Head, Save};
+use crate::netlink::message::{MAGIC_BLOCK, tcmsg_of};
 use crate::netlink::{Device, Devices};
 use ::serde_json::Value;
 use std::collections::{BTreeMap, BTreeSet};
+
+/// What is wrong with an object of another interface.
+pub(crate) const STRANGE: &str = "the save isn't of this interface";
 
 /// The interfaces that are restored, and the indices of today of all that the save names.
 #[derive(Debug, Default)]
@@ -22,6 +26,11 @@ impl Targets {
     /// The indices of the interfaces that are restored.
     pub(crate) fn own(&self) -> Vec<u32> {
         self.devices.iter().map(|device| device.index).collect()
+    }
+
+    /// True for a message about an interface that isn't restored.
+    pub(crate) fn is_strange(&self, message: &[u8]) -> bool {
+        tcmsg_of(message).is_some_and(|it| it.index != MAGIC_BLOCK && !self.own().contains(&(it.index as u32)))
     }
 
     /// Their names.

@@ -20,7 +20,7 @@ pub(crate) enum Stop {
     Fault(Fault),
     /// A signal came.
     Signal(&'static str),
-    /// Another program, with this port id, changed this.
+    /// Another program, with this port id, changed this; the kernel without a request, if it is 0.
     Other { port: u32, what: String },
     /// An interface isn't the one that it was.
     Moved(String),
@@ -44,6 +44,7 @@ impl fmt::Display for Stop {
             Stop::Refused { what, refusal } => write!(f, "{what}: {refusal}"),
             Stop::Fault(fault) => fault.fmt(f),
             Stop::Signal(name) => write!(f, "{name} came"),
+            Stop::Other { port: 0, what } => write!(f, "the kernel changed it meanwhile: {what}"),
             Stop::Other { port, what } => {
                 write!(f, "another program (netlink port {port}) changed it meanwhile: {what}")
             }
@@ -128,20 +129,29 @@ impl<'s, T: Transport, L: Transport> World<'s, T, L> {
 
     /// The notification of a request of ours since the last look. The error is that another program changed something.
     pub(crate) fn look(&mut self, place: &Place, request: Option<&[u8]>) -> Result<Option<Vec<u8>>, Stop> {
+        let ours = self.kernel.port();
+        let notices = self.notices(place, |port| port != 0 && port != ours)?;
+        let wanted = request.map(type_of);
+        let notice = notices.into_iter().find(|notice| notice.port == ours && Some(notice.kind) == wanted);
+        Ok(notice.map(|notice| notice.message))
+    }
+
+    /// The error is that something changed since the last look. Before the first request not even the kernel changes something because of one.
+    pub(crate) fn look_before(&mut self, place: &Place) -> Result<(), Stop> {
+        self.notices(place, |_| true).map(drop)
+    }
+
+    // What was heard since the last look. The error is that somebody with such a port id changed something.
+    fn notices(&mut self, place: &Place, is_other: impl Fn(u32) -> bool) -> Result<Vec<Notice>, Stop> {
         let heard = self.watch.heard()?;
         if heard.lost {
             return Err(Stop::Fault(Fault::Lost));
         }
-        let ours = self.kernel.port();
-        let is_other = |notice: &&Notice| {
-            notice.port != 0 && notice.port != ours && notice.concerns(&place.indices(), &place.blocks)
-        };
-        if let Some(notice) = heard.notices.iter().find(is_other) {
-            return Err(Stop::Other { port: notice.port, what: what_of(&notice.message) });
+        let is_others = |notice: &&Notice| is_other(notice.port) && notice.concerns(&place.indices(), &place.blocks);
+        match heard.notices.iter().find(is_others) {
+            Some(notice) => Err(Stop::Other { port: notice.port, what: what_of(&notice.message) }),
+            None => Ok(heard.notices),
         }
-        let wanted = request.map(type_of);
-        let notice = heard.notices.into_iter().find(|notice| notice.port == ours && Some(notice.kind) == wanted);
-        Ok(notice.map(|notice| notice.message))
     }
 
     /// An error if an interface has another name, index or address than it had.
