@@ -3,7 +3,7 @@
 use crate::netlink::message::{RTM_NEWCHAIN, RTM_NEWQDISC, RTM_NEWTCLASS, RTM_NEWTFILTER, is_action};
 use crate::nla_frames::ParseableBytes as _;
 use crate::program_io::Stop;
-use crate::restore::compare::{Key, key_of};
+use crate::restore::compare::Key;
 use crate::restore::messages::{actions_of, payload_of, type_of};
 use crate::restore::plan::{LINES_BEFORE, dumps_of, requests_of_dump};
 use crate::tc_action_messages::TcActionMessage;
@@ -25,23 +25,21 @@ pub(crate) struct Fault {
     pub(crate) is_of_now: bool,
     /// The number of the dump, from 0.
     pub(crate) place: Option<usize>,
-    /// What the dump is of, and what is wrong with it.
+    /// What is wrong with it.
     pub(crate) text: String,
 }
 
-// How a remark about what no request makes begins.
-const UNMADE: &str = "it can't be made";
+// What a remark says of what no request makes.
+const UNMADE: &str = "can't be made from a dump";
 
 impl Fault {
     fn of(remark: &Remark, now: &[Vec<u8>], wanted: &[Vec<u8>]) -> Fault {
         let is_of_now = remark.source == Source::Now;
         let place = usize::try_from(remark.number).ok().and_then(|number| number.checked_sub(1));
-        let dump = place.and_then(|place| if is_of_now { now } else { wanted }.get(place));
-        let name = dump.and_then(|dump| key_of(dump)).map(|key| format!("{key}: ")).unwrap_or_default();
         let own = if is_of_now { now } else { wanted };
-        let why = place.filter(|_| remark.text.starts_with(UNMADE)).and_then(|place| unmade(own, place));
+        let why = place.filter(|_| remark.text.contains(UNMADE)).and_then(|place| unmade(own, place));
         let why = why.map(|why| format!(": {why}")).unwrap_or_default();
-        Fault { is_of_now, place, text: format!("{name}{}{why}", remark.text) }
+        Fault { is_of_now, place, text: format!("{}{why}", remark.text) }
     }
 }
 
