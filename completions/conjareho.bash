@@ -31,6 +31,7 @@ _conjareho() {
             -r|--read) _filedir; return ;;
             --no-header) _conjareho_words tc action; return ;;
             --names) _filedir; return ;;
+            --time) _conjareho_words date epoch delta relative; return ;;
             --color) _conjareho_words auto always never; return ;;
             --kind) _conjareho_words $_conjareho_kinds; return ;;
             --type) _conjareho_words $_conjareho_types; return ;;
@@ -39,7 +40,7 @@ _conjareho() {
             --parent) _conjareho_words root ingress clsact; return ;;
             --explain) _conjareho_words $_conjareho_kinds; return ;;
         esac
-        words="-h --help -V --version -r --read --no-header --names --lines -s --statistics --oneline --json --all --color --summary --kind --type --dev --handle --parent --chain --pref --since --until --refused --explain --schema"
+        words="-h --help -V --version -r --read --example --no-header --names -s --statistics --time --acks -v --outline --json --oneline --all --color --summary --kind --type --dev --handle --parent --chain --pref --since --until --refused --explain --schema"
         ;;
     "tcmake")
         case $previous in
