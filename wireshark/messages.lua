@@ -78,13 +78,22 @@ local function show_info(c, ty, off, tree)
   return v > 0 and " " .. text or ""
 end
 
+-- The bytes of the last kind before a malformed attribute, without the NUL that may end them.
+local function last_kind(c, off, len)
+  local kind
+  for ty, _, _, body, size in attributes(c, off, off + len) do
+    if ty == 1 then kind = bytes_of(c, body, size):gsub("\0$", "") end
+  end
+  return kind
+end
+
 -- Shows `struct tcmsg`; returns it in words.
 local function show_tcmsg(c, ty, off, len, tree)
   local words, own, parent = show_family(c, TCMSG, off, tree), number_at(c, off + 8, 4), number_at(c, off + 12, 4)
   show_leaf(c, TCMSG.index, off + 4, 4, tree, 1)
   local is_block, text = bytes_of(c, off + 4, 4) == "\255\255\255\255", handle(own)
   if not is_block then words = words .. " index " .. number_text(c, TCMSG.index, bytes_of(c, off + 4, 4)) end
-  if ty >= 44 and ty <= 46 then text = own_kind(c, off + 20, len - 20) == "u32" and u32_handle(own) or ("0x%x"):format(own) end
+  if ty >= 44 and ty <= 46 then text = last_kind(c, off + 20, len - 20) == "u32" and u32_handle(own) or ("0x%x"):format(own) end
   set(c, show_leaf(c, TCMSG.handle, off + 8, 4, tree, 1), "handle", text)
   local of = is_block and {"block", ("%.0f"):format(parent)} or {"parent", handle(parent)}
   set(c, show_leaf(c, TCMSG.parent, off + 12, 4, tree, 1), of[1], of[2])
