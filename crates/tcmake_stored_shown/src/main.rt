@@ -18,7 +18,13 @@ use tcshow_lib::options::Options;
 use tcshow_lib::program::tcshow;
 
 fn main(rt: HostRuntime) -> ExitCode {
-    let status = tcshow(&rt, rt.stdout().is_terminal(), &StateDiffer, &mut rt.stderr()).status();
+    let status = tcshow(
+        &rt,
+        rt.stdout().is_terminal(),
+        &StateDiffer,
+        &mut rt.stderr(),
+    )
+    .status();
     if status != 0 {
         return ExitCode::from(status);
     }

@@ -7,5 +7,11 @@ use tc_differences::StateDiffer;
 use tcshow_lib::program::tcshow;
 
 fn main(rt: HostRuntime) -> ExitCode {
-    ExitCode::from(tcshow(&rt, rt.stdout().is_terminal(), &StateDiffer, &mut rt.stderr()).status())
+    ExitCode::from(tcshow(
+        &rt,
+        rt.stdout().is_terminal(),
+        &StateDiffer,
+        &mut rt.stderr(),
+    )
+    .status())
 }
