@@ -2,7 +2,7 @@
 
 use tc_changes::Key;
 
-/// The way in which an object differs.
+/// The kind of a difference.
 #[derive(Clone, Copy, PartialEq, Eq, Drop, Debug)]
 pub enum Change {
     /// Only the first state has it.
@@ -13,7 +13,7 @@ pub enum Change {
     New,
 }
 
-/// An object in which two states differ.
+/// An object that differs between two states.
 #[derive(Clone, Copy, PartialEq, Eq, Drop, Debug)]
 pub struct Difference {
     pub key: Key,

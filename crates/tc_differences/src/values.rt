@@ -1,4 +1,4 @@
-//! The values in which two values of JSON differ, each by the names that lead to it.
+//! Differences between two values of JSON, each with the names that lead to it.
 
 use forms_text::{brief, is_same};
 use program_io::{Stop, write_text};
@@ -156,7 +156,7 @@ fn places_of(alloc: Global, leaves: &[Leaf<'_>]) -> Result<Numbers, AllocError> 
     Ok(places)
 }
 
-/// Appends a line for each value in which two values of JSON differ: its names, the old value and the new one.
+/// Appends a line for each difference between two values of JSON: its names, the old value and the new one.
 pub(crate) fn put_values(
     alloc: Global,
     old: &Value,

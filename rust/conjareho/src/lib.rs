@@ -86,7 +86,10 @@ pub mod tc {
     };
 }
 
-/// Requests built from typed parts, and dumps made into the requests that restore them.
+/// Requests: objects and verbs, and requests of messages of [`tc`].
+///
+/// A typed message of [`kinds`](crate#every-kind-typed) writes its request itself, for an [`Object`](requests::Object) and a
+/// [`Verb`](requests::Verb). The other items build requests with the types of [`tc`], and make dumps into the requests that restore them.
 pub mod requests {
     pub use crate::tc_requests::{
         ActionKindOption, FilterOption, OfKind, OptionOf, QdiscOption, RequestError, Target, TcKindOption, TcText,

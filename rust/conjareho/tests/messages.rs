@@ -199,9 +199,12 @@ fn types_have_the_traits_that_one_expects() {
     fn is_text<T: FromStr + Display>() {}
     fn is_ordered<T: Copy + Ord + Hash>() {}
     fn has_default<T: Default>() {}
-    (is_value::<TcMessage>(), is_value::<TcActionMessage>(), is_value::<TcHeader>(), is_value::<TcOption>());
-    (is_value::<AddressFamily>(), is_value::<TcActionType>(), is_value::<Target>(), is_value::<Netlink>());
-    (is_error::<DecodeError>(), is_error::<RewriteError>(), is_error::<NetlinkError>(), is_error::<CaptureError>());
-    (is_text::<TcHandle>(), is_text::<TcActionType>(), is_ordered::<TcHandle>(), is_ordered::<Verb>());
-    (is_value::<Object>(), has_default::<Netlink>(), has_default::<TcMessage>(), has_default::<Target>());
+    macro_rules! each {
+        ($check:ident: $($type:ty),*) => { $($check::<$type>();)* };
+    }
+    each! { is_value: TcMessage, TcActionMessage, TcHeader, TcOption, AddressFamily, TcActionType, Target, Netlink, Object }
+    each! { is_error: DecodeError, RewriteError, NetlinkError, CaptureError }
+    each! { is_text: TcHandle, TcActionType }
+    each! { is_ordered: TcHandle, Verb }
+    each! { has_default: Netlink, TcMessage, Target }
 }

@@ -146,7 +146,11 @@ impl Writer<'_> {
             let alias = if snake(&line.name) == line.name { "" } else { &line.name };
             Some(format!("{}{field} {:?} {:?} ({value}) ({layout}),\n", attributes(&doc, alias), line.name, layer(form)))
         });
-        let about = about(&format!("`struct {name}`"), block);
+        let what = match block.lines.first().and_then(|line| line.form.as_ref()) {
+            Some(Form::Struct(header)) if self.is_at_root(block) => format!("A message without its netlink header: `struct {header}` and attributes"),
+            _ => format!("`struct {name}`"),
+        };
+        let about = about(&what, block);
         format!("record! {{ {}{} {{\n{}}} }}\n", attributes(&about, name), type_name("struct", name), fields.collect::<String>())
     }
 

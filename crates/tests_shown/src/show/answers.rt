@@ -71,7 +71,7 @@ static REFUSED_LINE: &str =
 
 static OTHER_LINES: &str =
     r#"22:13:20.123456 refused EINVAL "NLA_F_NESTED is missing" at byte 44 add filter - -
-22:13:20.123456 refused 777 add qdisc - - raw=00000000
+22:13:20.123456 refused 777 add qdisc - - raw=00000000 malformed: 4 bytes, 20 expected, at header (byte 0)
 22:13:20.123456 warned "quantum is big" add filter - -
 "#;
 

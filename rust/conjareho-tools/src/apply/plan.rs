@@ -1,10 +1,10 @@
 //! Plans: the requests that bring what there is to what is wanted, by the proved plan.
 
-use crate::netlink::message::{RTM_NEWCHAIN, RTM_NEWQDISC, RTM_NEWTCLASS, RTM_NEWTFILTER, is_action};
+use crate::netlink::message::{HEADER, RTM_NEWCHAIN, RTM_NEWQDISC, RTM_NEWTCLASS, RTM_NEWTFILTER, is_action, tcmsg_of};
 use crate::nla_frames::ParseableBytes as _;
 use crate::program_io::Stop;
-use crate::restore::compare::{Key, key_of};
-use crate::restore::messages::{actions_of, payload_of, type_of};
+use crate::restore::compare::Key;
+use crate::restore::messages::{actions_of, chain_of, kind_of, payload_of, type_of};
 use crate::restore::plan::{LINES_BEFORE, dumps_of, requests_of_dump};
 use crate::tc_action_messages::TcActionMessage;
 use crate::tc_changes::{self, Rules};
@@ -14,6 +14,8 @@ use crate::tc_restore::{Object, request_of, request_of_actions};
 use crate::tcmake_lib::lines::{Remark, RemarkKind, Source};
 use crate::tcmake_lib::plans::plan_of_dumps;
 use std::collections::BTreeSet;
+
+const RTM_DELTFILTER: u16 = RTM_NEWTFILTER + 1;
 
 /// The requests of a plan in their order, or why there is none.
 pub(crate) type Plan = Result<Vec<Vec<u8>>, Vec<Fault>>;
@@ -25,23 +27,21 @@ pub(crate) struct Fault {
     pub(crate) is_of_now: bool,
     /// The number of the dump, from 0.
     pub(crate) place: Option<usize>,
-    /// What the dump is of, and what is wrong with it.
+    /// What is wrong with it.
     pub(crate) text: String,
 }
 
-// How a remark about what no request makes begins.
-const UNMADE: &str = "it can't be made";
+// What a remark says of what no request makes.
+const UNMADE: &str = "can't be made from a dump";
 
 impl Fault {
     fn of(remark: &Remark, now: &[Vec<u8>], wanted: &[Vec<u8>]) -> Fault {
         let is_of_now = remark.source == Source::Now;
         let place = usize::try_from(remark.number).ok().and_then(|number| number.checked_sub(1));
-        let dump = place.and_then(|place| if is_of_now { now } else { wanted }.get(place));
-        let name = dump.and_then(|dump| key_of(dump)).map(|key| format!("{key}: ")).unwrap_or_default();
         let own = if is_of_now { now } else { wanted };
-        let why = place.filter(|_| remark.text.starts_with(UNMADE)).and_then(|place| unmade(own, place));
+        let why = place.filter(|_| remark.text.contains(UNMADE)).and_then(|place| unmade(own, place));
         let why = why.map(|why| format!(": {why}")).unwrap_or_default();
-        Fault { is_of_now, place, text: format!("{name}{}{why}", remark.text) }
+        Fault { is_of_now, place, text: format!("{}{why}", remark.text) }
     }
 }
 
@@ -109,7 +109,23 @@ fn requests(rules: &impl Rules, now: &[Vec<u8>], wanted: &[Vec<u8>]) -> Result<P
     if planned.is_void || !faults.is_empty() {
         return Ok(Err(faults));
     }
-    planned.requests.iter().map(|request| request.netlink()).collect::<Result<Vec<_>, _>>().map(Ok)
+    let made = planned.requests.iter().map(|request| Ok(with_priority(request.netlink()?, now)));
+    made.collect::<Result<Vec<_>, _>>().map(Ok)
+}
+
+// The request that deletes a filter. Linux deletes one of cgroup only with its priority, which has no other filter.
+fn with_priority(request: Vec<u8>, now: &[Vec<u8>]) -> Vec<u8> {
+    let place =
+        |message: &[u8]| tcmsg_of(message).map(|it| (it.index, it.parent, it.info >> 16, it.handle, chain_of(message)));
+    let is_it = |dump: &Vec<u8>| {
+        type_of(dump) == RTM_NEWTFILTER && kind_of(dump) == Some(b"cgroup") && place(dump) == place(&request)
+    };
+    let is_of_cgroup = type_of(&request) == RTM_DELTFILTER && now.iter().any(is_it);
+    let mut request = request;
+    if let Some(handle) = request.get_mut(HEADER + 8..HEADER + 12).filter(|_| is_of_cgroup) {
+        handle.fill(0);
+    }
+    request
 }
 
 // The actions of now that stay although nobody wants them.
@@ -120,4 +136,25 @@ fn others(now: &[Vec<u8>], wanted: &[Vec<u8>], may_go: impl Fn(&Key) -> bool) ->
     let named: BTreeSet<Key> = own(wanted).iter().map(|action| action.key()).collect();
     let stay = own(now).into_iter().filter(|action| !named.contains(&action.key()) && !may_go(&action.key()));
     stay.map(|action| action.change()).collect()
+}
+
+#[cfg(test)]
+mod tests {
+    use super::*;
+    use crate::netlink::attributes::put;
+    use crate::netlink::message::{Tcmsg, tc_request};
+
+    #[test]
+    fn a_filter_of_cgroup_goes_with_its_priority() {
+        let of = |kind, handle, name: &str| {
+            let mut message = tc_request(kind, 0, Tcmsg { index: 7, handle, parent: 0xFFFF_FFF3, info: 0x001B_0000 });
+            put(&mut message, 1, &[name.as_bytes(), &[0]].concat());
+            let len = message.len() as u32;
+            message[..4].copy_from_slice(&len.to_ne_bytes());
+            message
+        };
+        let now = [of(RTM_NEWTFILTER, 1, "cgroup"), of(RTM_NEWTFILTER, 2, "basic")];
+        let handle = |number| tcmsg_of(&with_priority(of(RTM_DELTFILTER, number, ""), &now)).map(|it| it.handle);
+        assert_eq!([1, 2, 3].map(handle), [Some(0), Some(2), Some(3)]);
+    }
 }

@@ -49,6 +49,8 @@ macro_rules! attrs {
         $variant:ident $get:ident $with:ident $json:literal $layer:literal $number:literal $flags:literal ($value:ty) ($form:ty) ($taken:ty),
     )* }) => {
         $(#[$about])*
+        ///
+        #[doc = concat!("A list of them is an [`Attrs`]`<", stringify!($name), ">`, which has a getter for each, and a method `with_..` that appends it.")]
         #[derive(Clone, PartialEq, Eq, Hash, Debug)]
         #[non_exhaustive]
         pub enum $name {
