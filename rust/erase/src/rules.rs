@@ -287,5 +287,5 @@ pub(crate) const MACROS: &[&str] = &[
 
 /// Lints that erased modules don't meet: contracts used what is now unused, and some code is easier to prove than what clippy prefers.
 pub(crate) const LINTS: &str = "dead_code, missing_docs, unused_doc_comments, unused_imports, unused_labels, unused_must_use, unused_variables, \
-    clippy::complexity, clippy::style, clippy::large_enum_variant, clippy::manual_unwrap_or_default, clippy::result_large_err, \
+    clippy::complexity, clippy::perf, clippy::style, clippy::manual_unwrap_or_default, clippy::unnecessary_get_then_check, \
     clippy::derived_hash_with_manual_eq, rustdoc::broken_intra_doc_links";
