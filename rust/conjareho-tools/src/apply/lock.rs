@@ -50,7 +50,7 @@ pub(crate) fn lock(folder: &Path, signal: &dyn Fn() -> Option<&'static str>) -> 
 fn opened(folder: &Path) -> io::Result<File> {
     DirBuilder::new().recursive(true).mode(0o700).create(folder)?;
     let namespace = fs::metadata(OWN_NETWORK)?.ino();
-    OpenOptions::new().write(true).create(true).mode(0o600).open(folder.join(format!("lock-{namespace}")))
+    OpenOptions::new().write(true).create(true).truncate(false).mode(0o600).open(folder.join(format!("lock-{namespace}")))
 }
 
 #[cfg(test)]

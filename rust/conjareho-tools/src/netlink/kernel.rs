@@ -18,7 +18,7 @@ const MOST_LEFT: usize = 1 << 16;
 pub const MOST_AT_ONCE: usize = 64;
 /// What an answer of a dump takes of the room for datagrams: the kernel makes one of 32 KiB, and counts what it uses besides. Half of the room is
 /// left for the rest.
-const ROOM_OF_ONE: usize = 2 * 48 << 10;
+const ROOM_OF_ONE: usize = (2 * 48) << 10;
 
 const NLMSGERR_ATTR_MSG: u16 = 1;
 const NLMSGERR_ATTR_OFFS: u16 = 2;

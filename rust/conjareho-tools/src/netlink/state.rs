@@ -210,6 +210,7 @@ impl<T: Transport, L: Transport> Dumper<'_, T, L> {
     }
 
     // Those of these parents that have chains, with these; all of them, without any, if chains aren't asked for or the kernel has none.
+    #[allow(clippy::type_complexity)] // the messages of each parent
     fn chains(&mut self, index: u32, parents: &[u32]) -> Result<Vec<(u32, Vec<Vec<u8>>)>, Fault> {
         let chains = match self.objects.chains.then(|| self.dump_each(RTM_GETCHAIN, index, parents)).transpose() {
             // Linux before 4.19 has none.
