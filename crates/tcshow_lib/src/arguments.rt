@@ -62,13 +62,13 @@ pub struct Arguments<'a> {
     pub refused: bool,
     /// True if a summary is printed at the end (`--summary`).
     pub has_summary: bool,
-    /// When outlines are colored (`--color`).
+    /// When lines and outlines are colored (`--color`).
     pub colours: Colours,
-    /// Whether outlines are colored, once decided.
+    /// Whether lines and outlines are colored, once decided.
     pub in_colours: bool,
 }
 
-/// When outlines are colored.
+/// When lines and outlines are colored.
 #[derive(Clone, Copy, PartialEq, Eq)]
 pub enum Colours {
     /// On a terminal.
@@ -80,7 +80,7 @@ pub enum Colours {
 }
 
 impl Colours {
-    // Whether outlines are colored, if the terminal allows color or not.
+    // Whether lines and outlines are colored, if the terminal allows color or not.
     pub(crate) fn are_on(self, is_allowed: bool) -> bool {
         match self {
             Colours::Auto => is_allowed,
@@ -122,8 +122,8 @@ Notes:
   --dev takes a number or a name: one in the capture (tcnl monitor --links), or one in --names.
   --type tclass stands for newtclass, deltclass and gettclass. Hex that is a message only has no
   netlink header. --time delta counts from the message before, relative from the first. --since
-  takes what --time date and epoch print. Without --color, outlines have color on a terminal, unless
-  NO_COLOR is set.
+  takes what --time date and epoch print. Without --color, lines and outlines have color on a
+  terminal, unless NO_COLOR is set.
   Hex may contain spaces, colons, 0x prefixes and # comments. One message per line; or a dump with
   offsets (xxd, hexdump -C, tcpdump -x, Wireshark), in which offset 0 starts a new message; or lines
   of 60 digits and a shorter last one (xxd -p).
@@ -199,7 +199,7 @@ static OPTIONS: [(&str, Value, &str, &str); 25] = [
         "time",
         Value::Word("FORMAT", &["date", "epoch", "delta", "relative"]),
         FORMS,
-        "Print times so, instead of the time of day",
+        "Print times in FORMAT",
     ),
     (
         "acks",
@@ -235,7 +235,7 @@ static OPTIONS: [(&str, Value, &str, &str); 25] = [
         "color",
         Value::Word("WHEN", &["auto", "always", "never"]),
         FORMS,
-        "Color outlines (default: auto)",
+        "Color lines and outlines (default: auto)",
     ),
     (
         "diff",

@@ -28,6 +28,7 @@ use std::{env, fs};
 use tc_input::Input as Begun;
 use tc_select::{Filter, LINK_FORMS};
 use tcmake_lines::OutputFormat as MadeFormat;
+use tcshow_colours::{ColouredLines, Styled};
 use tcshow_input::{Packets, Printer, Stop};
 
 /// The comparison of two inputs (`--diff`). The program brings it, since it needs the crates that make requests of dumps.
@@ -71,7 +72,7 @@ fn obey<R: Env + AllocGlobal + Files + Input + Print, D: Differ, E: Write>(
 ) -> Ended {
     match arguments_of(rt.alloc(), words) {
         Ok(mut arguments) => {
-            arguments.in_colours = arguments.format == OutputFormat::Outline
+            arguments.in_colours = arguments.format != OutputFormat::Json
                 && arguments.colours.are_on(is_terminal && allows_colours(rt));
             perform(rt, &arguments, differ, errors)
         }
@@ -398,20 +399,7 @@ fn show_filtered<R: AllocGlobal + Print, I: Read + Drop, E: Write>(
     let alloc = rt.alloc();
     let options = options_of(arguments, filter, names);
     let mut reader = Reader::new(reader);
-    let writer = io::writer(rt);
-    if arguments.in_colours {
-        let mut writer = Writer::new(Coloured::new(alloc, writer));
-        return serve(
-            alloc,
-            alloc,
-            &options,
-            name,
-            &mut reader,
-            &mut writer,
-            errors,
-        );
-    }
-    let mut writer = Writer::new(writer);
+    let mut writer = Writer::new(styled(alloc, arguments, io::writer(rt)));
     serve(
         alloc,
         alloc,
@@ -433,13 +421,21 @@ fn show_each<R: AllocGlobal + Files + Input + Print, E: Write>(
     errors: &mut E,
 ) -> Ended {
     let options = options_of(arguments, filter, names);
-    let writer = io::writer(rt);
-    if arguments.in_colours {
-        let mut writer = Writer::new(Coloured::new(rt.alloc(), writer));
-        return show_each_on(rt, &options, files, &mut writer, errors);
-    }
-    let mut writer = Writer::new(writer);
+    let mut writer = Writer::new(styled(rt.alloc(), arguments, io::writer(rt)));
     show_each_on(rt, &options, files, &mut writer, errors)
+}
+
+// A writer that adds the colors that the arguments ask for.
+fn styled<W: Write + Drop>(alloc: Global, arguments: &Arguments<'_>, writer: W) -> Styled<W> {
+    match arguments.format {
+        OutputFormat::Outline if arguments.in_colours => {
+            Styled::Outlines(Coloured::new(alloc, writer))
+        }
+        OutputFormat::Lines(_) if arguments.in_colours => {
+            Styled::Lines(ColouredLines::new(alloc, writer))
+        }
+        _ => Styled::Plain(writer),
+    }
 }
 
 fn show_each_on<R: AllocGlobal + Files + Input, W: Write, E: Write>(
