@@ -9,10 +9,10 @@ use Rattle.tcshow_json.specs.Messages.{Header, Message, Reason, Thing, message, 
 use Rattle.tc_select.specs.Links.{Link}
 use Rattle.tcshow_json.specs.Safe.{safe_text}
 use Rattle.tc_select.specs.declared.filter.Filter.{Filter}
-use Rattle.tcshow_input.specs.Selection.{is_matched, is_included}
+use Rattle.tcshow_input.specs.Selection.{is_included}
 use Rattle.tcshow_input.specs.Known.{Known, after, after_all, names_by}
 use Rattle.tcshow_input.specs.Shown.{ended, IsEscaped, IsPage, IsOutline, IsAnswerIn, IsViewOf, View, has_acks, has_fault, lines_with, IfTaken}
-use Rattle.tcshow_input.specs.Shown.{is_done_shown, is_request_matched}
+use Rattle.tcshow_input.specs.Shown.{is_answer_matched, is_done_shown, is_request_matched}
 use Rattle.tcshow_input.specs.Shown.{Nothing, Shows, ShowsDone, ShowsEach, ShowsMessage, ShowsAnswer, ShowsNotice, ShowsSummary}
 use Rattle.tc_outline.specs.declared.page.Page.{Page}
 use Rattle.tc_outline.specs.Text.{Continues, is_in_lines, text_on}
@@ -304,15 +304,15 @@ no_message m taken s n is_not h g =
 -- what an answer shows, if the filter matches its request
 abbrev pub Tells : Header → Reason → Message → List ℕ → State → Type 0
 Tells h r m text s =
-    IfTaken (is_matched (names_by s.before) s.filter m) (ShowsAnswer s.json s.view s.before h r m text × (false ≡ false)) text false
+    IfTaken (is_answer_matched s.before s.filter r m) (ShowsAnswer s.json s.view s.before h r m text × (false ≡ false)) text false
 
 pub tells_matched : (h : Header) (r : Reason) (m : Message) (t : List ℕ) (taken : Bool) (s : State) → taken ≡ true
-    → taken ≡ is_matched (names_by s.before) s.filter m → ShowsAnswer s.json s.view s.before h r m t → Tells h r m t s
+    → taken ≡ is_answer_matched s.before s.filter r m → ShowsAnswer s.json s.view s.before h r m t → Tells h r m t s
 tells_matched h r m t taken s is k shown =
     subst (λ x. IfTaken x (ShowsAnswer s.json s.view s.before h r m t × (false ≡ false)) t false) (sym is ∙ k) (shown, refl)
 
 pub tells_nothing : (h : Header) (r : Reason) (m : Message) (taken : Bool) (s : State) → taken ≡ false
-    → taken ≡ is_matched (names_by s.before) s.filter m → Tells h r m [] s
+    → taken ≡ is_answer_matched s.before s.filter r m → Tells h r m [] s
 tells_nothing h r m taken s is_not k =
     subst (λ x. IfTaken x (ShowsAnswer s.json s.view s.before h r m [] × (false ≡ false)) [] false) (sym is_not ∙ k) nothing
 
@@ -320,7 +320,7 @@ pub puts_answer : (h : Header) (r : Reason) (m : Message) (t : List ℕ) (s n : 
     → Grows t false s n → Puts (answer h r m ∷ []) s n
 puts_answer h r m t s n told shown g =
     puts_one (answer h r m) t false s n
-    (subst (λ x. IfTaken (x && is_matched (names_by s.before) s.filter m) (ShowsAnswer s.json s.view s.before h r m t × (false ≡ false)) t false)
+    (subst (λ x. IfTaken (x && is_answer_matched s.before s.filter r m) (ShowsAnswer s.json s.view s.before h r m t × (false ≡ false)) t false)
     (sym told) shown)
     (same_requests (after_all s.before (answer h r m ∷ [])) t false s n refl g)
 
@@ -328,7 +328,7 @@ pub puts_no_answer : (h : Header) (r : Reason) (m : Message) (s n : State) → (
     → Puts (answer h r m ∷ []) s n
 puts_no_answer h r m s n silent g =
     puts_one (answer h r m) [] false s n
-    (subst (λ x. IfTaken (x && is_matched (names_by s.before) s.filter m) (ShowsAnswer s.json s.view s.before h r m [] × (false ≡ false)) [] false)
+    (subst (λ x. IfTaken (x && is_answer_matched s.before s.filter r m) (ShowsAnswer s.json s.view s.before h r m [] × (false ≡ false)) [] false)
     (sym silent) nothing)
     (same_requests (after_all s.before (answer h r m ∷ [])) [] false s n refl g)
 

@@ -14,7 +14,7 @@ use Rattle.tcshow_input.specs.Known.{Known, after, names_by}
 use Rattle.tcshow_json.specs.Line.{IsAnswered}
 use Rattle.tcshow_json.specs.Safe.{safe_text}
 use Rattle.tcshow_json.specs.Objects.{root_of}
-use Rattle.tcshow_lines.specs.Answers.{IsAnswer, IsEnd, dump_of}
+use Rattle.tcshow_lines.specs.Answers.{IsAnswer, IsEnd, dump_of, request_of}
 use Rattle.tcshow_lines.specs.Lines.{IsLines}
 use Rattle.tcshow_lines.specs.declared.times.TimeFormat.{TimeFormat}
 
@@ -90,9 +90,13 @@ has_acks (lines statistics format acks) = acks
 has_acks (outline all) = false
 has_acks in_json = false
 
+-- whether the filter matches the request of an answer, with the bytes that the capture has of it
+abbrev pub is_answer_matched : Known → Filter → Reason → Message → Bool
+is_answer_matched known filter r m = is_matched (names_by known) filter (request_of known.past r m)
+
 -- whether an answer is shown: if the filter matches its request
 abbrev pub is_answer_shown : View → Known → Filter → Reason → Message → Bool
-is_answer_shown view known filter r m = (not (is_silent r) || has_acks view) && is_matched (names_by known) filter m
+is_answer_shown view known filter r m = (not (is_silent r) || has_acks view) && is_answer_matched known filter r m
 
 -- for a place without a message a notice
 abbrev pub ShowsNotice : Bool → List ℕ → Type 0

@@ -12,7 +12,7 @@ use std::alloc::{AllocError, Allocator};
 use tc_capture::NetlinkMessage;
 use tc_outline::Page;
 use tcshow_json::{Origin, Reply, put_request, reply_line, show_netlink, show_reason};
-use tcshow_lines::{dump_of, lines_of_end, lines_of_reply};
+use tcshow_lines::{dump_of, lines_of_end, lines_of_reply, request_of};
 
 // True if acknowledgements without a text are printed.
 fn has_acks(options: &Options<'_>) -> bool
@@ -30,9 +30,7 @@ impl<'a, A: Allocator + Copy> Printer<'a, A> {
     ghost use Rattle.tc_capture.specs.Message.{message_of};
     ghost use Rattle.tcshow_json.specs.Messages.{done, header_view, is_silent, message_view, reason_of};
     ghost use Rattle.tcshow_json.specs.Replies.{thing_view};
-    ghost use Rattle.tcshow_input.specs.Known.{names_by};
-    ghost use Rattle.tcshow_input.specs.Selection.{is_matched};
-    ghost use Rattle.tcshow_input.specs.Shown.{IfTaken, IsPage, ShowsAnswer, has_acks, is_request_matched};
+    ghost use Rattle.tcshow_input.specs.Shown.{IfTaken, IsPage, ShowsAnswer, has_acks, is_answer_matched, is_request_matched};
     ghost use Rattle.tcshow_input.specs.State.{state_of, statistics_in, Grows, Puts};
     ghost use Rattle.tcshow_lines.specs.Answers.{IsEnd, dump_of};
 
@@ -58,17 +56,25 @@ impl<'a, A: Allocator + Copy> Printer<'a, A> {
     // Prints an answer if the filter matches its request.
     fn put_told(&mut self, reply: &Reply<'_>) -> Result<(), AllocError>
         ensures form { self.new.output.is_json ≡ self.old.output.is_json }
-        ensures put { OnOk result ((text : List ℕ) × IfTaken (is_matched (names_by (state_of self.old).before) (state_of self.old).filter
-            (message_view reply.now.request)) (ShowsAnswer self.old.output.is_json (state_of self.old).view (state_of self.old).before
+        ensures put { OnOk result ((text : List ℕ) × IfTaken (is_answer_matched (state_of self.old).before (state_of self.old).filter
+            (reason_of (answer_of reply.now.answer)) (message_view reply.now.request)) (ShowsAnswer self.old.output.is_json (state_of self.old).view (state_of self.old).before
             (header_view reply.now.header) (reason_of (answer_of reply.now.answer)) (message_view reply.now.request) text × (false ≡ false)) text false
             × Grows text false (state_of self.old) (state_of self.new)) }
     {
-        if !self.matches_request(&reply.request) {
+        if !self.takes_reply(reply) {
             self.counts.left_out = self.counts.left_out.saturating_add(1);
             return Ok(());
         }
         self.counts.answers = self.counts.answers.saturating_add(1);
         self.show_reply(reply)
+    }
+
+    // True if the filter matches the request of an answer, with the bytes that the capture has of it.
+    fn takes_reply(&self, reply: &Reply<'_>) -> bool
+        ensures { result ≡ is_answer_matched (state_of self.now).before (state_of self.now).filter
+            (reason_of (answer_of reply.now.answer)) (message_view reply.now.request) }
+    {
+        self.matches_request(&request_of(&self.requests, reply))
     }
 
     fn show_reply(&mut self, reply: &Reply<'_>) -> Result<(), AllocError>

@@ -10,9 +10,11 @@ use Rattle.tc_brief.proofs.Bare.{word_is}
 use Rattle.tc_outline.specs.Page.{IsShown, is_shown}
 use Rattle.tc_brief.specs.declared.line.Object.{Object}
 use Rattle.tc_columns.specs.declared.root.Root.{Root}
+use Rattle.tc_capture.specs.Message.{Message as Netlink}
 use Rattle.tcshow_json.specs.Messages.{Message, Reason}
 use Rattle.tcshow_json.specs.Objects.{root_of}
-use Rattle.tcshow_lines.specs.Answers.{IsAsked, request_begin, sentence, sentence_byte, sentence_bytes, told_text, told_words}
+use Rattle.tcshow_json.specs.declared.message.Origin.{Origin}
+use Rattle.tcshow_lines.specs.Answers.{IsAsked, end_sentence, end_text, end_words, request_begin, sentence, sentence_byte, sentence_bytes, told_text, told_words}
 use Rattle.tcshow_lines.specs.Begins.{time_in, timed, words_text}
 use Rattle.tcshow_lines.specs.Lines.{IsEnded, IsFault, IsSaid, fault_of, leaves_at, leaves_with, options_with, said_as}
 use Rattle.tcshow_lines.specs.Past.{Past}
@@ -147,6 +149,11 @@ told_shown past format r m place =
     All-append Clean (words_text (timed (time_in format past m.origin.time) (told_words r))) (sentence r.text ++ written place)
     (words_shown (timed (time_in format past m.origin.time) (told_words r)))
     (All-append Clean (sentence r.text) (written place) (sentence_shown r.text) (written_shown place))
+
+pub end_shown : (past : Past) (format : TimeFormat) (origin : Origin) (m : Netlink) → IsShown true (end_text past format origin m)
+end_shown past format origin m =
+    All-append Clean (words_text (timed (time_in format past origin.time) (end_words m))) (sentence (end_sentence m))
+    (words_shown (timed (time_in format past origin.time) (end_words m))) (sentence_shown (end_sentence m))
 
 begin_shown : (begin : List ℕ) (m : Message) → IsShown true begin → IsShown true (request_begin begin m)
 begin_shown begin m b =

@@ -1,11 +1,13 @@
 -- The lines of the kernel's answers to requests, and of the ends of dumps.
 use Rattle.byteorder.specs.Endian.{little_number}
+use Rattle.nla_frames.specs.Frame.{Frame, type_of}
 use Rattle.nla_frames.specs.Value.{strip}
-use Rattle.std.specs.Prelude.{Bool, List, None, Option, Some, [], codes, if◌then◌else◌, is_some, length, nat_le, not, option_and_then, option_map, ℕ}
+use Rattle.std.specs.Prelude.{Bool, List, None, Option, Some, [], codes, drop, if◌then◌else◌, is_some, length, nat_le, not, option_and_then, option_map, ℕ}
 use Rattle.std.specs.Prelude.{◌%◌, ◌&&◌, ◌++◌, ◌-◌, ◌==◌, ◌≡◌, ◌||◌, ◌∷◌, false}
 use Rattle.tc_brief.specs.Lines.{message_lines}
 use Rattle.tc_brief.specs.Words.{word_byte, written}
 use Rattle.tc_capture.specs.Message.{Message as Netlink}
+use Rattle.tc_select.specs.Kinds.{frames_in}
 use Rattle.tcshow_json.specs.Line.{errno_text, offset_in_message}
 use Rattle.tcshow_json.specs.Messages.{Header, Message, Reason}
 use Rattle.tcshow_json.specs.Objects.{root_of}
@@ -60,6 +62,15 @@ bytes_like rs (Some h) = option_and_then (λ (r : Request). r.payload) (last_whe
 abbrev pub asked_bytes : Past → Reason → Message → Option (List ℕ)
 asked_bytes past r m = if r.is_capped then bytes_like past.requests m.header else Some m.payload
 
+-- a message with these bytes, if they are known
+abbrev pub with_bytes : Option (List ℕ) → Message → Message
+with_bytes None m = m
+with_bytes (Some bytes) m = record m { payload = bytes }
+
+-- the request of an answer, with its bytes if they are known, by which filters choose
+abbrev pub request_of : Past → Reason → Message → Message
+request_of past r m = with_bytes (asked_bytes past r m) m
+
 -- the lines of a request, after a text and its verb; of one whose bytes aren't known, its object
 abbrev pub request_begin : List ℕ → Message → List ℕ
 request_begin begin m = begin ++ written (verb_words (asked_verb (object_in (root_of m)) m.header))
@@ -112,13 +123,21 @@ ended_dump past m =
 abbrev pub end_words : Netlink → List (List ℕ)
 end_words m = if end_error m.payload == 0 then codes "interrupted" ∷ [] else codes "refused" ∷ errno_text (end_error m.payload) ∷ []
 
+-- the kernel's sentence about the error: the last attribute of type NLMSGERR_ATTR_MSG (1) after the number
+abbrev pub last_text : Option (List ℕ) → List Frame → Option (List ℕ)
+last_text found [] = found
+last_text found (f ∷ fs) = last_text (if type_of f.word == 1 then Some f.value else found) fs
+
+abbrev pub end_sentence : Netlink → Option (List ℕ)
+end_sentence m = if end_error m.payload == 0 then None else last_text None (frames_in (drop 4 m.payload))
+
+-- what the line of the end of a dump begins with, up to the verb of its request: time, error and sentence
+abbrev pub end_text : Past → TimeFormat → Origin → Netlink → List ℕ
+end_text past format origin m = words_text (timed (time_in format past origin.time) (end_words m)) ++ sentence (end_sentence m)
+
 -- a request as a message, without its bytes, at the time of its end
 abbrev pub request_at : Origin → Request → Message
 request_at origin r = record { origin = origin; header = Some r.header; holds = r.holds; payload = [] }
-
-abbrev pub with_bytes : Option (List ℕ) → Message → Message
-with_bytes None m = m
-with_bytes (Some bytes) m = record m { payload = bytes }
 
 -- the same with its bytes, by which filters choose
 abbrev pub dump_of : Past → Origin → Netlink → Option Message
@@ -127,7 +146,7 @@ dump_of past origin m = option_map (λ (r : Request). with_bytes r.payload (requ
 abbrev pub IsEndOf : Past → Bool → TimeFormat → Origin → Netlink → Option Request → List ℕ → Type 0
 IsEndOf past stats format origin m None text = text ≡ []
 IsEndOf past stats format origin m (Some r) text =
-    IsAsked (words_text (timed (time_in format past origin.time) (end_words m))) stats (request_at origin r) r.payload text
+    IsAsked (end_text past format origin m) stats (request_at origin r) r.payload text
 
 -- the line of a dump that ends badly, after these messages
 abbrev pub IsEnd : Past → Bool → TimeFormat → Origin → Netlink → List ℕ → Type 0

@@ -6,7 +6,7 @@ ghost use Rattle.tc_capture.specs.Answer.{answer_of};
 ghost use Rattle.tcshow_json.specs.Line.{offset_in_message};
 ghost use Rattle.tcshow_json.specs.Messages.{header_view, message_view, reason_of};
 ghost use Rattle.tcshow_lines.specs.Answers.{IsAnswer, IsAsked, IsPlace, asked_bytes, bytes_like, is_like, last_where, request_begin};
-ghost use Rattle.tcshow_lines.specs.Answers.{sentence, sentence_byte, sentence_bytes, told_text, told_words};
+ghost use Rattle.tcshow_lines.specs.Answers.{request_of, sentence, sentence_byte, sentence_bytes, told_text, told_words, with_bytes};
 ghost use Rattle.tcshow_lines.specs.Begins.{time_in, timed, words_text};
 ghost use Rattle.tcshow_lines.specs.Lines.{IsEnded, IsSaid, place_words};
 ghost use Rattle.tcshow_lines.specs.Past.{past_of, request_view, requests_view};
@@ -50,8 +50,8 @@ fn put_sentence_bytes(out: &mut Vec<u8>, text: &[u8]) -> Result<(), AllocError>
     Ok(())
 }
 
-// Appends the kernel's sentence, if it has one.
-fn put_sentence(out: &mut Vec<u8>, text: Option<&[u8]>) -> Result<(), AllocError>
+/// Appends the kernel's sentence, if it has one.
+pub(crate) fn put_sentence(out: &mut Vec<u8>, text: Option<&[u8]>) -> Result<(), AllocError>
     ensures { OnOk result (out.new.items ≡ out.old.items ++ sentence (option_map (λ text. text.now) text.entry)) }
 {
     match text {
@@ -299,8 +299,10 @@ pub(crate) fn lines_asked(
     }
 }
 
-// The request of an answer, with its bytes if they are known.
-fn with_bytes<'r>(request: &Message<'r>, bytes: Option<&'r [u8]>) -> Message<'r> {
+// A message with these bytes, if they are known.
+fn with_bytes<'r>(request: &Message<'r>, bytes: Option<&'r [u8]>) -> Message<'r>
+    ensures { message_view result ≡ with_bytes (option_map (λ bytes. bytes.now) bytes.entry) (message_view request.now) }
+{
     match bytes {
         Some(payload) => Message {
             payload,
@@ -308,6 +310,13 @@ fn with_bytes<'r>(request: &Message<'r>, bytes: Option<&'r [u8]>) -> Message<'r>
         },
         None => *request,
     }
+}
+
+/// The request of an answer after these messages, with its bytes if they are known.
+pub fn request_of<'r>(past: &'r Requests, reply: &Reply<'r>) -> Message<'r>
+    ensures { message_view result ≡ request_of (past_of past.now) (reason_of (answer_of reply.now.answer)) (message_view reply.now.request) }
+{
+    with_bytes(&reply.request, asked_bytes(past, reply))
 }
 
 /// The lines of an answer after these messages: `refused` and the error, `warned` or `ok`, the kernel's sentence and the place that it names, then the

@@ -6,24 +6,28 @@ ghost use Rattle.tc_capture.specs.Message.{message_of};
 ghost use Rattle.tcshow_json.specs.Line.{errno_text};
 ghost use Rattle.tcshow_json.specs.Messages.{header_view, message_view};
 ghost use Rattle.tcshow_lines.specs.Answers.{IsEnd, dump_of, end_error, end_words, ended_dump, is_any, is_dumped_by, is_interrupted, is_same_dump};
-ghost use Rattle.tcshow_lines.specs.Answers.{last_where, request_at};
+ghost use Rattle.tcshow_lines.specs.Answers.{end_sentence, end_text, last_text, last_where, request_at};
+ghost use Rattle.tc_select.specs.Kinds.{frames_in};
 ghost use Rattle.tcshow_lines.specs.Begins.{time_in, timed, words_text};
 ghost use Rattle.tcshow_lines.specs.Lines.{IsEnded};
 ghost use Rattle.tcshow_lines.specs.Past.{headers_view, past_of, request_view, requests_view};
 
-use crate::answer::{bytes_of, lines_asked, refused};
+use crate::answer::{bytes_of, lines_asked, put_sentence, refused};
 use crate::begin::begin_with;
 use crate::past::{Request, Requests, has_flag};
 use crate::times::TimeFormat;
 use byteorder::{ByteOrder, LittleEndian};
 use itoa::Buffer;
+use nla_frames::NlasIterator;
 use std::alloc::{AllocError, Global};
 use tc_capture::{NetlinkMessage, errno_name};
 use tc_columns::LinkNames;
 use tcshow_json::{Message, NetlinkHeader, Origin};
 
-// The type `NLMSG_DONE`, and the flag `NLM_F_DUMP_INTR` (`linux/netlink.h`).
+// The types of the message `NLMSG_DONE` and the attribute `NLMSGERR_ATTR_MSG`, and the flag `NLM_F_DUMP_INTR` (`linux/netlink.h`).
 const NLMSG_DONE: u16 = 3;
+
+const NLMSGERR_ATTR_MSG: u16 = 1;
 
 const NLM_F_DUMP_INTR: u16 = 16;
 
@@ -139,6 +143,54 @@ pub fn dump_of<'r>(
     }
 }
 
+// The last text in the attributes of an extended acknowledgement.
+#[tactic(auto, using(tc_select::proofs::Frames::frames_of_cut))]
+fn last_text(bytes: &[u8]) -> Option<&[u8]>
+    ensures { option_map (λ text. text.now) result ≡ last_text None (frames_in bytes.now) }
+{
+    let mut text = None;
+    for frame in NlasIterator::new(bytes) {
+        match frame {
+            Ok(frame) => {
+                if frame.kind() == NLMSGERR_ATTR_MSG {
+                    text = Some(frame.value());
+                }
+            }
+            Err(_) => return text,
+        }
+    }
+    text
+}
+
+// The kernel's sentence about the error at the end of a dump.
+fn end_sentence<'m>(message: &NetlinkMessage<'m>) -> Option<&'m [u8]>
+    ensures { option_map (λ text. text.now) result ≡ end_sentence (message_of message.now) }
+{
+    if end_error(message.payload) == 0 {
+        return None;
+    }
+    if message.payload.len() < 4 {
+        return None;
+    }
+    let (_, attributes) = message.payload.split_at(4);
+    last_text(attributes)
+}
+
+// The time, how a dump ends, and the kernel's sentence about it.
+fn end_text(
+    alloc: Global,
+    past: &Requests,
+    format: TimeFormat,
+    origin: &Origin,
+    message: &NetlinkMessage<'_>,
+) -> Result<Vec<u8>, AllocError>
+    ensures { IfOk result (λ text. text.items ≡ end_text (past_of past.now) format origin.now (message_of message.now)) }
+{
+    let mut text = ending(alloc, past, format, origin, message)?;
+    put_sentence(&mut text, end_sentence(message))?;
+    Ok(text)
+}
+
 // The time, and how a dump ends.
 fn ending(
     alloc: Global,
@@ -176,8 +228,8 @@ fn name_of<'b>(error: u32, buffer: &'b mut Buffer) -> &'b str
     }
 }
 
-/// The line of a dump that ends with an error or was interrupted, after these messages: `refused` and the error, or `interrupted`, then the line of its
-/// request. Nothing if it ended well, or its request isn't known.
+/// The line of a dump that ends with an error or was interrupted, after these messages: `refused`, the error and the kernel's sentence, or `interrupted`, then
+/// the line of its request. Nothing if it ended well, or its request isn't known.
 pub fn lines_of_end(
     alloc: Global,
     interfaces: &[(u32, &str)],
@@ -195,7 +247,7 @@ pub fn lines_of_end(
         Some(request) => request,
         None => return Ok(Vec::new(alloc)),
     };
-    let begin = ending(alloc, past, format, &origin, message)?;
+    let begin = end_text(alloc, past, format, &origin, message)?;
     let asked = request_at(origin, request);
     lines_asked(
         alloc,

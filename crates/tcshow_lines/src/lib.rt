@@ -17,7 +17,7 @@ mod past;
 mod times;
 mod verb;
 
-pub use answer::lines_of_reply;
+pub use answer::{lines_of_reply, request_of};
 pub use ending::{dump_of, lines_of_end};
 pub use line::{Lines, lines_of_message};
 pub use past::{Request, Requests};

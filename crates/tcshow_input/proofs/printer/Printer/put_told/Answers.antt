@@ -12,16 +12,16 @@ returns-clause-put g c =
     (λ x. (
       x.0,
       tells_matched (header_view c.args.reply.now.header) (reason_of (answer_of c.args.reply.now.answer)) (message_view c.args.reply.now.request) x.0
-          c.matches_request.result (state_of c.args.self.now) c.if-not-matches_request.false c.matches_request.ensures x.1,
+          c.takes_reply.result (state_of c.args.self.now) c.if-not-takes_reply.false c.takes_reply.ensures x.1,
       x.2,
     ))
     c.show_reply.ensures.put
 
-pub returns-then-not-matches_request-clause-put : goal.returns-then-not-matches_request-clause-put
-returns-then-not-matches_request-clause-put g c =
+pub returns-then-not-takes_reply-clause-put : goal.returns-then-not-takes_reply-clause-put
+returns-then-not-takes_reply-clause-put g c =
     let s = state_of c.args.self.now in (
       [],
       tells_nothing (header_view c.args.reply.now.header) (reason_of (answer_of c.args.reply.now.answer)) (message_view c.args.reply.now.request)
-          c.matches_request.result s c.if-not-matches_request.true c.matches_request.ensures,
+          c.takes_reply.result s c.if-not-takes_reply.true c.takes_reply.ensures,
       grows_none s,
     )
