@@ -83,6 +83,51 @@ static REFUSED_FLOWER: Filter<'static> = Filter {
     ..Filter::ALL
 };
 
+// A stream: a request and its capped answer, and a request to dump and the end of the dump, EINVAL with a text.
+static ASKED: &str =
+    "500000002c0005069b00000000000000000000000300000000000000f2ffffff080059020b000100666c6f77657200002000\
+     02000500090006000000140003001000010009000100676163740000000048000000020000039b0000004d000000eaffffff\
+     500000002c0005069b000000000000001c0001004e4c415f465f4e4553544544206973206d697373696e6700080002003c00\
+     0000240000002600010309000000000000000000000007000000000000000000000000000000280000000300020209000000\
+     4d000000eaffffff1100010044756d70206973206275737900000000";
+
+static ASKED_LINES: &str =
+    r#"add filter flower - dev 3 ingress pref 601 protocol ip ip_proto tcp action gact
+refused EINVAL "NLA_F_NESTED is missing" at Options/Flower/Actions (byte 44) add filter flower - dev 3 ingress pref 601 protocol ip ip_proto tcp action gact
+dump qdisc - - dev 7
+refused EINVAL "Dump is busy" dump qdisc - - dev 7
+"#;
+
+static ASKED_FLOWER: &str =
+    r#"refused EINVAL "NLA_F_NESTED is missing" at Options/Flower/Actions (byte 44) add filter flower - dev 3 ingress pref 601 protocol ip ip_proto tcp action gact
+"#;
+
+#[test]
+fn answers_with_their_requests(rt: HostRuntime) {
+    let options = all_in(OutputFormat::Lines(false));
+    assert!(rt;
+        gives_of_hex(
+            rt.alloc(),
+            &options,
+            ASKED,
+            0,
+            Written::Is(&[ASKED_LINES]),
+            ""
+        )
+    );
+    let options = chosen_in(OutputFormat::Lines(false), REFUSED_FLOWER);
+    assert!(rt;
+        gives_of_hex(
+            rt.alloc(),
+            &options,
+            ASKED,
+            0,
+            Written::Is(&[ASKED_FLOWER]),
+            ""
+        )
+    );
+}
+
 #[test]
 fn answers(rt: HostRuntime) {
     let options = counted_in(OutputFormat::Outline);
