@@ -4,7 +4,7 @@ use Rattle.std.specs.Ordering.{nat_cmp}
 use Rattle.std.specs.Prelude.{ℕ, List, [], ◌∷◌, ◌++◌, map}
 use Rattle.tcshow_input.specs.declared.options.Options.{Options}
 use Rattle.tcshow_json.specs.Messages.{Thing, message, link}
-use Rattle.tcshow_lines.specs.Past.{Past, no_past, noted}
+use Rattle.tcshow_lines.specs.Past.{Past, no_past, noted, with_names}
 
 -- the caller's names of interfaces, the last name of each interface that the kernel named so far, by index, and the messages before
 pub record Known : Type 0 where
@@ -31,7 +31,7 @@ with_name index name links = insert_entry nat_cmp links index name
 -- whether a filter matches a message doesn't matter
 abbrev pub after : Known → Thing → Known
 after known (message m) = record known { past = noted known.past m }
-after known (link l) = record known { links = with_name l.index l.name known.links }
+after known (link l) = record known { links = with_name l.index l.name known.links; past = with_names known.past }
 after known thing = known
 
 abbrev pub after_all : Known → List Thing → Known

@@ -367,13 +367,16 @@ impl<'a, A: Allocator + Copy> Printer<'a, A> {
         self.learn(message)
     }
 
-    // Keeps the name of an interface, if the message has one.
+    // Keeps the name of an interface, if the message has one, and that the kernel speaks.
     fn learn(&mut self, message: &NetlinkMessage<'_>) -> Result<(), AllocError>
         ensures form { self.new.output.is_json ≡ self.old.output.is_json }
         ensures put { OnOk result (Puts (link_or_other (link_in (message_of message.now)) ∷ []) (state_of self.old) (state_of self.new)) }
     {
         match link_in(message) {
-            Some((index, name)) => self.links.learn(index, name),
+            Some((index, name)) => {
+                self.requests.note_name();
+                self.links.learn(index, name)
+            }
             None => Ok(()),
         }
     }

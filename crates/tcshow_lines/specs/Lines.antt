@@ -85,11 +85,11 @@ pub record IsSaid (begin : List ℕ) (stats : Bool) (port : ℕ) (m : Message) (
 
 -- what a message's lines begin with, after these messages: its time, if it has one, and what it does
 abbrev pub begin_of : Past → TimeFormat → Message → List ℕ
-begin_of past format m = words_text (timed (time_in format past m.origin.time) (verb_words (speech_of past.requests m).verb))
+begin_of past format m = words_text (timed (time_in format past m.origin.time) (verb_words (speech_of past m).verb))
 
 -- the lines of a message after these messages
 abbrev pub IsLines : Past → Bool → TimeFormat → Message → List ℕ → Type 0
-IsLines past stats format m text = IsSaid (begin_of past format m) stats (speech_of past.requests m).port m text
+IsLines past stats format m text = IsSaid (begin_of past format m) stats (speech_of past m).port m text
 
 -- printable ASCII and line feeds, and the line feed that ends it
 abbrev pub IsEnded : List ℕ → Type 0

@@ -1,10 +1,11 @@
 -- What was in the capture before: the last requests, and the dumps that were interrupted.
-use Rattle.std.specs.Prelude.{Bool, List, None, Option, Some, [], drop, if◌then◌else◌, length, map, nat_lt, option_map, ℕ, ◌%◌, ◌++◌, ◌/◌, ◌==◌, ◌∷◌}
-use Rattle.std.specs.Prelude.{nat_le}
+use Rattle.std.specs.Prelude.{Bool, List, None, Option, Some, [], drop, if◌then◌else◌, length, map, nat_lt, option_map, ℕ, ◌%◌, ◌++◌, ◌/◌, ◌==◌, ◌||◌, ◌∷◌}
+use Rattle.std.specs.Prelude.{false, nat_le, true}
 use Rattle.tc_capture.specs.declared.kind.MessageType.{MessageType}
 use Rattle.tc_capture.specs.declared.time.Time.{Time}
 use Rattle.tcshow_json.specs.Messages.{Header, Message, header_view}
 use Rattle.tcshow_json.specs.declared.message.NetlinkHeader.{NetlinkHeader}
+use Rattle.tcshow_lines.specs.Times.{is_fine}
 use Rattle.tcshow_lines.specs.declared.past.Request.{Request as CodeRequest}
 use Rattle.tcshow_lines.specs.declared.past.Requests.{Requests}
 
@@ -14,15 +15,18 @@ pub record Request : Type 0 where
   pub holds : MessageType
   pub payload : Option (List ℕ)
 
--- the last requests; the headers of the last messages of interrupted dumps; the times of the first message and of the last
+-- the last requests; the headers of the last messages of interrupted dumps; the times of the first message and of the last; whether a time wasn't whole
+-- microseconds; whether the kernel has named interfaces
 pub record Past : Type 0 where
   pub requests : List Request
   pub interrupted : List Header
   pub first : Option Time
   pub last : Option Time
+  pub fine : Bool
+  pub named : Bool
 
 abbrev pub no_past : Past
-no_past = record { requests = []; interrupted = []; first = None; last = None }
+no_past = record { requests = []; interrupted = []; first = None; last = None; fine = false; named = false }
 
 -- a bit of nlmsg_flags
 abbrev pub has_flag : ℕ → ℕ → Bool
@@ -50,6 +54,10 @@ abbrev pub or_time : Option Time → Option Time → Option Time
 or_time None other = other
 or_time (Some t) other = Some t
 
+abbrev pub is_fine_time : Option Time → Bool
+is_fine_time None = false
+is_fine_time (Some t) = is_fine t
+
 -- after a message
 abbrev pub noted : Past → Message → Past
 noted past m =
@@ -58,7 +66,13 @@ noted past m =
       interrupted = interrupted_with past.interrupted m.header;
       first = or_time past.first m.origin.time;
       last = or_time m.origin.time past.last;
+      fine = past.fine || is_fine_time m.origin.time;
+      named = past.named;
     }
+
+-- after the name of an interface
+abbrev pub with_names : Past → Past
+with_names past = record past { named = true }
 
 -- ---- abstract values of the code's types
 
@@ -73,4 +87,11 @@ headers_view hs = map header_view hs
 
 abbrev pub past_of : Requests → Past
 past_of r =
-    record { requests = requests_view r.requests.items; interrupted = headers_view r.interrupted.items; first = r.first; last = r.last }
+    record {
+      requests = requests_view r.requests.items;
+      interrupted = headers_view r.interrupted.items;
+      first = r.first;
+      last = r.last;
+      fine = r.fine;
+      named = r.named;
+    }

@@ -1,5 +1,5 @@
 -- The time that a line begins with.
-use Rattle.std.specs.Prelude.{List, Option, [], if◌then◌else◌, ℕ, zero, suc, ◌%◌, ◌+◌, ◌-◌, ◌++◌, ◌/◌, ◌==◌, ◌&&◌, ◌||◌, ◌∷◌, Bool, decimal, nat_le, nat_lt, unwrap_or}
+use Rattle.std.specs.Prelude.{List, Option, [], if◌then◌else◌, ℕ, zero, suc, ◌%◌, ◌+◌, ◌-◌, ◌++◌, ◌/◌, ◌==◌, ◌&&◌, ◌||◌, ◌∷◌, Bool, decimal, nat_le, nat_lt, not, unwrap_or}
 use Rattle.tc_capture.specs.declared.time.Time.{Time}
 use Rattle.tc_select.specs.Calendar.{is_leap, month_length, year_length}
 use Rattle.tcshow_lines.specs.declared.times.Place.{Place}
@@ -16,19 +16,23 @@ three_digits n = (48 + n / 100 % 10) ∷ two_digits n
 abbrev pub four_digits : ℕ → List ℕ
 four_digits n = (48 + n / 1000 % 10) ∷ three_digits n
 
--- six digits of a second, or nine if it isn't whole microseconds
-abbrev pub fraction : ℕ → List ℕ
-fraction n = three_digits (n / 1000000) ++ (three_digits (n / 1000) ++ (if n % 1000 == 0 then [] else three_digits n))
+-- true for a time that isn't whole microseconds
+abbrev pub is_fine : Time → Bool
+is_fine t = not (t.nanoseconds % 1000 == 0)
+
+-- six digits of a second, or nine
+abbrev pub fraction : Bool → ℕ → List ℕ
+fraction nine n = three_digits (n / 1000000) ++ (three_digits (n / 1000) ++ (if nine then three_digits n else []))
 
 -- a time of the day in UTC, `14:00:01.123456`
-unfoldable pub clock_text : Time → List ℕ
-clock_text t =
+unfoldable pub clock_text : Bool → Time → List ℕ
+clock_text nine t =
     two_digits (t.seconds / 3600 % 24) ++ (58 ∷ two_digits (t.seconds / 60 % 60))
-    ++ ((58 ∷ two_digits (t.seconds % 60)) ++ (46 ∷ fraction t.nanoseconds))
+    ++ ((58 ∷ two_digits (t.seconds % 60)) ++ (46 ∷ fraction nine t.nanoseconds))
 
 -- seconds, `1764028801.123456`
-abbrev pub epoch_text : Time → List ℕ
-epoch_text t = decimal t.seconds ++ (46 ∷ fraction t.nanoseconds)
+abbrev pub epoch_text : Bool → Time → List ℕ
+epoch_text nine t = decimal t.seconds ++ (46 ∷ fraction nine t.nanoseconds)
 
 -- ---- dates
 
@@ -47,10 +51,10 @@ abbrev pub day_text : Place → List ℕ
 day_text year = four_digits year.part ++ (45 ∷ month_text (place_in (month_length (is_leap year.part)) 11 1 year.before))
 
 -- a date and a time of the day, `2026-11-26T14:00:01.123456Z`, up to the year 9999; later the seconds
-abbrev pub date_text : Time → List ℕ
-date_text t =
-    if nat_le 253402300800 t.seconds then epoch_text t
-    else day_text (place_in year_length 8029 1970 (t.seconds / 86400)) ++ ((84 ∷ clock_text t) ++ 90 ∷ [])
+abbrev pub date_text : Bool → Time → List ℕ
+date_text nine t =
+    if nat_le 253402300800 t.seconds then epoch_text nine t
+    else day_text (place_in year_length 8029 1970 (t.seconds / 86400)) ++ ((84 ∷ clock_text nine t) ++ 90 ∷ [])
 
 -- ---- differences
 
@@ -64,13 +68,13 @@ time_since a b =
     else record { seconds = (b.seconds - a.seconds) - 1; nanoseconds = 1000000000 - (a.nanoseconds - b.nanoseconds) }
 
 -- the seconds from one to another; below zero if it is before
-abbrev pub difference_text : Time → Time → List ℕ
-difference_text a b = if is_before b a then 45 ∷ epoch_text (time_since b a) else epoch_text (time_since a b)
+abbrev pub difference_text : Bool → Time → Time → List ℕ
+difference_text nine a b = if is_before b a then 45 ∷ epoch_text nine (time_since b a) else epoch_text nine (time_since a b)
 
--- a time in a format, after messages of which the first and the last had these times
-abbrev pub time_text : TimeFormat → Option Time → Option Time → Time → List ℕ
-time_text Clock first last t = clock_text t
-time_text Date first last t = date_text t
-time_text Epoch first last t = epoch_text t
-time_text Delta first last t = difference_text (unwrap_or last t) t
-time_text Relative first last t = difference_text (unwrap_or first t) t
+-- a time in a format with six or nine digits, after messages of which the first and the last had these times
+abbrev pub time_text : TimeFormat → Bool → Option Time → Option Time → Time → List ℕ
+time_text Clock nine first last t = clock_text nine t
+time_text Date nine first last t = date_text nine t
+time_text Epoch nine first last t = epoch_text nine t
+time_text Delta nine first last t = difference_text nine (unwrap_or last t) t
+time_text Relative nine first last t = difference_text nine (unwrap_or first t) t

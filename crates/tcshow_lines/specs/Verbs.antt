@@ -9,7 +9,7 @@ use Rattle.tc_units.specs.Numerals.{hex_text}
 use Rattle.tcshow_json.specs.Messages.{Header, Message}
 use Rattle.tcshow_json.specs.Objects.{root_of}
 use Rattle.tcshow_json.specs.declared.message.Origin.{Origin}
-use Rattle.tcshow_lines.specs.Past.{Request, has_flag}
+use Rattle.tcshow_lines.specs.Past.{Past, Request, has_flag}
 use Rattle.tcshow_lines.specs.declared.verb.Speech.{Speech}
 use Rattle.tcshow_lines.specs.declared.verb.Verb.{Verb}
 use Rattle.tcshow_lines.specs.declared.verb.Verb.TheVariants as verb
@@ -122,16 +122,15 @@ was_sent (r ∷ rs) kind h = is_before kind h r || was_sent rs kind h
 abbrev pub was_asked : List Request → Header → Bool
 was_asked before h = was_sent before h.kind h || was_sent before (get_of h.kind) h
 
--- a file of rtmon has times, and no packets
-abbrev pub is_of_rtmon : Origin → Bool
-is_of_rtmon origin = is_some origin.time && not (is_some origin.packet)
+-- all is the kernel's in a file of rtmon, which has times and no packets, and in a stream in which it has named interfaces
+abbrev pub is_of_kernel : Past → Origin → Bool
+is_of_kernel past origin = not (is_some origin.packet) && (is_some origin.time || past.named)
 
 -- a request has NLM_F_REQUEST, but the kernel copies the flag and the sequence number of a request into a notification, with
--- the port id of the requester: so it has port id 0, or is the first of its sequence number and type in a capture of packets;
--- all in a file of rtmon is the kernel's
-abbrev pub is_request : List Request → Origin → Header → Bool
-is_request before origin h =
-    has_flag h.flags 1 && (not (is_of_rtmon origin) && (h.port == 0 || (is_some origin.packet && not (was_asked before h))))
+-- the port id of the requester: so it has port id 0, or is the first of its sequence number and type in a capture of packets
+abbrev pub is_request : Past → Origin → Header → Bool
+is_request past origin h =
+    has_flag h.flags 1 && (not (is_of_kernel past origin) && (h.port == 0 || (is_some origin.packet && not (was_asked past.requests h))))
 
 -- the kernel answers a dump with NLM_F_MULTI, and actions with the type of the request
 abbrev pub kernels_verb : List Request → Header → Verb
@@ -148,14 +147,14 @@ port_of v port = 0
 abbrev pub said_by_kernel : Verb → ℕ → Speech
 said_by_kernel v port = record { verb = v; port = port_of v port }
 
-abbrev pub speech_by : List Request → Origin → Object → Header → Speech
-speech_by before origin o h =
-    if is_request before origin h then record { verb = request_verb o h; port = 0 } else said_by_kernel (kernels_verb before h) h.port
+abbrev pub speech_by : Past → Origin → Object → Header → Speech
+speech_by past origin o h =
+    if is_request past origin h then record { verb = request_verb o h; port = 0 } else said_by_kernel (kernels_verb past.requests h) h.port
 
-abbrev pub speech_in : List Request → Origin → Object → Option Header → Speech
-speech_in before origin o None = record { verb = verb.Unsaid; port = 0 }
-speech_in before origin o (Some h) = speech_by before origin o h
+abbrev pub speech_in : Past → Origin → Object → Option Header → Speech
+speech_in past origin o None = record { verb = verb.Unsaid; port = 0 }
+speech_in past origin o (Some h) = speech_by past origin o h
 
--- what a message does, after these requests; without a netlink header nobody says it
-abbrev pub speech_of : List Request → Message → Speech
-speech_of before m = speech_in before m.origin (object_in (root_of m)) m.header
+-- what a message does, after these messages; without a netlink header nobody says it
+abbrev pub speech_of : Past → Message → Speech
+speech_of past m = speech_in past m.origin (object_in (root_of m)) m.header

@@ -2,8 +2,9 @@
 
 ghost use Rattle.std.specs.Prelude.{◌<◌, ◌≡◌, ◌++◌, ◌∷◌, [], OnOk, IfOk, Some, length, option_map};
 ghost use Rattle.tcshow_json.specs.Messages.{header_view, message_view};
-ghost use Rattle.tcshow_lines.specs.Past.{bytes_kept, has_flag, headers_view, interrupted_with, kept, or_time, request_view, requests_view, requests_with};
+ghost use Rattle.tcshow_lines.specs.Past.{bytes_kept, has_flag, headers_view, interrupted_with, is_fine_time, kept, or_time, request_view, requests_view, requests_with};
 
+use crate::times::is_fine;
 use std::alloc::{AllocError, Global};
 use tc_capture::{MessageType, Time};
 use tcshow_json::{Message, NetlinkHeader};
@@ -73,7 +74,17 @@ fn or_time(time: Option<Time>, other: Option<Time>) -> Option<Time>
     }
 }
 
-/// The last 1,024 requests with at most 4 MiB in all, which dumps were interrupted, and the times of the first message and of the last.
+fn is_fine_time(time: &Option<Time>) -> bool
+    ensures { result ≡ is_fine_time time.now }
+{
+    match time {
+        Some(time) => is_fine(time),
+        None => false,
+    }
+}
+
+/// The last 1,024 requests with at most 4 MiB in all, which dumps were interrupted, the times of the first message and of the last, and what
+/// tells how times are written, and who speaks in a stream.
 #[derive(Drop)]
 pub struct Requests {
     pub(crate) alloc: Global,
@@ -81,12 +92,16 @@ pub struct Requests {
     pub(crate) interrupted: Vec<NetlinkHeader>,
     pub(crate) first: Option<Time>,
     pub(crate) last: Option<Time>,
+    // A time wasn't whole microseconds.
+    pub(crate) fine: bool,
+    // The kernel has named interfaces.
+    pub(crate) named: bool,
 }
 
 impl Requests {
     ghost use Rattle.std.specs.Prelude.{◌≡◌, OnOk, option_map};
     ghost use Rattle.tcshow_json.specs.Messages.{header_view, message_view};
-    ghost use Rattle.tcshow_lines.specs.Past.{headers_view, interrupted_with, no_past, noted, past_of, requests_view, requests_with};
+    ghost use Rattle.tcshow_lines.specs.Past.{headers_view, interrupted_with, no_past, noted, past_of, requests_view, requests_with, with_names};
 
     pub fn new(alloc: Global) -> Requests
         ensures { past_of result ≡ no_past }
@@ -97,6 +112,8 @@ impl Requests {
             interrupted: Vec::new(alloc),
             first: None,
             last: None,
+            fine: false,
+            named: false,
         }
     }
 
@@ -108,7 +125,15 @@ impl Requests {
         note_interrupted(&mut self.interrupted, &found.header)?;
         self.first = or_time(self.first, found.origin.time);
         self.last = or_time(found.origin.time, self.last);
+        self.fine = self.fine || is_fine_time(&found.origin.time);
         Ok(())
+    }
+
+    /// Keeps that the kernel has named an interface.
+    pub fn note_name(&mut self)
+        ensures { past_of self.new ≡ with_names (past_of self.old) }
+    {
+        self.named = true;
     }
 }
 

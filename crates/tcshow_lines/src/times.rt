@@ -3,7 +3,7 @@
 ghost use Rattle.std.specs.Prelude.{◌≡◌, ◌≤◌, ◌++◌, IfOk, OnOk, unwrap_or};
 ghost use Rattle.tc_select.specs.Calendar.{is_leap, month_length, year_length};
 ghost use Rattle.tcshow_lines.specs.Times.{clock_text, date_text, day_text, difference_text, epoch_text, four_digits};
-ghost use Rattle.tcshow_lines.specs.Times.{fraction, is_before, place_in, three_digits, time_since, time_text, two_digits};
+ghost use Rattle.tcshow_lines.specs.Times.{fraction, is_before, is_fine, place_in, three_digits, time_since, time_text, two_digits};
 
 use std::alloc::{AllocError, Global};
 use tc_capture::Time;
@@ -54,22 +54,29 @@ fn put_four(out: &mut Vec<u8>, n: u64) -> Result<(), AllocError>
     put_three(out, n)
 }
 
-// Appends nanoseconds as a fraction of a second.
-fn put_fraction(out: &mut Vec<u8>, n: u64) -> Result<(), AllocError>
-    ensures { OnOk result (out.new.items ≡ out.old.items ++ fraction n) }
+/// True for a time that isn't whole microseconds.
+pub(crate) fn is_fine(time: &Time) -> bool
+    ensures { result ≡ is_fine time.now }
+{
+    time.nanoseconds % 1000 != 0
+}
+
+// Appends nanoseconds as a fraction of a second, with nine digits or six.
+fn put_fraction(out: &mut Vec<u8>, nine: bool, n: u64) -> Result<(), AllocError>
+    ensures { OnOk result (out.new.items ≡ out.old.items ++ fraction nine n) }
 {
     put_three(out, n / 1000000)?;
     put_three(out, n / 1000)?;
-    if n % 1000 == 0 {
-        return Ok(());
+    if nine {
+        return put_three(out, n);
     }
-    put_three(out, n)
+    Ok(())
 }
 
 // A time of the day in UTC.
 #[tactic(auto, unfolding(crate::specs::Times::clock_text))]
-fn clock_text(alloc: Global, time: &Time) -> Result<Vec<u8>, AllocError>
-    ensures { IfOk result (λ text. text.items ≡ clock_text time.now) }
+fn clock_text(alloc: Global, nine: bool, time: &Time) -> Result<Vec<u8>, AllocError>
+    ensures { IfOk result (λ text. text.items ≡ clock_text nine time.now) }
 {
     let mut text = Vec::with_capacity(alloc, 18)?;
     put_two(&mut text, time.seconds / 3600 % 24)?;
@@ -78,25 +85,25 @@ fn clock_text(alloc: Global, time: &Time) -> Result<Vec<u8>, AllocError>
     text.extend_from_slice(b":")?;
     put_two(&mut text, time.seconds % 60)?;
     text.extend_from_slice(b".")?;
-    put_fraction(&mut text, u64::from(time.nanoseconds))?;
+    put_fraction(&mut text, nine, u64::from(time.nanoseconds))?;
     Ok(text)
 }
 
 // Appends a time of the day in UTC.
-fn put_clock(alloc: Global, out: &mut Vec<u8>, time: &Time) -> Result<(), AllocError>
-    ensures { OnOk result (out.new.items ≡ out.old.items ++ clock_text time.now) }
+fn put_clock(alloc: Global, out: &mut Vec<u8>, nine: bool, time: &Time) -> Result<(), AllocError>
+    ensures { OnOk result (out.new.items ≡ out.old.items ++ clock_text nine time.now) }
 {
-    let text = clock_text(alloc, time)?;
+    let text = clock_text(alloc, nine, time)?;
     out.extend_from_slice(&text)
 }
 
 // Appends seconds with a fraction.
-fn put_epoch(out: &mut Vec<u8>, time: &Time) -> Result<(), AllocError>
-    ensures { OnOk result (out.new.items ≡ out.old.items ++ epoch_text time.now) }
+fn put_epoch(out: &mut Vec<u8>, nine: bool, time: &Time) -> Result<(), AllocError>
+    ensures { OnOk result (out.new.items ≡ out.old.items ++ epoch_text nine time.now) }
 {
     put_decimal(out, time.seconds)?;
     out.extend_from_slice(b".")?;
-    put_fraction(out, u64::from(time.nanoseconds))
+    put_fraction(out, nine, u64::from(time.nanoseconds))
 }
 
 // ---- dates
@@ -188,15 +195,15 @@ fn put_day(out: &mut Vec<u8>, year: &Place) -> Result<(), AllocError>
 const YEAR_10000: u64 = 253_402_300_800;
 
 // Appends a date and a time of the day.
-fn put_date(alloc: Global, out: &mut Vec<u8>, time: &Time) -> Result<(), AllocError>
-    ensures { OnOk result (out.new.items ≡ out.old.items ++ date_text time.now) }
+fn put_date(alloc: Global, out: &mut Vec<u8>, nine: bool, time: &Time) -> Result<(), AllocError>
+    ensures { OnOk result (out.new.items ≡ out.old.items ++ date_text nine time.now) }
 {
     if time.seconds >= YEAR_10000 {
-        return put_epoch(out, time);
+        return put_epoch(out, nine, time);
     }
     put_day(out, &year_at(8029, time.seconds / 86400))?;
     out.extend_from_slice(b"T")?;
-    put_clock(alloc, out, time)?;
+    put_clock(alloc, out, nine, time)?;
     out.extend_from_slice(b"Z")
 }
 
@@ -226,28 +233,29 @@ fn time_since(a: &Time, b: &Time) -> Time
 }
 
 // Appends the seconds from one time to another.
-fn put_difference(out: &mut Vec<u8>, a: &Time, b: &Time) -> Result<(), AllocError>
-    ensures { OnOk result (out.new.items ≡ out.old.items ++ difference_text a.now b.now) }
+fn put_difference(out: &mut Vec<u8>, nine: bool, a: &Time, b: &Time) -> Result<(), AllocError>
+    ensures { OnOk result (out.new.items ≡ out.old.items ++ difference_text nine a.now b.now) }
 {
     if is_before(b, a) {
         out.extend_from_slice(b"-")?;
-        return put_epoch(out, &time_since(b, a));
+        return put_epoch(out, nine, &time_since(b, a));
     }
-    put_epoch(out, &time_since(a, b))
+    put_epoch(out, nine, &time_since(a, b))
 }
 
-/// A time in a format, after messages with these first and last times.
+/// A time in a format with nine digits or six, after messages with these first and last times.
 pub(crate) fn time_text(
     alloc: Global,
     format: TimeFormat,
+    nine: bool,
     first: &Option<Time>,
     last: &Option<Time>,
     time: &Time,
 ) -> Result<Vec<u8>, AllocError>
-    ensures { IfOk result (λ text. text.items ≡ time_text format first.now last.now time.now) }
+    ensures { IfOk result (λ text. text.items ≡ time_text format nine first.now last.now time.now) }
 {
     let mut text = Vec::with_capacity(alloc, 32)?;
-    put_time(alloc, &mut text, format, first, last, time)?;
+    put_time(alloc, &mut text, format, nine, first, last, time)?;
     Ok(text)
 }
 
@@ -255,27 +263,33 @@ fn put_time(
     alloc: Global,
     out: &mut Vec<u8>,
     format: TimeFormat,
+    nine: bool,
     first: &Option<Time>,
     last: &Option<Time>,
     time: &Time,
 ) -> Result<(), AllocError>
-    ensures { OnOk result (out.new.items ≡ out.old.items ++ time_text format first.now last.now time.now) }
+    ensures { OnOk result (out.new.items ≡ out.old.items ++ time_text format nine first.now last.now time.now) }
 {
     match format {
-        TimeFormat::Clock => put_clock(alloc, out, time),
-        TimeFormat::Date => put_date(alloc, out, time),
-        TimeFormat::Epoch => put_epoch(out, time),
-        TimeFormat::Delta => put_after(out, last, time),
-        TimeFormat::Relative => put_after(out, first, time),
+        TimeFormat::Clock => put_clock(alloc, out, nine, time),
+        TimeFormat::Date => put_date(alloc, out, nine, time),
+        TimeFormat::Epoch => put_epoch(out, nine, time),
+        TimeFormat::Delta => put_after(out, nine, last, time),
+        TimeFormat::Relative => put_after(out, nine, first, time),
     }
 }
 
 // Appends the seconds after another time, if there is one.
-fn put_after(out: &mut Vec<u8>, other: &Option<Time>, time: &Time) -> Result<(), AllocError>
-    ensures { OnOk result (out.new.items ≡ out.old.items ++ difference_text (unwrap_or other.now time.now) time.now) }
+fn put_after(
+    out: &mut Vec<u8>,
+    nine: bool,
+    other: &Option<Time>,
+    time: &Time,
+) -> Result<(), AllocError>
+    ensures { OnOk result (out.new.items ≡ out.old.items ++ difference_text nine (unwrap_or other.now time.now) time.now) }
 {
     match other {
-        Some(other) => put_difference(out, other, time),
-        None => put_difference(out, time, time),
+        Some(other) => put_difference(out, nine, other, time),
+        None => put_difference(out, nine, time, time),
     }
 }

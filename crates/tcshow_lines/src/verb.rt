@@ -3,7 +3,7 @@
 ghost use Rattle.std.specs.Prelude.{◌≡◌, option_map};
 ghost use Rattle.tcshow_json.specs.Messages.{header_view, message_view};
 ghost use Rattle.tcshow_lines.specs.Past.{past_of, request_view, requests_view};
-ghost use Rattle.tcshow_lines.specs.Verbs.{asked_verb, changes, del_verb, flushes, get_of, get_verb, is_before, is_del, is_new, is_of_rtmon, is_request};
+ghost use Rattle.tcshow_lines.specs.Verbs.{asked_verb, changes, del_verb, flushes, get_of, get_verb, is_before, is_del, is_new, is_of_kernel, is_request};
 ghost use Rattle.tcshow_lines.specs.Verbs.{kernels_verb, modifiers, new_verb, object_in, port_of, replaces, request_verb, speech_by};
 ghost use Rattle.tcshow_lines.specs.Verbs.{speech_of, was_asked, was_sent};
 
@@ -194,19 +194,20 @@ fn was_asked(before: &[Request], header: &NetlinkHeader) -> bool
         || was_sent(before, get_of(header.kind), header)
 }
 
-// True for messages in a file of rtmon.
-fn is_of_rtmon(origin: &Origin) -> bool
-    ensures { result ≡ is_of_rtmon origin.now }
+// True for messages in a file of rtmon, and in a stream in which the kernel has named interfaces.
+fn is_of_kernel(past: &Requests, origin: &Origin) -> bool
+    ensures { result ≡ is_of_kernel (past_of past.now) origin.now }
 {
-    origin.time.is_some() && !origin.packet.is_some()
+    !origin.packet.is_some() && (origin.time.is_some() || past.named)
 }
 
-fn is_request(before: &[Request], origin: &Origin, header: &NetlinkHeader) -> bool
-    ensures { result ≡ is_request (requests_view before.now) origin.now (header_view header.now) }
+fn is_request(past: &Requests, origin: &Origin, header: &NetlinkHeader) -> bool
+    ensures { result ≡ is_request (past_of past.now) origin.now (header_view header.now) }
 {
     has_flag(header.flags, NLM_F_REQUEST)
-        && (!is_of_rtmon(origin)
-            && (header.port == 0 || (origin.packet.is_some() && !was_asked(before, header))))
+        && (!is_of_kernel(past, origin)
+            && (header.port == 0
+                || (origin.packet.is_some() && !was_asked(past.requests.as_slice(), header))))
 }
 
 fn kernels_verb(before: &[Request], header: &NetlinkHeader) -> Verb
@@ -233,16 +234,16 @@ fn port_of(verb: Verb, port: u32) -> u32
     }
 }
 
-fn speech_by(before: &[Request], origin: &Origin, object: Object, header: &NetlinkHeader) -> Speech
-    ensures { result ≡ speech_by (requests_view before.now) origin.now object (header_view header.now) }
+fn speech_by(past: &Requests, origin: &Origin, object: Object, header: &NetlinkHeader) -> Speech
+    ensures { result ≡ speech_by (past_of past.now) origin.now object (header_view header.now) }
 {
-    if is_request(before, origin, header) {
+    if is_request(past, origin, header) {
         return Speech {
             verb: request_verb(object, header),
             port: 0,
         };
     }
-    let verb = kernels_verb(before, header);
+    let verb = kernels_verb(past.requests.as_slice(), header);
     Speech {
         verb,
         port: port_of(verb, header.port),
@@ -259,17 +260,12 @@ pub(crate) fn asked_verb(object: Object, header: &Option<NetlinkHeader>) -> Verb
     }
 }
 
-/// What a message does, after these requests. Without a netlink header nobody says it.
-pub(crate) fn speech_of(before: &Requests, found: &Message<'_>) -> Speech
-    ensures { result ≡ speech_of (past_of before.now).requests (message_view found.now) }
+/// What a message does, after these messages. Without a netlink header nobody says it.
+pub(crate) fn speech_of(past: &Requests, found: &Message<'_>) -> Speech
+    ensures { result ≡ speech_of (past_of past.now) (message_view found.now) }
 {
     match &found.header {
-        Some(header) => speech_by(
-            before.requests.as_slice(),
-            &found.origin,
-            object_in(found.root()),
-            header,
-        ),
+        Some(header) => speech_by(past, &found.origin, object_in(found.root()), header),
         None => Speech {
             verb: Verb::Unsaid,
             port: 0,

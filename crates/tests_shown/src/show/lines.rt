@@ -161,6 +161,10 @@ fn in_packets() -> [Said; 6] {
     ]
 }
 
+// RTM_NEWLINK: interface 9 is eth9.
+const LINK: &str =
+    "2c00000010000200050000004d00000000000000090000000000000000000000090003006574683900000000";
+
 // The time of each packet.
 const TIME: &str = "22:13:20.123456 ";
 
@@ -183,22 +187,31 @@ fn verbs_are_known(rt: HostRuntime) -> Result<(), Fail> {
     let noted = [row(36, 0x605, 0, "new", ""), row(38, 0x301, 77, "is", "")];
     let file = file_with(alloc, Format::Stream, &noted)?;
     assert!(rt; are_said(alloc, &file, TIME, &noted)?);
+    // so is all in a stream that begins with links
+    let mut stream = hex::decode(alloc, LINK)?;
+    for one in &noted {
+        stream.extend_from_slice(&message_of(alloc, one)?)?;
+    }
+    assert!(rt; are_said(alloc, &stream, "", &noted)?);
     Ok(())
 }
 
 // Of a pcap, the file header, and a packet with a qdisc of fq_codel.
 static FILE_HEADER: [u8; 24] = *b"\xd4\xc3\xb2\xa1\x02\0\x04\0\0\0\0\0\0\0\0\0\0\0\x10\0\xfd\0\0\0";
 
+// The same of one whose times are seconds and nanoseconds.
+static FINE_HEADER: [u8; 24] = *b"\x4d\x3c\xb2\xa1\x02\0\x04\0\0\0\0\0\0\0\0\0\0\0\x10\0\xfd\0\0\0";
+
 static PACKET: &str =
     "0004033800000000000000000000000034000000240000060500000000000000000000000200000000000100ffffffff000000000d00010066715f636f64656c00000000";
 
-// A pcap of such packets at these times: seconds and microseconds.
-fn capture_at(alloc: Global, times: &[(u32, u32)]) -> Result<Vec<u8>, Fail> {
+// A pcap of such packets at these times: seconds, and micro- or nanoseconds.
+fn capture_at(alloc: Global, header: &[u8], times: &[(u32, u32)]) -> Result<Vec<u8>, Fail> {
     let packet = hex::decode(alloc, PACKET)?;
-    let mut file = FILE_HEADER.to_vec(alloc)?;
-    for (seconds, microseconds) in times {
+    let mut file = header.to_vec(alloc)?;
+    for (seconds, parts) in times {
         file.extend_from_slice(&seconds.to_le_bytes())?;
-        file.extend_from_slice(&microseconds.to_le_bytes())?;
+        file.extend_from_slice(&parts.to_le_bytes())?;
         file.extend_from_slice(&[68, 0, 0, 0, 68, 0, 0, 0])?;
         file.extend_from_slice(&packet)?;
     }
@@ -212,7 +225,18 @@ fn begin_so(
     times: &[(u32, u32)],
     fronts: &[&str],
 ) -> Result<bool, Fail> {
-    let file = capture_at(alloc, times)?;
+    are_begun(alloc, format, &FILE_HEADER, times, fronts)
+}
+
+// The same in a file with this header.
+fn are_begun(
+    alloc: Global,
+    format: TimeFormat,
+    header: &[u8],
+    times: &[(u32, u32)],
+    fronts: &[&str],
+) -> Result<bool, Fail> {
+    let file = capture_at(alloc, header, times)?;
     let mut options = all_in(OutputFormat::Lines(false));
     options.time = format;
     Ok(gives(
@@ -263,6 +287,12 @@ fn times_are_known(rt: HostRuntime) -> Result<(), Fail> {
     assert!(rt; begin_so(alloc, TimeFormat::Delta, &TIMES, &deltas)?);
     let relatives = ["0.000000 new ", "0.876544 new ", "-0.623456 new "];
     assert!(rt; begin_so(alloc, TimeFormat::Relative, &TIMES, &relatives)?);
+    // nine digits from the first time on that isn't whole microseconds
+    let fine = [(1_700_000_000, 123_456_789), (1_700_000_001, 500_000_000)];
+    let clocks = ["22:13:20.123456789 new ", "22:13:21.500000000 "];
+    assert!(rt; are_begun(alloc, TimeFormat::Clock, &FINE_HEADER, &fine, &clocks)?);
+    let deltas = ["0.000000000 new ", "1.376543211 "];
+    assert!(rt; are_begun(alloc, TimeFormat::Delta, &FINE_HEADER, &fine, &deltas)?);
     for (seconds, date) in &DATES {
         let line = format!(in alloc; "{date}.000000Z new qdisc fq_codel 1: dev 2 root")?;
         assert!(rt;
