@@ -8,14 +8,14 @@ use std::io::{Error, ErrorKind, Result, Write};
 /// A writer that adds colors to lines and writes them to another writer. Each write must end with a whole line.
 #[derive(Drop)]
 pub struct ColouredLines<W: Write + Drop> {
-    inner: W,
     alloc: Global,
+    inner: W,
 }
 
 impl<W: Write + Drop> ColouredLines<W> {
     /// A writer to another writer.
     pub fn new(alloc: Global, inner: W) -> ColouredLines<W> {
-        ColouredLines { inner, alloc }
+        ColouredLines { alloc, inner }
     }
 
     /// Returns the other writer.
