@@ -61,7 +61,6 @@ fn place_of(text: &[u8], number: u8) -> usize
 }
 
 // The parts of a text before and after the first byte of this number. `None` if it has none.
-#[tactic(auto, using(crate::proofs::Cuts::cut_at, crate::proofs::Cuts::uncut))]
 fn cut(text: &[u8], number: u8) -> Option<(&[u8], &[u8])>
     ensures { MatchOption result (slice_split (λ b. b == number) text.now ≡ text.now ∷ [])
         (λ cut. (slice_split (λ b. b == number) text.now ≡ cut.0.now ∷ slice_split (λ b. b == number) cut.1.now)
@@ -77,7 +76,7 @@ fn cut(text: &[u8], number: u8) -> Option<(&[u8], &[u8])>
 }
 
 // Appends a line without its line feed.
-#[tactic(auto, using(crate::proofs::Joined::word_put, crate::proofs::Joined::last_word_put))]
+#[tactic(auto, using(crate::proofs::Joined::last_word_put))]
 fn put_line<A: Allocator>(out: &mut Vec<u8, A>, line: &[u8]) -> Result<(), AllocError>
     ensures { OnOk result (out.new.items ≡ out.old.items ++ coloured_line Part.First line.now) }
 {
@@ -93,7 +92,7 @@ fn put_line<A: Allocator>(out: &mut Vec<u8, A>, line: &[u8]) -> Result<(), Alloc
 }
 
 /// Appends lines in colors.
-#[tactic(auto, using(crate::proofs::Joined::line_put, crate::proofs::Joined::last_line_put, crate::proofs::Painted::lines_painted))]
+#[tactic(auto, using(crate::proofs::Joined::last_line_put, crate::proofs::Painted::lines_painted))]
 pub fn paint_lines<A: Allocator>(out: &mut Vec<u8, A>, lines: &[u8]) -> Result<(), AllocError>
     ensures lines { OnOk result (out.new.items ≡ out.old.items ++ coloured_lines lines.now) }
     // Without the colors, the appended text is the lines.
