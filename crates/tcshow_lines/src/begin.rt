@@ -7,7 +7,7 @@ ghost use Rattle.tcshow_lines.specs.Verbs.{flags_words, verb_word, verb_words};
 ghost use Rattle.tc_brief.specs.Words.{written};
 
 use crate::past::Requests;
-use crate::times::{TimeFormat, is_fine, time_text};
+use crate::times::{TimeFormat, has_nine, time_text};
 use crate::verb::Verb;
 use std::alloc::{AllocError, Global};
 use tc_brief::{put_first, put_word};
@@ -67,7 +67,7 @@ fn time_in(
 {
     match time {
         Some(time) => {
-            let nine = past.fine || is_fine(time);
+            let nine = has_nine(past.fine, time);
             let text = time_text(alloc, format, nine, &past.first, &past.last, time)?;
             Ok(Some(text))
         }

@@ -1,6 +1,6 @@
 //! What was in the capture before.
 
-ghost use Rattle.std.specs.Prelude.{◌<◌, ◌≡◌, ◌++◌, ◌∷◌, [], OnOk, IfOk, Some, length, option_map};
+ghost use Rattle.std.specs.Prelude.{◌<◌, ◌≡◌, ◌++◌, ◌||◌, ◌∷◌, [], OnOk, IfOk, Some, length, option_map};
 ghost use Rattle.tcshow_json.specs.Messages.{header_view, message_view};
 ghost use Rattle.tcshow_lines.specs.Past.{bytes_kept, has_flag, headers_view, interrupted_with, is_fine_time, kept, or_time, request_view, requests_view, requests_with};
 
@@ -83,6 +83,13 @@ fn is_fine_time(time: &Option<Time>) -> bool
     }
 }
 
+// True if a time so far, or this one, isn't whole microseconds.
+fn fine_with(fine: bool, time: &Option<Time>) -> bool
+    ensures { result ≡ (fine || is_fine_time time.now) }
+{
+    fine || is_fine_time(time)
+}
+
 /// The last 1,024 requests with at most 4 MiB in all, which dumps were interrupted, the times of the first message and of the last, and what
 /// tells how times are written, and who speaks in a stream.
 #[derive(Drop)]
@@ -125,7 +132,7 @@ impl Requests {
         note_interrupted(&mut self.interrupted, &found.header)?;
         self.first = or_time(self.first, found.origin.time);
         self.last = or_time(found.origin.time, self.last);
-        self.fine = self.fine || is_fine_time(&found.origin.time);
+        self.fine = fine_with(self.fine, &found.origin.time);
         Ok(())
     }
 

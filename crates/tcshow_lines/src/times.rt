@@ -1,6 +1,6 @@
 //! The time that a line begins with.
 
-ghost use Rattle.std.specs.Prelude.{◌≡◌, ◌≤◌, ◌++◌, IfOk, OnOk, unwrap_or};
+ghost use Rattle.std.specs.Prelude.{◌≡◌, ◌≤◌, ◌++◌, ◌||◌, IfOk, OnOk, unwrap_or};
 ghost use Rattle.tc_select.specs.Calendar.{is_leap, month_length, year_length};
 ghost use Rattle.tcshow_lines.specs.Times.{clock_text, date_text, day_text, difference_text, epoch_text, four_digits};
 ghost use Rattle.tcshow_lines.specs.Times.{fraction, is_before, is_fine, place_in, three_digits, time_since, time_text, two_digits};
@@ -59,6 +59,13 @@ pub(crate) fn is_fine(time: &Time) -> bool
     ensures { result ≡ is_fine time.now }
 {
     time.nanoseconds % 1000 != 0
+}
+
+/// True if a time is written with nine digits: if it or one before isn't whole microseconds.
+pub(crate) fn has_nine(fine: bool, time: &Time) -> bool
+    ensures { result ≡ (fine || is_fine time.now) }
+{
+    fine || is_fine(time)
 }
 
 // Appends nanoseconds as a fraction of a second, with nine digits or six.
