@@ -235,7 +235,7 @@ static OPTIONS: [(&str, Value, &str, &str); 25] = [
         "color",
         Value::Word("WHEN", &["auto", "always", "never"]),
         FORMS,
-        "Color lines and outlines (default: auto)",
+        "Use colors (default: auto)",
     ),
     (
         "diff",
