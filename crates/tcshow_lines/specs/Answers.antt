@@ -2,7 +2,7 @@
 use Rattle.byteorder.specs.Endian.{little_number}
 use Rattle.nla_frames.specs.Frame.{Frame, type_of}
 use Rattle.nla_frames.specs.Value.{strip}
-use Rattle.std.specs.Prelude.{Bool, List, None, Option, Some, [], codes, drop, if◌then◌else◌, is_some, length, nat_le, not, option_and_then, option_map, ℕ}
+use Rattle.std.specs.Prelude.{Bool, List, None, Option, Some, [], codes, drop, if◌then◌else◌, is_some, length, nat_le, nat_lt, not, option_and_then, option_map, ℕ}
 use Rattle.std.specs.Prelude.{◌%◌, ◌&&◌, ◌++◌, ◌-◌, ◌==◌, ◌≡◌, ◌||◌, ◌∷◌, false}
 use Rattle.tc_brief.specs.Lines.{message_lines}
 use Rattle.tc_brief.specs.Words.{word_byte, written}
@@ -129,7 +129,8 @@ last_text found [] = found
 last_text found (f ∷ fs) = last_text (if type_of f.word == 1 then Some f.value else found) fs
 
 abbrev pub end_sentence : Netlink → Option (List ℕ)
-end_sentence m = if end_error m.payload == 0 then None else last_text None (frames_in (drop 4 m.payload))
+end_sentence m =
+    if nat_lt (length m.payload) 4 || end_error m.payload == 0 then None else last_text None (frames_in (drop 4 m.payload))
 
 -- what the line of the end of a dump begins with, up to the verb of its request: time, error and sentence
 abbrev pub end_text : Past → TimeFormat → Origin → Netlink → List ℕ

@@ -166,10 +166,7 @@ fn last_text(bytes: &[u8]) -> Option<&[u8]>
 fn end_sentence<'m>(message: &NetlinkMessage<'m>) -> Option<&'m [u8]>
     ensures { option_map (λ text. text.now) result ≡ end_sentence (message_of message.now) }
 {
-    if end_error(message.payload) == 0 {
-        return None;
-    }
-    if message.payload.len() < 4 {
+    if message.payload.len() < 4 || end_error(message.payload) == 0 {
         return None;
     }
     let (_, attributes) = message.payload.split_at(4);
