@@ -6,7 +6,7 @@ use Rattle.tc_brief.specs.Leaves as leaf
 use Rattle.tc_brief.specs.Leaves.{Leaf, Value, leaves_view}
 use Rattle.tc_brief.specs.Numbers as numbers
 use Rattle.tc_brief.specs.Values.{assigned, bytes_text, depth_after, equals, is_left_out, is_opening, name_of_leaf, number_in, open_text, value_text}
-use Rattle.tc_brief.specs.Values.{is_closing, is_count, is_hollow, is_number, within_word}
+use Rattle.tc_brief.specs.Values.{is_count, is_hollow, is_number, within_word}
 use Rattle.tc_brief.specs.declared.leaf.Section.{Section}
 use Rattle.tc_brief.specs.declared.leaf.Section.TheVariants as section
 use Rattle.tc_brief.specs.declared.leaf.Shape.{Shape}
@@ -239,22 +239,8 @@ abbrev pub is_braces : Shape → Bool
 is_braces Braces = true
 is_braces s = false
 
-abbrev pub is_bytes : Style → Bool
-is_bytes style.Bytes = true
-is_bytes s = false
-
--- the elements of a list of numbers, given the leaves after its beginning
-abbrev pub elements : List Leaf → ℕ
-elements [] = 0
-elements (l ∷ ls) = if is_closing l.value then 0 else elements ls + 1
-
--- a table of more than 32 numbers is written as their number
-abbrev pub list_text : Leaf → Shape → List Leaf → List ℕ
-list_text l s rest =
-    if is_bytes l.row.style && nat_lt 32 (elements rest) then codes "<" ++ (decimal (elements rest) ++ codes ">") else open_text s ++ within_word 1 true rest
-
 abbrev pub opened_words : Leaf → Shape → List Leaf → List (List ℕ)
-opened_words l s rest = if is_braces s && is_hollow rest then [] else valued l (list_text l s rest)
+opened_words l s rest = if is_braces s && is_hollow rest then [] else valued l (open_text s ++ within_word 1 true rest)
 
 abbrev pub words_by : Value → Around → List Leaf → Leaf → List (List ℕ)
 words_by (leaf.opens s) c rest l = opened_words l s rest

@@ -4,7 +4,7 @@ ghost use Rattle.std.specs.List.{after_first, before_first};
 ghost use Rattle.std.specs.Prelude.{None, OnOk, [], bytes_eq, codes, decimal, option_map, true, unwrap_or, ◌++◌, ◌<◌, ◌≡◌, ◌∷◌};
 ghost use Rattle.tc_brief.specs.Leaves.{leaf_view, leaves_view, value_view};
 ghost use Rattle.tc_brief.specs.Parts.{bare, begun, bit_words, burst_text, choice, choice_at, chosen, control, end_text, hardware, hex_words, is_bar};
-ghost use Rattle.tc_brief.specs.Parts.{elements, is_blank, is_bytes, is_in, is_rate, list_text};
+ghost use Rattle.tc_brief.specs.Parts.{is_blank, is_in, is_rate};
 ghost use Rattle.tc_brief.specs.Parts.{is_taken, is_with, key_text, key_words, mask_text, match_words, next_with, number_of, number_of_section, opened_words};
 ghost use Rattle.tc_brief.specs.Parts.{agrees, is_braces, count_in, count_words, is_counted, or_key};
 ghost use Rattle.tc_brief.specs.Parts.{own_word, phrase, plain, protocol_words, rate_named, rate_of, rate_text, scope_view, section_words, styled_words};
@@ -19,8 +19,8 @@ use crate::leaf::{Leaf, Section, Shape, Value};
 use crate::numbers::{put_bits, put_burst};
 use crate::row::Style;
 use crate::values::{
-    depth_after, is_closing, is_count, is_hollow, is_left_out, is_opening, is_set, is_skipped,
-    number_in, put_assigned, put_hex_bytes, put_name_of, put_open, put_value, put_within,
+    depth_after, is_count, is_hollow, is_left_out, is_opening, is_set, is_skipped, number_in,
+    put_assigned, put_hex_bytes, put_name_of, put_open, put_value, put_within,
 };
 use crate::words::put_word;
 use std::alloc::AllocError;
@@ -374,7 +374,8 @@ impl Line {
             return Ok(());
         }
         self.begin_valued(leaf)?;
-        put_list(&mut self.word, leaf, shape, rest)?;
+        put_open(&mut self.word, shape)?;
+        put_within_word(&mut self.word, rest)?;
         self.end()?;
         Ok(())
     }
@@ -442,55 +443,6 @@ impl Line {
         }
         Ok(())
     }
-}
-
-fn is_bytes(style: Style) -> bool
-    ensures { result ≡ is_bytes style }
-{
-    matches!(style, Style::Bytes)
-}
-
-// The elements of a list of numbers, given the leaves after its beginning.
-fn elements(leaves: &[Leaf<'_>]) -> usize
-    ensures count { result ≡ elements (leaves_view leaves.now) }
-{
-    let mut count = 0;
-    let mut left = leaves;
-    'each: while let [leaf, rest @ ..] = left {
-        if is_closing(&leaf.value) {
-            return count;
-        }
-        count += 1;
-        left = rest;
-    }
-    count
-}
-
-// Appends a list or record, or only the number of its elements.
-fn put_list(
-    out: &mut Vec<u8>,
-    leaf: &Leaf<'_>,
-    shape: Shape,
-    rest: &[Leaf<'_>],
-) -> Result<(), BriefError>
-    ensures { OnOk result (out.new.items ≡ out.old.items ++ list_text (leaf_view leaf.now) shape (leaves_view rest.now)) }
-{
-    let count = elements(rest);
-    if is_bytes(leaf.row.style) && count > 32 {
-        put_count(out, count as u64)?;
-        return Ok(());
-    }
-    put_open(out, shape)?;
-    put_within_word(out, rest)
-}
-
-// Appends a number in angle brackets.
-fn put_count(out: &mut Vec<u8>, count: u64) -> Result<(), AllocError>
-    ensures { OnOk result (out.new.items ≡ out.old.items ++ (codes "<" ++ (decimal count ++ codes ">"))) }
-{
-    out.extend_from_slice(b"<")?;
-    put_decimal(out, count)?;
-    out.extend_from_slice(b">")
 }
 
 // Appends the rest of a word that began with an open bracket.

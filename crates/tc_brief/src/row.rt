@@ -36,7 +36,7 @@ pub enum Style {
     OfRate,
     /// The time that a burst takes at a rate, written as its size. The row names the word of its rate.
     Burst,
-    /// Bytes, or their number if there are more than 32: `<2048B>`. Of a list of numbers as well, `<4096>`.
+    /// Bytes, or their number if there are more than 32: `<2048B>`.
     Bytes,
     /// The protocol, left out if the message's header has the same.
     Protocol,

@@ -317,8 +317,7 @@ fn is_zero(number: Option<u64>) -> bool
     }
 }
 
-/// True for the end of a list or record.
-pub(crate) fn is_closing(value: &Value<'_>) -> bool
+fn is_closing(value: &Value<'_>) -> bool
     ensures { result ≡ is_closing (value_view value.now) }
 {
     matches!(value, Value::Closes(_))

@@ -722,32 +722,14 @@ static ACTIONS_BEFORE_KINDS: Known = Known {
     counted: &[],
 };
 
-// A table of 33 numbers, and one of two.
-#[rattlefmt::skip]
-static QDISC_NETEM_TABLES: Known = Known {
-    root: Root::Qdisc,
-    object: Object::Qdisc,
-    verb: "is",
-    port: 0,
-    digits: &[
-        "000000000500000000000100ffffffff000000000a0001006e6574656d0000006c00020000000000e80300000000000000000000000000000000000046000200010001000100",
-        "010001000100010001000100010001000100010001000100010001000100010001000100010001000100010001000100010001000100010001000100000008000d000100ffff",
-    ],
-    line: &[
-        "is qdisc netem 1: dev 5 root limit 1000p DelayDist=<33> SlotDist=[1,-1]",
-    ],
-    counted: &[],
-};
-
 /// All of them.
 #[rattlefmt::skip]
-pub(crate) fn all() -> [&'static Known; 35] {
+pub(crate) fn all() -> [&'static Known; 34] {
     [
         &ACTION_CONNMARK, &ACTION_GACT, &ACTION_MIRRED, &ACTION_MPLS, &ACTION_NAT, &ACTION_POLICE, &ACTION_VLAN,
         &CHAIN_FLOWER, &QDISC_BFIFO, &QDISC_CAKE, &QDISC_CLSACT, &QDISC_CODEL, &QDISC_FQ, &QDISC_FQ_CODEL,
         &QDISC_HHF, &QDISC_HTB, &QDISC_INGRESS, &QDISC_NETEM, &QDISC_NOQUEUE, &QDISC_PRIO, &QDISC_TBF,
         &TCLASS_ETS, &TCLASS_FQ_CODEL, &TCLASS_HFSC, &TCLASS_HTB, &TCLASS_QFQ, &TCLASS_TAPRIO, &TFILTER_BPF,
         &TFILTER_FLOWER, &TFILTER_FW, &TFILTER_MATCHALL, &TFILTER_ROUTE, &FILTER_BASIC_U32, &ACTIONS_BEFORE_KINDS,
-        &QDISC_NETEM_TABLES,
     ]
 }
