@@ -4,5 +4,6 @@ pub mod Progress
 pub mod InOrder
 pub mod Halting
 pub mod Breaking
+pub mod Rejecting
 mod Dumps
 mod Named

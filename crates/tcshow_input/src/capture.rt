@@ -1,6 +1,6 @@
 //! Captures, printed packet by packet.
 
-ghost use Rattle.std.specs.Prelude.{◌≡◌, ◌≢◌, ℕ, false, List, [], Some, Err, take, OnOk, IfOk, IfErr};
+ghost use Rattle.std.specs.Prelude.{◌≡◌, ◌≢◌, ℕ, false, List, [], Some, Err, take, OnOk, IfOk, IfErr, IfSome};
 ghost use Rattle.tcshow_input.specs.declared.stop.Stop.TheVariants.{NoMemory};
 ghost use Rattle.tc_capture.specs.Capture.{next_piece};
 ghost use Rattle.tc_capture.specs.Capture.{state_of as place_of};
@@ -8,6 +8,7 @@ ghost use Rattle.tc_input.specs.Left.{rest_of, left_of, Gives};
 ghost use Rattle.tcshow_json.specs.Messages.{Thing};
 ghost use Rattle.tcshow_input.specs.Things.{are_read, other_than_outgoing};
 ghost use Rattle.tcshow_input.specs.Reading.{capture_left, is_passed, GivesUpTo};
+ghost use Rattle.tcshow_input.specs.Rejected.{capture_rejection, is_rejection, met_in, met_rejection, Met, TellsUpTo};
 ghost use Rattle.tcshow_input.specs.State.{state_of, Halts, Progress, Puts, Stops};
 ghost use Rattle.tcshow_input.specs.Writing.{GrowsClean};
 
@@ -36,6 +37,9 @@ pub fn show_capture<A: Allocator + Copy, R: Read, W: Write>(
         × Gives (capture_left packets.old.count (place_of capture) (left_of input.old (R.remaining reader.old))) things (Some [])) }
     ensures stopped { IfErr result (λ stop. Stops stop (capture_left packets.old.count (place_of capture) (left_of input.old (R.remaining reader.old)))
         (W.contents writer.old) (W.contents writer.new) (state_of printer.old) (state_of printer.new)) }
+    ensures told { OnOk result (IfSome (capture_rejection (met_in packets.old) (place_of capture) (left_of input.old (R.remaining reader.old)))
+        (λ r. met_rejection (met_in packets.new) ≡ r)) }
+    ensures failed { IfErr result (λ stop. is_rejection stop ≡ false) }
 {
     for _ in 0..u64::MAX {
         let goes_on = show_piece(printer, packets, input, &mut capture, reader, writer)?;
@@ -63,6 +67,11 @@ fn show_piece<A: Allocator + Copy, R: Read, W: Write>(
         (capture_left packets.new.count (place_of capture.new) (left_of input.new (R.remaining reader.new)))) }
     ensures stopped { IfErr result (λ stop. Stops stop (capture_left packets.old.count (place_of capture.old) (left_of input.old (R.remaining reader.old)))
         (W.contents writer.old) (W.contents writer.new) (state_of printer.old) (state_of printer.new)) }
+    ensures told { IfOk result (λ goes_on. TellsUpTo goes_on
+        (capture_rejection (met_in packets.old) (place_of capture.old) (left_of input.old (R.remaining reader.old)))
+        (capture_rejection (met_in packets.new) (place_of capture.new) (left_of input.new (R.remaining reader.new)))
+        (met_rejection (met_in packets.new))) }
+    ensures failed { IfErr result (λ stop. is_rejection stop ≡ false) }
 {
     let at = input.offset();
     match next_piece(capture, input) {
@@ -96,6 +105,10 @@ fn goes_on<A: Allocator + Copy, R: Read, W: Write>(
         (capture_left n (place_of capture.now) (left_of input.new (R.remaining reader.new))))) }
     ensures stopped { IfErr result (λ stop. stop ≢ NoMemory
         → Halts [] (W.contents writer.old) (W.contents writer.new) (state_of printer.old) (state_of printer.new)) }
+    ensures told { IfOk result (λ goes_on. (met : Met) → TellsUpTo goes_on
+        (capture_rejection met (place_of capture.now) (left_of input.old (R.remaining reader.old)))
+        (capture_rejection met (place_of capture.now) (left_of input.new (R.remaining reader.new))) (met_rejection met)) }
+    ensures failed { IfErr result (λ stop. is_rejection stop ≡ false) }
 {
     let at = input.offset();
     printer.write(writer)?;
@@ -144,11 +157,12 @@ impl<'a, A: Allocator + Copy> Printer<'a, A> {
     ghost use Rattle.std.specs.Prelude.{◌≡◌, ◌∷◌, ◌++◌, [], true, OnOk};
     ghost use Rattle.tc_capture.specs.Outcome.{seen};
     ghost use Rattle.tc_capture.specs.Front.{front_of};
-    ghost use Rattle.tc_capture.specs.Packet.{captured_of, contents_of};
+    ghost use Rattle.tc_capture.specs.Packet.{captured_of, contents_in, contents_of};
     ghost use Rattle.tc_capture_laws.specs.Pieces.{read};
     ghost use Rattle.tc_capture.specs.Answer.{answer_in};
     ghost use Rattle.tc_capture.specs.Message.{message_of};
     ghost use Rattle.tcshow_input.specs.Reading.{things_in_piece, things_in_gap, packets_after, count_after, number_after};
+    ghost use Rattle.tcshow_input.specs.Rejected.{met_after, met_in, met_with};
     ghost use Rattle.tcshow_json.specs.Messages.{alone, hole, is_fault, link_in, link_or_other, thing_of, answer_with};
     ghost use Rattle.tcshow_input.specs.Things.{thing_in, things_in, things_held, things_of};
     ghost use Rattle.tcshow_input.specs.Things.{cut_after, origin_of};
@@ -184,6 +198,7 @@ impl<'a, A: Allocator + Copy> Printer<'a, A> {
     ) -> Result<(), AllocError>
         ensures form { self.new.output.is_json ≡ self.old.output.is_json }
         ensures count { packets.new.count ≡ packets_after packets.old.count (read (front_of piece.now).packet) }
+        ensures met { met_in packets.new ≡ met_after (met_in packets.old) (read (front_of piece.now).packet) }
         ensures put { OnOk result (Puts (things_in_piece packets.old.count (read (front_of piece.now).packet)) (state_of self.old) (state_of self.new)) }
     {
         match &piece.packet {
@@ -204,6 +219,7 @@ impl<'a, A: Allocator + Copy> Printer<'a, A> {
     ) -> Result<(), AllocError>
         ensures form { self.new.output.is_json ≡ self.old.output.is_json }
         ensures count { packets.new.count ≡ count_after packets.old.count packet.now.link }
+        ensures met { met_in packets.new ≡ met_with (met_in packets.old) (contents_in packet.now.link packet.now.bytes.now) }
         ensures put { OnOk result (Puts (things_of (number_after packets.old.count packet.now.link) (captured_of packet.now))
             (state_of self.old) (state_of self.new)) }
     {

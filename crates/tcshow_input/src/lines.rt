@@ -1,16 +1,20 @@
 //! Lines of hex, printed.
 
-ghost use Rattle.std.specs.Prelude.{◌≡◌, ◌≢◌, false, List, Some, [], take, length, ◌≤◌, OnOk, IfOk, IfErr};
-ghost use Rattle.tcshow_input.specs.declared.stop.Stop.TheVariants.{NoMemory};
+ghost use Rattle.std.specs.Prelude.{◌≡◌, ◌≢◌, false, Bool, List, Some, None, [], ◌++◌, take, length, ◌≤◌, OnOk, IfOk, IfErr, IfSome};
+ghost use Rattle.std.specs.Option.{option_to_list};
+ghost use Rattle.tcshow_input.specs.declared.stop.Stop.TheVariants.{NoCapture, NoMemory};
 ghost use Rattle.tc_input.specs.Dumps.{dump_of, no_dump};
 ghost use Rattle.tc_input.specs.Left.{rest_of, left_of, Gives};
 ghost use Rattle.tc_input.specs.Lines.{HasNoFeed};
 ghost use Rattle.tcshow_json.specs.Messages.{Thing};
 ghost use Rattle.tcshow_input.specs.Things.{is_cooked, after_cooked};
 ghost use Rattle.tcshow_input.specs.Reading.{is_hex_text, is_hex_digit, is_blank, things_at, dump_after, text_left, GivesUpTo};
+ghost use Rattle.tcshow_input.specs.Rejected.{is_hex_at, is_no_hex_after, is_rejection, stop_if};
+ghost use Rattle.tcshow_input.specs.Rejected.{text_rejection, text_rejection_after, Explains, TellsUpTo};
 ghost use Rattle.tcshow_input.specs.State.{state_of, Halts, Progress, Puts, Stops};
 ghost use Rattle.tcshow_input.specs.Writing.{GrowsClean};
 
+use crate::first_lines::FirstLines;
 use crate::printer::Printer;
 use crate::stop::Stop;
 use std::alloc::{AllocError, Allocator};
@@ -63,7 +67,7 @@ fn after_cooked(bytes: &[u8]) -> &[u8]
     }
 }
 
-/// Prints the messages of lines of hex, to the end of the input. If none of the first 16 lines is hex, the input isn't.
+/// Prints the messages of lines of hex, to the end of the input. If none of the first 16 lines with content is hex, the input isn't.
 pub fn show_lines<A: Allocator + Copy, R: Read, W: Write>(
     printer: &mut Printer<'_, A>,
     input: &mut Input<A>,
@@ -77,10 +81,13 @@ pub fn show_lines<A: Allocator + Copy, R: Read, W: Write>(
         × Gives (text_left (state_of printer.old).header no_dump (left_of input.old (R.remaining reader.old))) things (Some [])) }
     ensures stopped { IfErr result (λ stop. Stops stop (text_left (state_of printer.old).header no_dump (left_of input.old (R.remaining reader.old)))
         (W.contents writer.old) (W.contents writer.new) (state_of printer.old) (state_of printer.new)) }
+    ensures accepted { OnOk result (IfSome (text_rejection (left_of input.old (R.remaining reader.old))) (λ r. r ≡ None)) }
+    ensures reason { IfErr result (Explains (text_rejection (left_of input.old (R.remaining reader.old)))) }
 {
     let mut dump = Dump::new(printer.alloc);
-    show_lines_after(printer, &mut dump, input, reader, writer)?;
-    if printer.first_lines.are_without_hex() {
+    let mut first = FirstLines::new();
+    show_lines_after(printer, &mut first, &mut dump, input, reader, writer)?;
+    if first.are_without_hex() {
         return Err(Stop::NoCapture);
     }
     Ok(())
@@ -89,6 +96,7 @@ pub fn show_lines<A: Allocator + Copy, R: Read, W: Write>(
 // Prints the messages of lines of hex, after the bytes of a dump that the lines may go on with.
 fn show_lines_after<A: Allocator + Copy, R: Read, W: Write>(
     printer: &mut Printer<'_, A>,
+    first: &mut FirstLines,
     dump: &mut Dump<A>,
     input: &mut Input<A>,
     reader: &mut R,
@@ -102,9 +110,12 @@ fn show_lines_after<A: Allocator + Copy, R: Read, W: Write>(
     ensures stopped { IfErr result (λ stop. Stops stop
         (text_left (state_of printer.old).header (dump_of dump.old) (left_of input.old (R.remaining reader.old)))
         (W.contents writer.old) (W.contents writer.new) (state_of printer.old) (state_of printer.new)) }
+    ensures told { OnOk result (IfSome (text_rejection_after first.old (dump_of dump.old) (left_of input.old (R.remaining reader.old)))
+        (λ r. stop_if NoCapture (is_no_hex_after first.new []) ≡ r)) }
+    ensures reason { IfErr result (Explains (text_rejection_after first.old (dump_of dump.old) (left_of input.old (R.remaining reader.old)))) }
 {
     for _ in 0..u64::MAX {
-        let goes_on = show_line(printer, dump, input, reader, writer)?;
+        let goes_on = show_line(printer, first, dump, input, reader, writer)?;
         if !goes_on {
             return Ok(());
         }
@@ -115,6 +126,7 @@ fn show_lines_after<A: Allocator + Copy, R: Read, W: Write>(
 // Prints the next line, after the bytes of a dump, or reads more of it. Returns false at the end of the input.
 fn show_line<A: Allocator + Copy, R: Read, W: Write>(
     printer: &mut Printer<'_, A>,
+    first: &mut FirstLines,
     dump: &mut Dump<A>,
     input: &mut Input<A>,
     reader: &mut R,
@@ -129,18 +141,22 @@ fn show_line<A: Allocator + Copy, R: Read, W: Write>(
     ensures stopped { IfErr result (λ stop. Stops stop
         (text_left (state_of printer.old).header (dump_of dump.old) (left_of input.old (R.remaining reader.old)))
         (W.contents writer.old) (W.contents writer.new) (state_of printer.old) (state_of printer.new)) }
+    ensures told { IfOk result (λ goes_on. TellsUpTo goes_on (text_rejection_after first.old (dump_of dump.old) (left_of input.old (R.remaining reader.old)))
+        (text_rejection_after first.new (dump_of dump.new) (left_of input.new (R.remaining reader.new))) (stop_if NoCapture (is_no_hex_after first.new []))) }
+    ensures reason { IfErr result (Explains (text_rejection_after first.old (dump_of dump.old) (left_of input.old (R.remaining reader.old)))) }
 {
     match input.line_end() {
         Some(end) => {
+            see_front(printer.alloc, first, dump, input, end)?;
             put_front(printer, dump, input, end)?;
             input.use_line(end);
-            if printer.first_lines.are_other_text() {
+            if first.are_other_text() {
                 return Err(Stop::NoCapture);
             }
             printer.write_much(writer)?;
             Ok(true)
         }
-        None => more_of_line(printer, dump, input, reader, writer),
+        None => more_of_line(printer, first, dump, input, reader, writer),
     }
 }
 
@@ -148,6 +164,7 @@ fn show_line<A: Allocator + Copy, R: Read, W: Write>(
 #[tactic(auto, using(crate::proofs::Clean::clean_none))]
 fn more_of_line<A: Allocator + Copy, R: Read, W: Write>(
     printer: &mut Printer<'_, A>,
+    first: &mut FirstLines,
     dump: &mut Dump<A>,
     input: &mut Input<A>,
     reader: &mut R,
@@ -162,9 +179,12 @@ fn more_of_line<A: Allocator + Copy, R: Read, W: Write>(
         (text_left (state_of printer.old).header (dump_of dump.new) (left_of input.new (R.remaining reader.new)))) }
     ensures stopped { IfErr result (λ stop. stop ≢ NoMemory
         → Halts [] (W.contents writer.old) (W.contents writer.new) (state_of printer.old) (state_of printer.new)) }
+    ensures told { IfOk result (λ goes_on. TellsUpTo goes_on (text_rejection_after first.old (dump_of dump.old) (left_of input.old (R.remaining reader.old)))
+        (text_rejection_after first.new (dump_of dump.new) (left_of input.new (R.remaining reader.new))) (stop_if NoCapture (is_no_hex_after first.new []))) }
+    ensures failed { IfErr result (λ stop. is_rejection stop ≡ false) }
 {
     let at = input.offset();
-    printer.write_lines(writer)?;
+    printer.write_lines(first, writer)?;
     let gap = input.read_line(reader)?;
     match gap {
         LineGap::More => Ok(true),
@@ -173,10 +193,28 @@ fn more_of_line<A: Allocator + Copy, R: Read, W: Write>(
             Ok(goes_on)
         }
         LineGap::Last => {
-            printer.put_last(dump, input.rest(), input.offset())?;
+            let line = input.rest();
+            first.see(printer.alloc, dump, line)?;
+            printer.put_last(dump, line, input.offset())?;
             Ok(false)
         }
     }
+}
+
+// Counts the line of `len` bytes at the front of what was read.
+fn see_front<A: Allocator + Copy>(
+    alloc: A,
+    first: &mut FirstLines,
+    dump: &Dump<A>,
+    input: &Input<A>,
+    len: usize,
+) -> Result<(), AllocError>
+    requires { len ≤ length (rest_of input.now) }
+    ensures { OnOk result ((later : List Bool) → is_no_hex_after first.new later
+        ≡ is_no_hex_after first.old (option_to_list (is_hex_at (dump_of dump.now) (take len (rest_of input.now))) ++ later)) }
+{
+    let (line, _) = input.rest().split_at(len);
+    first.see(alloc, dump, line)
 }
 
 // Prints the line of `len` bytes at the front of what was read.
@@ -240,7 +278,6 @@ impl<'a, A: Allocator + Copy> Printer<'a, A> {
     {
         match place {
             Place::GoesOn(more) => {
-                self.first_lines.meet_hex();
                 dump.go_on(more)?;
                 Ok(())
             }
@@ -258,7 +295,6 @@ impl<'a, A: Allocator + Copy> Printer<'a, A> {
         self.put_dump(dump.bytes.as_slice())?;
         *dump = other;
         self.dump_at = at;
-        self.first_lines.meet_hex();
         Ok(())
     }
 
@@ -305,15 +341,9 @@ impl<'a, A: Allocator + Copy> Printer<'a, A> {
     {
         match on_line(self.alloc, line)? {
             OnLine::Nothing => Ok(()),
-            OnLine::NoHex => {
-                self.first_lines.meet_other();
-                self.put_hole(Notice::NoHex, at)
-            }
+            OnLine::NoHex => self.put_hole(Notice::NoHex, at),
             OnLine::TooLong => self.put_hole(Notice::Skipped(line.len() as u64), at),
-            OnLine::Bytes(bytes) => {
-                self.first_lines.meet_hex();
-                self.put_bytes(&bytes, at)
-            }
+            OnLine::Bytes(bytes) => self.put_bytes(&bytes, at),
         }
     }
 

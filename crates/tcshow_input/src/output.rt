@@ -18,8 +18,9 @@ pub(crate) struct Output<A: Allocator> {
 }
 
 impl<A: Allocator> Output<A> {
-    ghost use Rattle.std.specs.Prelude.{◌++◌, ◌∷◌, [], List, ℕ, OnOk};
+    ghost use Rattle.std.specs.Prelude.{◌++◌, ◌∷◌, [], List, ℕ, OnOk, IfErr};
     ghost use Rattle.tc_outline.specs.Text.{text_on};
+    ghost use Rattle.tcshow_input.specs.Rejected.{is_rejection};
     ghost use Rattle.tcshow_input.specs.Writing.{GrowsClean};
     ghost use Rattle.program_io.specs.Written.{GrowsByFront};
 
@@ -96,6 +97,7 @@ impl<A: Allocator> Output<A> {
         ensures front { (rest : List ℕ) × GrowsByFront (W.contents writer.old) (W.contents writer.new) self.old.bytes.items rest
             × OnOk result (rest ≡ []) }
         ensures empty { self.new.bytes.items ≡ [] }
+        ensures failed { IfErr result (λ stop. is_rejection stop ≡ false) }
     {
         let outcome = write_all(writer, &self.bytes);
         self.bytes.clear();

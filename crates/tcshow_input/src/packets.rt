@@ -8,8 +8,8 @@ use tc_capture::{Contents, Link, Packet, Res};
 pub struct Packets {
     /// Packets so far.
     pub count: u64,
-    /// Packets of route netlink.
-    route: u64,
+    /// There are packets of route netlink.
+    has_route: bool,
     /// The first link type other than netlink's.
     link: Option<u32>,
     /// The first netlink family other than route netlink.
@@ -18,11 +18,15 @@ pub struct Packets {
 
 impl Packets {
     ghost use Rattle.std.specs.Prelude.{◌≡◌};
+    ghost use Rattle.tc_capture.specs.Outcome.{seen};
+    ghost use Rattle.tc_capture.specs.Packet.{contents_of};
     ghost use Rattle.tcshow_input.specs.Reading.{count_after, number_after};
+    ghost use Rattle.tcshow_input.specs.Rejected.{is_all_foreign, met_in, met_with, none_met};
 
     /// No packets yet.
     pub fn new() -> Packets
         ensures none { result.count ≡ 0 }
+        ensures met { met_in result ≡ none_met }
     {
         Packets::default()
     }
@@ -31,6 +35,7 @@ impl Packets {
     pub(crate) fn count(&mut self, packet: &Packet<'_>) -> Option<u64>
         ensures count { self.new.count ≡ count_after self.old.count packet.now.link }
         ensures number { result ≡ number_after self.old.count packet.now.link }
+        ensures met { met_in self.new ≡ met_in self.old }
     {
         if matches!(packet.link, Link::Plain) {
             return None;
@@ -41,10 +46,11 @@ impl Packets {
 
     /// Counts the contents of a packet.
     pub(crate) fn meet(&mut self, contents: &Res<Contents<'_>>)
-        ensures { self.new.count ≡ self.old.count }
+        ensures count { self.new.count ≡ self.old.count }
+        ensures met { met_in self.new ≡ met_with (met_in self.old) (seen contents_of contents.now) }
     {
         match contents {
-            Ok(Contents::Route { .. }) => self.route = self.route.saturating_add(1),
+            Ok(Contents::Route { .. }) => self.has_route = true,
             Ok(Contents::Family(number)) => {
                 self.family.get_or_insert(*number);
             }
@@ -56,8 +62,10 @@ impl Packets {
     }
 
     /// True if there are packets of another link type or netlink family, and none of route netlink.
-    pub fn are_foreign(&self) -> bool {
-        self.route == 0 && (self.link.is_some() || self.family.is_some())
+    pub fn are_foreign(&self) -> bool
+        ensures { result ≡ is_all_foreign (met_in self.now) }
+    {
+        !self.has_route && (self.link.is_some() || self.family.is_some())
     }
 }
 

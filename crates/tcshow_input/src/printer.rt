@@ -37,8 +37,6 @@ pub struct Printer<'a, A: Allocator> {
     pub(crate) requests: Requests,
     /// Offset in the input of the current dump, in bytes.
     pub(crate) dump_at: u64,
-    /// The first lines of a text.
-    pub(crate) first_lines: FirstLines,
     summary: Summary,
 }
 
@@ -63,12 +61,13 @@ pub(crate) fn statistics_in(form: OutputFormat) -> Option<bool>
 }
 
 impl<'a, A: Allocator + Copy> Printer<'a, A> {
-    ghost use Rattle.std.specs.Prelude.{◌≡◌, true, false, List, ℕ, [], OnOk, is_some, string_bytes};
+    ghost use Rattle.std.specs.Prelude.{◌≡◌, true, false, List, ℕ, [], OnOk, IfErr, is_some, string_bytes};
     ghost use Rattle.tc_outline.specs.Page.{IsShown};
     ghost use Rattle.tc_outline.specs.Text.{text_on};
     ghost use Rattle.tcshow_input.specs.Known.{known_first};
     ghost use Rattle.tcshow_input.specs.Shown.{ended, IsEscaped, ShowsName, ShowsNotice, ShowsSummary};
     ghost use Rattle.tcshow_input.specs.State.{laid_out, start, state_of, Grows, Halts, Progress};
+    ghost use Rattle.tcshow_input.specs.Rejected.{is_rejection};
     ghost use Rattle.tcshow_input.specs.Writing.{GrowsClean};
     ghost use Rattle.program_io.specs.Written.{GrowsByFront};
 
@@ -85,7 +84,6 @@ impl<'a, A: Allocator + Copy> Printer<'a, A> {
             links: Links::new(json),
             requests: Requests::new(json),
             dump_at: 0,
-            first_lines: FirstLines::default(),
             summary: Summary::new(json),
         }
     }
@@ -98,7 +96,6 @@ impl<'a, A: Allocator + Copy> Printer<'a, A> {
         self.output.clear();
         self.links = Links::new(self.json);
         self.requests = Requests::new(self.json);
-        self.first_lines = FirstLines::default();
         self.dump_at = 0;
     }
 
@@ -230,13 +227,18 @@ impl<'a, A: Allocator + Copy> Printer<'a, A> {
     }
 
     /// Writes the output, unless no line of the text was hex so far.
-    pub(crate) fn write_lines<W: Write>(&mut self, writer: &mut W) -> Result<(), Stop>
+    pub(crate) fn write_lines<W: Write>(
+        &mut self,
+        first: &FirstLines,
+        writer: &mut W,
+    ) -> Result<(), Stop>
         ensures form { self.new.output.is_json ≡ self.old.output.is_json }
         ensures clean { self.old.output.is_json ≡ false → GrowsClean (W.contents writer.old) (W.contents writer.new) }
         ensures ran { OnOk result (Progress [] (W.contents writer.old) (W.contents writer.new) (state_of self.old) (state_of self.new)) }
         ensures halts { Halts [] (W.contents writer.old) (W.contents writer.new) (state_of self.old) (state_of self.new) }
+        ensures failed { IfErr result (λ stop. is_rejection stop ≡ false) }
     {
-        if self.first_lines.are_without_hex() {
+        if first.are_without_hex() {
             return Ok(());
         }
         self.write(writer)
@@ -248,6 +250,7 @@ impl<'a, A: Allocator + Copy> Printer<'a, A> {
         ensures clean { self.old.output.is_json ≡ false → GrowsClean (W.contents writer.old) (W.contents writer.new) }
         ensures ran { OnOk result (Progress [] (W.contents writer.old) (W.contents writer.new) (state_of self.old) (state_of self.new)) }
         ensures halts { Halts [] (W.contents writer.old) (W.contents writer.new) (state_of self.old) (state_of self.new) }
+        ensures failed { IfErr result (λ stop. is_rejection stop ≡ false) }
     {
         if self.output.len() < MOST_KEPT {
             return Ok(());
@@ -264,6 +267,7 @@ impl<'a, A: Allocator + Copy> Printer<'a, A> {
         ensures clean { self.old.output.is_json ≡ false → GrowsClean (W.contents writer.old) (W.contents writer.new) }
         ensures ran { OnOk result (Progress [] (W.contents writer.old) (W.contents writer.new) (state_of self.old) (state_of self.new)) }
         ensures halts { Halts [] (W.contents writer.old) (W.contents writer.new) (state_of self.old) (state_of self.new) }
+        ensures failed { IfErr result (λ stop. is_rejection stop ≡ false) }
     {
         self.output.write(writer)
     }

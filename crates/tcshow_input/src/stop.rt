@@ -1,7 +1,8 @@
 //! How a run ends early.
 
-ghost use Rattle.std.specs.Prelude.{◌≡◌};
+ghost use Rattle.std.specs.Prelude.{◌≡◌, false};
 ghost use Rattle.tcshow_input.specs.declared.stop.Stop.TheVariants.{NoMemory};
+ghost use Rattle.tcshow_input.specs.Rejected.{is_rejection};
 
 use std::alloc::AllocError;
 
@@ -33,6 +34,8 @@ impl From<AllocError> for Stop {
 }
 
 impl From<program_io::Stop> for Stop {
+    ghost from_gives = { λ _ e. is_rejection e ≡ false };
+
     fn from(stop: program_io::Stop) -> Stop {
         match stop {
             program_io::Stop::Usage => Stop::Usage,

@@ -1,11 +1,12 @@
 //! Several inputs, one after another.
 
-ghost use Rattle.std.specs.Prelude.{◌≡◌, ◌≢◌, false, max, List, OnOk, IfErr};
+ghost use Rattle.std.specs.Prelude.{◌≡◌, ◌≢◌, false, max, List, None, OnOk, IfErr, IfSome};
 ghost use Rattle.tcshow_input.specs.declared.stop.Stop.TheVariants.{NoMemory};
 ghost use Rattle.program_io.specs.Streams.{read_failure, reader_inside, write_failure, writer_inside};
 ghost use Rattle.tcshow_json.specs.Messages.{Thing};
 ghost use Rattle.tcshow_input.specs.Reading.{AreIn, AreFirstIn};
 ghost use Rattle.tcshow_input.specs.State.{state_of, Halts, Progress};
+ghost use Rattle.tcshow_input.specs.Rejected.{met_in, none_met, rejection_of, Explains};
 ghost use Rattle.tcshow_input.specs.Writing.{GrowsClean};
 ghost use Rattle.tcshow_lib.specs.Status.{status_of};
 ghost use Rattle.tcshow_lib.specs.Streams.{ShowsEnd};
@@ -31,8 +32,10 @@ pub fn run_next<A: Allocator + Copy, R: Read, W: Write>(
     ensures partly { IfErr result.outcome (λ stop. stop ≢ NoMemory → (things : List Thing)
         × AreFirstIn (R.remaining (reader_inside reader.old)) (state_of printer.old).header things
         × Halts things (W.contents (writer_inside writer.old)) (W.contents (writer_inside writer.new)) (state_of printer.old) (state_of printer.new)) }
-    // The errors of its streams show why it ends early.
-    ensures stopped { IfErr result.outcome (ShowsEnd (read_failure reader.new) (write_failure writer.new)) }
+    // Its input and the errors of its streams show why it ends early.
+    ensures stopped { IfErr result.outcome (ShowsEnd (R.remaining (reader_inside reader.old)) (read_failure reader.new) (write_failure writer.new)) }
+    // A rejected input has no other end.
+    ensures accepted { OnOk result.outcome (IfSome (rejection_of (R.remaining (reader_inside reader.old))) (λ r. r ≡ None)) }
     // Outlines hold only printable ASCII and line feeds.
     ensures clean { printer.old.output.is_json ≡ false
         → GrowsClean (W.contents (writer_inside writer.old)) (W.contents (writer_inside writer.new)) }
@@ -53,7 +56,8 @@ fn show_next_to_end<A: Allocator + Copy, R: Read, W: Write>(
     reader: &mut Reader<R>,
     writer: &mut Writer<W>,
 ) -> Result<(), Stop>
-    requires { packets.old.count ≡ 0 }
+    requires none { packets.old.count ≡ 0 }
+    requires met { met_in packets.old ≡ none_met }
     ensures clean { printer.old.output.is_json ≡ false
         → GrowsClean (W.contents (writer_inside writer.old)) (W.contents (writer_inside writer.new)) }
     ensures ran { OnOk result ((things : List Thing) × AreIn (R.remaining (reader_inside reader.old)) (state_of printer.old).header things
@@ -61,7 +65,8 @@ fn show_next_to_end<A: Allocator + Copy, R: Read, W: Write>(
     ensures partly { IfErr result (λ stop. stop ≢ NoMemory → (things : List Thing)
         × AreFirstIn (R.remaining (reader_inside reader.old)) (state_of printer.old).header things
         × Halts things (W.contents (writer_inside writer.old)) (W.contents (writer_inside writer.new)) (state_of printer.old) (state_of printer.new)) }
-    ensures stopped { IfErr result (ShowsEnd (read_failure reader.new) (write_failure writer.new)) }
+    ensures stopped { IfErr result (ShowsEnd (R.remaining (reader_inside reader.old)) (read_failure reader.new) (write_failure writer.new)) }
+    ensures accepted { OnOk result (IfSome (rejection_of (R.remaining (reader_inside reader.old))) (λ r. r ≡ None)) }
 {
     match show_next(printer, packets, reader, writer) {
         Ok(()) => Ok(()),
@@ -77,12 +82,15 @@ fn show_next<A: Allocator + Copy, R: Read, W: Write>(
     reader: &mut R,
     writer: &mut W,
 ) -> Result<(), Stop>
-    requires { packets.old.count ≡ 0 }
+    requires none { packets.old.count ≡ 0 }
+    requires met { met_in packets.old ≡ none_met }
     ensures clean { printer.old.output.is_json ≡ false → GrowsClean (W.contents writer.old) (W.contents writer.new) }
     ensures ran { OnOk result ((things : List Thing) × AreIn (R.remaining reader.old) (state_of printer.old).header things
         × Progress things (W.contents writer.old) (W.contents writer.new) (state_of printer.old) (state_of printer.new)) }
     ensures partly { IfErr result (λ stop. stop ≢ NoMemory → (things : List Thing) × AreFirstIn (R.remaining reader.old) (state_of printer.old).header things
         × Halts things (W.contents writer.old) (W.contents writer.new) (state_of printer.old) (state_of printer.new)) }
+    ensures accepted { OnOk result (IfSome (rejection_of (R.remaining reader.old)) (λ r. r ≡ None)) }
+    ensures reason { IfErr result (Explains (rejection_of (R.remaining reader.old))) }
 {
     let mut input = Input::begin(printer.alloc, reader)?;
     show_input(printer, packets, &mut input, reader, writer)?;

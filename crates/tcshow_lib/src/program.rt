@@ -1,9 +1,10 @@
 //! The program: its arguments are obeyed, and how it ends is its exit status.
 
-ghost use Rattle.std.specs.Prelude.{◌≡◌, ◌≢◌, OnOk, IfErr};
+ghost use Rattle.std.specs.Prelude.{◌≡◌, ◌≢◌, None, OnOk, IfErr, IfSome};
 ghost use Rattle.program_io.specs.Streams.{read_failure, reader_inside, write_failure, writer_inside};
 ghost use Rattle.tcshow_input.specs.State.{Ran, RanOn};
 ghost use Rattle.tcshow_input.specs.declared.stop.Stop.TheVariants.{NoMemory};
+ghost use Rattle.tcshow_input.specs.Rejected.{rejection_of};
 ghost use Rattle.tcshow_input.specs.Writing.{GrowsClean};
 ghost use Rattle.tcshow_input.specs.declared.options.OutputFormat.TheVariants.{Json};
 ghost use Rattle.tcshow_lib.specs.Streams.{ShowsEnd};
@@ -534,8 +535,10 @@ pub fn serve<A: Allocator + Copy, R: Read, W: Write, E: Write>(
     // refused or broken.
     ensures partly { IfErr result.outcome (λ stop. stop ≢ NoMemory → RanOn options.now result.has_refused (R.remaining (reader_inside reader.old))
         (W.contents (writer_inside writer.old)) (W.contents (writer_inside writer.new))) }
-    // The errors of its streams show why it ends early.
-    ensures stopped { IfErr result.outcome (ShowsEnd (read_failure reader.new) (write_failure writer.new)) }
+    // Its input and the errors of its streams show why it ends early.
+    ensures stopped { IfErr result.outcome (ShowsEnd (R.remaining (reader_inside reader.old)) (read_failure reader.new) (write_failure writer.new)) }
+    // A rejected input has no other end.
+    ensures accepted { OnOk result.outcome (IfSome (rejection_of (R.remaining (reader_inside reader.old))) (λ r. r ≡ None)) }
     // Outlines hold only printable ASCII and line feeds.
     ensures clean { options.now.format ≢ Json → GrowsClean (W.contents (writer_inside writer.old)) (W.contents (writer_inside writer.new)) }
 {

@@ -1,6 +1,6 @@
 //! A run over an input.
 
-ghost use Rattle.std.specs.Prelude.{◌≡◌, ◌≢◌, ◌⊎◌, ◌↔◌, false, List, [], OnOk, IfErr, IsTrue, IsSomeAnd};
+ghost use Rattle.std.specs.Prelude.{◌≡◌, ◌≢◌, ◌⊎◌, ◌↔◌, false, List, ℕ, [], None, Option, OnOk, IfErr, IsTrue, IfSome, IsSomeAnd};
 ghost use Rattle.tcshow_input.specs.declared.stop.Stop.TheVariants.{NoMemory};
 ghost use Rattle.std.specs.IoError.{error_kind};
 ghost use Rattle.program_io.specs.Streams.{read_failure, reader_inside, write_failure, writer_inside};
@@ -9,6 +9,7 @@ ghost use Rattle.tcshow_json.specs.Messages.{Thing};
 ghost use Rattle.tcshow_input.specs.Reading.{AreIn, Begins, BeginsWith};
 ghost use Rattle.tcshow_input.specs.declared.options.OutputFormat.TheVariants.{Json};
 ghost use Rattle.tcshow_input.specs.State.{state_of, Breaks, BreaksIn, Completes, Ends, Halts, Progress, Ran, RanOn};
+ghost use Rattle.tcshow_input.specs.Rejected.{met_in, met_rejection, none_met, rejection_left, rejection_of, Explains};
 ghost use Rattle.tcshow_input.specs.Writing.{GrowsClean};
 ghost use Rattle.tcshow_lib.specs.Streams.{ShowsEnd};
 
@@ -84,8 +85,10 @@ pub fn run<A: Allocator + Copy, R: Read, W: Write>(
     // refused or broken.
     ensures partly { IfErr result.outcome (λ stop. stop ≢ NoMemory → RanOn options.now result.has_refused (R.remaining (reader_inside reader.old))
         (W.contents (writer_inside writer.old)) (W.contents (writer_inside writer.new))) }
-    // The errors of its streams show why it ends early.
-    ensures stopped { IfErr result.outcome (ShowsEnd (read_failure reader.new) (write_failure writer.new)) }
+    // Its input and the errors of its streams show why it ends early.
+    ensures stopped { IfErr result.outcome (ShowsEnd (R.remaining (reader_inside reader.old)) (read_failure reader.new) (write_failure writer.new)) }
+    // A rejected input has no other end.
+    ensures accepted { OnOk result.outcome (IfSome (rejection_of (R.remaining (reader_inside reader.old))) (λ r. r ≡ None)) }
     // Outlines hold only printable ASCII and line feeds.
     ensures clean { options.now.format ≢ Json → GrowsClean (W.contents (writer_inside writer.old)) (W.contents (writer_inside writer.new)) }
 {
@@ -106,7 +109,8 @@ fn show_to_end<A: Allocator + Copy, R: Read, W: Write>(
     reader: &mut Reader<R>,
     writer: &mut Writer<W>,
 ) -> Result<(), Stop>
-    requires { packets.old.count ≡ 0 }
+    requires none { packets.old.count ≡ 0 }
+    requires met { met_in packets.old ≡ none_met }
     ensures clean { printer.old.output.is_json ≡ false
         → GrowsClean (W.contents (writer_inside writer.old)) (W.contents (writer_inside writer.new)) }
     ensures ran { OnOk result ((things : List Thing) × AreIn (R.remaining (reader_inside reader.old)) (state_of printer.old).header things
@@ -114,7 +118,8 @@ fn show_to_end<A: Allocator + Copy, R: Read, W: Write>(
         (state_of printer.new)) }
     ensures partly { IfErr result (λ stop. BreaksIn stop (R.remaining (reader_inside reader.old)) (W.contents (writer_inside writer.old))
         (W.contents (writer_inside writer.new)) (state_of printer.old) (state_of printer.new)) }
-    ensures stopped { IfErr result (ShowsEnd (read_failure reader.new) (write_failure writer.new)) }
+    ensures stopped { IfErr result (ShowsEnd (R.remaining (reader_inside reader.old)) (read_failure reader.new) (write_failure writer.new)) }
+    ensures accepted { OnOk result (IfSome (rejection_of (R.remaining (reader_inside reader.old))) (λ r. r ≡ None)) }
 {
     match show_and_write(printer, packets, reader, writer) {
         Ok(()) => Ok(()),
@@ -122,9 +127,9 @@ fn show_to_end<A: Allocator + Copy, R: Read, W: Write>(
     }
 }
 
-// The reason for an early end, if the streams show it; otherwise memory ran out.
+// The reason for an early end, if the input or the streams show it; otherwise memory ran out.
 pub(crate) fn shown_end<R, W>(reader: &Reader<R>, writer: &Writer<W>, stop: Stop) -> Stop
-    ensures shown { ShowsEnd (read_failure reader.now) (write_failure writer.now) result }
+    ensures shown { (file : Option (List ℕ)) → Explains (rejection_of file) stop → ShowsEnd file (read_failure reader.now) (write_failure writer.now) result }
     ensures one { (result ≡ stop) ⊎ (result ≡ NoMemory) }
 {
     match stop {
@@ -153,12 +158,15 @@ fn show_and_write<A: Allocator + Copy, R: Read, W: Write>(
     reader: &mut R,
     writer: &mut W,
 ) -> Result<(), Stop>
-    requires { packets.old.count ≡ 0 }
+    requires none { packets.old.count ≡ 0 }
+    requires met { met_in packets.old ≡ none_met }
     ensures clean { printer.old.output.is_json ≡ false → GrowsClean (W.contents writer.old) (W.contents writer.new) }
     ensures ran { OnOk result ((things : List Thing) × AreIn (R.remaining reader.old) (state_of printer.old).header things
         × Completes things (W.contents writer.old) (W.contents writer.new) (state_of printer.old) (state_of printer.new)) }
     ensures partly { IfErr result (λ stop. BreaksIn stop (R.remaining reader.old) (W.contents writer.old) (W.contents writer.new)
         (state_of printer.old) (state_of printer.new)) }
+    ensures accepted { OnOk result (IfSome (rejection_of (R.remaining reader.old)) (λ r. r ≡ None)) }
+    ensures reason { IfErr result (Explains (rejection_of (R.remaining reader.old))) }
 {
     match show(printer, packets, reader, writer) {
         Ok(()) => printer.write(writer),
@@ -193,13 +201,16 @@ fn show<A: Allocator + Copy, R: Read, W: Write>(
     reader: &mut R,
     writer: &mut W,
 ) -> Result<(), Stop>
-    requires { packets.old.count ≡ 0 }
+    requires none { packets.old.count ≡ 0 }
+    requires met { met_in packets.old ≡ none_met }
     ensures form { printer.new.output.is_json ≡ printer.old.output.is_json }
     ensures clean { printer.old.output.is_json ≡ false → GrowsClean (W.contents writer.old) (W.contents writer.new) }
     ensures ran { OnOk result ((things : List Thing) × AreIn (R.remaining reader.old) (state_of printer.old).header things
         × Ends things (W.contents writer.old) (W.contents writer.new) (state_of printer.old) (state_of printer.new)) }
     ensures partly { IfErr result (λ stop. BreaksIn stop (R.remaining reader.old) (W.contents writer.old) (W.contents writer.new)
         (state_of printer.old) (state_of printer.new)) }
+    ensures accepted { OnOk result (IfSome (rejection_of (R.remaining reader.old)) (λ r. r ≡ None)) }
+    ensures reason { IfErr result (Explains (rejection_of (R.remaining reader.old))) }
 {
     let mut input = Input::begin(printer.alloc, reader)?;
     show_all(printer, packets, &mut input, reader, writer)
@@ -214,7 +225,8 @@ fn show_all<A: Allocator + Copy, R: Read, W: Write>(
     reader: &mut R,
     writer: &mut W,
 ) -> Result<(), Stop>
-    requires { packets.old.count ≡ 0 }
+    requires none { packets.old.count ≡ 0 }
+    requires met { met_in packets.old ≡ none_met }
     ensures form { printer.new.output.is_json ≡ printer.old.output.is_json }
     ensures clean { printer.old.output.is_json ≡ false → GrowsClean (W.contents writer.old) (W.contents writer.new) }
     ensures ran { OnOk result ((things : List Thing)
@@ -223,6 +235,8 @@ fn show_all<A: Allocator + Copy, R: Read, W: Write>(
     ensures partly { IfErr result (λ stop. stop ≢ NoMemory → (things : List Thing)
         × BeginsWith (rest_of input.old) (left_of input.old (R.remaining reader.old)) (state_of printer.old).header things
         × Breaks things (W.contents writer.old) (W.contents writer.new) (state_of printer.old) (state_of printer.new)) }
+    ensures accepted { OnOk result (IfSome (rejection_left (rest_of input.old) (left_of input.old (R.remaining reader.old))) (λ r. r ≡ None)) }
+    ensures reason { IfErr result (Explains (rejection_left (rest_of input.old) (left_of input.old (R.remaining reader.old)))) }
 {
     show_input(printer, packets, input, reader, writer)?;
     printer.put_summary()?;
@@ -241,7 +255,8 @@ pub(crate) fn show_input<A: Allocator + Copy, R: Read, W: Write>(
     reader: &mut R,
     writer: &mut W,
 ) -> Result<(), Stop>
-    requires { packets.old.count ≡ 0 }
+    requires none { packets.old.count ≡ 0 }
+    requires met { met_in packets.old ≡ none_met }
     ensures form { printer.new.output.is_json ≡ printer.old.output.is_json }
     ensures clean { printer.old.output.is_json ≡ false → GrowsClean (W.contents writer.old) (W.contents writer.new) }
     ensures ran { OnOk result ((things : List Thing)
@@ -250,6 +265,9 @@ pub(crate) fn show_input<A: Allocator + Copy, R: Read, W: Write>(
     ensures partly { IfErr result (λ stop. stop ≢ NoMemory → (things : List Thing)
         × BeginsWith (rest_of input.old) (left_of input.old (R.remaining reader.old)) (state_of printer.old).header things
         × Halts things (W.contents writer.old) (W.contents writer.new) (state_of printer.old) (state_of printer.new)) }
+    ensures told { OnOk result (IfSome (rejection_left (rest_of input.old) (left_of input.old (R.remaining reader.old)))
+        (λ r. met_rejection (met_in packets.new) ≡ r)) }
+    ensures reason { IfErr result (Explains (rejection_left (rest_of input.old) (left_of input.old (R.remaining reader.old)))) }
 {
     match Capture::of_first(input.first()) {
         Some(capture) => show_capture(printer, packets, input, capture, reader, writer),

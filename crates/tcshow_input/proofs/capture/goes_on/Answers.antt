@@ -4,6 +4,7 @@ use Rattle.tcshow_input.specs.Reading.{capture_left, is_passed, things_in_gap}
 use Rattle.tcshow_input.proofs.Halting.{always}
 use Rattle.tcshow_input.proofs.InOrder.{gap_gives, on_is}
 use Rattle.tcshow_input.proofs.Progress.{progress_more}
+use Rattle.tcshow_input.proofs.Rejecting.{gap_told, tells_on}
 use Rattle.tcshow_input.proofs.capture.goes_on.Goals as goal
 
 pub returns-clause-ran : goal.returns-clause-ran
@@ -23,3 +24,11 @@ returns-in_err-write-clause-stopped g c = always _ _ (c.write.ensures.halts)
 
 pub returns-in_err-gap-clause-stopped : goal.returns-in_err-gap-clause-stopped
 returns-in_err-gap-clause-stopped g c = always _ _ (c.write.ensures.halts)
+
+pub returns-clause-told : goal.returns-clause-told
+returns-clause-told g c =
+    let gap = c.in_ok-gap.gap in
+    let place = place_of c.args.capture.now in
+    let before = left_of c.args.input.now (g.R.Read.remaining c.args.reader.now) in
+    let after = left_of c.read_on.new.input (g.R.Read.remaining c.read_on.new.reader) in
+    λ met. tells_on c.is_passed.result (is_passed gap) _ _ _ c.is_passed.ensures (gap_told met place gap before after c.in_ok-gap.ensures)

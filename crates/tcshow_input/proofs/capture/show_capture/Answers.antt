@@ -6,6 +6,7 @@ use Rattle.tcshow_input.proofs.Clean.{clean_none, clean_step}
 use Rattle.tcshow_input.proofs.InOrder.{gives_none, gives_then, on_is}
 use Rattle.tcshow_input.proofs.Progress.{progress_none, progress_then}
 use Rattle.tcshow_input.proofs.Halting.{passed, stops_then, stops_at}
+use Rattle.tcshow_input.proofs.Rejecting.{passed_on, stays, stays_then, stays_to_end, tells_on}
 use Rattle.tcshow_input.proofs.capture.show_capture.Goals as goal
 
 pub returns-in_err-goes_on-clause-clean : goal.returns-in_err-goes_on-clause-clean
@@ -27,10 +28,11 @@ loop-preserved g c =
         progress_then before.0 next.0 _ _ _ _ _ _ before.1 next.1,
         gives_then before.0 next.0 _ a b before.2 (on_is true c.in_ok-goes_on.goes_on a next.0 b (sym c.if-not-goes_on.false) given),
       );
+      told = stays_then _ _ _ c.loop.invariant.told (tells_on true c.in_ok-goes_on.goes_on _ _ _ (sym c.if-not-goes_on.false) c.in_ok-goes_on.ensures.told);
     }
 
 pub loop-init : goal.loop-init
-loop-init g c = record { form = refl; clean = λ _. clean_none _; ran = ([], progress_none _ _, gives_none _) }
+loop-init g c = record { form = refl; clean = λ _. clean_none _; ran = ([], progress_none _ _, gives_none _); told = stays _ }
 
 pub returns-then-not-goes_on-clause-ran : goal.returns-then-not-goes_on-clause-ran
 returns-then-not-goes_on-clause-ran g c =
@@ -57,3 +59,10 @@ pub returns-clause-stopped : goal.returns-clause-stopped
 returns-clause-stopped g c =
     let before = c.loop.invariant.ran in
     stops_at _ before.0 _ _ _ _ _ _ before.2 before.1
+
+pub returns-then-not-goes_on-clause-told : goal.returns-then-not-goes_on-clause-told
+returns-then-not-goes_on-clause-told g c =
+    stays_to_end _ _ _ c.loop.invariant.told (tells_on false c.in_ok-goes_on.goes_on _ _ _ (sym c.if-not-goes_on.true) c.in_ok-goes_on.ensures.told)
+
+pub returns-in_err-goes_on-clause-failed : goal.returns-in_err-goes_on-clause-failed
+returns-in_err-goes_on-clause-failed g c = passed_on _ _ _ c.from_residual.ensures.1 c.in_err-goes_on.ensures.failed

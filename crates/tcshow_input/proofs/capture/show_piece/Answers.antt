@@ -10,6 +10,8 @@ use Rattle.tcshow_input.proofs.InOrder.{piece_gives, same_place}
 use Rattle.tcshow_input.proofs.Progress.{puts_progress}
 use Rattle.std.proofs.lemmas.Result.{IfErr-weaker}
 use Rattle.tcshow_input.proofs.Halting.{always, stops_with, puts_halts, stops_none}
+use Rattle.tcshow_input.specs.Rejected.{capture_rejection, met_in}
+use Rattle.tcshow_input.proofs.Rejecting.{piece_told, same_place_told}
 use Rattle.tcshow_input.proofs.capture.show_piece.Goals as goal
 
 pub returns-in_ok-write_much-in-Ok-clause-ran : goal.returns-in_ok-write_much-in-Ok-clause-ran
@@ -66,3 +68,22 @@ returns-in_err-write_much-in-Ok-clause-stopped g c =
 
 pub returns-in-Err-clause-stopped : goal.returns-in-Err-clause-stopped
 returns-in-Err-clause-stopped g c = IfErr-weaker c.goes_on.result _ _ (λ stop h. stops_none stop _ _ _ _ _ h) c.goes_on.ensures.stopped
+
+pub returns-in_ok-write_much-in-Ok-clause-told : goal.returns-in_ok-write_much-in-Ok-clause-told
+returns-in_ok-write_much-in-Ok-clause-told g c =
+    let reader = g.R.Read.remaining c.args.reader.now in
+    let gone = drop c.in-Ok.piece.used (rest_of c.args.input.now) in
+    piece_told (met_in c.args.packets.now) (met_in c.put_piece.new.packets) (read (front_of c.in-Ok.piece).packet) (place_of c.args.capture.now)
+    (place_of c.next_piece.new.capture) (left_of c.args.input.now reader) (rest_of c.use_up.new.self) gone reader (c.in-Ok.ensures.piece reader)
+    c.use_up.ensures c.put_piece.ensures.met
+
+pub returns-in-Err-clause-told : goal.returns-in-Err-clause-told
+returns-in-Err-clause-told g c =
+    let met = met_in c.args.packets.now in
+    let place = place_of c.next_piece.new.capture in
+    let before = left_of c.args.input.now (g.R.Read.remaining c.args.reader.now) in
+    let after = left_of c.goes_on.new.input (g.R.Read.remaining c.goes_on.new.reader) in
+    IfOk-weaker c.goes_on.result _ _
+    (λ on x. same_place_told met place (place_of c.args.capture.now) on before (capture_rejection met place after) (ap place_of c.in-Err.ensures.unchanged)
+    (x met))
+    c.goes_on.ensures.told

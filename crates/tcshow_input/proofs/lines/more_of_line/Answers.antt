@@ -9,6 +9,7 @@ use Rattle.tcshow_input.specs.State.{state_of, Puts}
 use Rattle.tcshow_input.proofs.Halting.{always}
 use Rattle.tcshow_input.proofs.InOrder.{text_kept, long_gives, last_gives}
 use Rattle.tcshow_input.proofs.Progress.{progress_more}
+use Rattle.tcshow_input.proofs.Rejecting.{last_told, long_told, text_stays}
 use Rattle.tcshow_input.proofs.lines.more_of_line.Goals as goal
 
 pub returns-in-More-clause-ran : goal.returns-in-More-clause-ran
@@ -60,3 +61,27 @@ returns-in_err-write_lines-clause-stopped g c = always _ _ (c.write_lines.ensure
 
 pub returns-in_err-gap-clause-stopped : goal.returns-in_err-gap-clause-stopped
 returns-in_err-gap-clause-stopped g c = always _ _ (c.write_lines.ensures.halts)
+
+pub returns-in-More-clause-told : goal.returns-in-More-clause-told
+returns-in-More-clause-told g c =
+    let before = left_of c.args.input.now (g.R.Read.remaining c.args.reader.now) in
+    let after = left_of c.read_line.new.self (g.R.Read.remaining c.read_line.new.reader) in
+    let gap = subst (λ (gap : LineGap). IsLineGap gap (rest_of c.read_line.new.self) before after) c.in-More.is c.in_ok-gap.ensures in
+    text_stays c.args.first.now (dump_of c.args.dump.now) before after gap
+
+pub returns-in_ok-put_long-in-Long-clause-told : goal.returns-in_ok-put_long-in-Long-clause-told
+returns-in_ok-put_long-in-Long-clause-told g c =
+    let before = left_of c.args.input.now (g.R.Read.remaining c.args.reader.now) in
+    let after = left_of c.read_line.new.self (g.R.Read.remaining c.read_line.new.reader) in
+    let gap = subst (λ (gap : LineGap). IsLineGap gap (rest_of c.read_line.new.self) before after) c.in-Long.is c.in_ok-gap.ensures in
+    long_told c.args.first.now (dump_of c.args.dump.now) (dump_of c.put_long.new.dump) c.in-Long.length c.in-Long.goes_on (rest_of c.read_line.new.self)
+    before after gap c.in_ok-put_long-in-Long.ensures.dump
+
+pub returns-in_ok-put_last-in-Last-clause-told : goal.returns-in_ok-put_last-in-Last-clause-told
+returns-in_ok-put_last-in-Last-clause-told g c =
+    let before = left_of c.args.input.now (g.R.Read.remaining c.args.reader.now) in
+    let after = left_of c.read_line.new.self (g.R.Read.remaining c.read_line.new.reader) in
+    let line = c.rest-line.result.now in
+    let gap = subst (λ (gap : LineGap). IsLineGap gap (rest_of c.read_line.new.self) before after) c.in-Last.is c.in_ok-gap.ensures in
+    let last = subst (λ l. Gives (lines_left before) (l ∷ []) (Some [])) (sym c.rest-line.ensures) gap in
+    last_told c.args.first.now c.see.new.self (dump_of c.args.dump.now) line c.in_ok-see-in-Last.ensures before last

@@ -6,6 +6,10 @@ use Rattle.tcshow_input.proofs.Progress.{progress_written}
 use Rattle.std.proofs.Common.{[]}
 use Rattle.tcshow_input.proofs.Breaking.{all_in, halts_begun, halts_in, none_in}
 use Rattle.tcshow_input.proofs.Halting.{always, passed, halts_after, halts_none, halts_progress}
+use Rattle.std.proofs.Common.{◌≡◌, true, false, Some}
+use Rattle.tcshow_input.specs.declared.stop.Stop.TheVariants.{NoRoute}
+use Rattle.tcshow_input.specs.Rejected.{met_in, met_rejection}
+use Rattle.tcshow_input.proofs.Rejecting.{begun_rejected, explained, passed_on, told_as, unrejected}
 use Rattle.tcshow_lib.proofs.inputs.show_next.Goals as goal
 
 pub returns-clause-ran : goal.returns-clause-ran
@@ -61,3 +65,33 @@ returns-then-are_foreign-clause-partly g c = λ not.
     begun_are (state_of c.args.printer.now).header (rest_of input) (g.R.Read.remaining c.args.reader.now) left found.0 c.in_ok-input.ensures.kept
     c.in_ok-input.ensures.first found.1 in
     (found.0, all_in _ _ found.0 all, halts_progress found.0 _ _ _ _ (progress_written found.0 _ _ _ _ _ _ found.2 c.in_ok-write.ensures.ran))
+
+pub returns-clause-accepted : goal.returns-clause-accepted
+returns-clause-accepted g c =
+    let input = c.in_ok-input.input in
+    let left = left_of input (g.R.Read.remaining c.begin.new.reader) in
+    told_as _ NoRoute c.are_foreign.result _ false c.are_foreign.ensures c.if-are_foreign.false
+    (begun_rejected (rest_of input) (g.R.Read.remaining c.args.reader.now) left (λ r. met_rejection (met_in c.show_input.new.packets) ≡ r)
+    c.in_ok-input.ensures.kept c.in_ok-input.ensures.first c.in_ok-show_input.ensures.told)
+
+pub returns-then-are_foreign-clause-reason : goal.returns-then-are_foreign-clause-reason
+returns-then-are_foreign-clause-reason g c = λ is.
+    let input = c.in_ok-input.input in
+    let left = left_of input (g.R.Read.remaining c.begin.new.reader) in
+    told_as _ NoRoute c.are_foreign.result _ true c.are_foreign.ensures c.if-are_foreign.true
+    (begun_rejected (rest_of input) (g.R.Read.remaining c.args.reader.now) left (λ r. met_rejection (met_in c.show_input.new.packets) ≡ r)
+    c.in_ok-input.ensures.kept c.in_ok-input.ensures.first c.in_ok-show_input.ensures.told)
+
+pub returns-in_err-input-clause-reason : goal.returns-in_err-input-clause-reason
+returns-in_err-input-clause-reason g c = unrejected _ _ c.from_residual.ensures.1
+
+pub returns-in_err-show_input-clause-reason : goal.returns-in_err-show_input-clause-reason
+returns-in_err-show_input-clause-reason g c =
+    let input = c.in_ok-input.input in
+    let left = left_of input (g.R.Read.remaining c.begin.new.reader) in
+    passed_on _ _ _ c.from_residual-in_err-show_input.ensures.1
+    (λ is. begun_rejected (rest_of input) (g.R.Read.remaining c.args.reader.now) left (λ r. r ≡ Some c.in_err-show_input.e) c.in_ok-input.ensures.kept
+    c.in_ok-input.ensures.first (c.in_err-show_input.ensures.reason is))
+
+pub returns-in_err-write-clause-reason : goal.returns-in_err-write-clause-reason
+returns-in_err-write-clause-reason g c = passed_on _ _ _ c.from_residual-in_err-write.ensures.1 (explained _ _ c.in_err-write.ensures.failed)

@@ -6,6 +6,8 @@ use Rattle.std.proofs.Common.{[]}
 use Rattle.tcshow_input.proofs.Breaking.{breaks_in, breaks_halts, none_in}
 use Rattle.tcshow_input.proofs.Halting.{always, halts_none}
 use Rattle.tcshow_lib.proofs.Early.{breaks_first}
+use Rattle.std.proofs.Common.{◌≡◌, None, Some}
+use Rattle.tcshow_input.proofs.Rejecting.{begun_rejected, unrejected}
 use Rattle.tcshow_lib.proofs.run.show.Goals as goal
 
 pub returns-clause-ran : goal.returns-clause-ran
@@ -34,3 +36,23 @@ returns-clause-partly g c =
     IfErr-weaker c.show_all.result _ _
     (λ stop h. breaks_first stop (rest_of input) (g.R.Read.remaining c.args.reader.now) left _ _ _ _ _ c.in_ok-input.ensures.kept c.in_ok-input.ensures.first h)
     c.show_all.ensures.partly
+
+pub returns-clause-accepted : goal.returns-clause-accepted
+returns-clause-accepted g c =
+    let input = c.in_ok-input.input in
+    let left = left_of input (g.R.Read.remaining c.begin.new.reader) in
+    on_ok_weaker c.show_all.result
+    (begun_rejected (rest_of input) (g.R.Read.remaining c.args.reader.now) left (λ r. r ≡ None) c.in_ok-input.ensures.kept c.in_ok-input.ensures.first)
+    c.show_all.ensures.accepted
+
+pub returns-clause-reason : goal.returns-clause-reason
+returns-clause-reason g c =
+    let input = c.in_ok-input.input in
+    let left = left_of input (g.R.Read.remaining c.begin.new.reader) in
+    IfErr-weaker c.show_all.result _ _
+    (λ stop h is.
+    begun_rejected (rest_of input) (g.R.Read.remaining c.args.reader.now) left (λ r. r ≡ Some stop) c.in_ok-input.ensures.kept c.in_ok-input.ensures.first (h is))
+    c.show_all.ensures.reason
+
+pub returns-in_err-input-clause-reason : goal.returns-in_err-input-clause-reason
+returns-in_err-input-clause-reason g c = unrejected _ _ c.from_residual.ensures.1

@@ -3,6 +3,7 @@ use Rattle.tcshow_input.proofs.Clean.{clean_step}
 use Rattle.tcshow_input.proofs.Progress.{completes}
 use Rattle.tcshow_input.proofs.Breaking.{all_in, breaks_at_end, breaks_in, breaks_write}
 use Rattle.tcshow_input.proofs.Halting.{always}
+use Rattle.tcshow_input.proofs.Rejecting.{explained_by}
 use Rattle.tcshow_lib.proofs.run.show_and_write.Goals as goal
 
 pub returns-in-Ok-clause-clean : goal.returns-in-Ok-clause-clean
@@ -27,3 +28,11 @@ pub returns-in-Err-clause-partly : goal.returns-in-Err-clause-partly
 returns-in-Err-clause-partly g c = λ not.
     let x = c.in-Err.ensures.partly not in
     (x.0, x.1, breaks_write x.0 _ _ _ _ _ _ x.2 c.write_rest.ensures.halts)
+
+pub returns-in-Ok-clause-accepted : goal.returns-in-Ok-clause-accepted
+returns-in-Ok-clause-accepted g c =
+    let f = c.write.ensures.front in
+    on_ok_weaker c.write.result (λ none. c.in-Ok.ensures.accepted) f.2
+
+pub returns-in-Ok-clause-reason : goal.returns-in-Ok-clause-reason
+returns-in-Ok-clause-reason g c = explained_by c.write.result _ c.write.ensures.failed
