@@ -1,8 +1,9 @@
 -- Why an input is rejected, step by step.
+use Rattle.std.proofs.Math.Dec.{eqb-suc-zero}
 use Rattle.std.proofs.Common.{◌≡◌, ◌∙◌, ◌<◌, ◌-◌, ℕ, zero, suc, Bool, true, false, List, [], ◌∷◌, ◌++◌, take, length, refl, sym, ap, subst, arith, append-nil, true≢false}
 use Rattle.std.specs.Prelude.{◌&&◌, ◌||◌, ◌==◌, not, Option, Some, None, Result, Ok, Err, IfErr, IfSome, IsErrAnd, if◌then◌else◌}
 use Rattle.std.specs.Io.KnownBytes.{Keeps, prepend_known}
-use Rattle.std.specs.List.{list_any}
+use Rattle.std.specs.List.{list_all, list_any}
 use Rattle.std.specs.Option.{option_to_list}
 use Rattle.tc_capture.specs.Capture.{State, capture_at}
 use Rattle.tc_capture.specs.Outcome.{Outcome}
@@ -27,23 +28,29 @@ use Rattle.tcshow_input.proofs.Puts.{or_false}
 
 -- ---- the first lines
 
+-- a line with content is one
+some_line : (has_any is_hex : Bool) (left : ℕ) (later : List Bool) → is_no_hex_by false true left (is_hex ∷ later) ≡ is_no_hex_by false has_any left (is_hex ∷ later)
+some_line true is_hex left later = refl
+some_line false is_hex left later = sym (ap (λ b. not b && list_all not (take left (is_hex ∷ later))) (eqb-suc-zero (length later)))
+
+one_counted : (is_hex : Bool) (k : ℕ) (later : List Bool) → is_no_hex_by is_hex true k later ≡ is_no_hex_by false true (suc k) (is_hex ∷ later)
+one_counted true k later = refl
+one_counted false k later = refl
+
 -- one line more is counted
 pub counted : (has_hex has_any is_hex : Bool) (left : ℕ) (later : List Bool) → has_hex ≡ false → 0 < left
     → is_no_hex_by is_hex true (left - 1) later ≡ is_no_hex_by has_hex has_any left (is_hex ∷ later)
 counted true has_any is_hex left later none some = absurd (true≢false none)
-counted false has_any is_hex zero later none some = absurd (omega (arith, some))
-counted false true true (suc k) later none some = refl
-counted false false true (suc k) later none some = refl
-counted false true false (suc k) later none some = refl
-counted false false false (suc k) later none some = refl
+counted false has_any is_hex left later none some =
+    let same : suc (left - 1) ≡ left = omega (arith, some) in
+    one_counted is_hex (left - 1) later ∙ ap (λ k. is_no_hex_by false true k (is_hex ∷ later)) same ∙ some_line has_any is_hex left later
 
 -- no line counts after the first ones
-pub not_counted : (has_hex has_any is_hex : Bool) (left : ℕ) (later : List Bool) → left ≡ 0
+pub not_counted : (has_hex has_any is_hex : Bool) (left : ℕ) (later : List Bool) → has_hex ≡ false → left ≡ 0
     → is_no_hex_by has_hex true left later ≡ is_no_hex_by has_hex has_any left (is_hex ∷ later)
-not_counted has_hex has_any is_hex (suc k) later none = absurd (omega (arith, none))
-not_counted true has_any is_hex zero later none = refl
-not_counted false true is_hex zero later none = refl
-not_counted false false is_hex zero later none = refl
+not_counted true has_any is_hex left later some none = absurd (true≢false some)
+not_counted false has_any is_hex (suc k) later some none = absurd (omega (arith, none))
+not_counted false has_any is_hex zero later some none = some_line has_any is_hex zero later
 
 -- at the end of a text
 pub without_hex : (has_hex has_any : Bool) (left : ℕ) → has_hex ≡ false → has_any ≡ is_no_hex_by has_hex has_any left []

@@ -41,13 +41,13 @@ pub returns-in_ok-put_last-in-Last-clause-ran : goal.returns-in_ok-put_last-in-L
 returns-in_ok-put_last-in-Last-clause-ran g c =
     let header = (state_of c.args.printer.now).header in
     let dump = dump_of c.args.dump.now in
-    let line = c.rest.result.now in
+    let line = c.rest-line.result.now in
     let things = things_at header dump line ++ things_dumped header (dump_after dump line).bytes in
     let rest = rest_of c.read_line.new.self in
     let before = left_of c.args.input.now (g.R.Read.remaining c.args.reader.now) in
     let after = left_of c.read_line.new.self (g.R.Read.remaining c.read_line.new.reader) in
     let gap = subst (λ (gap : LineGap). IsLineGap gap rest before after) c.in-Last.is c.in_ok-gap.ensures in
-    let last = subst (λ l. Gives (lines_left before) (l ∷ []) (Some [])) (sym c.rest.ensures) gap in
+    let last = subst (λ l. Gives (lines_left before) (l ∷ []) (Some [])) (sym c.rest-line.ensures) gap in
     let put =
     subst (λ h. Puts (things_at h dump line ++ things_dumped h (dump_after dump line).bytes) (state_of c.write_lines.new.self) (state_of c.put_last.new.self))
     c.in_ok-write_lines.ensures.ran.header c.in_ok-put_last-in-Last.ensures.put in (
