@@ -71,7 +71,7 @@ fn what_does_not_fit_is_an_error() {
 #[test]
 #[should_panic(expected = "required Self.codec.Fits")]
 fn a_length_that_is_none_panics() {
-    too_long().buffer_len();
+    _ = too_long().buffer_len();
 }
 
 #[test]

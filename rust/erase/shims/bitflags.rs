@@ -31,12 +31,13 @@ pub trait Flags: Sized + 'static {
     }
 
     /// All flags.
+    #[must_use]
     fn all() -> Self {
-        let words = Self::flags().iter().map(|flag| flag.value.bits());
-        Self::from_bits_retain(words.fold(Self::Bits::default(), |all, bits| all | bits))
+        Self::from_bits_retain(Self::flags().iter().fold(Self::Bits::default(), |all, flag| all | flag.value.bits()))
     }
 
     /// The flag of a name.
+    #[must_use]
     fn from_name(name: &str) -> Option<Self> {
         Self::flags().iter().find(|flag| flag.name == name && !name.is_empty()).map(|flag| Self::from_bits_retain(flag.value.bits()))
     }
@@ -47,6 +48,7 @@ pub trait Flags: Sized + 'static {
     }
 
     /// The flags of both.
+    #[must_use]
     fn union(self, other: Self) -> Self {
         Self::from_bits_retain(self.bits() | other.bits())
     }

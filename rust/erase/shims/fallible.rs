@@ -78,9 +78,7 @@ impl<T> Fallible<T> for Vec<T> {
     where
         T: Clone,
     {
-        self.try_grow(more.len())?;
-        self.extend_from_slice(more);
-        Ok(())
+        self.try_grow(more.len()).map(|()| self.extend_from_slice(more))
     }
 }
 

@@ -103,6 +103,10 @@ fn read(text: &str, repeated: &mut Option<String>) -> Result<Value, Error> {
 
 /// Reads a text as JSON. Where an object has a name twice, `Value::from_slice` of `serde_json` keeps the last of its values. This
 /// function fails.
+///
+/// # Errors
+///
+/// A [`ReadError`].
 pub fn read_json(text: &[u8]) -> Result<Value, ReadError> {
     let text = core::str::from_utf8(text).map_err(|e| {
         let before = &text[..e.valid_up_to()];

@@ -1,14 +1,20 @@
-//! What one expects of a crate beside what the sources have: `Hash` where there is `Eq`, `Clone` of errors, `#[must_use]`, and
-//! `# Errors` in the documentation.
+//! What one expects of a crate beside what the sources have: `Hash` where there is `Eq` and `Clone` of errors, of the codec, and
+//! `#[must_use]` and `# Errors` in the documentation, of all.
 
 use crate::Fault;
 use crate::items::{Function, functions};
 use crate::token::{Token, after_group, text_of, tokens};
 
-pub(crate) fn add(all: &mut Vec<Token>) -> Result<(), Fault> {
-    add_derives(all)?;
+pub(crate) fn add(all: &mut Vec<Token>, is_user: bool) -> Result<(), Fault> {
+    if !is_user {
+        add_derives(all)?;
+    }
+    let is_pub = |all: &[Token], at: usize| at > 0 && all[at - 1].is("pub");
+    let body = |at: usize| all[at..].iter().position(|token| token.is("{")).and_then(|len| Some(at..after_group(all, at + len).ok()?));
+    let traits: Vec<_> = (0..all.len()).filter(|at| all[*at].is("trait") && is_pub(all, *at)).filter_map(body).collect();
     for function in functions(all)?.iter().rev() {
-        if function.at > 0 && all[function.at - 1].is("pub") {
+        let is_public = is_pub(all, function.at) || traits.iter().any(|body| body.contains(&function.at));
+        if is_public && all[function.close].is("-") {
             add_to(all, function)?;
         }
     }
@@ -47,17 +53,14 @@ fn error_of(returned: &[Token]) -> Option<String> {
     }
 }
 
-/// `#[must_use]` if the function has no effect but its value, or `# Errors` if it can fail.
+/// `#[must_use]` if this function, which returns something, has no other effect, or `# Errors` if it can fail.
 fn add_to(all: &mut Vec<Token>, function: &Function) -> Result<(), Fault> {
-    let (start, returned) = (function.start, &all[function.close..function.body]);
-    if !returned.first().is_some_and(|token| token.is("-")) {
-        return Ok(());
-    }
-    let comment = all[start].before;
-    match error_of(returned.get(2..).unwrap_or(&[])) {
+    let (start, comment) = (function.start, all[function.start].before);
+    match error_of(&all[function.close + 2..function.body]) {
         Some(error) if comment.contains("///") && !comment.contains("# Errors") => {
             let indent = comment.rsplit('\n').next().unwrap_or("");
-            all[start].before = format!("{comment}///\n{indent}/// # Errors\n{indent}///\n{indent}/// A [`{error}`].\n{indent}").leak();
+            let link = if error.contains(':') { format!("`{error}`") } else { format!("[`{error}`]") };
+            all[start].before = format!("{comment}///\n{indent}/// # Errors\n{indent}///\n{indent}/// A {link}.\n{indent}").leak();
         }
         None if !function.writes && !all[start..function.at].iter().any(|token| token.is("must_use")) => {
             let mut new = tokens("#[must_use]", all[start].file, all[start].line)?;

@@ -13,9 +13,7 @@ pub(crate) fn finished(mut file: Source, crates: &[&str], is_user: bool) -> Resu
     let (users, prelude) = if is_user { (USER_RULES, "user") } else { (&[][..], "fallible") };
     own.iter().chain(users).chain(RULES).for_each(|rule| rewrite(all, rule));
     refuse(all, UNKNOWN)?;
-    if !is_user {
-        additions::add(all)?;
-    }
+    additions::add(all, is_user)?;
     let own: Vec<_> = all.windows(3).filter(|words| words[0].is("mod") && words[2].is(";")).map(|words| words[1].text).collect();
     for at in (0..all.len().saturating_sub(3)).rev() {
         let (token, next) = (all[at], all[at + 3].text);

@@ -71,9 +71,8 @@ fn read_crate(folder: &Path, path: &[String], files: &mut Vec<Source>) -> Result
         let path = if stem == "lib" { path.to_vec() } else { [path, &[stem]].concat() };
         if file.is_dir() {
             read_crate(&file, &path, files)?;
-        } else if file.file_stem().is_some_and(|stem| stem == "tests") {
-            // The crate's own tests, which run on the host of Rattle.
-        } else if file.extension().is_some_and(|extension| extension == "rt") {
+        // The crate's own tests run on the host of Rattle.
+        } else if !path.ends_with(&["tests".to_string()]) && file.extension().is_some_and(|extension| extension == "rt") {
             let stands = rules::STOOD_FOR.iter().find(|(module, _)| *module == path.join("::"));
             let text = stands.map_or_else(|| fs::read_to_string(&file), |(_, shim)| Ok(shim.to_string())).map_err(unread)?;
             let docs: String = text.lines().take_while(|line| line.starts_with("//!")).map(|line| format!("{line}\n")).collect();

@@ -97,6 +97,11 @@ fn what_one_expects_of_a_crate_is_added() {
     assert_eq!(errors, "/// Reads it.\n///\n/// # Errors\n///\n/// A [`Fault`].\npub fn read(bytes: &[u8]) -> Result<u8, Fault> {\n    g(bytes)\n}\n");
     let kept = "pub fn change(bytes: &mut [u8]) -> u8 {\n    g(bytes)\n}\nfn own() -> u8 {\n    1\n}\n#[must_use]\npub fn two() -> u8 {\n    2\n}\n";
     assert_eq!(left_of_one("kept", kept).unwrap(), kept);
+    let methods = "pub trait Read: Copy {\n    /// Reads it.\n    fn read(bytes: &[u8]) -> Result<u8, Fault>;\n    fn len(&self) -> usize;\n}\n";
+    let documented = methods.replace("it.\n", "it.\n    ///\n    /// # Errors\n    ///\n    /// A [`Fault`].\n").replace("fn len", "#[must_use]\nfn len");
+    assert_eq!(left_of_one("methods", methods).unwrap(), documented);
+    let own = methods.replace("pub trait", "trait");
+    assert_eq!(left_of_one("own", &own).unwrap(), own);
     let types = "#[derive(Clone, PartialEq, Eq)]\npub struct One(u8);\n#[derive(Clone)]\npub struct Two(u8);\nimpl Eq for Two {}\n#[derive(Clone)]\npub struct Three(u8);\n";
     let left = left_of_one("hash", types).unwrap();
     assert_eq!(left, types.replace("PartialEq, Eq)", "PartialEq, Eq, Hash)").replace("(Clone)]\npub struct Two", "(Clone, Hash)]\npub struct Two"));
