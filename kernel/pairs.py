@@ -18,7 +18,6 @@ OF_A_GUEST = 12  # pairs
 THERE = "what is there is what is wanted"  # notices of what no dump shows may follow
 KILLED = 128 + 9  # the status of a command that SIGKILL ends
 STEPPED = 3  # each so many pairs the requests of the plan are sent one by one
-HELD = "a block that other interfaces hold too has something else"  # d8 holds those of d7 too
 LINKS = [f"link {it} 4" for it in (7, 8, 9)]
 
 
@@ -46,8 +45,8 @@ class Pair:
     def __init__(self, number, pair, guest, programs, names):
         before, wanted, parts = pair
         self.number, self.guest, self.names, self.tries = number, guest, names, []
-        # Filters of a block that d8 has too stay, and hold their actions.
-        self.is_alone = not any("dev d8 ingress_block" in it for it in [*before, *wanted])
+        # A block that d8 has too is one of both interfaces, which are one plan.
+        self.devs = ["d7", "d8"] if any("dev d8 ingress_block" in it for it in [*before, *wanted]) else ["d7"]
         self.file = f"{guest.folder}/{number}"
         for name, own in (("before", before), ("wanted", wanted)):
             with open(f"{self.file}.{name}.tc", "w") as file:
@@ -58,8 +57,8 @@ class Pair:
         first = [
             ("make_wanted", self.made("wanted")),
             ("wanted", "dump 7"),
-            ("save", f"run {programs.save(save)}"),
-            ("clear", f"run {programs.clear()} && (tc -force -batch {guest.folder}/flush > /dev/null 2>&1 || true)"),
+            ("save", f"run {programs.save(save, ' '.join(self.devs))}"),
+            ("clear", f"run {' && '.join(map(programs.clear, self.devs))} && (tc -force -batch {guest.folder}/flush > /dev/null 2>&1 || true)"),
         ]
         before = [("make_before", self.made("before")), ("before", "dump 7")]
         last = [("after", "dump 7"), ("plan", plan)]
@@ -96,7 +95,7 @@ class Pair:
         tries = list(self.answers())
         if None in tries:
             return ["no whole answer"]
-        self.sent, self.steps, self.refused, self.ends, self.wanted = 0, collections.Counter(), False, [], tries[0]["wanted"]
+        self.sent, self.steps, self.named, self.ends, self.wanted = 0, collections.Counter(), [], [], tries[0]["wanted"]
         ways = (self.judge_whole, self.judge_killed, self.judge_refused, self.judge_stepped)
         return [f"{way.__name__[6:]}: {wrong}" for way, it in zip(ways, tries) for wrong in [way(it)] if wrong]
 
@@ -105,17 +104,16 @@ class Pair:
 
     def unlike(self, wanted, after):
         """How a state differs from another, but for actions that nobody wants and that no filter holds."""
-        found = wanted.differences(after, self.is_alone)
+        found = wanted.differences(after)
         return "; ".join([it for it in found if not (it.startswith("action ") and it.endswith("is new"))][:4])
 
     def ended_without(self, answers):
         """What is wrong if nothing was sent, since something can't be made again."""
         before, said = self.state(answers["before"]), answers["apply"]
         unmade = self.state(self.wanted).cannot_be_made() | before.cannot_be_made()
-        named = [why for why in [*unmade, HELD] if any(why in it for it in said.lines)]
-        if said.status != 1 or not named:
+        self.named = [why for why in sorted(unmade) if any(why in it for it in said.lines)]
+        if said.status != 1 or not self.named:
             return f"status {said.status}: {said.lines[:4]}"
-        self.refused = True
         return self.unlike(before, self.state(answers["after"]))
 
     def judge_whole(self, answers):
@@ -138,7 +136,7 @@ class Pair:
     def judge_killed(self, answers):
         self.ends.append("killed" if answers["cut"].status == KILLED else "too late to kill")
         if answers["apply"].status:
-            return "" if self.refused and answers["apply"].status == 1 else f"{answers['apply']}"
+            return "" if self.named and answers["apply"].status == 1 else f"{answers['apply']}"
         return self.is_wanted(answers)
 
     def judge_refused(self, answers):
@@ -150,9 +148,9 @@ class Pair:
         return self.unlike(self.state(answers["before"] if status else self.wanted), self.state(answers["after"]))
 
     def judge_stepped(self, answers):
-        """Actions of what another interface holds can't go, and what can't be made has no plan."""
+        """What can't be made has no plan. The steps are looked at of one interface."""
         path = f"{self.file}.stream"
-        if answers["plan"].status or not self.is_alone or not os.path.exists(path):
+        if answers["plan"].status or len(self.devs) > 1 or not os.path.exists(path):
             return ""
         with open(path, "rb") as file:
             requests = stream_of(file.read())
@@ -177,15 +175,18 @@ class Pairs:
             self.pairs.append(Pair(number, pair, self.guests[-1], programs, names))
 
     def judge(self):
-        good, refused, sent, ends, steps = 0, 0, 0, collections.Counter(), collections.Counter()
+        good, named, sent, ends, steps, reasons = 0, 0, 0, collections.Counter(), collections.Counter(), collections.Counter()
         for pair in self.pairs:
             wrong = pair.judge()
             for it in wrong:
                 fail(f"pair {pair.number} of seed {self.seed} ({pair.file}.before.tc, .wanted.tc): {it}")
             if wrong != ["no whole answer"]:
-                good, refused, sent = good + (not wrong), refused + pair.refused, sent + pair.sent
+                good, named, sent = good + (not wrong and not pair.named), named + bool(pair.named), sent + pair.sent
+                reasons.update(pair.named[:1])
                 ends.update(pair.ends)
                 steps.update(pair.steps)
-        said = ", ".join(f"{count} {end}" for end, count in sorted(ends.items()))
-        seen = ", ".join(f"{count} {what}" for what, count in sorted(steps.items()))
-        return f"{good} of {len(self.pairs)} pairs ({refused} named as not to be made), {sent} requests, {said}; looked at after each of {seen}"
+        said, seen = [", ".join(f"{count} {what}" for what, count in sorted(some.items())) for some in (ends, steps)]
+        for reason, count in sorted(reasons.items()):
+            print(f"{count} of the pairs can't be made: {reason}")
+        all_other = len(self.pairs) - named
+        return f"{good} of {all_other} pairs as wanted, {named} named as not to be made; {sent} requests, {said}; looked at after each of {seen}"

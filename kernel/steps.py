@@ -83,7 +83,7 @@ class Model:
 
     def rename(self, it, roots):
         """Gives an object of a request the names that it has in a dump."""
-        has_ingress = any(other.type == QDISC and other.kind == "ingress" and other.index == it.index for other in [*self.now.values(), *self.last.values()])
+        has_ingress = any(other.type == QDISC and other.kind == "ingress" and other.index == it.index for other in self.now.values())
         if it.type in (FILTER, CHAIN) and has_ingress and it.parent >> 16 == 0xFFFF and it.index != -1:
             it.parent = 0xFFFFFFF2
         if it.type != FILTER or not it.handle:

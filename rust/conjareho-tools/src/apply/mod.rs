@@ -4,7 +4,7 @@ mod arguments;
 mod hold;
 mod lock;
 mod outline;
-mod plan;
+pub(crate) mod plan;
 mod prepare;
 mod scratch;
 #[cfg(test)]
@@ -13,13 +13,14 @@ mod trial;
 mod wanted;
 
 use arguments::{Arguments, arguments_of};
-use plan::{Fault, plan, plan_anew};
-use prepare::{Planned, Prepared, planned, prepare, without};
+use plan::{plan, plan_anew};
+use prepare::{Planned, Prepared, planned, prepare};
 use wanted::{Wanted, wanted_of};
 
 use crate::netlink::fault::Printable;
 use crate::netlink::{Socket, Transport};
-use crate::restore::compare::{Key, Objects, by_place};
+use crate::restore::back::without;
+use crate::restore::compare::by_place;
 use crate::restore::prepare::Ended;
 use crate::restore::sending::Sending;
 use crate::restore::status::Status;
@@ -33,8 +34,6 @@ use std::thread;
 
 /// How often it is planned anew, if another program changes something before the first request.
 const MOST_PLANS: u32 = 3;
-/// How often it is planned on the way back, where the kernel refuses something.
-const MOST_WAYS_BACK: u32 = 3;
 
 /// Waits for somebody to say that what is there now is to stay. The error is why it isn't.
 type Hold<'h> = &'h mut dyn FnMut() -> Result<(), Stop>;
@@ -67,21 +66,22 @@ fn failed(why: String) -> Ended {
 // Reads the file, or runs the command, and does what is asked for.
 fn opened(arguments: &Arguments, said: &mut Vec<String>) -> Result<Status, Ended> {
     let restored = &arguments.restored;
+    let file = match (&arguments.command, &restored.dev) {
+        (Some(command), Some(dev)) => trial::made_by(command, dev)?,
+        _ => read(restored).map_err(|error| failed(format!("{}: {error}", restored.file_name())))?,
+    };
+    // Until here nothing was asked for that a signal shouldn't end.
     let signals = Signals::catch().map_err(failed)?;
     let signal = || signals.caught();
     let (kernel, [dumps, watch]) = open_kernel().map_err(failed)?;
     let mut world = World::new(kernel, dumps, watch, &signal);
-    let file = match (&arguments.command, &restored.dev) {
-        (Some(command), Some(dev)) => trial::made_by(command, dev, &mut world)?,
-        _ => read(restored).map_err(|error| failed(format!("{}: {error}", restored.file_name())))?,
-    };
     if arguments.dry_run {
         return dry_run(arguments, file, &mut world, said);
     }
     if arguments.check {
         return trial::check(arguments, file, &mut world, said);
     }
-    let _lock = lock::lock(&restored.state, &signal)?;
+    let _lock = lock::lock(&signal)?;
     let mut hold = || {
         let Some(time) = arguments.trial else { return Ok(()) };
         let seconds = time.as_secs();
@@ -133,7 +133,8 @@ fn apply<T: Transport, L: Transport>(
         Ok(()) => Status::Restored,
         Err(stop) => {
             said.push(stop.to_string());
-            ended(arguments, &prepared, &mut sending, &stop, said)
+            let is_left = arguments.restored.no_rollback;
+            prepared.before.ended(&prepared.wanted.objects, is_left, &mut sending, &stop, said)
         }
     }
 }
@@ -145,7 +146,7 @@ fn begun<T: Transport, L: Transport>(
     world: &mut World<'_, T, L>,
 ) -> Result<Prepared, Ended> {
     let mut wanted = wanted;
-    for left in (0..MOST_PLANS).rev() {
+    for left in (0..=MOST_PLANS).rev() {
         let prepared = prepare(arguments, wanted, world)?;
         let looked = world
             .check_signal()
@@ -189,7 +190,7 @@ fn reached<T: Transport, L: Transport>(
 ) -> Result<Vec<Vec<u8>>, Stop> {
     // Actions belong to no interface.
     let after = same(sending, &prepared.wanted.objects, by_place, |key, _| key.is_action())?;
-    check_after(&without(&after, &prepared.others), &prepared.wanted)?;
+    check_after(&without(&after, &prepared.before.others), &prepared.wanted)?;
     Ok(after)
 }
 
@@ -202,7 +203,7 @@ fn made_anew<T: Transport, L: Transport>(
 ) -> Result<(), Stop> {
     let wanted = &prepared.wanted;
     let dump = sending.world.dump(&prepared.place.indices())?;
-    let now = without(&dump.messages, &prepared.others);
+    let now = without(&dump.messages, &prepared.before.others);
     let unmade = outline::unmade(&prepared.steps, &now, &wanted.messages, &dump.devices);
     if unmade.is_empty() {
         return Err(stop);
@@ -218,57 +219,4 @@ fn check_after(after: &[Vec<u8>], wanted: &Wanted) -> Result<(), Stop> {
     let left = plan(after, &wanted.messages, |_| false).map_err(|faults| Stop::Unplanned(wanted.said_of(&faults)))?;
     let named = || left.iter().map(|request| what_of(request)).collect();
     if left.is_empty() { Ok(()) } else { Err(Stop::Differs(named())) }
-}
-
-// Makes again what was there before, unless nothing was sent, that isn't wanted, or others are at work.
-fn ended<T: Transport, L: Transport>(
-    arguments: &Arguments,
-    prepared: &Prepared,
-    sending: &mut Sending<'_, '_, T, L>,
-    stop: &Stop,
-    said: &mut Vec<String>,
-) -> Status {
-    let Some(kept) = prepared.kept.as_ref().filter(|_| sending.has_sent()) else {
-        said.push("nothing was sent".to_string());
-        return Status::NothingSent;
-    };
-    let is_left = arguments.restored.no_rollback || matches!(stop, Stop::Other { .. } | Stop::Moved(_));
-    let back = if is_left { Err(None) } else { gone_back(prepared, sending).map_err(Some) };
-    match back {
-        Ok(()) => {
-            said.push(format!("what was there before is there again, and in {kept}"));
-            Status::Back
-        }
-        Err(why) => {
-            said.extend(why.map(|why| format!("on the way back: {why}")));
-            said.push(format!("what was there before isn't there again; it is in {kept}"));
-            Status::Lost
-        }
-    }
-}
-
-fn unplanned(faults: Vec<Fault>) -> Stop {
-    Stop::Unplanned(faults.into_iter().map(|fault| fault.text).collect())
-}
-
-// Plans from what is there now to what was there before, and anew where something was refused.
-fn gone_back<T: Transport, L: Transport>(prepared: &Prepared, sending: &mut Sending<'_, '_, T, L>) -> Result<(), Stop> {
-    sending.turn_back();
-    let mut refused = None;
-    for _ in 0..MOST_WAYS_BACK {
-        let now = without(&sending.world.dump(&prepared.place.indices())?.messages, &prepared.others);
-        let steps = plan(&now, &prepared.before, |key| prepared.wanted.names(key)).map_err(unplanned)?;
-        match sending.carry_out(&steps) {
-            Ok(()) => break,
-            Err(stop @ Stop::Refused { .. }) => drop(refused.get_or_insert(stop)),
-            Err(stop) => return Err(stop),
-        }
-    }
-    // Actions that neither side names are others'.
-    let is_seen = |key: &Key| !key.is_action() || prepared.wanted.names(key);
-    let seen = |all: Objects| by_place(all.into_iter().filter(|(key, _)| is_seen(key)).collect());
-    match (same(sending, &prepared.before_objects, seen, |_, _| false), refused) {
-        (Ok(_), _) => Ok(()),
-        (Err(_), Some(stop)) | (Err(stop), None) => Err(stop),
-    }
 }

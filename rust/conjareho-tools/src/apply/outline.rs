@@ -1,23 +1,21 @@
-//! A plan as lines for people: `-` deletes, `+` makes, `~` changes.
+//! A plan as lines for people: `-` deletes, `+` makes, `~` changes; then the object as `tcshow` prints it.
 
+use crate::forms_kinds::{ACTION_MESSAGE, TC_MESSAGE, TcTables};
 use crate::netlink::Devices;
 use crate::netlink::message::{
-    MAGIC_BLOCK, RTM_DELACTION, RTM_NEWACTION, RTM_NEWCHAIN, RTM_NEWQDISC, RTM_NEWTCLASS, RTM_NEWTFILTER, Tcmsg,
-    tcmsg_of,
+    RTM_NEWACTION, RTM_NEWCHAIN, RTM_NEWQDISC, RTM_NEWTCLASS, RTM_NEWTFILTER, is_action, tcmsg_of,
 };
 use crate::restore::compare::{Held, Key, Objects, key_of, objects_of};
-use crate::restore::messages::{as_new, chain_of, deletes, kind_of, replaces, type_of};
+use crate::restore::messages::{as_new, chain_of, deletes, has_own_actions, kind_of, payload_of, replaces, type_of};
 use crate::restore::plan::requests_of_dump;
-use crate::tc_texts::handle_text;
+use crate::tc_brief::{self, Said, lines_of};
+use crate::tc_columns::{KindColumns, Root};
+use crate::tc_words::TcWords;
 use ::serde_json::Value;
 use std::collections::BTreeMap;
 
 /// The most values that a line has.
 const MOST_VALUES: usize = 6;
-
-const TC_H_ROOT: u32 = 0xffff_ffff;
-const TC_H_CLSACT: u32 = 0xffff_fff1;
-const SIDES: [(u32, &str); 2] = [(0xffff_fff2, "ingress"), (0xffff_fff3, "egress")];
 
 /// The lines of a plan: a line that counts, and one for each request.
 pub(crate) fn lines(steps: &[Vec<u8>], now: &[Vec<u8>], wanted: &[Vec<u8>], devices: &Devices) -> Vec<String> {
@@ -26,10 +24,10 @@ pub(crate) fn lines(steps: &[Vec<u8>], now: &[Vec<u8>], wanted: &[Vec<u8>], devi
     let gone: Vec<Key> = steps.iter().filter(|step| deletes(step)).filter_map(|step| key_of(&as_new(step))).collect();
     let line = |step: &Vec<u8>| {
         if deletes(step) {
-            return format!("  - {}", name_of(now.iter().find(|dump| is_deleted(dump, step)).unwrap_or(step), devices));
+            return line_of("  -", now.iter().find(|dump| is_deleted(dump, step)).unwrap_or(step), devices);
         }
-        let sign = if replaces(step) { '~' } else { '+' };
-        format!("  {sign} {}{}", name_of(step, devices), more_of(step, sign == '~', &old, &gone))
+        let sign = if replaces(step) { "  ~" } else { "  +" };
+        line_of(sign, step, devices) + &more_of(step, replaces(step), &old, &gone)
     };
     [counted(steps, &wanted)].into_iter().chain(steps.iter().map(line)).collect()
 }
@@ -43,17 +41,19 @@ pub(crate) fn unmade(steps: &[Vec<u8>], now: &[Vec<u8>], wanted: &[Vec<u8>], dev
         let values = differing(&old_of(&key, &now)?.normal(), &old_of(&key, &wanted)?.normal());
         Some(values).filter(|values| !values.is_empty())
     };
-    let line = |step: &Vec<u8>| Some(format!("{}:{}", name_of(step, devices), values(step)?));
+    let line = |step: &Vec<u8>| Some(format!("{};{}", line_of("", step, devices).trim_start(), values(step)?));
     steps.iter().filter(|step| replaces(step)).filter_map(line).collect()
 }
 
-// True for the dump of what a request deletes by its own handle, or a qdisc by its place.
+// True for the dump of what a request deletes: a qdisc by its place, a filter by its handle, or its priority, which has handle 0.
 fn is_deleted(dump: &[u8], step: &[u8]) -> bool {
     let (Some(own), Some(deleted)) = (tcmsg_of(dump), tcmsg_of(step)) else { return false };
     let are_same = match type_of(dump) {
         RTM_NEWQDISC => own.parent == deleted.parent,
         RTM_NEWTCLASS => own.handle == deleted.handle,
-        RTM_NEWTFILTER => (own.parent, own.info, own.handle) == (deleted.parent, deleted.info, deleted.handle),
+        RTM_NEWTFILTER => {
+            (own.parent, own.info >> 16, own.handle) == (deleted.parent, deleted.info >> 16, deleted.handle)
+        }
         _ => false,
     };
     are_same
@@ -74,80 +74,76 @@ fn counted(steps: &[Vec<u8>], wanted: &Objects) -> String {
     format!("{requests}: {deleted} deleted, {changed} changed, {made} made; {stay} objects stay")
 }
 
-// What a request changes; why it makes again what is there.
+// What a request changes, why it makes again what is there, and what begins anew with that.
 fn more_of(step: &[u8], is_change: bool, now: &Objects, gone: &[Key]) -> String {
     let Some((key, new)) = objects_of(&[step.to_vec()]).into_iter().find(|(key, _)| !key.is_order()) else {
         return String::new();
     };
     let Some(old) = old_of(&key, now) else { return String::new() };
-    let values = differing(&old.normal(), &new.normal());
-    match (is_change, values.is_empty()) {
-        (true, _) => values,
-        (false, true) => "; made again with what it belongs to".to_string(),
-        (false, false) if gone.iter().any(|it| it.is_object_of(&key)) => {
-            format!("; made again, since this isn't changed in place:{values}")
-        }
-        (false, false) => format!("; made again with what it belongs to:{values}"),
+    let (old, new) = (old.normal(), new.normal());
+    if kind_in(&old) != kind_in(&new) {
+        return format!("; instead of {}", kind_in(&old));
     }
-}
-
-// What there is of a key; of a qdisc what there is in its place.
-fn old_of<'a>(key: &Key, now: &'a Objects) -> Option<&'a Held> {
-    now.get(key).or_else(|| now.iter().find(|(other, _)| other.is_in_place_of(key)).map(|(_, held)| held))
-}
-
-// ---- Names
-
-// What a request is about, in the words of tc.
-fn name_of(step: &[u8], devices: &Devices) -> String {
-    if matches!(type_of(step), RTM_NEWACTION | RTM_DELACTION) {
-        return key_of(&as_new(step)).map_or_else(|| "actions".to_string(), |key| key.to_string());
+    let values = differing(&old, &new);
+    if is_change {
+        let anew = if has_own_actions(step) { "; its actions count from 0" } else { "" };
+        return format!(";{values}{anew}");
     }
-    let Some(header) = tcmsg_of(step) else { return "a request".to_string() };
-    let kind = kind_of(step).map(|kind| format!(" {}", String::from_utf8_lossy(kind))).unwrap_or_default();
-    let place = place_of(header, devices);
-    let handle =
-        |name: &str| if header.handle == 0 { String::new() } else { format!(" {name} {}", handle_of(header.handle)) };
-    match type_of(&as_new(step)) {
-        RTM_NEWQDISC => format!("qdisc {place}{}{kind}", handle("handle")),
-        RTM_NEWTCLASS => format!("class {place}{}{kind}", handle("classid")),
-        RTM_NEWCHAIN => format!("chain {place} chain {}{kind}", chain_of(step)),
-        RTM_NEWTFILTER => {
-            let chain =
-                Some(chain_of(step)).filter(|chain| *chain != 0).map(|it| format!(" chain {it}")).unwrap_or_default();
-            let pref = header.info >> 16;
-            let own = Some(header.handle).filter(|own| *own != 0).map(|it| format!(" handle {}", number_of(step, it)));
-            format!("filter {place}{chain} pref {pref}{kind}{}", own.unwrap_or_default())
-        }
-        number => format!("a request of type {number}"),
-    }
-}
-
-fn place_of(header: Tcmsg, devices: &Devices) -> String {
-    if header.index == MAGIC_BLOCK {
-        return format!("block {}", header.parent);
-    }
-    let name = devices.at(header.index as u32).map_or_else(|| header.index.to_string(), |device| device.name.clone());
-    let side = SIDES.iter().find(|(parent, _)| *parent == header.parent);
-    let parent = match (header.parent, side) {
-        (TC_H_ROOT, _) => " root".to_string(),
-        (0 | TC_H_CLSACT, _) => String::new(),
-        (_, Some((_, side))) => format!(" {side}"),
-        (parent, None) => format!(" parent {}", handle_of(parent)),
+    let why = match values.as_str() {
+        "" => "with what it belongs to".to_string(),
+        _ if gone.iter().any(|it| it.is_object_of(&key)) => format!("since this isn't changed in place:{values}"),
+        _ => format!("with what it belongs to:{values}"),
     };
-    format!("dev {name}{parent}")
+    format!("; made again, {why}{}", anew_of(step))
 }
 
-fn handle_of(handle: u32) -> String {
-    handle_text(handle).as_str().to_string()
+// The kind of what there is; "" for a chain without a template and for an action.
+fn kind_in(value: &Value) -> &str {
+    let attributes = value["attributes"].as_array().into_iter().flatten();
+    attributes.filter_map(|it| it["Kind"].as_str()).next().unwrap_or_default()
 }
 
-// The handle of a filter: those of u32 have a table, a bucket and a number in it.
-fn number_of(step: &[u8], handle: u32) -> String {
-    let part = |number: u32| if number == 0 { String::new() } else { format!("{number:x}") };
-    match kind_of(step) {
-        Some(b"u32") => format!("{}:{}:{}", part(handle >> 20), part(handle >> 12 & 0xff), part(handle & 0xfff)),
-        _ => format!("{handle:#x}"),
+// What begins anew with an object that is made again.
+fn anew_of(step: &[u8]) -> &'static str {
+    match type_of(step) {
+        RTM_NEWTFILTER => "; it counts from 0, and matches nothing meanwhile",
+        RTM_NEWCHAIN => "",
+        _ => "; it counts from 0",
+    }
+}
+
+// What there is of a key; of a qdisc what there is in its place, of a filter in a root table of u32 what has no number of that table.
+fn old_of<'a>(key: &Key, now: &'a Objects) -> Option<&'a Held> {
+    let in_place = || now.iter().find(|(other, _)| other.is_in_place_of(key)).map(|(_, held)| held);
+    now.get(key).or_else(in_place).or_else(|| now.get(&key.within_table()))
+}
+
+// ---- Objects
+
+// The line of a message about an object, after a sign.
+fn line_of(sign: &str, message: &[u8], devices: &Devices) -> String {
+    let Some((root, object)) = root_of(message) else {
+        return format!("{sign} a request of type {}", type_of(message));
+    };
+    let form = if is_action(type_of(message)) { ACTION_MESSAGE } else { TC_MESSAGE };
+    let names: Vec<(u32, &str)> = devices.iter().map(|device| (device.index, device.name.as_str())).collect();
+    let columns = KindColumns { root, interfaces: &names, links: None, all: false };
+    let said = Said { begin: sign.as_bytes(), object, statistics: false, port: 0, end: b"" };
+    // It fails if memory runs out.
+    let line = lines_of(TcTables, form, columns, TcWords, &said, payload_of(message)).unwrap_or_default();
+    String::from_utf8_lossy(&line).trim_end().to_string()
+}
+
+// What a message is about.
+fn root_of(message: &[u8]) -> Option<(Root, tc_brief::Object)> {
+    match type_of(&as_new(message)) {
+        RTM_NEWQDISC => Some((Root::Qdisc, tc_brief::Object::Qdisc)),
+        RTM_NEWTCLASS => Some((Root::Class, tc_brief::Object::Class)),
+        RTM_NEWTFILTER if kind_of(message) == Some(b"u32") => Some((Root::U32Filter, tc_brief::Object::Filter)),
+        RTM_NEWTFILTER => Some((Root::Filter, tc_brief::Object::Filter)),
+        RTM_NEWCHAIN => Some((Root::Chain, tc_brief::Object::Chain)),
+        RTM_NEWACTION => Some((Root::Action, tc_brief::Object::Action)),
+        _ => None,
     }
 }
 
@@ -216,24 +212,24 @@ mod tests {
     }
 
     #[test]
-    fn names_requests_as_tc_does() {
+    fn shows_requests_as_tcshow_does() {
         use crate::netlink::attributes::put;
-        use crate::netlink::message::tc_request;
-        let named = |kind: u16, handle: u32, parent: u32, info: u32, name: &str| {
+        use crate::netlink::message::{Tcmsg, tc_request};
+        let shown = |kind: u16, handle: u32, parent: u32, info: u32, name: &str| {
             let mut message = tc_request(kind, 0, Tcmsg { index: 7, handle, parent, info });
             put(&mut message, 1, &[name.as_bytes(), &[0]].concat());
-            name_of(&message, &Devices::default())
+            line_of("-", &message, &Devices::default())
         };
-        assert_eq!(named(RTM_NEWQDISC, 0x1_0000, TC_H_ROOT, 0, "htb"), "qdisc dev 7 root handle 1: htb");
-        assert_eq!(named(RTM_NEWQDISC + 1, 0, TC_H_CLSACT, 0, "clsact"), "qdisc dev 7 clsact");
-        assert_eq!(named(RTM_NEWTCLASS, 0x1_0010, 0x1_0001, 0, "htb"), "class dev 7 parent 1:1 classid 1:10 htb");
+        let root = 0xffff_ffff;
+        assert_eq!(shown(RTM_NEWQDISC, 0x1_0000, root, 0, "htb"), "- qdisc htb 1: dev 7 root");
+        assert_eq!(shown(RTM_NEWTCLASS + 1, 0x1_0010, 0x1_0001, 0, "htb"), "- class htb 1:10 dev 7 parent 1:1");
         assert_eq!(
-            named(RTM_NEWTFILTER, 0x8000_0800, 0x1_0000, 0x2_0008, "u32"),
-            "filter dev 7 parent 1: pref 2 u32 handle 800::800"
+            shown(RTM_NEWTFILTER, 0x8000_0800, 0x1_0000, 0x2_0008, "u32"),
+            "- filter u32 800::800 dev 7 parent 1: pref 2 protocol ip"
         );
         assert_eq!(
-            named(RTM_NEWTFILTER + 1, 1, 0xffff_fff3, 0x2_0008, "flower"),
-            "filter dev 7 egress pref 2 flower handle 0x1"
+            shown(RTM_NEWTFILTER + 1, 1, 0xffff_fff3, 0x2_0008, "flower"),
+            "- filter flower 0x1 dev 7 egress pref 2 protocol ip"
         );
     }
 }

@@ -4,14 +4,13 @@ use super::arguments::Arguments;
 use super::plan::plan;
 use super::wanted::Wanted;
 use crate::netlink::{Dump, Transport};
-use crate::restore::compare::{Objects, objects_of};
+use crate::restore::back::{Before, Others, without};
+use crate::restore::compare::objects_of;
 use crate::restore::messages::blocks_of;
 use crate::restore::plan::requests_of_dump;
-use crate::restore::prepare::{Ended, blocks_of_others, check_blocks, is_in_block};
-use crate::restore::state;
+use crate::restore::prepare::{Ended, blocks_of_others, check_blocks, is_in_block, keep};
 use crate::restore::status::Status;
 use crate::restore::world::{Place, World, text_of};
-use std::collections::BTreeMap;
 
 /// All that is known before the first request.
 #[derive(Debug)]
@@ -20,16 +19,9 @@ pub(crate) struct Prepared {
     pub(crate) wanted: Wanted,
     /// The requests.
     pub(crate) steps: Vec<Vec<u8>>,
-    /// What there is now, as it is dumped, without what is in blocks of others, and what all of it is.
-    pub(crate) before: Vec<Vec<u8>>,
-    pub(crate) before_objects: Objects,
-    pub(crate) others: Others,
-    /// The file that has the save of it; none if nothing is to be sent.
-    pub(crate) kept: Option<String>,
+    /// What there is now.
+    pub(crate) before: Before,
 }
-
-/// The blocks of other interfaces too, each with one of these.
-pub(crate) type Others = BTreeMap<u32, u32>;
 
 /// What there is, and the requests that lead to what is wanted.
 #[derive(Debug)]
@@ -56,11 +48,6 @@ pub(crate) fn planned<T: Transport, L: Transport>(
     Ok(Planned { dump, before, others, steps })
 }
 
-/// Dumps without what is in these blocks.
-pub(crate) fn without(dumps: &[Vec<u8>], others: &Others) -> Vec<Vec<u8>> {
-    dumps.iter().filter(|dump| !is_in_block(dump, others)).cloned().collect()
-}
-
 /// Plans, and asks whether what is planned may be sent.
 pub(crate) fn prepare<T: Transport, L: Transport>(
     arguments: &Arguments,
@@ -73,16 +60,18 @@ pub(crate) fn prepare<T: Transport, L: Transport>(
         None
     } else {
         check_back(arguments, &before, &wanted)?;
-        Some(keep(arguments, &wanted, &text_of(&dump, &wanted.targets.own())?.0)?)
+        Some(keep(&arguments.restored, &wanted.targets, &text_of(&dump, &wanted.targets.own())?.0)?)
     };
     let blocks = wanted.messages.iter().flat_map(|it| blocks_of(it)).chain(dump.blocks).collect();
     Ok(Prepared {
         place: Place { devices: wanted.targets.devices.clone(), blocks },
         steps,
-        before_objects: objects_of(&requests_of_dump(&dump.messages).requests),
-        before,
-        others,
-        kept,
+        before: Before {
+            objects: objects_of(&requests_of_dump(&dump.messages).requests),
+            dumps: dump.messages,
+            others,
+            kept,
+        },
         wanted,
     })
 }
@@ -103,16 +92,4 @@ fn check_back(arguments: &Arguments, now: &[Vec<u8>], wanted: &Wanted) -> Result
         );
         nothing_sent(said)
     })
-}
-
-// The file that keeps what is there now.
-fn keep(arguments: &Arguments, wanted: &Wanted, now: &str) -> Result<String, Ended> {
-    let folder = &arguments.restored.state;
-    match state::keep(folder, &wanted.targets.names(), now) {
-        Ok(path) => Ok(path.display().to_string()),
-        Err(error) => {
-            let why = format!("what is there now can't be kept in {}: {error}", folder.display());
-            Err(Ended::because(Status::Failed, vec![why]))
-        }
-    }
 }

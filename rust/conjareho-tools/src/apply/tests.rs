@@ -33,13 +33,19 @@ fn arguments(words: &[&str]) -> Arguments {
 }
 
 // Applies a file where these objects are; `held` says how the trial ends.
-fn run_held(words: &[&str], file: &str, objects: Vec<Vec<u8>>, fake: &Fake, held: Result<(), &'static str>) -> Ran {
+fn run_held(
+    words: &[&str],
+    file: &str,
+    objects: Vec<Vec<u8>>,
+    fake: &Fake,
+    held: impl Fn() -> Result<(), &'static str>,
+) -> Ran {
     fake.state.borrow_mut().objects = objects;
     let signal = || fake.state.borrow().signal;
     let mut world = World::new(fake.kernel(), fake.listener(1), fake.listener(2), &signal);
     let arguments = arguments(words);
     let mut said = Vec::new();
-    let mut hold = || held.map_err(Stop::Signal);
+    let mut hold = || held().map_err(Stop::Signal);
     let status = apply(&arguments, file.as_bytes().to_vec(), &mut world, &mut hold, &mut said);
     let kept = std::fs::read_dir(&arguments.restored.state).map_or(0, Iterator::count);
     let _ = std::fs::remove_dir_all(&arguments.restored.state);
@@ -48,7 +54,7 @@ fn run_held(words: &[&str], file: &str, objects: Vec<Vec<u8>>, fake: &Fake, held
 }
 
 fn run(file: &str, objects: Vec<Vec<u8>>, fake: &Fake) -> Ran {
-    run_held(&[], file, objects, fake, Ok(()))
+    run_held(&[], file, objects, fake, || Ok(()))
 }
 
 // The tree with another filter.
@@ -86,7 +92,8 @@ fn a_change_that_isnt_made_is_made_anew() {
     assert_eq!(ran.status, Status::Restored, "{}", ran.said);
     assert_eq!(plain(&ran.objects).len(), plain(&wanted).len());
     assert!(plain(&wanted).iter().all(|it| plain(&ran.objects).contains(it)), "{}", ran.said);
-    assert!(ran.said.starts_with("Linux ") && ran.said.contains(" drr: Drr/Quantum 1000 -> 77"), "{}", ran.said);
+    let named = ["Linux ", ": class drr 1:10 dev wan ", "; Drr/Quantum 1000 -> 77"];
+    assert!(named.iter().all(|it| ran.said.contains(it)), "{}", ran.said);
 }
 
 #[test]
@@ -113,7 +120,7 @@ fn a_refusal_brings_back_what_was_there() {
         assert_eq!(plain(&ran.objects), plain(&before), "request {at}: {}", ran.said);
     }
     let refusing: Hook = Box::new(move |_, number, _| (number == count).then_some(22));
-    let ran = run_held(&["--no-rollback"], &file, before.clone(), &Fake::new(refusing), Ok(()));
+    let ran = run_held(&["--no-rollback"], &file, before.clone(), &Fake::new(refusing), || Ok(()));
     assert_eq!(ran.status, Status::Lost, "{}", ran.said);
     assert!(ran.said.contains("before-") && ran.sent.len() == count, "{}", ran.said);
 }
@@ -139,11 +146,27 @@ fn a_signal_brings_back_what_was_there() {
 
 #[test]
 fn without_enter_it_goes_back() {
-    let ran = run_held(&[], &saved(otherwise()), tree(2000), &Fake::new(taking()), Err("SIGHUP"));
+    let ran = run_held(&[], &saved(otherwise()), tree(2000), &Fake::new(taking()), || Err("SIGHUP"));
     assert_eq!((ran.status, plain(&ran.objects)), (Status::Back, plain(&tree(2000))), "{}", ran.said);
     assert!(ran.said.starts_with("SIGHUP came"), "{}", ran.said);
-    let ran = run_held(&[], &saved(tree(1000)), tree(1000), &Fake::new(taking()), Err("SIGHUP"));
+    let ran = run_held(&[], &saved(tree(1000)), tree(1000), &Fake::new(taking()), || Err("SIGHUP"));
     assert_eq!((ran.status, ran.sent.len()), (Status::Restored, 0), "nothing to try");
+}
+
+#[test]
+fn what_others_make_while_enter_is_waited_for_is_left() {
+    let fake = Fake::new(taking());
+    let held = || {
+        let theirs = of(RTM_NEWTFILTER, 9, 0xFFFF_FFF3, "matchall", &[(1, 0x1_0010)]);
+        let mut state = fake.state.borrow_mut();
+        state.objects.push(theirs.clone());
+        state.tell(&theirs, OTHER);
+        Err("SIGHUP")
+    };
+    let count = run(&saved(otherwise()), tree(2000), &Fake::new(taking())).sent.len();
+    let ran = run_held(&[], &saved(otherwise()), tree(2000), &fake, held);
+    assert_eq!((ran.status, ran.sent.len()), (Status::Lost, count), "{}", ran.said);
+    assert!(ran.said.contains("netlink port 4242") && ran.said.contains("before-"), "{}", ran.said);
 }
 
 #[test]
@@ -167,15 +190,15 @@ fn what_others_make_is_left() {
 fn others_before_the_first_request() {
     let ways = [
         (1, OTHER, Status::Restored),
-        (2, OTHER, Status::Restored),
-        (99, OTHER, Status::NothingSent),
-        (2, 0, Status::Restored),
-        (99, 0, Status::NothingSent),
+        (3, OTHER, Status::Restored),
+        (4, OTHER, Status::NothingSent),
+        (3, 0, Status::Restored),
+        (4, 0, Status::NothingSent),
     ];
     for (times, port, status) in ways {
         let fake = Fake::new(taking());
         let mut left = times;
-        // The last look at the interfaces before the first request is the fourth, the seventh and the tenth.
+        // The last look at the interfaces before the first request is the fourth, the seventh, the tenth and the thirteenth.
         let hook = move |state: &mut State, number: usize| {
             if number >= 4 && number % 3 == 1 && left > 0 {
                 left -= 1;

@@ -6,7 +6,7 @@ use super::plan::plan;
 use super::prepare::{Planned, planned};
 use super::scratch::within;
 use super::wanted::{Wanted, wanted_of};
-use crate::netlink::{Device, Devices, Fault, Transport, state_of};
+use crate::netlink::{Device, Devices, Fault, Kernel, Transport, state_of};
 use crate::restore::compare::by_place;
 use crate::restore::messages::blocks_of;
 use crate::restore::plan::requests_of_dump;
@@ -14,7 +14,7 @@ use crate::restore::prepare::Ended;
 use crate::restore::sending::Sending;
 use crate::restore::status::Status;
 use crate::restore::world::{Place, Stop, World, text_of};
-use crate::restore::{open_kernel, same};
+use crate::restore::{hardware, open_kernel, same};
 use std::ffi::OsString;
 use std::process::Command;
 
@@ -24,13 +24,12 @@ fn nothing_sent(why: String) -> Ended {
 
 // ---- A command
 
+/// What a command finds.
+const NO_HARDWARE: &str = "where it ran no interface has hardware, and what depends on it can't be made";
+
 /// The save of what a command makes of an interface.
-pub(crate) fn made_by<T: Transport, L: Transport>(
-    command: &[OsString],
-    dev: &str,
-    world: &mut World<'_, T, L>,
-) -> Result<Vec<u8>, Ended> {
-    let devices = Devices::of(&mut world.kernel)?;
+pub(crate) fn made_by(command: &[OsString], dev: &str) -> Result<Vec<u8>, Ended> {
+    let devices = Devices::of(&mut Kernel::open()?)?;
     let device = devices.find(dev).ok_or_else(|| nothing_sent(format!("there is no interface {dev}")))?;
     let made = within(&devices, || {
         run(command)?;
@@ -43,7 +42,10 @@ fn run(command: &[OsString]) -> Result<(), String> {
     let [program, words @ ..] = command else { return Ok(()) };
     let name = program.to_string_lossy();
     let status = Command::new(program).args(words).status().map_err(|error| format!("{name}: {error}"))?;
-    if status.success() { Ok(()) } else { Err(format!("{name} ended with {status}")) }
+    if status.success() {
+        return Ok(());
+    }
+    Err(format!("{name} ended with {status}; {NO_HARDWARE}"))
 }
 
 // The save of an interface of this namespace.
@@ -55,7 +57,8 @@ fn saved(name: &str) -> Result<String, String> {
     let index = device.ok_or_else(|| format!("the command renamed or deleted {name}"))?.index;
     let dump = state_of(&mut kernel, &mut listener, &[index]).map_err(said)?;
     match text_of(&dump, &[index]).map_err(said)? {
-        (text, false) => Ok(text),
+        (text, false) if hardware::count_alone(text.lines()) == 0 => Ok(text),
+        (_, false) => Err(format!("the command made a filter with skip_sw; {NO_HARDWARE}")),
         _ => Err("the command made something that the codec refuses".to_string()),
     }
 }

@@ -5,7 +5,7 @@ use super::plan::Fault;
 use crate::forms_kinds::{ACTION_MESSAGE, TC_MESSAGE, TcTables};
 use crate::netlink::message::{RTM_NEWQDISC, RTM_NEWTCLASS, Tcmsg, request, tcmsg_of};
 use crate::netlink::{Devices, Transport};
-use crate::restore::compare::{Key, Objects, key_of, objects_of};
+use crate::restore::compare::{Objects, key_of, objects_of};
 use crate::restore::hardware;
 use crate::restore::messages::{kind_of, type_of};
 use crate::restore::plan::{Wanted as Asked, requests};
@@ -55,11 +55,6 @@ impl Wanted {
             (false, Some(number)) => format!("{}: line {number}: {}", self.file, fault.text),
             (false, None) => format!("{}: {}", self.file, fault.text),
         }
-    }
-
-    /// True for an action that the save has.
-    pub(crate) fn names(&self, key: &Key) -> bool {
-        self.objects.contains_key(key)
     }
 }
 

@@ -118,6 +118,15 @@ impl Key {
         }
     }
 
+    /// That of a filter without the number of its hash table of u32, as requests name those in root tables.
+    pub(crate) fn within_table(&self) -> Key {
+        let mut key = self.clone();
+        if let Key::Object { kind: RTM_NEWTFILTER, handle, .. } = &mut key {
+            *handle &= 0xF_FFFF;
+        }
+        key
+    }
+
     /// True for two qdiscs in one place, whatever their handles.
     pub(crate) fn is_in_place_of(&self, other: &Key) -> bool {
         let place = |key: &Key| match key {

@@ -1,6 +1,7 @@
 //! The program tcrestore: makes again what tcsave saved.
 
 pub(crate) mod arguments;
+pub(crate) mod back;
 pub(crate) mod compare;
 pub(crate) mod file;
 pub(crate) mod hardware;
@@ -139,7 +140,7 @@ fn restore<T: Transport, L: Transport>(
     let looked = world
         .check_signal()
         .and_then(|()| world.check_devices(&prepared.place))
-        .and_then(|()| world.look(&prepared.place, None));
+        .and_then(|()| world.look(&prepared.place));
     if let Err(stop) = looked {
         said.push(format!("{stop}; nothing is sent"));
         return Status::NothingSent;
@@ -150,7 +151,7 @@ fn restore<T: Transport, L: Transport>(
         Ok(()) => Status::Restored,
         Err(stop) => {
             said.push(stop.to_string());
-            ended(arguments, &prepared, &mut sending, &stop, said)
+            prepared.before.ended(&prepared.wanted, arguments.no_rollback, &mut sending, &stop, said)
         }
     }
 }
@@ -167,7 +168,8 @@ fn carried_out<T: Transport, L: Transport>(
     }
     sending.send_all(&prepared.requests)?;
     // Without --clear what was there stays; actions belong to no interface.
-    let was_there = |key: &Key, held: &Held| prepared.before.get(key).is_some_and(|before| before.is_same(held));
+    let was_there =
+        |key: &Key, held: &Held| prepared.before.objects.get(key).is_some_and(|before| before.is_same(held));
     let may_be = |key: &Key, held: &Held| key.is_action() || !arguments.clear && was_there(key, held);
     let after = same(sending, &prepared.wanted, |all| all, may_be)?;
     if prepared.in_hardware > 0 {
@@ -189,7 +191,7 @@ pub(crate) fn same<T: Transport, L: Transport>(
     loop {
         sending.world.check_devices(place)?;
         let after = sending.world.dump(&place.indices())?.messages;
-        sending.world.look(place, None)?;
+        sending.world.look(place)?;
         let all = requests_of_dump(&after).requests;
         let found = differences(&wanted, &seen(objects_of(&all)), &may_be);
         if found.is_empty() {
@@ -208,41 +210,4 @@ pub(crate) fn named(all: &[compare::Difference]) -> Vec<String> {
         named.push(format!("and {} more", all.len() - MOST_NAMED));
     }
     named
-}
-
-// Makes again what was there before, unless that isn't wanted or others are at work.
-fn ended<T: Transport, L: Transport>(
-    arguments: &Arguments,
-    prepared: &Prepared,
-    sending: &mut Sending<'_, '_, T, L>,
-    stop: &Stop,
-    said: &mut Vec<String>,
-) -> Status {
-    let is_left = arguments.no_rollback || matches!(stop, Stop::Other { .. } | Stop::Moved(_));
-    let back = if is_left { Err(None) } else { gone_back(prepared, sending).map_err(Some) };
-    match back {
-        Ok(()) => {
-            said.push(format!("what was there before is there again, and in {}", prepared.kept));
-            Status::Back
-        }
-        Err(why) => {
-            said.extend(why.map(|why| format!("on the way back: {why}")));
-            said.push(format!("what was there before isn't there again; it is in {}", prepared.kept));
-            Status::Lost
-        }
-    }
-}
-
-fn gone_back<T: Transport, L: Transport>(prepared: &Prepared, sending: &mut Sending<'_, '_, T, L>) -> Result<(), Stop> {
-    let refused = sending.go_back(&prepared.back, &prepared.before_all);
-    if let Err(stop @ (Stop::Other { .. } | Stop::Moved(_))) = refused {
-        return Err(stop);
-    }
-    // Actions that aren't the save's are others'.
-    let is_seen = |key: &Key| !key.is_action() || prepared.wanted.contains_key(key);
-    let seen = |all: Objects| all.into_iter().filter(|(key, _)| is_seen(key)).collect();
-    match (same(sending, &prepared.before, seen, |_, _| false), refused) {
-        (Ok(_), _) => Ok(()),
-        (Err(_), Err(stop)) | (Err(stop), Ok(())) => Err(stop),
-    }
 }

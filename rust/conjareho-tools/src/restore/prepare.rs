@@ -1,6 +1,7 @@
 //! What is made and asked before the first request is sent.
 
 use super::arguments::Arguments;
+use super::back::{Before, Others};
 use super::compare::{Objects, differences_in_blocks, key_of, objects_of};
 use super::file::{Save, read_save};
 use super::hardware;
@@ -13,8 +14,7 @@ use super::staying::{as_shared, staying, with_actions};
 use super::targets::{STRANGE, Targets, targets_of};
 use super::world::{Place, World, text_of};
 use crate::netlink::message::{MAGIC_BLOCK, RTM_NEWQDISC, tcmsg_of};
-use crate::netlink::{Devices, Fault, Transport};
-use std::collections::BTreeMap;
+use crate::netlink::{Devices, Dump, Fault, Transport};
 use std::thread::sleep;
 use std::time::Instant;
 
@@ -52,12 +52,7 @@ pub(crate) struct Prepared {
     /// What is to be there in the end.
     pub(crate) wanted: Objects,
     /// What is there now.
-    pub(crate) before: Objects,
-    /// The requests that make it where nothing is but actions, and those of all of it.
-    pub(crate) back: Vec<Vec<u8>>,
-    pub(crate) before_all: Vec<Vec<u8>>,
-    /// The file that has the save of what there is now.
-    pub(crate) kept: String,
+    pub(crate) before: Before,
     /// How many filters of the file were in hardware.
     pub(crate) in_hardware: usize,
     pub(crate) is_partial: bool,
@@ -80,33 +75,37 @@ pub(crate) fn prepare<T: Transport, L: Transport>(
     let wanted = wanted_of(arguments, &save, &targets, &names);
     let alone = requests(&wanted);
     check_interfaces(arguments, &alone, &targets)?;
-    let Planned { blocks, now, before, beside, has_refused, plan } =
+    let Planned { dump, now, before, beside, has_refused, plan } =
         planned(arguments, &wanted, &alone, &targets, &others, world)?;
     let plan = checked(arguments, plan, said)?;
     let wanted = alone.requests;
     check_blocks(world, &others, &wanted)?;
     let is_own = |request: &Vec<u8>| !is_in_block(request, &others);
-    let blocks = wanted.iter().flat_map(|request| blocks_of(request)).chain(blocks).collect();
+    let blocks = wanted.iter().flat_map(|request| blocks_of(request)).chain(dump.blocks).collect();
     let back =
         if arguments.clear { requests_beside(&of_now(&now, &beside), &before, has_refused) } else { Plan::default() };
     check_back(arguments, &back)?;
-    let kept = state::keep(&arguments.state, &targets.names(), &now).map_err(|error| {
-        Ended::because(
-            Status::Failed,
-            vec![format!("what is there now can't be kept in {}: {error}", arguments.state.display())],
-        )
-    })?;
+    let kept = keep(arguments, &targets, &now)?;
     Ok(Prepared {
         place: Place { devices: targets.devices, blocks },
         requests: plan.requests.into_iter().filter(is_own).collect(),
         wanted: objects_of(&wanted),
-        back: back.requests.into_iter().filter(is_own).collect(),
-        before: objects_of(&before.requests),
-        before_all: before.requests,
-        kept: kept.display().to_string(),
+        before: Before { objects: objects_of(&before.requests), dumps: dump.messages, others, kept: Some(kept) },
         in_hardware: hardware::count(save.lines()),
         is_partial: !plan.complaints.is_empty(),
     })
+}
+
+/// The file that keeps what is there now.
+pub(crate) fn keep(arguments: &Arguments, targets: &Targets, now: &str) -> Result<String, Ended> {
+    let folder = &arguments.state;
+    match state::keep(folder, &targets.names(), now) {
+        Ok(path) => Ok(path.display().to_string()),
+        Err(error) => {
+            let why = format!("what is there now can't be kept in {}: {error}", folder.display());
+            Err(Ended::because(Status::Failed, vec![why]))
+        }
+    }
 }
 
 /// The save of a file.
@@ -142,9 +141,8 @@ fn of_now<'a>(now: &'a str, stays: &'a str) -> Wanted<'a> {
 
 // What there is now, and the requests.
 struct Planned {
-    // The shared blocks of the interfaces.
-    blocks: Vec<u32>,
-    // The save, and the requests that make it where nothing is.
+    dump: Dump,
+    // The save of it, and the requests that make it where nothing is.
     now: String,
     before: Plan,
     // The lines of it with the actions that are there when requests are sent, and with those that hold them.
@@ -160,7 +158,7 @@ fn planned<T: Transport, L: Transport>(
     wanted: &Wanted<'_>,
     alone: &Plan,
     targets: &Targets,
-    others: &BTreeMap<u32, u32>,
+    others: &Others,
     world: &mut World<'_, T, L>,
 ) -> Result<Planned, Ended> {
     let until = Instant::now() + PATIENCE;
@@ -174,7 +172,7 @@ fn planned<T: Transport, L: Transport>(
         let plan = requests_beside(&Wanted { now: Some(&beside), ..*wanted }, alone, has_refused);
         if !plan.is_void || alone.is_void || Instant::now() >= until {
             let before = requests_of_dump(&dump.messages);
-            return Ok(Planned { blocks: dump.blocks, now, before, beside, has_refused, plan });
+            return Ok(Planned { dump, now, before, beside, has_refused, plan });
         }
         sleep(PAUSE);
     }
@@ -213,9 +211,9 @@ fn check_back(arguments: &Arguments, back: &Plan) -> Result<(), Ended> {
 pub(crate) fn blocks_of_others<T: Transport, L: Transport>(
     world: &mut World<'_, T, L>,
     targets: &Targets,
-) -> Result<BTreeMap<u32, u32>, Ended> {
+) -> Result<Others, Ended> {
     let own = targets.own();
-    let mut others = BTreeMap::new();
+    let mut others = Others::new();
     for qdisc in world.qdiscs()? {
         let holder = tcmsg_of(&qdisc).map(|header| header.index as u32).filter(|index| !own.contains(index));
         if let Some(holder) = holder.filter(|_| type_of(&qdisc) == RTM_NEWQDISC) {
@@ -226,17 +224,17 @@ pub(crate) fn blocks_of_others<T: Transport, L: Transport>(
 }
 
 /// True for what is in one of these blocks.
-pub(crate) fn is_in_block(request: &[u8], blocks: &BTreeMap<u32, u32>) -> bool {
+pub(crate) fn is_in_block(request: &[u8], blocks: &Others) -> bool {
     tcmsg_of(request).is_some_and(|header| header.index == MAGIC_BLOCK && blocks.contains_key(&header.parent))
 }
 
 /// An error if what is in a block of others isn't there as it is wanted.
 pub(crate) fn check_blocks<T: Transport, L: Transport>(
     world: &mut World<'_, T, L>,
-    others: &BTreeMap<u32, u32>,
+    others: &Others,
     wanted: &[Vec<u8>],
 ) -> Result<(), Ended> {
-    let used: BTreeMap<u32, u32> = others
+    let used: Others = others
         .iter()
         .filter(|(block, _)| wanted.iter().any(|it| blocks_of(it).contains(block)))
         .map(|(b, i)| (*b, *i))

@@ -127,22 +127,19 @@ impl<'s, T: Transport, L: Transport> World<'s, T, L> {
         }
     }
 
-    /// The notification of a request of ours since the last look. The error is that another program changed something.
-    pub(crate) fn look(&mut self, place: &Place, request: Option<&[u8]>) -> Result<Option<Vec<u8>>, Stop> {
+    /// The error is that another program changed something since the last look.
+    pub(crate) fn look(&mut self, place: &Place) -> Result<(), Stop> {
         let ours = self.kernel.port();
-        let notices = self.notices(place, |port| port != 0 && port != ours)?;
-        let wanted = request.map(type_of);
-        let notice = notices.into_iter().find(|notice| notice.port == ours && Some(notice.kind) == wanted);
-        Ok(notice.map(|notice| notice.message))
+        self.look_for(place, |port| port != 0 && port != ours)
     }
 
     /// The error is that something changed since the last look. Before the first request not even the kernel changes something because of one.
     pub(crate) fn look_before(&mut self, place: &Place) -> Result<(), Stop> {
-        self.notices(place, |_| true).map(drop)
+        self.look_for(place, |_| true)
     }
 
-    // What was heard since the last look. The error is that somebody with such a port id changed something.
-    fn notices(&mut self, place: &Place, is_other: impl Fn(u32) -> bool) -> Result<Vec<Notice>, Stop> {
+    // The error is that somebody with such a port id changed something since the last look.
+    fn look_for(&mut self, place: &Place, is_other: impl Fn(u32) -> bool) -> Result<(), Stop> {
         let heard = self.watch.heard()?;
         if heard.lost {
             return Err(Stop::Fault(Fault::Lost));
@@ -150,7 +147,7 @@ impl<'s, T: Transport, L: Transport> World<'s, T, L> {
         let is_others = |notice: &&Notice| is_other(notice.port) && notice.concerns(&place.indices(), &place.blocks);
         match heard.notices.iter().find(is_others) {
             Some(notice) => Err(Stop::Other { port: notice.port, what: what_of(&notice.message) }),
-            None => Ok(heard.notices),
+            None => Ok(()),
         }
     }
 

@@ -1,0 +1,103 @@
+//! The way back to what was there before: a plan from what is there.
+
+use super::compare::{Key, Objects, by_place};
+use super::messages::is_read;
+use super::prepare::is_in_block;
+use super::same;
+use super::sending::Sending;
+use super::status::Status;
+use super::world::Stop;
+use crate::apply::plan::{Fault, plan};
+use crate::netlink::Transport;
+use std::collections::BTreeMap;
+
+/// How often it is planned, where the kernel refuses something.
+const MOST_PLANS: u32 = 3;
+
+/// The blocks of other interfaces too, each with one of these.
+pub(crate) type Others = BTreeMap<u32, u32>;
+
+/// What was there before.
+#[derive(Debug)]
+pub(crate) struct Before {
+    /// As it was dumped.
+    pub(crate) dumps: Vec<Vec<u8>>,
+    /// What all of it is.
+    pub(crate) objects: Objects,
+    /// The blocks in it that aren't touched.
+    pub(crate) others: Others,
+    /// The file that has the save of it; none if nothing is to be sent.
+    pub(crate) kept: Option<String>,
+}
+
+/// Dumps without what is in these blocks.
+pub(crate) fn without(dumps: &[Vec<u8>], others: &Others) -> Vec<Vec<u8>> {
+    dumps.iter().filter(|dump| !is_in_block(dump, others)).cloned().collect()
+}
+
+impl Before {
+    // What of dumps a plan is about: what the codec refuses isn't touched.
+    fn planned(&self, dumps: &[Vec<u8>]) -> Vec<Vec<u8>> {
+        without(dumps, &self.others).into_iter().filter(|dump| is_read(dump)).collect()
+    }
+
+    /// Makes it again, unless nothing was sent, or it `is_left`, or others are at work; of actions only those that are wanted change. How the run ends;
+    /// why is added to `said`.
+    pub(crate) fn ended<T: Transport, L: Transport>(
+        &self,
+        wanted: &Objects,
+        is_left: bool,
+        sending: &mut Sending<'_, '_, T, L>,
+        stop: &Stop,
+        said: &mut Vec<String>,
+    ) -> Status {
+        let Some(kept) = self.kept.as_ref().filter(|_| sending.has_sent()) else {
+            said.push("nothing was sent".to_string());
+            return Status::NothingSent;
+        };
+        let is_left = is_left || matches!(stop, Stop::Other { .. } | Stop::Moved(_));
+        let back = if is_left { Err(None) } else { self.made_again(wanted, sending).map_err(Some) };
+        match back {
+            Ok(()) => {
+                said.push(format!("what was there before is there again, and in {kept}"));
+                Status::Back
+            }
+            Err(why) => {
+                said.extend(why.map(|why| format!("on the way back: {why}")));
+                said.push(format!("what was there before isn't there again; it is in {kept}"));
+                Status::Lost
+            }
+        }
+    }
+
+    // Plans from what is there now, and anew where something was refused.
+    fn made_again<T: Transport, L: Transport>(
+        &self,
+        wanted: &Objects,
+        sending: &mut Sending<'_, '_, T, L>,
+    ) -> Result<(), Stop> {
+        sending.turn_back();
+        let before = self.planned(&self.dumps);
+        let mut refused = None;
+        for _ in 0..MOST_PLANS {
+            let now = self.planned(&sending.world.dump(&sending.place.indices())?.messages);
+            let steps = plan(&now, &before, |key| wanted.contains_key(key)).map_err(unplanned)?;
+            match sending.carry_out(&steps) {
+                Ok(()) => break,
+                Err(stop @ Stop::Refused { .. }) => drop(refused.get_or_insert(stop)),
+                Err(stop) => return Err(stop),
+            }
+        }
+        // Actions that neither side names are others'.
+        let is_seen = |key: &Key| !key.is_action() || wanted.contains_key(key);
+        let seen = |all: Objects| by_place(all.into_iter().filter(|(key, _)| is_seen(key)).collect());
+        match (same(sending, &self.objects, seen, |_, _| false), refused) {
+            (Ok(_), _) => Ok(()),
+            (Err(_), Some(stop)) | (Err(stop), None) => Err(stop),
+        }
+    }
+}
+
+fn unplanned(faults: Vec<Fault>) -> Stop {
+    Stop::Unplanned(faults.into_iter().map(|fault| fault.text).collect())
+}
