@@ -90,7 +90,7 @@ returns-in_err-show_input-clause-reason g c =
     let input = c.in_ok-input.input in
     let left = left_of input (g.R.Read.remaining c.begin.new.reader) in
     passed_on _ _ _ c.from_residual-in_err-show_input.ensures.1
-    (λ is. begun_rejected (rest_of input) (g.R.Read.remaining c.args.reader.now) left (λ r. r ≡ Some c.in_err-show_input.e) c.in_ok-input.ensures.kept
+    (λ is. begun_rejected (rest_of input) (g.R.Read.remaining c.args.reader.now) left (λ r. r ≡ Some c.in_err-show_input.field-0) c.in_ok-input.ensures.kept
     c.in_ok-input.ensures.first (c.in_err-show_input.ensures.reason is))
 
 pub returns-in_err-write-clause-reason : goal.returns-in_err-write-clause-reason
