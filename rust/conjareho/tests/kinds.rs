@@ -371,6 +371,19 @@ fn lists_are_collections() {
     assert_eq!(list, vec![HtbAttr::Rate64(1), HtbAttr::Pad(())].into());
 }
 
+#[test]
+fn an_option_that_was_read_is_replaced() {
+    let options = |limit: u32| [attribute(2, &limit.to_le_bytes()), attribute(4, &[1, 0, 0, 0])].concat();
+    let mut typed = parsed(&message("fq_codel", &options(10240)));
+    let Some(Options::FqCodel(list)) = typed.options_mut() else { panic!("another kind") };
+    list.set(FqCodelAttr::Limit(500));
+    assert_eq!(typed.to_bytes(), Ok(message("fq_codel", &options(500))));
+    let Some(Options::FqCodel(list)) = typed.options_mut() else { panic!("another kind") };
+    list.set(FqCodelAttr::Flows(64));
+    assert_eq!((list.len(), list.flows()), (3, Some(&64)));
+    assert!(Message::on(2).options_mut().is_none());
+}
+
 #[cfg(feature = "serde")]
 #[test]
 fn json_is_that_of_the_forms() {

@@ -4,6 +4,7 @@ use super::wire::Aside;
 use alloc::boxed::Box;
 use alloc::vec::Vec;
 use core::fmt;
+use core::mem;
 use core::ops::Deref;
 
 /// The attributes of a list, in their order.
@@ -132,6 +133,17 @@ macro_rules! list {
             }
         }
     };
+}
+
+impl<A> Attrs<A> {
+    /// Replaces the last attribute of the same type, or appends this one if there is none.
+    pub fn set(&mut self, item: A) {
+        let kind = mem::discriminant(&item);
+        match self.items.iter_mut().rev().find(|it| mem::discriminant(*it) == kind) {
+            Some(last) => *last = item,
+            None => self.push(item),
+        }
+    }
 }
 
 list! { Attrs, A, A }

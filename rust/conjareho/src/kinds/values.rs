@@ -143,7 +143,7 @@ fn octet_of(digits: &[u8]) -> Option<u8> {
     Some(digit(*high)? << 4 | digit(*low)?)
 }
 
-/// Bytes without a table. `{:?}` prints them as hex.
+/// Bytes without a table. `{:?}` prints them as hex, and `parse` reads hex.
 #[derive(Clone, PartialEq, Eq, Hash, PartialOrd, Ord, Default)]
 pub struct Bytes(pub Vec<u8>);
 

@@ -24,6 +24,14 @@ impl Message {
         self.attributes.options()
     }
 
+    /// The options, mutable: [`Attrs::set`] of their list changes one.
+    pub fn options_mut(&mut self) -> Option<&mut Options> {
+        self.attributes
+            .iter_mut()
+            .rev()
+            .find_map(|it| if let TcAttr::Options(options) = it { Some(options) } else { None })
+    }
+
     /// The statistics: the last `TCA_STATS2`. `TCA_STATS` is [`Attrs::stats`] of the attributes.
     #[must_use]
     pub fn stats(&self) -> Option<&Attrs<StatsAttr>> {
