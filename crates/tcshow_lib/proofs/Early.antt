@@ -10,8 +10,10 @@ use Rattle.tcshow_input.specs.declared.options.Options.{Options}
 use Rattle.tcshow_input.specs.declared.stop.Stop.{Stop}
 use Rattle.tcshow_input.specs.declared.stop.Stop.TheVariants.{NoMemory}
 use Rattle.tcshow_input.specs.Reading.{AreFirstIn, BeginsWith, capture_left, is_hex_text, text_left}
+use Rattle.tcshow_input.specs.Rejected.{Explains, rejection_left, rejection_of}
 use Rattle.tcshow_input.specs.State.{State, Breaks, BreaksIn, Halts, RanOn, Stops, start}
 use Rattle.tcshow_input.proofs.Breaking.{begun_first, capture_begins_with, ran_on, text_begins_with}
+use Rattle.tcshow_input.proofs.Rejecting.{begun_rejected}
 
 -- over a capture, and over lines of hex
 pub capture_halts : (stop : Stop) (header : Option MessageType) (first : List ℕ) (file : Option (List ℕ)) (place : CaptureState) (count : ℕ)
@@ -36,6 +38,10 @@ pub breaks_first : (stop : Stop) (first : List ℕ) (file left : Option (List �
 breaks_first stop first file left header a b s n kept same h not =
     let x = h not in
     (x.0, begun_first header first file left x.0 kept same x.1, x.2)
+
+pub explained_first : (first : List ℕ) (file left : Option (List ℕ)) (stop : Stop) → Keeps file left → IfSome file (λ bytes. take 4 first ≡ take 4 bytes)
+    → Explains (rejection_left first left) stop → Explains (rejection_of file) stop
+explained_first first file left stop kept same h is = begun_rejected first file left (λ r. r ≡ Some stop) kept same (h is)
 
 -- a run from the beginning
 pub ran_on_if : (stop : Stop) (options : Options) (file a b : Option (List ℕ)) (s n : State) (fault : Bool) → s ≡ start options → fault ≡ n.bad

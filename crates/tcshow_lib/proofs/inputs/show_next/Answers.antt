@@ -6,10 +6,11 @@ use Rattle.tcshow_input.proofs.Progress.{progress_written}
 use Rattle.std.proofs.Common.{[]}
 use Rattle.tcshow_input.proofs.Breaking.{all_in, halts_begun, halts_in, none_in}
 use Rattle.tcshow_input.proofs.Halting.{always, passed, halts_after, halts_none, halts_progress}
-use Rattle.std.proofs.Common.{◌≡◌, true, false, Some}
+use Rattle.std.proofs.Common.{◌≡◌, true, false}
 use Rattle.tcshow_input.specs.declared.stop.Stop.TheVariants.{NoRoute}
 use Rattle.tcshow_input.specs.Rejected.{met_in, met_rejection}
 use Rattle.tcshow_input.proofs.Rejecting.{begun_rejected, explained, passed_on, told_as, unrejected}
+use Rattle.tcshow_lib.proofs.Early.{explained_first}
 use Rattle.tcshow_lib.proofs.inputs.show_next.Goals as goal
 
 pub returns-clause-ran : goal.returns-clause-ran
@@ -90,8 +91,8 @@ returns-in_err-show_input-clause-reason g c =
     let input = c.in_ok-input.input in
     let left = left_of input (g.R.Read.remaining c.begin.new.reader) in
     passed_on _ _ _ c.from_residual-in_err-show_input.ensures.1
-    (λ is. begun_rejected (rest_of input) (g.R.Read.remaining c.args.reader.now) left (λ r. r ≡ Some c.in_err-show_input.field-0) c.in_ok-input.ensures.kept
-    c.in_ok-input.ensures.first (c.in_err-show_input.ensures.reason is))
+    (explained_first (rest_of input) (g.R.Read.remaining c.args.reader.now) left _ c.in_ok-input.ensures.kept c.in_ok-input.ensures.first
+    c.in_err-show_input.ensures.reason)
 
 pub returns-in_err-write-clause-reason : goal.returns-in_err-write-clause-reason
 returns-in_err-write-clause-reason g c = passed_on _ _ _ c.from_residual-in_err-write.ensures.1 (explained _ _ c.in_err-write.ensures.failed)

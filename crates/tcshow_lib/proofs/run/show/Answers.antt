@@ -5,8 +5,8 @@ use Rattle.tcshow_input.proofs.InOrder.{begun_are}
 use Rattle.std.proofs.Common.{[]}
 use Rattle.tcshow_input.proofs.Breaking.{breaks_in, breaks_halts, none_in}
 use Rattle.tcshow_input.proofs.Halting.{always, halts_none}
-use Rattle.tcshow_lib.proofs.Early.{breaks_first}
-use Rattle.std.proofs.Common.{◌≡◌, None, Some}
+use Rattle.tcshow_lib.proofs.Early.{breaks_first, explained_first}
+use Rattle.std.proofs.Common.{◌≡◌, None}
 use Rattle.tcshow_input.proofs.Rejecting.{begun_rejected, unrejected}
 use Rattle.tcshow_lib.proofs.run.show.Goals as goal
 
@@ -50,8 +50,7 @@ returns-clause-reason g c =
     let input = c.in_ok-input.input in
     let left = left_of input (g.R.Read.remaining c.begin.new.reader) in
     IfErr-weaker c.show_all.result _ _
-    (λ stop h is.
-    begun_rejected (rest_of input) (g.R.Read.remaining c.args.reader.now) left (λ r. r ≡ Some stop) c.in_ok-input.ensures.kept c.in_ok-input.ensures.first (h is))
+    (λ stop h. explained_first (rest_of input) (g.R.Read.remaining c.args.reader.now) left stop c.in_ok-input.ensures.kept c.in_ok-input.ensures.first h)
     c.show_all.ensures.reason
 
 pub returns-in_err-input-clause-reason : goal.returns-in_err-input-clause-reason
