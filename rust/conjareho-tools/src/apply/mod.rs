@@ -85,7 +85,7 @@ fn opened(arguments: &Arguments, said: &mut Vec<String>) -> Result<Status, Ended
     let mut hold = || {
         let Some(time) = arguments.trial else { return Ok(()) };
         let seconds = time.as_secs();
-        let asked = format!("it is as it was wanted; press Enter within {seconds} seconds, or it goes back");
+        let asked = format!("the plan is applied; press Enter within {seconds} seconds, or it goes back");
         // A terminal that nobody reads mustn't hold up the way back.
         thread::spawn(move || say_all("tcapply", &[asked]));
         hold::hold(&mut io::stdin().lock(), time, &signal)

@@ -59,7 +59,7 @@ impl Before {
         let back = if is_left { Err(None) } else { self.made_again(wanted, sending).map_err(Some) };
         match back {
             Ok(()) => {
-                said.push(format!("what was there before is there again, and in {kept}"));
+                said.push(format!("what was there before is there again; {kept} has a copy"));
                 Status::Back
             }
             Err(why) => {
