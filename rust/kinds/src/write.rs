@@ -158,7 +158,8 @@ impl Writer<'_> {
         let rows = block.lines.iter().filter_map(|line| {
             let (form, method) = (line.form.as_ref()?, snake(&line.name));
             let Type { value, layout, taken } = self.form(form, &line.unit);
-            let front = format!("{}{} {} with_{method}", attributes(&self.doc_of(line), &line.kernel), variant(&line.name), ident(&method));
+            let doc = self.numbered_doc_of(line);
+            let front = format!("{}{} {} with_{method}", attributes(&doc, &line.kernel), variant(&line.name), ident(&method));
             Some(format!("{front} {:?} {:?} {} {} ({value}) ({layout}) ({taken}),\n", line.name, layer(form), line.number, flags_of(form)))
         });
         let about = about(&format!("An attribute of the list `{name}`"), block);
@@ -171,7 +172,7 @@ impl Writer<'_> {
         let rows = block.lines.iter().map(|line| {
             let wraps = number.starts_with('u') && line.number < 0;
             let value = i128::from(line.number) + if wraps { 1 << bits_of(number) } else { 0 };
-            format!("{}{} {:?} = {value},\n", attributes(&self.doc_of(line), &line.kernel), variant(&line.name), line.name)
+            format!("{}{} {:?} = {value},\n", attributes(&self.numbered_doc_of(line), &line.kernel), variant(&line.name), line.name)
         });
         let about = about(&format!("A number with names: `{name}`"), block);
         format!("names! {{ {}{}: {number} {{\n{}}} }}\n", attributes(&about, ""), type_name("enum", name), rows.collect::<String>())
@@ -286,10 +287,16 @@ impl Writer<'_> {
     }
 
     fn doc_of(&self, line: &Line) -> String {
-        let mut parts = Vec::new();
-        if !line.kernel.is_empty() {
-            parts.push(format!("`{}`", line.kernel));
-        }
+        self.doc_with(line, (!line.kernel.is_empty()).then(|| format!("`{}`", line.kernel)))
+    }
+
+    /// The same with the number after the kernel's name: the type of an attribute, or the number that has the name.
+    fn numbered_doc_of(&self, line: &Line) -> String {
+        self.doc_with(line, (!line.kernel.is_empty()).then(|| format!("`{}` ({})", line.kernel, line.number)))
+    }
+
+    fn doc_with(&self, line: &Line, kernel: Option<String>) -> String {
+        let mut parts: Vec<String> = kernel.into_iter().collect();
         parts.extend(UNITS.iter().find(|(unit, _)| *unit == line.unit).map(|(_, text)| text.to_string()));
         if matches!(&line.form, Some(Form::Number(number) | Form::Enum(number, _) | Form::Bits(number, _)) if number.starts_with("be")) {
             parts.push("big-endian in the message".to_string());

@@ -26,7 +26,7 @@ fn the_examples_of_the_page_are_read() {
         "pub mod qdiscs",
         "pub mod codel",
         "CodelAttr Plain",
-        "#[doc = \"`TCA_CODEL_TARGET`, in microseconds.\"]",
+        "#[doc = \"`TCA_CODEL_TARGET` (1), in microseconds.\"]",
         "Target target with_target \"Target\" \"\" 1 0 (u32) (u32) (u32)",
         "CodelXstats {",
         "#[doc = \"In microseconds.\"]\nldelay \"ldelay\" \"\" (u32) (u32)",
