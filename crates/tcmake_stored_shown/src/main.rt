@@ -25,7 +25,8 @@ fn main(rt: HostRuntime) -> ExitCode {
         &mut rt.stderr(),
     )
     .status();
-    if status != 0 {
+    // The codec refuses some of the messages.
+    if status != 1 {
         return ExitCode::from(status);
     }
     match fs::open(&rt, "messages") {
