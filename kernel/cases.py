@@ -155,7 +155,7 @@ class Cases:
 
     def __init__(self, programs):
         self.guest = Guest("cases")
-        names = Names(f"{HERE}/names.txt")
+        names = Names(f"{HERE}/sent.txt")
         self.runs = [Run(case, self.guest, programs, names) for case in read_cases()]
 
     def judge(self):

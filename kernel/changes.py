@@ -79,7 +79,7 @@ class Changes:
     """All kinds, in some guests."""
 
     def __init__(self, programs, seed):
-        self.guests, names, chance = [Guest(f"changes.{it}") for it in range(GUESTS)], Names(f"{HERE}/names.txt"), random.Random(seed)
+        self.guests, names, chance = [Guest(f"changes.{it}") for it in range(GUESTS)], Names(f"{HERE}/sent.txt"), random.Random(seed)
         for guest in self.guests:
             with open(f"{guest.folder}/flush", "w") as file:
                 file.write(FLUSH)

@@ -84,7 +84,7 @@ class Interfaces:
 
     def __init__(self, programs, seed, count, numbers=()):
         self.seed, self.guests, self.trials = seed, [], []
-        names = Names(f"{HERE}/names.txt")
+        names = Names(f"{HERE}/sent.txt")
         for number, commands in enumerate(interfaces(seed, count)):
             if numbers and number not in numbers:
                 continue

@@ -1,4 +1,4 @@
-"""Messages of route netlink: written in the notation of sent.txt, read with the names of names.txt, changed into forms
+"""Messages of route netlink: written in the notation of sent.txt, read with its names, changed into forms
 that are not canonical, and dumps made requests."""
 
 import collections
@@ -11,7 +11,7 @@ NESTED, BYTE_ORDER, TYPE = 0x8000, 0x4000, 0x3FFF
 SIZES = {"u8": 1, "u16": 2, "u32": 4, "i16": 2, "i32": 4, "be16": 2, "be32": 4}
 ADDRESSES = {"mac": 6, "ip4": 4, "ip6": 16}
 
-# A row of an attribute table. `form` is how its payload is written, as names.txt lists them.
+# A row of an attribute table. `form` is how its payload is written, as sent.txt lists them.
 Row = collections.namedtuple("Row", "name number form")
 
 
@@ -21,13 +21,20 @@ def lines_of(path):
         return [it.rstrip("\n") for it in file if it.strip() and it[0] != "#"]
 
 
+def halves_of(path):
+    """The lines of sent.txt with names, and those with messages, which begin with a section."""
+    found = lines_of(path)
+    at = next(number for number, line in enumerate(found) if line[0] == "=")
+    return found[:at], found[at:]
+
+
 class Names:
-    """names.txt: tables by name and by type, records, and for each kind the Rust variant around its options."""
+    """The names in sent.txt: tables by name and by type, records, and for each kind the Rust variant around its options."""
 
     def __init__(self, path):
         self.by_name, self.by_type = collections.defaultdict(dict), collections.defaultdict(dict)
         self.records, self.layers = {}, {}
-        for line in lines_of(path):
+        for line in halves_of(path)[0]:
             head, _, rest = line.partition(": ")
             words, pairs = head.split(), [it.split() for it in rest.split(", ")]
             if words[0] in ("kind", "action-kind"):
@@ -227,7 +234,7 @@ def tc_header(link, handle, parent, info):
 def read_sent(names, path):
     """The messages of sent.txt by their names, SECTION.NAME."""
     messages, section, fields, lines = {}, "", {}, []
-    for line in lines_of(path):
+    for line in halves_of(path)[1]:
         if line[0] == " ":
             lines[-1] += line
         else:

@@ -164,7 +164,7 @@ class Pairs:
 
     def __init__(self, programs, seed, count, numbers=()):
         self.seed, self.guests, self.pairs = seed, [], []
-        names = Names(f"{HERE}/names.txt")
+        names = Names(f"{HERE}/sent.txt")
         for number, pair in enumerate(pairs(seed, count)):
             if numbers and number not in numbers:
                 continue

@@ -53,7 +53,7 @@ def named_messages(path):
     messages = []
     with open(path) as file:
         for words in map(str.split, file):
-            if len(words) == 3 and words[1] in ('tc', 'action') and re.fullmatch('[0-9a-f]+', words[2]):
+            if len(words) >= 3 and words[1] in ('tc', 'action') and re.fullmatch('[0-9a-f]+', words[2]):
                 type_in = re.search(r'\.(new|del|get)(qdisc|tclass|tfilter|action|chain)\.', words[0])
                 kind = OBJECTS[type_in[2]] + VERBS.index(type_in[1]) if type_in else 36 if words[1] == 'tc' else 48
                 messages.append(netlink(kind, bytes.fromhex(words[2]), 0, len(messages)))

@@ -35,9 +35,9 @@ fn the_json_of_labelled_messages_is_that_stored() {
     let labelled = std::fs::read_to_string(top.join("model/labelled")).expect("the messages");
     let stored = std::fs::read_to_string(top.join("crates/tcmake_stored_shown/stdout")).expect("the stored lines");
     let json: Vec<String> = labelled.lines().filter(|line| !line.starts_with('#')).map(json_of).collect();
-    // The last of the stored lines of JSON are those of these messages.
     let lines: Vec<&str> = stored.lines().filter(|line| line.starts_with('{')).collect();
-    for (ours, line) in json.iter().zip(&lines[lines.len() - json.len()..]) {
+    assert_eq!(lines.len(), json.len());
+    for (ours, line) in json.iter().zip(lines) {
         assert!(line.ends_with(&format!(",\"message\":{}}}", safe(ours))), "{line}");
     }
 }

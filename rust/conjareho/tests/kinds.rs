@@ -228,8 +228,8 @@ fn sent() -> Vec<(String, Vec<u8>)> {
     let text = std::fs::read_to_string(path).expect("the stored messages");
     let octet = |hex: &str, at: usize| u8::from_str_radix(&hex[at..at + 2], 16).expect("hex");
     let octets = |hex: &str| (0..hex.len()).step_by(2).map(|at| octet(hex, at)).collect::<Vec<u8>>();
-    let lines = text.lines().filter(|line| line.contains(".send.")).filter_map(|line| line.split_once(' '));
-    lines.filter_map(|(_, rest)| rest.split_once(' ')).map(|(mode, hex)| (mode.to_string(), octets(hex))).collect()
+    let lines = text.lines().filter(|line| line.contains(".send.")).map(|line| line.split(' ').collect::<Vec<&str>>());
+    lines.map(|words| (words[1].to_string(), octets(words[2]))).collect()
 }
 
 #[test]
