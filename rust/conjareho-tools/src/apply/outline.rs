@@ -27,16 +27,10 @@ pub(crate) fn lines(steps: &[Vec<u8>], now: &[Vec<u8>], wanted: &[Vec<u8>], devi
     for (number, step) in steps.iter().enumerate() {
         lines.extend(if deletes(step) { outline.deleted(step) } else { vec![outline.made(step)] });
         if Some(number) == last_deletion {
-            lines.extend(along.iter().map(|held| format!("{}; with what it belongs to", outline.line("  -", held))));
+            lines.extend(along.iter().map(|it| format!("{}; with what it belongs to", outline.gone_line(it))));
         }
     }
     lines
-}
-
-/// The lines of what of a plan deletes or changes something.
-pub(crate) fn changes(steps: &[Vec<u8>], now: &[Vec<u8>], wanted: &[Vec<u8>], devices: &Devices) -> Vec<String> {
-    let outline = Outline::of(steps, now, wanted, devices);
-    steps.iter().filter(|step| outline.is_there(step)).map(|step| outline.made(step).trim_start().to_string()).collect()
 }
 
 /// The changes among these requests that weren't made, each with the values that differ, those of now and those that are wanted.
@@ -70,6 +64,14 @@ impl<'a> Outline<'a> {
         Outline { steps, now, devices, old: of(now), wanted: of(wanted), gone }
     }
 
+    // The line of what goes, as it is dumped. Keys in a root table of u32 have no number of it in their requests.
+    fn gone_line(&self, (key, held): &(&Key, &Held)) -> String {
+        let is_it = |dump: &&Vec<u8>| key_of(dump).is_some_and(|own| own.within_table() == **key);
+        let is_in_root = type_of_held(held) == RTM_NEWTFILTER && key.within_table() == **key;
+        let dump = Some(self.now).filter(|_| is_in_root).and_then(|now| now.iter().find(is_it));
+        dump.map_or_else(|| self.line("  -", held), |dump| line_of("  -", dump, self.devices))
+    }
+
     fn line(&self, sign: &str, held: &Held) -> String {
         match held {
             Held::Request(request) => line_of(sign, request, self.devices),
@@ -84,8 +86,7 @@ impl<'a> Outline<'a> {
         }
         let deleted = steps.iter().filter(|step| deletes(step)).count();
         let changed = steps.iter().filter(|step| replaces(step)).count();
-        let stay =
-            self.wanted.keys().filter(|key| !key.is_order()).count().saturating_sub(steps.len() - deleted);
+        let stay = self.wanted.keys().filter(|key| !key.is_order()).count().saturating_sub(steps.len() - deleted);
         let requests = if steps.len() == 1 { "1 request".to_string() } else { format!("{} requests", steps.len()) };
         let made = steps.len() - deleted - changed;
         let others = if along == 0 { String::new() } else { format!(", and {along} with them") };
@@ -96,13 +97,15 @@ impl<'a> Outline<'a> {
 
     // The line of a request that deletes something. All filters of a priority go by one request.
     fn deleted(&self, step: &[u8]) -> Vec<String> {
-        let filters: Vec<&Held> = self.of_priority(step).into_iter().map(|(_, held)| held).collect();
-        match filters.as_slice() {
-            [] => vec![line_of("  -", self.now.iter().find(|dump| is_deleted(dump, step)).map_or(step, |it| it), self.devices)],
-            [one] => vec![self.line("  -", one)],
+        match self.of_priority(step).as_slice() {
+            [] => {
+                let dump = self.now.iter().find(|dump| is_deleted(dump, step));
+                vec![line_of("  -", dump.map_or(step, Vec::as_slice), self.devices)]
+            }
+            [one] => vec![self.gone_line(one)],
             all => {
                 let head = format!("{}; all {} filters of it", line_of("  -", step, self.devices), all.len());
-                let with_it = all.iter().map(|held| format!("{}; with its priority", self.line("  -", held)));
+                let with_it = all.iter().map(|it| format!("{}; with its priority", self.gone_line(it)));
                 [head].into_iter().chain(with_it).collect()
             }
         }
@@ -118,14 +121,14 @@ impl<'a> Outline<'a> {
     }
 
     // What isn't wanted, and goes without a request of its own. Actions stay, and what has a handle that the kernel chose isn't looked for.
-    fn gone_along(&self) -> Vec<&Held> {
+    fn gone_along(&self) -> Vec<(&Key, &Held)> {
         let is_wanted =
             |key: &Key| self.wanted.contains_key(key) || self.wanted.keys().any(|other| other.is_in_place_of(key));
         let goes = |key: &Key| {
             let is_object = !key.is_order() && !key.is_action() && !key.is_below_chosen();
             is_object && !is_wanted(key) && !self.gone.iter().any(|it| it.is_object_of(key))
         };
-        self.old.iter().filter(|(key, _)| goes(key)).map(|(_, held)| held).collect()
+        self.old.iter().filter(|(key, _)| goes(key)).collect()
     }
 
     // ---- What comes
@@ -133,12 +136,6 @@ impl<'a> Outline<'a> {
     fn made(&self, step: &[u8]) -> String {
         let sign = if replaces(step) { "  ~" } else { "  +" };
         line_of(sign, step, self.devices) + &self.more_of(step)
-    }
-
-    // True for what changes or makes again what is there, unless it is an action.
-    fn is_there(&self, step: &[u8]) -> bool {
-        let is_old = |(key, _): (Key, Held)| !key.is_action() && old_of(&key, &self.old).is_some();
-        !deletes(step) && object_of(step).is_some_and(is_old)
     }
 
     // What a request changes, why it makes again what is there, and what begins anew with that.
@@ -176,6 +173,13 @@ impl<'a> Outline<'a> {
             shown.push(format!(" and {} more", all.len() - MOST_VALUES));
         }
         shown.join(",")
+    }
+}
+
+fn type_of_held(held: &Held) -> u16 {
+    match held {
+        Held::Request(request) => type_of(request),
+        Held::Handles(_) => 0,
     }
 }
 

@@ -65,7 +65,9 @@ impl Before {
             }
             Err(why) => {
                 said.extend(why.map(|why| format!("on the way back: {why}")));
-                said.push(format!("what was there before isn't there again; it is in {kept} (tcapply {kept} makes it)"));
+                said.push(format!(
+                    "what was there before isn't there again; it is in {kept} (tcapply {kept} makes it)"
+                ));
                 Status::Lost
             }
         }
@@ -82,7 +84,8 @@ impl Before {
         let mut refused = None;
         for _ in 0..MOST_PLANS {
             let now = self.planned(&sending.world.dump(&sending.place.indices())?.messages);
-            let steps = plan(&now, &before, |key| wanted.contains_key(key)).map_err(|faults| unplanned(sending.place, &faults))?;
+            let steps = plan(&now, &before, |key| wanted.contains_key(key))
+                .map_err(|faults| unplanned(sending.place, &faults))?;
             match sending.carry_out(&steps) {
                 Ok(()) => break,
                 Err(stop @ Stop::Refused { .. }) => drop(refused.get_or_insert(stop)),

@@ -8,7 +8,7 @@ pub(crate) fn named(devices: &[Device], text: impl Display) -> String {
     let mut words: Vec<String> = Vec::new();
     for word in text.to_string().split(' ') {
         let number = word.trim_end_matches([':', ',', ';']);
-        let is_index = |device: &&Device| number.parse() == Ok(device.index);
+        let is_index = |device: &&Device| number.parse::<u32>().ok() == Some(device.index);
         let name = devices.iter().find(is_index).map(|device| format!("{}{}", device.name, &word[number.len()..]));
         let before: Vec<&str> = words.iter().rev().take(2).map(String::as_str).collect();
         match (name, before.as_slice()) {

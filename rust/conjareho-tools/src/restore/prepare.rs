@@ -5,8 +5,8 @@ use super::back::{Before, Others};
 use super::compare::{Objects, differences_in_blocks, key_of, objects_of};
 use super::file::{Save, read_save};
 use super::hardware;
-use super::named::named;
 use super::messages::{blocks_of, type_of};
+use super::named::named;
 use super::plan::{Plan, Wanted, requests, requests_beside, requests_of_dump};
 use super::sending::{PATIENCE, PAUSE};
 use super::state;
@@ -182,7 +182,8 @@ fn planned<T: Transport, L: Transport>(
 // An error if something is of another interface than those that are restored.
 fn check_interfaces(arguments: &Arguments, plan: &Plan, targets: &Targets) -> Result<(), Ended> {
     let strange = plan.requests.iter().filter(|request| targets.is_strange(request)).filter_map(|it| key_of(it));
-    let said: Vec<String> = strange.map(|key| format!("{}: {}: {STRANGE}", arguments.file_name(), named(&targets.devices, key))).collect();
+    let said: Vec<String> =
+        strange.map(|key| format!("{}: {}: {STRANGE}", arguments.file_name(), named(&targets.devices, key))).collect();
     if said.is_empty() { Ok(()) } else { Err(Ended::because(Status::NothingSent, said)) }
 }
 
