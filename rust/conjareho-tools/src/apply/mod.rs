@@ -11,6 +11,7 @@ mod scratch;
 mod tests;
 mod trial;
 mod wanted;
+mod words;
 
 use arguments::{Arguments, arguments_of};
 use plan::{plan, plan_anew};
@@ -24,7 +25,7 @@ use crate::restore::compare::by_place;
 use crate::restore::prepare::Ended;
 use crate::restore::sending::Sending;
 use crate::restore::status::Status;
-use crate::restore::world::{Stop, World, what_of};
+use crate::restore::world::{Place, Stop, World};
 use crate::restore::{Signals, hardware, open_kernel, read, same, say_all};
 use crate::save::release;
 use crate::shown::lines_of;
@@ -130,7 +131,11 @@ fn apply<T: Transport, L: Transport>(
     };
     let mut sending = Sending::new(world, &prepared.place);
     match carried_out(&prepared, &mut sending, hold, said) {
-        Ok(()) => Status::Restored,
+        Ok(()) => {
+            let is_kept = arguments.trial.is_some() && !prepared.steps.is_empty();
+            said.extend(is_kept.then(|| "Enter was pressed, so it stays".to_string()));
+            Status::Restored
+        }
         Err(stop) => {
             said.push(stop.to_string());
             let is_left = arguments.restored.no_rollback;
@@ -190,7 +195,7 @@ fn reached<T: Transport, L: Transport>(
 ) -> Result<Vec<Vec<u8>>, Stop> {
     // Actions belong to no interface.
     let after = same(sending, &prepared.wanted.objects, by_place, |key, _| key.is_action())?;
-    check_after(&without(&after, &prepared.before.others), &prepared.wanted)?;
+    check_after(&without(&after, &prepared.before.others), &prepared.wanted, sending.place)?;
     Ok(after)
 }
 
@@ -215,8 +220,8 @@ fn made_anew<T: Transport, L: Transport>(
 }
 
 /// An error if there is still a plan to what is wanted.
-fn check_after(after: &[Vec<u8>], wanted: &Wanted) -> Result<(), Stop> {
+fn check_after(after: &[Vec<u8>], wanted: &Wanted, place: &Place) -> Result<(), Stop> {
     let left = plan(after, &wanted.messages, |_| false).map_err(|faults| Stop::Unplanned(wanted.said_of(&faults)))?;
-    let named = || left.iter().map(|request| what_of(request)).collect();
-    if left.is_empty() { Ok(()) } else { Err(Stop::Differs(named())) }
+    let what = || left.iter().map(|request| place.what_of(request)).collect();
+    if left.is_empty() { Ok(()) } else { Err(Stop::Differs(what())) }
 }

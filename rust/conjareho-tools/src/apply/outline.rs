@@ -1,5 +1,6 @@
 //! A plan as lines for people: `-` deletes, `+` makes, `~` changes; then the object as `tcshow` prints it.
 
+use super::words::differing_words;
 use crate::forms_kinds::{ACTION_MESSAGE, TC_MESSAGE, TcTables};
 use crate::netlink::Devices;
 use crate::netlink::message::{
@@ -17,32 +18,174 @@ use std::collections::BTreeMap;
 /// The most values that a line has.
 const MOST_VALUES: usize = 6;
 
-/// The lines of a plan: a line that counts, and one for each request.
+/// The lines of a plan: one that counts, one for each request, and one for each object that goes with another one.
 pub(crate) fn lines(steps: &[Vec<u8>], now: &[Vec<u8>], wanted: &[Vec<u8>], devices: &Devices) -> Vec<String> {
-    let old = objects_of(&requests_of_dump(now).requests);
-    let wanted = objects_of(&requests_of_dump(wanted).requests);
-    let gone: Vec<Key> = steps.iter().filter(|step| deletes(step)).filter_map(|step| key_of(&as_new(step))).collect();
-    let line = |step: &Vec<u8>| {
-        if deletes(step) {
-            return line_of("  -", now.iter().find(|dump| is_deleted(dump, step)).unwrap_or(step), devices);
+    let outline = Outline::of(steps, now, wanted, devices);
+    let along = outline.gone_along();
+    let mut lines = vec![outline.counted(along.len())];
+    let last_deletion = steps.iter().rposition(|step| deletes(step));
+    for (number, step) in steps.iter().enumerate() {
+        lines.extend(if deletes(step) { outline.deleted(step) } else { vec![outline.made(step)] });
+        if Some(number) == last_deletion {
+            lines.extend(along.iter().map(|it| format!("{}; with what it belongs to", outline.gone_line(it))));
         }
-        let sign = if replaces(step) { "  ~" } else { "  +" };
-        line_of(sign, step, devices) + &more_of(step, replaces(step), &old, &gone)
-    };
-    [counted(steps, &wanted)].into_iter().chain(steps.iter().map(line)).collect()
+    }
+    lines
 }
 
 /// The changes among these requests that weren't made, each with the values that differ, those of now and those that are wanted.
 pub(crate) fn unmade(steps: &[Vec<u8>], now: &[Vec<u8>], wanted: &[Vec<u8>], devices: &Devices) -> Vec<String> {
-    let now = objects_of(&requests_of_dump(now).requests);
-    let wanted = objects_of(&requests_of_dump(wanted).requests);
+    let outline = Outline::of(steps, now, wanted, devices);
     let values = |step: &Vec<u8>| {
-        let (key, _) = objects_of(&[step.to_vec()]).into_iter().find(|(key, _)| !key.is_order())?;
-        let values = differing(&old_of(&key, &now)?.normal(), &old_of(&key, &wanted)?.normal());
+        let (key, _) = object_of(step)?;
+        let values = outline.differing(old_of(&key, &outline.old)?, old_of(&key, &outline.wanted)?);
         Some(values).filter(|values| !values.is_empty())
     };
     let line = |step: &Vec<u8>| Some(format!("{};{}", line_of("", step, devices).trim_start(), values(step)?));
     steps.iter().filter(|step| replaces(step)).filter_map(line).collect()
+}
+
+// A plan, and what it leads from and to.
+struct Outline<'a> {
+    steps: &'a [Vec<u8>],
+    now: &'a [Vec<u8>],
+    devices: &'a Devices,
+    // What there is, and what is wanted, as requests make it.
+    old: Objects,
+    wanted: Objects,
+    // What requests delete.
+    gone: Vec<Key>,
+}
+
+impl<'a> Outline<'a> {
+    fn of(steps: &'a [Vec<u8>], now: &'a [Vec<u8>], wanted: &[Vec<u8>], devices: &'a Devices) -> Self {
+        let gone = steps.iter().filter(|step| deletes(step)).filter_map(|step| key_of(&as_new(step))).collect();
+        let of = |dumps: &[Vec<u8>]| objects_of(&requests_of_dump(dumps).requests);
+        Outline { steps, now, devices, old: of(now), wanted: of(wanted), gone }
+    }
+
+    // The line of what goes, as it is dumped. Keys in a root table of u32 have no number of it in their requests.
+    fn gone_line(&self, (key, held): &(&Key, &Held)) -> String {
+        let is_it = |dump: &&Vec<u8>| key_of(dump).is_some_and(|own| own.within_table() == **key);
+        let is_in_root = type_of_held(held) == RTM_NEWTFILTER && key.within_table() == **key;
+        let dump = Some(self.now).filter(|_| is_in_root).and_then(|now| now.iter().find(is_it));
+        dump.map_or_else(|| self.line("  -", held), |dump| line_of("  -", dump, self.devices))
+    }
+
+    fn line(&self, sign: &str, held: &Held) -> String {
+        match held {
+            Held::Request(request) => line_of(sign, request, self.devices),
+            Held::Handles(_) => sign.to_string(),
+        }
+    }
+
+    fn counted(&self, along: usize) -> String {
+        let steps = self.steps;
+        if steps.is_empty() {
+            return "what is there is what is wanted".to_string();
+        }
+        let deleted = steps.iter().filter(|step| deletes(step)).count();
+        let changed = steps.iter().filter(|step| replaces(step)).count();
+        let stay = self.wanted.keys().filter(|key| !key.is_order()).count().saturating_sub(steps.len() - deleted);
+        let requests = if steps.len() == 1 { "1 request".to_string() } else { format!("{} requests", steps.len()) };
+        let made = steps.len() - deleted - changed;
+        let others = if along == 0 { String::new() } else { format!(", and {along} with them") };
+        format!("{requests}: {deleted} deleted{others}, {changed} changed, {made} made; {stay} objects stay")
+    }
+
+    // ---- What goes
+
+    // The line of a request that deletes something. All filters of a priority go by one request.
+    fn deleted(&self, step: &[u8]) -> Vec<String> {
+        match self.of_priority(step).as_slice() {
+            [] => {
+                let dump = self.now.iter().find(|dump| is_deleted(dump, step));
+                vec![line_of("  -", dump.map_or(step, Vec::as_slice), self.devices)]
+            }
+            [one] => vec![self.gone_line(one)],
+            all => {
+                let head = format!("{}; all {} filters of it", line_of("  -", step, self.devices), all.len());
+                let with_it = all.iter().map(|it| format!("{}; with its priority", self.gone_line(it)));
+                [head].into_iter().chain(with_it).collect()
+            }
+        }
+    }
+
+    // The filters that go with a priority, if a request deletes that, and not with requests of their own.
+    fn of_priority(&self, step: &[u8]) -> Vec<(&Key, &Held)> {
+        let is_priority = type_of(&as_new(step)) == RTM_NEWTFILTER && tcmsg_of(step).is_some_and(|it| it.handle == 0);
+        let Some(key) = key_of(&as_new(step)).filter(|_| is_priority) else { return Vec::new() };
+        let has_own = |filter: &Key| self.gone.iter().any(|it| *it != key && it.is_object_of(filter));
+        let of_it = |it: &(&Key, &Held)| !it.0.is_order() && key.is_object_of(it.0) && !has_own(it.0);
+        self.old.iter().filter(of_it).collect()
+    }
+
+    // What isn't wanted, and goes without a request of its own. Actions stay, and what has a handle that the kernel chose isn't looked for.
+    fn gone_along(&self) -> Vec<(&Key, &Held)> {
+        let is_wanted =
+            |key: &Key| self.wanted.contains_key(key) || self.wanted.keys().any(|other| other.is_in_place_of(key));
+        let goes = |key: &Key| {
+            let is_object = !key.is_order() && !key.is_action() && !key.is_below_chosen();
+            is_object && !is_wanted(key) && !self.gone.iter().any(|it| it.is_object_of(key))
+        };
+        self.old.iter().filter(|(key, _)| goes(key)).collect()
+    }
+
+    // ---- What comes
+
+    fn made(&self, step: &[u8]) -> String {
+        let sign = if replaces(step) { "  ~" } else { "  +" };
+        line_of(sign, step, self.devices) + &self.more_of(step)
+    }
+
+    // What a request changes, why it makes again what is there, and what begins anew with that.
+    fn more_of(&self, step: &[u8]) -> String {
+        let Some((key, new)) = object_of(step) else { return String::new() };
+        let Some(old) = old_of(&key, &self.old) else { return String::new() };
+        let (kind, values) = (kind_in(&old.normal()).to_string(), self.differing(old, &new));
+        if kind != kind_in(&new.normal()) {
+            return format!("; instead of {kind}");
+        }
+        if replaces(step) {
+            let anew = if has_own_actions(step) { "; its actions count from 0" } else { "" };
+            return format!(";{values}{anew}");
+        }
+        let why = match values.as_str() {
+            "" => "with what it belongs to".to_string(),
+            _ if self.gone.iter().any(|it| it.is_object_of(&key)) => {
+                format!("since this isn't changed in place:{values}")
+            }
+            _ => format!("with what it belongs to:{values}"),
+        };
+        format!("; made again, {why}{}", anew_of(step))
+    }
+
+    // The values that differ, old and new, in the words of lines; those that lines don't show by where they are.
+    fn differing(&self, old: &Held, new: &Held) -> String {
+        let (was, is) = (old.normal(), new.normal());
+        let unused: &[&str] = if is_inner(&is) { &["leaf", "quantum", "prio"] } else { &["leaf"] };
+        let mut all = differing_words(&self.line("", old), &self.line("", new), unused);
+        if all.is_empty() {
+            all = differing_values(&was, &is);
+        }
+        let mut shown = all.iter().take(MOST_VALUES).map(|it| format!(" {it}")).collect::<Vec<_>>();
+        if all.len() > MOST_VALUES {
+            shown.push(format!(" and {} more", all.len() - MOST_VALUES));
+        }
+        shown.join(",")
+    }
+}
+
+fn type_of_held(held: &Held) -> u16 {
+    match held {
+        Held::Request(request) => type_of(request),
+        Held::Handles(_) => 0,
+    }
+}
+
+// The object of a request.
+fn object_of(step: &[u8]) -> Option<(Key, Held)> {
+    objects_of(&[step.to_vec()]).into_iter().find(|(key, _)| !key.is_order())
 }
 
 // True for the dump of what a request deletes: a qdisc by its place, a filter by its handle, or its priority, which has handle 0.
@@ -62,45 +205,17 @@ fn is_deleted(dump: &[u8], step: &[u8]) -> bool {
         && chain_of(dump) == chain_of(step)
 }
 
-fn counted(steps: &[Vec<u8>], wanted: &Objects) -> String {
-    if steps.is_empty() {
-        return "what is there is what is wanted".to_string();
-    }
-    let deleted = steps.iter().filter(|step| deletes(step)).count();
-    let changed = steps.iter().filter(|step| replaces(step)).count();
-    let stay = wanted.keys().filter(|key| !key.is_order()).count().saturating_sub(steps.len() - deleted);
-    let requests = if steps.len() == 1 { "1 request".to_string() } else { format!("{} requests", steps.len()) };
-    let made = steps.len() - deleted - changed;
-    format!("{requests}: {deleted} deleted, {changed} changed, {made} made; {stay} objects stay")
-}
-
-// What a request changes, why it makes again what is there, and what begins anew with that.
-fn more_of(step: &[u8], is_change: bool, now: &Objects, gone: &[Key]) -> String {
-    let Some((key, new)) = objects_of(&[step.to_vec()]).into_iter().find(|(key, _)| !key.is_order()) else {
-        return String::new();
-    };
-    let Some(old) = old_of(&key, now) else { return String::new() };
-    let (old, new) = (old.normal(), new.normal());
-    if kind_in(&old) != kind_in(&new) {
-        return format!("; instead of {}", kind_in(&old));
-    }
-    let values = differing(&old, &new);
-    if is_change {
-        let anew = if has_own_actions(step) { "; its actions count from 0" } else { "" };
-        return format!(";{values}{anew}");
-    }
-    let why = match values.as_str() {
-        "" => "with what it belongs to".to_string(),
-        _ if gone.iter().any(|it| it.is_object_of(&key)) => format!("since this isn't changed in place:{values}"),
-        _ => format!("with what it belongs to:{values}"),
-    };
-    format!("; made again, {why}{}", anew_of(step))
-}
-
 // The kind of what there is; "" for a chain without a template and for an action.
 fn kind_in(value: &Value) -> &str {
     let attributes = value["attributes"].as_array().into_iter().flatten();
     attributes.filter_map(|it| it["Kind"].as_str()).next().unwrap_or_default()
+}
+
+// True for a class of htb with children, which uses neither its quantum nor its priority.
+fn is_inner(value: &Value) -> bool {
+    let attributes = value["attributes"].as_array().into_iter().flatten();
+    let options = attributes.filter_map(|it| it["Options"].as_array()).flatten();
+    options.filter_map(|it| it.pointer("/Htb/Parms/level")).any(|level| *level != 0)
 }
 
 // What begins anew with an object that is made again.
@@ -147,26 +262,18 @@ fn root_of(message: &[u8]) -> Option<(Root, tc_brief::Object)> {
     }
 }
 
-// ---- Values
+// ---- Values that lines don't show
 
 // The values that differ, old and new, by where they are.
-fn differing(old: &Value, new: &Value) -> String {
+fn differing_values(old: &Value, new: &Value) -> Vec<String> {
     let (mut before, mut after) = (BTreeMap::new(), BTreeMap::new());
     flatten(old, "", &mut before);
     flatten(new, "", &mut after);
     let places = before.keys().chain(after.keys().filter(|place| !before.contains_key(*place)));
-    let differing: Vec<&String> = places.filter(|place| before.get(*place) != after.get(*place)).collect();
+    let differing = places.filter(|place| before.get(*place) != after.get(*place));
     let shown =
         |values: &BTreeMap<String, String>, place: &String| values.get(place).map_or("none", |it| it).to_string();
-    let mut text: Vec<String> = differing
-        .iter()
-        .take(MOST_VALUES)
-        .map(|place| format!(" {place} {} -> {}", shown(&before, place), shown(&after, place)))
-        .collect();
-    if differing.len() > MOST_VALUES {
-        text.push(format!(" and {} more", differing.len() - MOST_VALUES));
-    }
-    text.join(",")
+    differing.map(|place| format!("{place} {} -> {}", shown(&before, place), shown(&after, place))).collect()
 }
 
 // The values that aren't made of others, by where they are; what holds each attribute isn't said.
@@ -206,9 +313,9 @@ mod tests {
     #[test]
     fn names_the_values_that_differ() {
         let class = |rate: u64, prio: u32| json!({"header": {}, "attributes": [{"Kind": "htb"}, {"Options": [{"Htb": {"Parms": {"rate": {"rate": rate}, "prio": prio}}}]}]});
-        assert_eq!(differing(&class(5, 1), &class(5, 1)), "");
-        assert_eq!(differing(&class(5, 1), &class(7, 1)), " Htb/Parms/rate/rate 5 -> 7");
-        assert_eq!(differing(&json!({"a": 1}), &json!({"b": "x"})), " a 1 -> none, b none -> x");
+        assert_eq!(differing_values(&class(5, 1), &class(5, 1)), Vec::<String>::new());
+        assert_eq!(differing_values(&class(5, 1), &class(7, 1)), ["Htb/Parms/rate/rate 5 -> 7"]);
+        assert_eq!(differing_values(&json!({"a": 1}), &json!({"b": "x"})), ["a 1 -> none", "b none -> x"]);
     }
 
     #[test]

@@ -1,12 +1,13 @@
 //! What is planned and asked before the first request is sent.
 
 use super::arguments::Arguments;
-use super::plan::plan;
+use super::plan::{Fault, plan};
 use super::wanted::Wanted;
 use crate::netlink::{Dump, Transport};
 use crate::restore::back::{Before, Others, without};
 use crate::restore::compare::objects_of;
 use crate::restore::messages::blocks_of;
+use crate::restore::named::named;
 use crate::restore::plan::requests_of_dump;
 use crate::restore::prepare::{Ended, blocks_of_others, check_blocks, is_in_block, keep};
 use crate::restore::status::Status;
@@ -40,7 +41,7 @@ pub(crate) fn planned<T: Transport, L: Transport>(
     wanted: &mut Wanted,
 ) -> Result<Planned, Ended> {
     let others = blocks_of_others(world, &wanted.targets)?;
-    check_blocks(world, &others, &wanted.requests)?;
+    check_blocks(world, &others, &wanted.requests, &wanted.targets)?;
     let dump = world.first_dump(&wanted.targets.own())?;
     let before = without(&dump.messages, &others);
     wanted.leave_out(|message| is_in_block(message, &others));
@@ -86,7 +87,8 @@ fn check_back(arguments: &Arguments, now: &[Vec<u8>], wanted: &Wanted) -> Result
         return Ok(());
     }
     plan(&wanted.messages, now, |_| true).map(drop).map_err(|faults| {
-        let mut said: Vec<String> = faults.iter().map(|fault| format!("what is there now: {}", fault.text)).collect();
+        let text = |fault: &Fault| format!("what is there now: {}", named(&wanted.targets.devices, &fault.text));
+        let mut said: Vec<String> = faults.iter().map(text).collect();
         said.push(
             "what is there now couldn't be made again, so that it isn't changed without --no-rollback".to_string(),
         );

@@ -92,7 +92,7 @@ fn a_change_that_isnt_made_is_made_anew() {
     assert_eq!(ran.status, Status::Restored, "{}", ran.said);
     assert_eq!(plain(&ran.objects).len(), plain(&wanted).len());
     assert!(plain(&wanted).iter().all(|it| plain(&ran.objects).contains(it)), "{}", ran.said);
-    let named = ["Linux ", ": class drr 1:10 dev wan ", "; Drr/Quantum 1000 -> 77"];
+    let named = ["Linux ", ": class drr 1:10 dev wan ", "; quantum 1000B -> 77B"];
     assert!(named.iter().all(|it| ran.said.contains(it)), "{}", ran.said);
 }
 

@@ -111,6 +111,6 @@ fn made_there<T: Transport, L: Transport>(
     let there = sending.world.first_dump(own)?.messages;
     let steps = plan(&there, &wanted.messages, |_| false).map_err(|faults| Stop::Unplanned(wanted.said_of(&faults)))?;
     sending.carry_out(&steps)?;
-    check_after(&same(sending, &wanted.objects, by_place, |key, _| key.is_action())?, wanted)?;
+    check_after(&same(sending, &wanted.objects, by_place, |key, _| key.is_action())?, wanted, sending.place)?;
     Ok(steps.len())
 }

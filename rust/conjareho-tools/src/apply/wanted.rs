@@ -8,6 +8,7 @@ use crate::netlink::{Devices, Transport};
 use crate::restore::compare::{Objects, key_of, objects_of};
 use crate::restore::hardware;
 use crate::restore::messages::{kind_of, type_of};
+use crate::restore::named::named;
 use crate::restore::plan::{Wanted as Asked, requests};
 use crate::restore::prepare::{Ended, names_of, save_in};
 use crate::restore::status::Status;
@@ -50,10 +51,11 @@ impl Wanted {
 
     fn said_of_one(&self, fault: &Fault) -> String {
         let line = fault.place.and_then(|place| self.numbers.get(place));
+        let text = named(&self.targets.devices, &fault.text);
         match (fault.is_of_now, line) {
-            (true, _) => format!("what is there now: {}", fault.text),
-            (false, Some(number)) => format!("{}: line {number}: {}", self.file, fault.text),
-            (false, None) => format!("{}: {}", self.file, fault.text),
+            (true, _) => format!("what is there now: {text}"),
+            (false, Some(number)) => format!("{}: line {number}: {text}", self.file),
+            (false, None) => format!("{}: {text}", self.file),
         }
     }
 }
@@ -128,14 +130,15 @@ fn faults_in(dumps: &BTreeMap<u64, Vec<u8>>, targets: &Targets) -> Vec<String> {
     let classes = Classes::of(dumps.values());
     for (number, message) in dumps {
         let Some(key) = key_of(message) else { continue };
+        let name = named(&targets.devices, &key);
         if targets.is_strange(message) {
-            faults.push(format!("line {number}: {key}: {STRANGE}"));
+            faults.push(format!("line {number}: {name}: {STRANGE}"));
         }
         if let Some(parent) = tcmsg_of(message).and_then(|header| classes.missing(header)) {
-            faults.push(format!("line {number}: {key}: the class that is its parent, {parent}, is missing"));
+            faults.push(format!("line {number}: {name}: the class that is its parent, {parent}, is missing"));
         }
-        if let Some(first) = seen.insert(key.clone(), *number) {
-            faults.push(format!("line {number}: {key}: line {first} has it too"));
+        if let Some(first) = seen.insert(key, *number) {
+            faults.push(format!("line {number}: {name}: line {first} has it too"));
         }
     }
     faults

@@ -2,11 +2,12 @@
 
 use super::compare::{Key, Objects, by_place};
 use super::messages::is_read;
+use super::named::named;
 use super::prepare::is_in_block;
 use super::same;
 use super::sending::Sending;
 use super::status::Status;
-use super::world::Stop;
+use super::world::{Place, Stop};
 use crate::apply::plan::{Fault, plan};
 use crate::netlink::Transport;
 use std::collections::BTreeMap;
@@ -64,7 +65,9 @@ impl Before {
             }
             Err(why) => {
                 said.extend(why.map(|why| format!("on the way back: {why}")));
-                said.push(format!("what was there before isn't there again; it is in {kept}"));
+                said.push(format!(
+                    "what was there before isn't there again; it is in {kept} (tcapply {kept} makes it)"
+                ));
                 Status::Lost
             }
         }
@@ -81,7 +84,8 @@ impl Before {
         let mut refused = None;
         for _ in 0..MOST_PLANS {
             let now = self.planned(&sending.world.dump(&sending.place.indices())?.messages);
-            let steps = plan(&now, &before, |key| wanted.contains_key(key)).map_err(unplanned)?;
+            let steps = plan(&now, &before, |key| wanted.contains_key(key))
+                .map_err(|faults| unplanned(sending.place, &faults))?;
             match sending.carry_out(&steps) {
                 Ok(()) => break,
                 Err(stop @ Stop::Refused { .. }) => drop(refused.get_or_insert(stop)),
@@ -98,6 +102,6 @@ impl Before {
     }
 }
 
-fn unplanned(faults: Vec<Fault>) -> Stop {
-    Stop::Unplanned(faults.into_iter().map(|fault| fault.text).collect())
+fn unplanned(place: &Place, faults: &[Fault]) -> Stop {
+    Stop::Unplanned(faults.iter().map(|fault| named(&place.devices, &fault.text)).collect())
 }

@@ -17,6 +17,11 @@ use std::fmt;
 
 /// The parent of filters of `ingress`: `TC_H_INGRESS`. Both sides of clsact, `ffff:fff2` and `ffff:fff3`, have its major number.
 const INGRESS: u32 = 0xFFFF_0000;
+/// `TC_H_ROOT`.
+const ROOT: u32 = 0xFFFF_FFFF;
+/// The parents of the filters of both sides.
+const OF_INGRESS: u32 = 0xFFFF_FFF2;
+const OF_EGRESS: u32 = 0xFFFF_FFF3;
 
 /// What an object is.
 #[derive(Clone, PartialEq, Eq, PartialOrd, Ord, Debug)]
@@ -34,32 +39,42 @@ impl fmt::Display for Key {
         match self {
             Key::Action(kind, index) => write!(f, "action {kind} index {index}"),
             Key::Order { index, parent, chain, info } => {
-                write!(f, "order of filters {}, chain {chain}, pref {}", Place(*index, *parent), info >> 16)
+                write!(f, "order of filters {} pref {}{}", Place(*index, *parent), info >> 16, InChain(*chain))
             }
             Key::Object { kind, index, parent, chain, info, handle } => {
-                let (place, handle) = (Place(*index, *parent), handle_text(*handle));
+                let (place, own) = (Place(*index, *parent), handle_text(*handle));
                 match *kind {
-                    RTM_NEWQDISC => write!(f, "qdisc {place}, handle {}", handle.as_str()),
-                    RTM_NEWTCLASS => write!(f, "class {place}, handle {}", handle.as_str()),
-                    RTM_NEWTFILTER => {
-                        write!(f, "filter {place}, chain {chain}, pref {}, handle {}", info >> 16, handle.as_str())
-                    }
-                    _ => write!(f, "chain {place}, chain {chain}"),
+                    RTM_NEWQDISC => write!(f, "qdisc {} {place}", own.as_str()),
+                    RTM_NEWTCLASS => write!(f, "class {} {place}", own.as_str()),
+                    RTM_NEWTFILTER => write!(f, "filter {handle:#x} {place} pref {}{}", info >> 16, InChain(*chain)),
+                    _ => write!(f, "chain {chain} {place}"),
                 }
             }
         }
     }
 }
 
-// An interface and a parent; of a block, whose number is the parent, the interface is -1.
+// An interface and a parent, in the words of lines; of a block, whose number is the parent, the interface is -1.
 struct Place(i32, u32);
 
 impl fmt::Display for Place {
     fn fmt(&self, f: &mut fmt::Formatter<'_>) -> fmt::Result {
-        match self.0 {
-            -1 => write!(f, "of block {}", self.1),
-            index => write!(f, "of interface {index}, parent {}", handle_text(self.1).as_str()),
+        match *self {
+            Place(MAGIC_BLOCK, number) => write!(f, "block {number}"),
+            Place(index, ROOT) => write!(f, "dev {index} root"),
+            Place(index, OF_INGRESS) => write!(f, "dev {index} ingress"),
+            Place(index, OF_EGRESS) => write!(f, "dev {index} egress"),
+            Place(index, parent) => write!(f, "dev {index} parent {}", handle_text(parent).as_str()),
         }
+    }
+}
+
+// The chain of a filter, unless it is 0.
+struct InChain(u32);
+
+impl fmt::Display for InChain {
+    fn fmt(&self, f: &mut fmt::Formatter<'_>) -> fmt::Result {
+        if self.0 == 0 { Ok(()) } else { write!(f, " chain {}", self.0) }
     }
 }
 
@@ -96,6 +111,15 @@ impl Key {
                 Some(*parent)
             }
             _ => None,
+        }
+    }
+
+    /// True for a qdisc whose handle the kernel chose, and for what is below one.
+    pub(crate) fn is_below_chosen(&self) -> bool {
+        match self {
+            Key::Object { kind: RTM_NEWQDISC, handle, .. } if CHOSEN.contains(&(handle >> 16)) => true,
+            Key::Object { index, parent, .. } => *index != MAGIC_BLOCK && CHOSEN.contains(&(parent >> 16)),
+            _ => false,
         }
     }
 
@@ -212,8 +236,8 @@ fn put_object(request: &[u8], header: Tcmsg, is_ingress: bool, objects: &mut Obj
     objects.insert(Key::Object { kind, index, parent, chain, info, handle }, Held::Request(request.to_vec()));
 }
 
-// The first handle that the kernel chooses for a qdisc, and the last.
-const CHOSEN: std::ops::RangeInclusive<u32> = 0x8000..=0xFFFE;
+/// The upper halves of the handles that the kernel chooses for qdiscs.
+pub(crate) const CHOSEN: std::ops::RangeInclusive<u32> = 0x8000..=0xFFFE;
 
 /// Objects with the handles that the kernel chose as if it had chosen them by place: the same for each state that differs in nothing else.
 pub(crate) fn by_place(objects: Objects) -> Objects {

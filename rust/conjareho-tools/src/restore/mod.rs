@@ -6,6 +6,7 @@ pub(crate) mod compare;
 pub(crate) mod file;
 pub(crate) mod hardware;
 pub(crate) mod messages;
+pub(crate) mod named;
 pub(crate) mod plan;
 pub(crate) mod prepare;
 pub(crate) mod sending;
@@ -19,6 +20,7 @@ pub(crate) mod world;
 
 use arguments::{Arguments, arguments_of};
 use compare::{Held, Key, Objects, differences, objects_of};
+use named::named;
 use plan::requests_of_dump;
 use prepare::{Prepared, prepare};
 use sending::{PATIENCE, PAUSE, Sending};
@@ -26,7 +28,7 @@ use status::Status;
 use world::{Stop, World};
 
 use crate::netlink::fault::Printable;
-use crate::netlink::{Fault, Kernel, Listener, Transport};
+use crate::netlink::{Device, Fault, Kernel, Listener, Transport};
 use crate::shown::lines_of;
 use signal_hook::consts::{SIGHUP, SIGINT, SIGTERM};
 use std::fs;
@@ -198,16 +200,16 @@ pub(crate) fn same<T: Transport, L: Transport>(
             return Ok(after);
         }
         if Instant::now() >= until {
-            return Err(Stop::Differs(named(&found)));
+            return Err(Stop::Differs(listed(&place.devices, &found)));
         }
         sleep(PAUSE);
     }
 }
 
-pub(crate) fn named(all: &[compare::Difference]) -> Vec<String> {
-    let mut named: Vec<String> = all.iter().take(MOST_NAMED).map(ToString::to_string).collect();
+fn listed(devices: &[Device], all: &[compare::Difference]) -> Vec<String> {
+    let mut said: Vec<String> = all.iter().take(MOST_NAMED).map(|it| named(devices, it)).collect();
     if all.len() > MOST_NAMED {
-        named.push(format!("and {} more", all.len() - MOST_NAMED));
+        said.push(format!("and {} more", all.len() - MOST_NAMED));
     }
-    named
+    said
 }

@@ -6,6 +6,7 @@ use super::compare::{Objects, differences_in_blocks, key_of, objects_of};
 use super::file::{Save, read_save};
 use super::hardware;
 use super::messages::{blocks_of, type_of};
+use super::named::named;
 use super::plan::{Plan, Wanted, requests, requests_beside, requests_of_dump};
 use super::sending::{PATIENCE, PAUSE};
 use super::state;
@@ -79,7 +80,7 @@ pub(crate) fn prepare<T: Transport, L: Transport>(
         planned(arguments, &wanted, &alone, &targets, &others, world)?;
     let plan = checked(arguments, plan, said)?;
     let wanted = alone.requests;
-    check_blocks(world, &others, &wanted)?;
+    check_blocks(world, &others, &wanted, &targets)?;
     let is_own = |request: &Vec<u8>| !is_in_block(request, &others);
     let blocks = wanted.iter().flat_map(|request| blocks_of(request)).chain(dump.blocks).collect();
     let back =
@@ -181,7 +182,8 @@ fn planned<T: Transport, L: Transport>(
 // An error if something is of another interface than those that are restored.
 fn check_interfaces(arguments: &Arguments, plan: &Plan, targets: &Targets) -> Result<(), Ended> {
     let strange = plan.requests.iter().filter(|request| targets.is_strange(request)).filter_map(|it| key_of(it));
-    let said: Vec<String> = strange.map(|key| format!("{}: {key}: {STRANGE}", arguments.file_name())).collect();
+    let said: Vec<String> =
+        strange.map(|key| format!("{}: {}: {STRANGE}", arguments.file_name(), named(&targets.devices, key))).collect();
     if said.is_empty() { Ok(()) } else { Err(Ended::because(Status::NothingSent, said)) }
 }
 
@@ -233,6 +235,7 @@ pub(crate) fn check_blocks<T: Transport, L: Transport>(
     world: &mut World<'_, T, L>,
     others: &Others,
     wanted: &[Vec<u8>],
+    targets: &Targets,
 ) -> Result<(), Ended> {
     let used: Others = others
         .iter()
@@ -252,7 +255,7 @@ pub(crate) fn check_blocks<T: Transport, L: Transport>(
     if found.is_empty() {
         return Ok(());
     }
-    let mut said: Vec<String> = found.iter().map(ToString::to_string).collect();
+    let mut said: Vec<String> = found.iter().map(|it| named(&targets.devices, it)).collect();
     said.push("a block that other interfaces hold too has something else than the save".to_string());
     Err(Ended::because(Status::NothingSent, said))
 }

@@ -1,7 +1,7 @@
 //! Requests as they are sent, one after the other.
 
 use super::messages::{deletes, is_plain_chain};
-use super::world::{Place, Stop, World, what_of};
+use super::world::{Place, Stop, World};
 use crate::netlink::clear::clear;
 use crate::netlink::{Fault, Refusal, Transport};
 use nix::errno::Errno;
@@ -35,7 +35,7 @@ impl<'w, 's, T: Transport, L: Transport> Sending<'w, 's, T, L> {
             self.look()?;
             (self.has_deleted, self.has_sent) = (true, true);
             clear(&mut self.world.kernel, device.index)
-                .map_err(|fault| refused(&format!("the qdiscs of {}", device.name), fault))?;
+                .map_err(|fault| refused(&format!("delete the qdiscs of {}", device.name), fault))?;
         }
         self.look()?;
         self.world.check_devices(self.place)
@@ -104,7 +104,7 @@ impl<'w, 's, T: Transport, L: Transport> Sending<'w, 's, T, L> {
             };
             let passes = [Errno::EEXIST, Errno::EPERM, Errno::EBUSY].iter().any(|errno| refusal.is(*errno));
             if !(passes && self.has_deleted && Instant::now() < until) {
-                return Err(Stop::Refused { what: what_of(request), refusal });
+                return Err(Stop::Refused { what: self.place.asked_by(request), refusal });
             }
             sleep(PAUSE);
             self.look()?;

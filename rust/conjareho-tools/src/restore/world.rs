@@ -1,7 +1,8 @@
 //! The kernel, what is heard of others' changes, and signals.
 
 use super::compare::key_of;
-use super::messages::{as_new, deletes, type_of};
+use super::messages::{as_new, deletes, replaces, type_of};
+use super::named::named;
 use crate::netlink::message::{NLM_F_DUMP, RTM_GETQDISC, Tcmsg, tc_request};
 use crate::netlink::{Device, Devices, Dump, Fault, Kernel, Listener, Notice, Refusal, Transport, state_of};
 use crate::save::save_of;
@@ -14,7 +15,7 @@ const MOST_TRIES: u32 = 8;
 /// Why restoring ends before its end.
 #[derive(Debug)]
 pub(crate) enum Stop {
-    /// The kernel refuses a request for this.
+    /// The kernel refuses to do this.
     Refused { what: String, refusal: Refusal },
     /// A socket failed.
     Fault(Fault),
@@ -41,7 +42,7 @@ impl From<Fault> for Stop {
 impl fmt::Display for Stop {
     fn fmt(&self, f: &mut fmt::Formatter<'_>) -> fmt::Result {
         match self {
-            Stop::Refused { what, refusal } => write!(f, "{what}: {refusal}"),
+            Stop::Refused { what, refusal } => write!(f, "the kernel refused to {what}: {refusal}"),
             Stop::Fault(fault) => fault.fmt(f),
             Stop::Signal(name) => write!(f, "{name} came"),
             Stop::Other { port: 0, what } => write!(f, "the kernel changed it meanwhile: {what}"),
@@ -78,6 +79,29 @@ pub(crate) struct Place {
 impl Place {
     pub(crate) fn indices(&self) -> Vec<u32> {
         self.devices.iter().map(|device| device.index).collect()
+    }
+
+    /// What a request or a notification is about, with the names of interfaces.
+    pub(crate) fn what_of(&self, message: &[u8]) -> String {
+        let verb = if deletes(message) { "deleting " } else { "" };
+        format!("{verb}{}", self.object_of(message))
+    }
+
+    /// What a request asks for: `make class 1:10 dev wan parent 1:1`.
+    pub(crate) fn asked_by(&self, request: &[u8]) -> String {
+        let verb = match (deletes(request), replaces(request)) {
+            (true, _) => "delete",
+            (_, true) => "change",
+            _ => "make",
+        };
+        format!("{verb} {}", self.object_of(request))
+    }
+
+    fn object_of(&self, message: &[u8]) -> String {
+        match key_of(&as_new(message)) {
+            Some(key) => named(&self.devices, key),
+            None => format!("a message of type {}", type_of(message)),
+        }
     }
 }
 
@@ -146,7 +170,7 @@ impl<'s, T: Transport, L: Transport> World<'s, T, L> {
         }
         let is_others = |notice: &&Notice| is_other(notice.port) && notice.concerns(&place.indices(), &place.blocks);
         match heard.notices.iter().find(is_others) {
-            Some(notice) => Err(Stop::Other { port: notice.port, what: what_of(&notice.message) }),
+            Some(notice) => Err(Stop::Other { port: notice.port, what: place.what_of(&notice.message) }),
             None => Ok(()),
         }
     }
@@ -180,13 +204,4 @@ pub(crate) fn text_of(dump: &Dump, interfaces: &[u32]) -> Result<(String, bool),
     let shown = lines_of(&dump.messages)?;
     let text = save_of(&devices, &dump.devices, &shown.text);
     Ok((text.map_err(|_| Fault::Broken("a message that isn't shown as JSON"))?, shown.has_refused))
-}
-
-/// What a request or a notification is about.
-pub(crate) fn what_of(message: &[u8]) -> String {
-    let verb = if deletes(message) { "deleting " } else { "" };
-    match key_of(&as_new(message)) {
-        Some(key) => format!("{verb}{key}"),
-        None => format!("a message of type {}", type_of(message)),
-    }
 }
