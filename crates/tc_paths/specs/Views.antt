@@ -1,4 +1,5 @@
 -- Abstract values of the code's types.
+use Rattle.std.specs.Prelude.{string_bytes}
 use Rattle.tc_paths.specs.Paths.{Path, Step, Way, here, nowhere, on}
 use Rattle.tc_paths.specs.declared.path.Path.{Path as CodePath}
 use Rattle.tc_paths.specs.declared.way.Next.{Next}
@@ -6,7 +7,7 @@ use Rattle.tc_paths.specs.declared.way.Next.TheVariants as next
 use Rattle.tc_paths.specs.declared.way.Way.{Way as CodeWay}
 
 abbrev pub path_view : CodePath → Path
-path_view p = record { names = p.names.items; pointer = p.pointer.items }
+path_view p = record { names = string_bytes p.names; pointer = string_bytes p.pointer }
 
 abbrev pub way_view : CodeWay → Way
 way_view w =

@@ -1,6 +1,6 @@
 //! The path of an attribute.
 
-ghost use Rattle.std.specs.Prelude.{◌≡◌, [], IfOk, OnOk, decimal, option_map};
+ghost use Rattle.std.specs.Prelude.{◌≡◌, [], IfOk, OnOk, option_map, string_bytes};
 ghost use Rattle.forms_attributes.specs.Frames.{frame_view};
 ghost use Rattle.forms_attributes.specs.Rows.{shown_row};
 ghost use Rattle.forms_kinds.specs.Table.{tc_tables};
@@ -13,52 +13,35 @@ use forms_attributes::attributes_shown::{Frame, kind_in};
 use forms_attributes::rows::{rows_under, shown_row};
 use forms_json::{Form, Part, Row, Tables};
 use forms_kinds::TcTables;
+use itoa::Buffer;
 use std::alloc::AllocError;
-use tc_units::put_decimal;
 
 /// The path of an attribute.
 #[derive(Drop)]
 pub struct Path {
     /// The names of the attributes that contain it, from the outside in, and its own, with slashes between: `Options/FqCodel/Limit`. An action, or an
     /// attribute without a name, has its number in its list, from 0 on.
-    pub names: Vec<u8>,
+    pub names: String,
     /// Its JSON pointer: `/attributes/1/Options/0/FqCodel/Limit`.
-    pub pointer: Vec<u8>,
+    pub pointer: String,
 }
 
 // Appends a slash and a text.
-fn put_slash(out: &mut Vec<u8>, part: &[u8]) -> Result<(), AllocError>
-    ensures { OnOk result (out.new.items ≡ slash out.old.items part.now) }
+fn put_slash(out: &mut String, part: &str) -> Result<(), AllocError>
+    ensures { OnOk result (string_bytes out.new ≡ slash (string_bytes out.old) part.now) }
 {
-    out.push(b'/')?;
-    out.extend_from_slice(part)
+    out.push_str("/")?;
+    out.push_str(part)
 }
 
 // The same, but without the slash at the beginning.
-fn put_slashed(out: &mut Vec<u8>, part: &[u8]) -> Result<(), AllocError>
-    ensures { OnOk result (out.new.items ≡ slashed out.old.items part.now) }
+fn put_slashed(out: &mut String, part: &str) -> Result<(), AllocError>
+    ensures { OnOk result (string_bytes out.new ≡ slashed (string_bytes out.old) part.now) }
 {
     if out.is_empty() {
-        return out.extend_from_slice(part);
+        return out.push_str(part);
     }
     put_slash(out, part)
-}
-
-// Appends a slash and a number.
-fn put_slash_number(out: &mut Vec<u8>, n: u64) -> Result<(), AllocError>
-    ensures { OnOk result (out.new.items ≡ slash out.old.items (decimal n)) }
-{
-    out.push(b'/')?;
-    put_decimal(out, n)
-}
-
-fn put_slashed_number(out: &mut Vec<u8>, n: u64) -> Result<(), AllocError>
-    ensures { OnOk result (out.new.items ≡ slashed out.old.items (decimal n)) }
-{
-    if out.is_empty() {
-        return put_decimal(out, n);
-    }
-    put_slash_number(out, n)
 }
 
 impl Path {
@@ -69,17 +52,17 @@ impl Path {
     fn number(&mut self, n: u64) -> Result<(), AllocError>
         ensures { OnOk result (path_view self.new ≡ numbered (path_view self.old) n) }
     {
-        put_slash_number(&mut self.pointer, n)
+        put_slash(&mut self.pointer, Buffer::new().format(n))
     }
 
-    fn call(&mut self, name: &[u8]) -> Result<(), AllocError>
+    fn call(&mut self, name: &str) -> Result<(), AllocError>
         ensures { OnOk result (path_view self.new ≡ called (path_view self.old) name.now) }
     {
         put_slashed(&mut self.names, name)?;
         put_slash(&mut self.pointer, name)
     }
 
-    fn enter_layer(&mut self, layer: &[u8]) -> Result<(), AllocError>
+    fn enter_layer(&mut self, layer: &str) -> Result<(), AllocError>
         ensures { OnOk result (path_view self.new ≡ in_layer (path_view self.old) layer.now) }
     {
         if layer.is_empty() {
@@ -91,8 +74,8 @@ impl Path {
     fn count(&mut self, n: u64) -> Result<(), AllocError>
         ensures { OnOk result (path_view self.new ≡ counted (path_view self.old) n) }
     {
-        put_slashed_number(&mut self.names, n)?;
-        put_slash_number(&mut self.pointer, n)
+        let mut buffer = Buffer::new();
+        self.call(buffer.format(n))
     }
 }
 
@@ -100,7 +83,7 @@ impl Path {
 fn put_by_row(
     path: &mut Path,
     n: u64,
-    layer: &[u8],
+    layer: &str,
     row: Option<Row<'static>>,
 ) -> Result<Form, AllocError>
     ensures { IfOk result (λ form. (path_view path.new, form) ≡ by_row (path_view path.old) n layer.now (option_map row_view row.entry)) }
@@ -109,7 +92,7 @@ fn put_by_row(
         Some(row) => {
             path.number(n)?;
             path.enter_layer(layer)?;
-            path.call(row.name.as_bytes())?;
+            path.call(row.name)?;
             Ok(row.form)
         }
         None => {
@@ -132,10 +115,10 @@ fn put_by_kind(
     match kind {
         Some(_) => {
             path.number(n)?;
-            path.call(b"Kind")?;
+            path.call("Kind")?;
             Ok(Form::Hex)
         }
-        None => put_by_row(path, n, &[], row),
+        None => put_by_row(path, n, "", row),
     }
 }
 
@@ -182,7 +165,7 @@ pub(crate) fn put_place(
     match list {
         Form::List(place) => {
             let row = row_at(place, kind, frame.word);
-            put_by_row(path, n, layer_at(place).as_bytes(), row)
+            put_by_row(path, n, layer_at(place), row)
         }
         Form::InForce(place) | Form::Own(place) => {
             let row = row_at(place, kind, frame.word);

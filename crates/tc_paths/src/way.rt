@@ -1,6 +1,6 @@
 //! The way to a byte of a message, through the attributes that contain it.
 
-ghost use Rattle.std.specs.Prelude.{◌≡◌, [], IfOk, OnOk, codes, drop, option_map};
+ghost use Rattle.std.specs.Prelude.{◌≡◌, [], IfOk, OnOk, codes, drop, option_map, string_bytes};
 ghost use Rattle.forms_attributes.specs.Frames.{frame_view};
 ghost use Rattle.forms_values.specs.Tables.{fields_view};
 ghost use Rattle.tc_paths.specs.Paths.{along, attributes_in, is_list, kind_after, kind_within, list_of, list_path, path_in};
@@ -60,7 +60,10 @@ fn kind_within<'a>(list: Form, kind: &'a str, bytes: &'a [u8]) -> &'a str
 fn is_list(form: Form) -> bool
     ensures { result ≡ is_list form }
 {
-    matches!(form, Form::List(_) | Form::InForce(_) | Form::Own(_) | Form::Indexed(_))
+    matches!(
+        form,
+        Form::List(_) | Form::InForce(_) | Form::Own(_) | Form::Indexed(_)
+    )
 }
 
 // From the path of an attribute in a list of this form to that of the list in it.
@@ -68,7 +71,7 @@ fn enter_list(path: &mut Path, list: Form) -> Result<(), AllocError>
     ensures { OnOk result (path_view path.new ≡ list_path list (path_view path.old)) }
 {
     match list {
-        Form::Indexed(_) => path.pointer.extend_from_slice(b"/attributes"),
+        Form::Indexed(_) => path.pointer.push_str("/attributes"),
         _ => Ok(()),
     }
 }
@@ -196,17 +199,15 @@ fn after_header(bytes: &[u8], header: usize) -> &[u8]
 }
 
 fn path_to_list(alloc: Global) -> Result<Path, AllocError>
-    ensures names { IfOk result (λ path. path.names.items ≡ []) }
-    ensures pointer { IfOk result (λ path. path.pointer.items ≡ codes "/attributes") }
+    ensures names { IfOk result (λ path. string_bytes path.names ≡ []) }
+    ensures pointer { IfOk result (λ path. string_bytes path.pointer ≡ codes "/attributes") }
 {
-    let mut pointer = Vec::new(alloc);
-    pointer.extend_from_slice(b"/attributes")?;
-    Ok(
-        Path {
-            names: Vec::new(alloc),
-            pointer,
-        },
-    )
+    let mut pointer = String::new(alloc);
+    pointer.push_str("/attributes")?;
+    Ok(Path {
+        names: String::new(alloc),
+        pointer,
+    })
 }
 
 /// The path of the attribute that begins at an offset in a message of this form (`TC_MESSAGE` or `ACTION_MESSAGE` of `forms_kinds`), after a header of this

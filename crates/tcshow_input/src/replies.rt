@@ -59,7 +59,7 @@ impl<'a, A: Allocator + Copy> Printer<'a, A> {
         ensures form { self.new.output.is_json ≡ self.old.output.is_json }
         ensures put { OnOk result ((text : List ℕ) × IfTaken (is_answer_matched (state_of self.old).before (state_of self.old).filter
             (reason_of (answer_of reply.now.answer)) (message_view reply.now.request))
-                (ShowsAnswer self.old.output.is_json (state_of self.old).view (state_of self.old).before
+            (ShowsAnswer self.old.output.is_json (state_of self.old).view (state_of self.old).before
             (header_view reply.now.header) (reason_of (answer_of reply.now.answer)) (message_view reply.now.request) text × (false ≡ false)) text false
             × Grows text false (state_of self.old) (state_of self.new)) }
     {
@@ -211,7 +211,7 @@ impl<'a, A: Allocator + Copy> Printer<'a, A> {
             (reason_of (answer_of reply.now.answer)) (message_view reply.now.request) text × Grows text false (state_of self.old) (state_of self.new)) }
     {
         self.page.restart(layout_of(self.options.format));
-        show_reason(self.alloc, &mut self.page, reply)?;
+        show_reason(self.json, &mut self.page, reply)?;
         let request = self.request_page(reply)?;
         put_request(&mut self.page, request)?;
         self.put_page()

@@ -8,12 +8,9 @@ use Rattle.std.specs.Prelude.{◌%◌, ◌&&◌, ◌++◌, ◌-◌, ◌==◌, �
 use Rattle.tc_brief.specs.Lines.{message_lines}
 use Rattle.tc_brief.specs.Words.{word_byte, written}
 use Rattle.tc_capture.specs.Message.{Message as Netlink}
-use Rattle.tc_columns.specs.declared.root.Root.{Root}
-use Rattle.tc_columns.specs.declared.root.Root.TheVariants as root
-use Rattle.tc_outline.specs.Outline.{form_of}
-use Rattle.tc_paths.specs.Paths.{Path, path_in}
+use Rattle.tc_paths.specs.Paths.{Path}
 use Rattle.tc_select.specs.Kinds.{frames_in}
-use Rattle.tcshow_json.specs.Line.{errno_text, offset_in_message}
+use Rattle.tcshow_json.specs.Line.{errno_text, offset_in_message, path_at}
 use Rattle.tcshow_json.specs.Messages.{Header, Message, Reason}
 use Rattle.tcshow_json.specs.Objects.{root_of}
 use Rattle.tcshow_json.specs.declared.message.Origin.{Origin}
@@ -43,15 +40,9 @@ abbrev pub sentence : Option (List ℕ) → List ℕ
 sentence None = []
 sentence (Some text) = codes " \"" ++ (sentence_bytes 32 (strip text) ++ codes "\"")
 
--- the length of a message's header: of struct tcamsg, or of struct tcmsg
-abbrev pub header_length : Root → ℕ
-header_length root.Action = 4
-header_length root.Flush = 4
-header_length about = 20
-
 -- the names of the attributes that contain the one that begins at this byte of a message, from the outside in, and its own; `None` if none begins there
 abbrev pub names_at : Message → ℕ → Option (List ℕ)
-names_at m n = option_map (λ (p : Path). p.names) (path_in (form_of (root_of m)) (header_length (root_of m)) m.payload n)
+names_at m n = option_map (λ (p : Path). p.names) (path_at m n)
 
 -- the place in the request, if it names one
 abbrev pub place_in : Message → Option ℕ → List (List ℕ)

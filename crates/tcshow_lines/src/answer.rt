@@ -5,7 +5,7 @@ ghost use Rattle.tc_brief.specs.Words.{written};
 ghost use Rattle.tc_capture.specs.Answer.{answer_of};
 ghost use Rattle.tcshow_json.specs.Line.{offset_in_message};
 ghost use Rattle.tcshow_json.specs.Messages.{header_view, message_view, reason_of};
-ghost use Rattle.tcshow_lines.specs.Answers.{IsAnswer, IsAsked, asked_bytes, bytes_like, header_length, is_like, last_where, names_at};
+ghost use Rattle.tcshow_lines.specs.Answers.{IsAnswer, IsAsked, asked_bytes, bytes_like, is_like, last_where};
 ghost use Rattle.tcshow_lines.specs.Answers.{place_in, request_begin, request_of, sentence, sentence_byte, sentence_bytes, told_text, told_words, with_bytes};
 ghost use Rattle.tcshow_lines.specs.Begins.{time_in, timed, words_text};
 ghost use Rattle.tcshow_lines.specs.Lines.{IsEnded, IsSaid, names_after};
@@ -13,7 +13,7 @@ ghost use Rattle.tcshow_lines.specs.Past.{past_of, request_view, requests_view};
 
 use crate::begin::{begin_with, put_verb};
 use crate::fault::put_place;
-use crate::line::{Lines, form_of, line_without_bytes, lines_said};
+use crate::line::{Lines, line_without_bytes, lines_said};
 use crate::past::{Request, Requests};
 use crate::times::TimeFormat;
 use crate::verb::{asked_verb, object_in};
@@ -22,8 +22,7 @@ use nla_frames::strip_nul;
 use std::alloc::{AllocError, Global};
 use tc_brief::{put_byte, put_word};
 use tc_capture::{NLMSG_HEADER_LEN, Time};
-use tc_columns::{LinkNames, Root};
-use tc_paths::{Path, path_in};
+use tc_columns::LinkNames;
 use tcshow_json::{Message, NetlinkHeader, Reply};
 
 // Appends a byte of the kernel's sentence after another.
@@ -64,30 +63,6 @@ pub(crate) fn put_sentence(out: &mut Vec<u8>, text: Option<&[u8]>) -> Result<(),
     }
 }
 
-// The length of the header of messages of this root.
-fn header_length(root: Root) -> usize
-    ensures { result ≡ header_length root }
-{
-    match root {
-        Root::Action | Root::Flush => 4,
-        _ => 20,
-    }
-}
-
-// The path of the attribute that begins at an offset of a request.
-fn path_at(alloc: Global, request: &Message<'_>, offset: u64) -> Result<Option<Path>, AllocError>
-    ensures { IfOk result (λ path. option_map (λ p. p.names.items) path ≡ names_at (message_view request.now) offset) }
-{
-    let root = request.root();
-    path_in(
-        alloc,
-        form_of(root),
-        header_length(root),
-        request.payload,
-        offset as usize,
-    )
-}
-
 // Appends an offset of a request, and the names of the attributes on the way to it.
 fn put_place_at(
     alloc: Global,
@@ -97,9 +72,9 @@ fn put_place_at(
 ) -> Result<(), AllocError>
     ensures { OnOk result (out.new.items ≡ out.old.items ++ written (place_in (message_view request.now) (Some offset))) }
 {
-    let path = path_at(alloc, request, offset)?;
+    let path = request.path_at(alloc, offset)?;
     match path {
-        Some(path) => put_place(alloc, out, Some(path.names.as_slice()), offset),
+        Some(path) => put_place(alloc, out, Some(path.names.as_bytes()), offset),
         None => put_place(alloc, out, None, offset),
     }
 }

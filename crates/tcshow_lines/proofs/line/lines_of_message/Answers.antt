@@ -26,4 +26,4 @@ returns-clause-ended c =
     let time = time_in c.args.format (past_of c.args.past.now) m.origin.time in
     let shown = subst (IsShown true) (sym (c.as_slice.ensures.value ∙ c.in_ok-front.ensures)) (words_shown (timed time (verb_words speech.verb))) in
     IfOk-weaker c.lines_said.result _ _ (λ lines h. said_ended _ c.as_slice.result.now c.args.statistics _ m lines.text.items shown h)
-        c.lines_said.ensures.lines
+    c.lines_said.ensures.lines

@@ -21,7 +21,7 @@ loop-month-preserved c =
       place = ap (λ n. place_in (month_length c.args.leap) (c.args.months - (c.loop-month._month + 1)) (c.loop-month.place.part + 1)
           (c.loop-month.place.before - n)) c.month_length-length.ensures
           ∙ sym (place_later (month_length c.args.leap) (c.args.months - c.loop-month._month) (c.args.months - (c.loop-month._month + 1))
-              c.loop-month.place.part c.loop-month.place.before one_less big)
+          c.loop-month.place.part c.loop-month.place.before one_less big)
           ∙ c.loop-month.invariant.place;
       part = search rules;
       few = search rules;

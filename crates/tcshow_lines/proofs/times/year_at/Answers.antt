@@ -21,7 +21,7 @@ loop-year-preserved c =
       place = ap (λ n. place_in year_length (c.args.years - (c.loop-year._year + 1)) (c.loop-year.place.part + 1) (c.loop-year.place.before - n))
           c.year_length-length.ensures
           ∙ sym (place_later year_length (c.args.years - c.loop-year._year) (c.args.years - (c.loop-year._year + 1)) c.loop-year.place.part
-              c.loop-year.place.before one_less big)
+          c.loop-year.place.before one_less big)
           ∙ c.loop-year.invariant.place;
       part = search rules;
       few = search rules;

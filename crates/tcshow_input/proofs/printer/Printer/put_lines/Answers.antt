@@ -25,6 +25,6 @@ returns-clause-put g c =
       (found.ended, view, found.fault),
       grows_counted text fault s (record s { json = now.is_json; text = now.bytes.items }) (state_of c.count_fault.new.self)
           (more_text s now.is_json now.bytes.items text c.lines.ensures.form (c.in_ok-lines-2.ensures.put ∙ ap (λ l. s.text ++ l) c.deref.ensures.value))
-              counted,
+          counted,
     ))
     c.count_fault.ensures.counted
