@@ -146,7 +146,7 @@ impl<'a> Way<'a> {
 
 // The path at the end of the way, of at most so many steps.
 fn along(start: Way<'_>, most: usize) -> Result<Option<Path>, AllocError>
-    requires { start.entry.passed ≡ 0 }
+    requires { start.passed ≡ 0 }
     ensures { IfOk result (λ path. option_map path_view path ≡ along most (way_view start.entry)) }
 {
     let mut way = start;

@@ -5,6 +5,6 @@ use Rattle.tc_paths.proofs.way.along.Given as goal
 
 abbrev pub invariant-loop-step : goal.invariant-loop-step
 invariant-loop-step l = record {
-  way : along (l.most - l._step) (way_view l.way) ≡ along l.most (way_view l.start);
+  way : along (l.most - l._step) (way_view l.way) ≡ along l.most (way_view l.fn.start);
   few : l.way.passed ≤ l._step;
 }
