@@ -31,7 +31,8 @@ fn put_slash(out: &mut String, part: &str) -> Result<(), AllocError>
     ensures { OnOk result (string_bytes out.new ≡ slash (string_bytes out.old) part.now) }
 {
     out.push_str("/")?;
-    out.push_str(part)
+    out.push_str(part)?;
+    Ok(())
 }
 
 // The same, but without the slash at the beginning.
@@ -39,7 +40,8 @@ fn put_slashed(out: &mut String, part: &str) -> Result<(), AllocError>
     ensures { OnOk result (string_bytes out.new ≡ slashed (string_bytes out.old) part.now) }
 {
     if out.is_empty() {
-        return out.push_str(part);
+        out.push_str(part)?;
+        return Ok(());
     }
     put_slash(out, part)
 }

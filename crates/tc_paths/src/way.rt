@@ -70,10 +70,10 @@ fn is_list(form: Form) -> bool
 fn enter_list(path: &mut Path, list: Form) -> Result<(), AllocError>
     ensures { OnOk result (path_view path.new ≡ list_path list (path_view path.old)) }
 {
-    match list {
-        Form::Indexed(_) => path.pointer.push_str("/attributes"),
-        _ => Ok(()),
+    if matches!(list, Form::Indexed(_)) {
+        path.pointer.push_str("/attributes")?;
     }
+    Ok(())
 }
 
 impl<'a> Way<'a> {
