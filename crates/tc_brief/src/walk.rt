@@ -115,6 +115,9 @@ fn row_in<'t, W: Words>(words: &W, place: usize, base: usize, key: &'t str) -> R
     if let Some(row) = find_row(words.rows(place), key) {
         return row;
     }
+    if base == place {
+        return plain_row(key);
+    }
     if let Some(row) = find_row(words.rows(base), key) {
         return row;
     }
@@ -163,6 +166,9 @@ fn display_at<C: Columns>(
     }
     if let Some(display) = find(columns.columns(place), key) {
         return display;
+    }
+    if base == place {
+        return display_without_column(key);
     }
     if let Some(display) = find(columns.columns(base), key) {
         return display;
