@@ -1,4 +1,5 @@
 pub mod Bare
 pub mod Choices
 pub mod Stacks
+pub mod Tapes
 pub mod Written

@@ -1,10 +1,7 @@
 -- The leaves of JSON, each with its column and its row.
 use Rattle.std.specs.Borrow.{Bor}
-use Rattle.std.specs.Prelude.{Bool, List, None, Option, Some, [], bytes_eq, codes, false, if◌then◌else◌, map, option_and_then, option_map, true, ℕ, ℤ, ◌%◌}
-use Rattle.std.specs.Prelude.{◌&&◌, ◌++◌, ◌||◌, ◌∷◌}
-use Rattle.serde.specs.Event as event
-use Rattle.serde.specs.Event.{Event}
-use Rattle.tc_brief.specs.Rows.{CodeRow, Row, plain_row, row_view}
+use Rattle.std.specs.Prelude.{Bool, List, Option, map, option_map, ℕ, ℤ}
+use Rattle.tc_brief.specs.Rows.{Row, row_view}
 use Rattle.tc_brief.specs.declared.leaf.Leaf.{Leaf as CodeLeaf}
 use Rattle.tc_brief.specs.declared.leaf.Section.{Section}
 use Rattle.tc_brief.specs.declared.leaf.Shape.{Shape}

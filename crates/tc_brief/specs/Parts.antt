@@ -5,8 +5,8 @@ use Rattle.std.specs.Prelude.{◌&&◌, ◌*◌, ◌+◌, ◌++◌, ◌-◌, ◌
 use Rattle.tc_brief.specs.Leaves as leaf
 use Rattle.tc_brief.specs.Leaves.{Leaf, Value, leaves_view}
 use Rattle.tc_brief.specs.Numbers as numbers
-use Rattle.tc_brief.specs.Values.{assigned, bytes_text, depth_after, equals, is_left_out, is_opening, name_of_leaf, number_in, open_text, value_text}
-use Rattle.tc_brief.specs.Values.{is_count, is_hollow, is_number, within_word}
+use Rattle.tc_brief.specs.Values.{assigned, bytes_text, depth_after, equals, is_left_out, is_opening, name_of_leaf, number_in, opened_text, value_text}
+use Rattle.tc_brief.specs.Values.{is_count, is_hollow, is_number}
 use Rattle.tc_brief.specs.declared.leaf.Section.{Section}
 use Rattle.tc_brief.specs.declared.leaf.Section.TheVariants as section
 use Rattle.tc_brief.specs.declared.leaf.Shape.{Shape}
@@ -240,7 +240,7 @@ is_braces Braces = true
 is_braces s = false
 
 abbrev pub opened_words : Leaf → Shape → List Leaf → List (List ℕ)
-opened_words l s rest = if is_braces s && is_hollow rest then [] else valued l (open_text s ++ within_word 1 true rest)
+opened_words l s rest = if is_braces s && is_hollow rest then [] else valued l (opened_text s rest)
 
 abbrev pub words_by : Value → Around → List Leaf → Leaf → List (List ℕ)
 words_by (leaf.opens s) c rest l = opened_words l s rest

@@ -1,11 +1,12 @@
 -- The value of a leaf, as part of a word.
+use Rattle.std.specs.List.{list_all}
 use Rattle.std.specs.Prelude.{Bool, List, None, Option, Some, [], bytes_eq, codes, decimal, false, if◌then◌else◌, length, nat_le, nat_lt, true, ℕ, ℤ, ◌%◌}
 use Rattle.std.specs.Prelude.{◌&&◌, ◌+◌, ◌++◌, ◌-◌, ◌/◌, ◌==◌, ◌||◌, ◌∷◌}
 use Rattle.tc_brief.specs.Leaves as leaf
 use Rattle.tc_brief.specs.Leaves.{Leaf, Value}
 use Rattle.tc_brief.specs.Numbers.{number_text, signed_text}
 use Rattle.tc_brief.specs.declared.leaf.Shape.{Shape}
-use Rattle.tc_brief.specs.declared.leaf.Shape.TheVariants.{Braces, Brackets, Silent}
+use Rattle.tc_brief.specs.declared.leaf.Shape.TheVariants.{Brackets}
 use Rattle.tc_brief.specs.declared.row.LeftOut.{LeftOut}
 use Rattle.tc_brief.specs.declared.row.LeftOut.TheVariants.{Always, Below, Equal, Never}
 use Rattle.tc_brief.specs.declared.row.Style.{Style}
@@ -193,3 +194,28 @@ within_word n first (l ∷ ls) =
     if n == 0 then []
     else if is_skipped l then within_word n first ls
     else within_as first l l.value ++ within_word (depth_after n l.value) (is_opening l.value) ls
+
+-- ---- tables
+
+-- the items of a list: the leaves before its end
+abbrev pub items_of : List Leaf → List Leaf
+items_of [] = []
+items_of (l ∷ ls) = if is_closing l.value then [] else l ∷ items_of ls
+
+abbrev pub is_numeric_value : Value → Bool
+is_numeric_value (leaf.number n) = true
+is_numeric_value (leaf.signed z) = true
+is_numeric_value v = false
+
+abbrev pub is_numeric : Leaf → Bool
+is_numeric l = is_numeric_value l.value
+
+-- a list of more than 32 numbers
+abbrev pub is_table : Shape → List Leaf → Bool
+is_table Brackets items = nat_lt 32 (length items) && list_all is_numeric items
+is_table s items = false
+
+-- a list or record of one word; of a table only how many numbers it has is told
+abbrev pub opened_text : Shape → List Leaf → List ℕ
+opened_text s rest =
+    if is_table s (items_of rest) then codes "<" ++ (decimal (length (items_of rest)) ++ codes ">") else open_text s ++ within_word 1 true rest

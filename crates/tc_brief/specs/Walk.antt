@@ -1,6 +1,6 @@
 -- From the events of JSON to its leaves.
-use Rattle.std.specs.Prelude.{Bool, List, None, Option, Some, [], bytes_eq, codes, false, if◌then◌else◌, length, nat_lt, option_and_then, option_map, reverse}
-use Rattle.std.specs.Prelude.{true, unwrap_or, ℕ, map, ◌%◌, ◌&&◌, ◌++◌, ◌||◌, ◌∷◌}
+use Rattle.std.specs.Prelude.{Bool, List, None, Option, Some, [], bytes_eq, codes, false, if◌then◌else◌, option_and_then, option_map, reverse}
+use Rattle.std.specs.Prelude.{true, unwrap_or, ℕ, map, ◌&&◌, ◌++◌, ◌||◌, ◌∷◌}
 use Rattle.serde.specs.Event as event
 use Rattle.serde.specs.Event.{Event}
 use Rattle.serde.specs.declared.name.Case.TheVariants.{AsIs}

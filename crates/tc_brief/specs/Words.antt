@@ -1,6 +1,6 @@
 -- Words: no blank in them, and nothing but printable ASCII.
 use Rattle.std.specs.Char.{digit_char}
-use Rattle.std.specs.Prelude.{All, Bool, IsTrue, List, [], codes, false, flat_map, if◌then◌else◌, length, nat_le, true, ℕ, ◌%◌, ◌&&◌, ◌++◌, ◌/◌, ◌<◌, ◌==◌, ◌∷◌}
+use Rattle.std.specs.Prelude.{All, Bool, IsTrue, List, [], codes, false, flat_map, if◌then◌else◌, length, nat_le, true, ℕ, ◌%◌, ◌&&◌, ◌/◌, ◌<◌, ◌==◌, ◌∷◌}
 
 -- a byte of a word
 abbrev pub is_of_word : ℕ → Bool

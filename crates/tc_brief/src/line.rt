@@ -22,7 +22,7 @@ use crate::leaf::{Leaf, Section, Value};
 use crate::numbers::put_signed;
 use crate::parts::{Line, Scope, bare, count_in, is_in};
 use crate::row::Words;
-use crate::tape::tokens_of;
+use crate::tape::tape_of;
 use crate::values::{depth_after, is_left_out, is_opening, number_in, put_interface};
 use crate::walk::leaves_of;
 use forms_json::{Form, Tables};
@@ -726,8 +726,8 @@ pub fn lines_of<T: Tables, C: Columns + Drop, W: Words + Drop>(
         × (leaves (C.table (C.options columns)) W.rows (C.options columns).root (events (shown_of (T.parts_of table) form bytes.now)) ≡ Some found)
         × (text.items ≡ message_lines (said_view said.now) found)) }
 {
-    let tokens = tokens_of(alloc, table, form, bytes)?;
-    let found = leaves_of(alloc, &columns, &words, &tokens)?;
+    let tape = tape_of(alloc, table, form, bytes)?;
+    let found = leaves_of(alloc, &columns, &words, &tape)?;
     let mut line = Line {
         text: Vec::with_capacity(alloc, 256)?,
         word: Vec::with_capacity(alloc, 64)?,

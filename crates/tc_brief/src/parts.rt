@@ -9,7 +9,7 @@ ghost use Rattle.tc_brief.specs.Parts.{is_taken, is_with, key_text, key_words, m
 ghost use Rattle.tc_brief.specs.Parts.{agrees, is_braces, count_in, count_words, is_counted, or_key};
 ghost use Rattle.tc_brief.specs.Parts.{own_word, phrase, plain, protocol_words, rate_named, rate_of, rate_text, scope_view, section_words, styled_words};
 ghost use Rattle.tc_brief.specs.Parts.{takes, valued, verdict_words, words_by, words_of};
-ghost use Rattle.tc_brief.specs.Values.{assigned, name_of_leaf, number_in, open_text, value_text, within_word};
+ghost use Rattle.tc_brief.specs.Values.{assigned, name_of_leaf, number_in, opened_text, value_text, within_word};
 ghost use Rattle.tc_brief.specs.Words.{written};
 ghost use Rattle.tc_units.specs.Names.{names_view};
 ghost use Rattle.tc_units.specs.Numerals.{four_digits};
@@ -19,8 +19,8 @@ use crate::leaf::{Leaf, Section, Shape, Value};
 use crate::numbers::{put_bits, put_burst};
 use crate::row::Style;
 use crate::values::{
-    depth_after, is_count, is_hollow, is_left_out, is_opening, is_set, is_skipped, number_in,
-    put_assigned, put_hex_bytes, put_name_of, put_open, put_value, put_within,
+    depth_after, is_count, is_hollow, is_left_out, is_opening, is_set, is_skipped, is_table,
+    items_of, number_in, put_assigned, put_hex_bytes, put_name_of, put_open, put_value, put_within,
 };
 use crate::words::put_word;
 use std::alloc::AllocError;
@@ -374,8 +374,7 @@ impl Line {
             return Ok(());
         }
         self.begin_valued(leaf)?;
-        put_open(&mut self.word, shape)?;
-        put_within_word(&mut self.word, rest)?;
+        put_opened(&mut self.word, shape, rest)?;
         self.end()?;
         Ok(())
     }
@@ -443,6 +442,28 @@ impl Line {
         }
         Ok(())
     }
+}
+
+// Appends a list or record; of a list of more than 32 numbers only how many there are.
+fn put_opened(out: &mut Vec<u8>, shape: Shape, rest: &[Leaf<'_>]) -> Result<(), BriefError>
+    ensures { OnOk result (out.new.items ≡ out.old.items ++ opened_text shape (leaves_view rest.now)) }
+{
+    let items = items_of(rest);
+    if is_table(shape, items) {
+        put_count(out, items.len())?;
+        return Ok(());
+    }
+    put_open(out, shape)?;
+    put_within_word(out, rest)
+}
+
+// Appends how many numbers there are.
+fn put_count(out: &mut Vec<u8>, n: usize) -> Result<(), AllocError>
+    ensures { OnOk result (out.new.items ≡ out.old.items ++ (codes "<" ++ (decimal n ++ codes ">"))) }
+{
+    out.extend_from_slice(b"<")?;
+    put_decimal(out, n as u64)?;
+    out.extend_from_slice(b">")
 }
 
 // Appends the rest of a word that began with an open bracket.

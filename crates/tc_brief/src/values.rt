@@ -1,11 +1,12 @@
 //! The value of a leaf, as part of a word.
 
+ghost use Rattle.std.specs.List.{list_all};
 ghost use Rattle.std.specs.Prelude.{IfSome, OnOk, [], bytes_eq, ◌++◌, ◌≡◌};
 ghost use Rattle.tc_brief.specs.Leaves.{leaf_view, leaves_view, name_now, value_view};
 ghost use Rattle.tc_brief.specs.Numbers.{number_text};
 ghost use Rattle.tc_brief.specs.Values.{assigned, attribute_name, bar, bits_text, bytes_text, close_text, comma, depth_after, equals};
 ghost use Rattle.tc_brief.specs.Values.{flags_text, interface_text, is_closing, is_count, is_framing, is_hollow, is_left_out, is_number, is_opening};
-ghost use Rattle.tc_brief.specs.Values.{is_skipped, left_by, name_of_leaf, named_text};
+ghost use Rattle.tc_brief.specs.Values.{is_numeric, is_skipped, is_table, items_of, left_by, name_of_leaf, named_text};
 ghost use Rattle.tc_brief.specs.Values.{number_in, open_text, shown_name, shown_number, shown_signed, value_text, within_as};
 ghost use Rattle.tc_units.specs.Flags.{is_set};
 ghost use Rattle.tc_units.specs.Names.{names_view};
@@ -367,5 +368,48 @@ pub(crate) fn depth_after(depth: usize, value: &Value<'_>) -> Option<usize>
         Value::Opens(_) => depth.checked_add(1),
         Value::Closes(_) => Some(depth.saturating_sub(1)),
         _ => Some(depth),
+    }
+}
+
+/// The items of a list: the leaves before its end.
+pub(crate) fn items_of<'l, 't>(leaves: &'l [Leaf<'t>]) -> &'l [Leaf<'t>]
+    ensures { leaves_view result.now ≡ items_of (leaves_view leaves.now) }
+{
+    let mut count = 0;
+    for leaf in leaves {
+        if is_closing(&leaf.value) {
+            return &leaves[..count];
+        }
+        count += 1;
+    }
+    leaves
+}
+
+fn is_numeric(leaf: &Leaf<'_>) -> bool
+    ensures { result ≡ is_numeric (leaf_view leaf.now) }
+{
+    matches!(leaf.value, Value::Unsigned(_) | Value::Signed(_))
+}
+
+fn are_numeric(leaves: &[Leaf<'_>]) -> bool
+    ensures { result ≡ list_all is_numeric (leaves_view leaves.now) }
+{
+    let mut left = leaves;
+    'each: while let [leaf, rest @ ..] = left {
+        if !is_numeric(leaf) {
+            return false;
+        }
+        left = rest;
+    }
+    true
+}
+
+/// True for a list of more than 32 numbers.
+pub(crate) fn is_table(shape: Shape, items: &[Leaf<'_>]) -> bool
+    ensures { result ≡ is_table shape (leaves_view items.now) }
+{
+    match shape {
+        Shape::Brackets => items.len() > 32 && are_numeric(items),
+        _ => false,
     }
 }

@@ -1,7 +1,7 @@
 //! From the events of JSON to its leaves.
 
 ghost use Rattle.std.specs.Prelude.{IfOk, MatchOption, OnOk, Some, [], bytes_eq, option_map, unwrap_or, ◌++◌, ◌∷◌, ◌≡◌};
-ghost use Rattle.tc_lines.specs.Columns.{column_of, columns_view, find};
+ghost use Rattle.tc_lines.specs.Columns.{column_of, columns_view, find, unnamed};
 ghost use Rattle.tc_lines.specs.Lines.{companion_by, says_block};
 ghost use Rattle.tc_units.specs.Names.{names_view};
 ghost use Rattle.tc_brief.specs.Leaves.{leaf_view, leaves_view, value_view};
@@ -17,7 +17,7 @@ ghost use Rattle.tc_brief.specs.Walk.{value_of, with_number};
 use crate::error::BriefError;
 use crate::leaf::{Leaf, Section, Shape, Value};
 use crate::row::{LeftOut, Row, Style, Words};
-use crate::tape::Token;
+use crate::tape::{Tape, Token};
 use std::alloc::{AllocError, Global};
 use tc_lines::{Column, Columns, Display, InfoOf};
 use tc_units::{Name, Unit, number_of};
@@ -115,6 +115,9 @@ fn row_in<'t, W: Words>(words: &W, place: usize, base: usize, key: &'t str) -> R
     if let Some(row) = find_row(words.rows(place), key) {
         return row;
     }
+    if base == place {
+        return plain_row(key);
+    }
     if let Some(row) = find_row(words.rows(base), key) {
         return row;
     }
@@ -137,6 +140,16 @@ fn rated<'t>(outer: Row<'t>, row: Row<'t>) -> Row<'t>
     }
 }
 
+// The display of a name without a column.
+fn display_without_column(key: &str) -> Display
+    ensures { result ≡ (unnamed key.now).display }
+{
+    if is_same(key, "word") {
+        return Display::Number(Unit::LongHex);
+    }
+    Display::Plain
+}
+
 // The display of a name, among the columns of a companion, of the kind, or of every kind.
 fn display_at<C: Columns>(
     columns: &C,
@@ -154,13 +167,13 @@ fn display_at<C: Columns>(
     if let Some(display) = find(columns.columns(place), key) {
         return display;
     }
+    if base == place {
+        return display_without_column(key);
+    }
     if let Some(display) = find(columns.columns(base), key) {
         return display;
     }
-    if is_same(key, "word") {
-        return Display::Number(Unit::LongHex);
-    }
-    Display::Plain
+    display_without_column(key)
 }
 
 fn is_head(section: Section) -> bool
@@ -382,7 +395,7 @@ fn companion_by(display: &Display, block: bool, companion: usize) -> usize
 }
 
 // True for `TCM_IFINDEX_MAGIC_BLOCK`.
-fn says_block(token: &Token) -> bool
+fn says_block(token: &Token<'_>) -> bool
     ensures { result ≡ says_block (event_of token.now) }
 {
     match token {
@@ -392,14 +405,14 @@ fn says_block(token: &Token) -> bool
 }
 
 // The value of a token, as its column says.
-fn value_of<'t, C: Columns>(columns: &'t C, display: &Display, token: &'t Token) -> Value<'t>
+fn value_of<'t, C: Columns>(columns: &'t C, display: &Display, token: &Token<'t>) -> Value<'t>
     ensures { value_view result ≡ value_of (C.table (C.options columns.now)) display.now (event_of token.now) }
 {
     match token {
         Token::Bool(b) => Value::Bool(*b),
         Token::Unsigned(n) => number_value(columns, display, *n),
         Token::Signed(z) => Value::Signed(*z),
-        Token::Text(text) => text_value(columns, display, text.as_str()),
+        Token::Text(text) => text_value(columns, display, *text),
         _ => Value::Null,
     }
 }
@@ -539,12 +552,12 @@ impl<'t> Walk<'t> {
     }
 
     // The innermost record or list after a leaf: a kind selects the columns of the items after it.
-    fn noted<C: Columns>(&self, columns: &C, token: &Token, frame: Frame<'t>) -> Frame<'t>
+    fn noted<C: Columns>(&self, columns: &C, token: &Token<'_>, frame: Frame<'t>) -> Frame<'t>
         ensures { frame_view result ≡ note (C.table (C.options columns.now)) (event_of token.now) self.now.display (frame_view frame.entry) }
     {
         match (self.display, token) {
             (Display::Kind, Token::Text(name)) => Frame {
-                place: columns.under(frame.base, name.as_str()),
+                place: columns.under(frame.base, *name),
                 ..frame
             },
             _ => frame,
@@ -555,7 +568,7 @@ impl<'t> Walk<'t> {
     fn plain_leaf<C: Columns>(
         &mut self,
         columns: &'t C,
-        token: &'t Token,
+        token: &Token<'t>,
         frame: Frame<'t>,
     ) -> Result<(), AllocError>
         ensures { OnOk result (state_of self.new
@@ -579,7 +592,7 @@ impl<'t> Walk<'t> {
     fn other_leaf<C: Columns>(
         &mut self,
         columns: &'t C,
-        token: &'t Token,
+        token: &Token<'t>,
         frame: Frame<'t>,
     ) -> Result<(), AllocError>
         ensures { OnOk result (state_of self.new
@@ -591,7 +604,7 @@ impl<'t> Walk<'t> {
                 Ok(())
             }
             Token::Text(text) => {
-                let value = Value::Attribute(self.word, text.as_str());
+                let value = Value::Attribute(self.word, *text);
                 let leaf = self.leaf_of(columns, &frame, value);
                 self.out.push(leaf)?;
                 Ok(())
@@ -604,7 +617,7 @@ impl<'t> Walk<'t> {
     fn take_leaf<C: Columns>(
         &mut self,
         columns: &'t C,
-        token: &'t Token,
+        token: &Token<'t>,
         frame: Frame<'t>,
     ) -> Result<(), AllocError>
         ensures { OnOk result (state_of self.new
@@ -724,7 +737,7 @@ impl<'t> Walk<'t> {
         &mut self,
         columns: &'t C,
         words: &W,
-        token: &'t Token,
+        token: &Token<'t>,
     ) -> Result<(), BriefError>
         ensures { OnOk result (step (C.table (C.options columns.now)) W.rows (event_of token.now) (state_of self.old) ≡ Some (state_of self.new)) }
     {
@@ -733,9 +746,9 @@ impl<'t> Walk<'t> {
             None => return Err(BriefError::NotJson),
         };
         match token {
-            Token::Key(key) => self.take_key(columns, words, key.as_str(), &frame),
-            Token::BeginMap(_) => self.open_map(&frame)?,
-            Token::BeginSeq(_) => self.open_seq(&frame)?,
+            Token::Key(key) => self.take_key(columns, words, *key, &frame),
+            Token::BeginMap => self.open_map(&frame)?,
+            Token::BeginSeq => self.open_seq(&frame)?,
             Token::EndMap => self.close_map(&frame)?,
             Token::EndSeq => self.close_seq(&frame)?,
             _ => self.take_leaf(columns, token, frame)?,
@@ -749,14 +762,22 @@ pub(crate) fn leaves_of<'t, C: Columns, W: Words>(
     alloc: Global,
     columns: &'t C,
     words: &W,
-    tokens: &'t [Token],
+    tape: &'t Tape,
 ) -> Result<Vec<Leaf<'t>>, BriefError>
-    ensures { IfOk result (λ found. leaves (C.table (C.options columns.now)) W.rows (C.options columns.now).root (events_of tokens.now)
+    ensures { IfOk result (λ found. leaves (C.table (C.options columns.now)) W.rows (C.options columns.now).root (events_of tape.now)
         ≡ Some (leaves_view found.items)) }
 {
-    let mut walk = Walk::new(alloc, columns.root(), tokens.len() / 2)?;
-    for token in tokens {
-        walk.take(columns, words, token)?;
+    let mut walk = Walk::new(alloc, columns.root(), tape.kept.len() / 2)?;
+    let mut texts = tape.texts.as_str();
+    let mut left = tape.kept.as_slice();
+    'each: while let [kept, others @ ..] = left {
+        let (token, rest) = match kept.read(texts) {
+            Some(parts) => parts,
+            None => return Err(BriefError::NotJson),
+        };
+        walk.take(columns, words, &token)?;
+        texts = rest;
+        left = others;
     }
     let Walk { out, .. } = walk;
     Ok(out)

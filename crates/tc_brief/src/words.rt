@@ -1,5 +1,6 @@
 //! Words after one another, one blank between.
 
+ghost use Rattle.std.specs.List.{list_all};
 ghost use Rattle.std.specs.Prelude.{OnOk, flat_map, ◌++◌, ◌≡◌};
 ghost use Rattle.tc_brief.specs.Words.{IsWord, is_bare, spaced, word, word_byte};
 
@@ -23,14 +24,38 @@ pub fn put_byte(out: &mut Vec<u8>, b: u8) -> Result<(), AllocError>
     out.extend_from_slice(&[92, 120, hex_digit(b / 16 % 16), hex_digit(b % 16)])
 }
 
-// Appends the bytes of a word.
-fn put_bytes(out: &mut Vec<u8>, raw: &[u8]) -> Result<(), AllocError>
+fn are_bare(raw: &[u8]) -> bool
+    ensures { result ≡ list_all is_bare raw.now }
+{
+    let mut left = raw;
+    'each: while let [b, rest @ ..] = left {
+        if !is_bare(*b) {
+            return false;
+        }
+        left = rest;
+    }
+    true
+}
+
+// Appends the bytes of a word, one by one.
+fn put_each(out: &mut Vec<u8>, raw: &[u8]) -> Result<(), AllocError>
     ensures { OnOk result (out.new.items ≡ out.old.items ++ flat_map word_byte raw.now) }
 {
     for b in raw {
         put_byte(out, *b)?;
     }
     Ok(())
+}
+
+// Appends the bytes of a word.
+#[tactic(auto, using(crate::proofs::Bare::unchanged))]
+fn put_bytes(out: &mut Vec<u8>, raw: &[u8]) -> Result<(), AllocError>
+    ensures { OnOk result (out.new.items ≡ out.old.items ++ flat_map word_byte raw.now) }
+{
+    if are_bare(raw) {
+        return out.extend_from_slice(raw);
+    }
+    put_each(out, raw)
 }
 
 /// Appends a word after a blank.

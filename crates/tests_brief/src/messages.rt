@@ -722,14 +722,34 @@ static ACTIONS_BEFORE_KINDS: Known = Known {
     counted: &[],
 };
 
+// Two tables of netem, of 33 and of 32 numbers: a list of more than 32 is told by its count.
+#[rattlefmt::skip]
+static TABLES_OF_NETEM: Known = Known {
+    root: Root::Qdisc,
+    object: Object::Qdisc,
+    verb: "add",
+    port: 0,
+    digits: &[
+        "000000000500000000000100ffffffff000000000a0001006e6574656d000000a800020000000000e80300000000000000000000000000000000000046000200f0fff1fff2ff",
+        "f3fff4fff5fff6fff7fff8fff9fffafffbfffcfffdfffeffffff00000100020003000400050006000700080009000a000b000c000d000e000f001000000044000d00f0fff1ff",
+        "f2fff3fff4fff5fff6fff7fff8fff9fffafffbfffcfffdfffeffffff00000100020003000400050006000700080009000a000b000c000d000e000f00",
+    ],
+    line: &[
+        "add qdisc netem 1: dev 5 root limit 1000p DelayDist=<33> SlotDist=[-16,-15,-14,-13,-12,-11,-10,-9,-8,-7,-6,-5,-4,-3,-2,-1,0,1,2,3,4,5,6,7,8,",
+        "9,10,11,12,13,14,15]",
+    ],
+    counted: &[],
+};
+
 /// All of them.
 #[rattlefmt::skip]
-pub(crate) fn all() -> [&'static Known; 34] {
+pub(crate) fn all() -> [&'static Known; 35] {
     [
         &ACTION_CONNMARK, &ACTION_GACT, &ACTION_MIRRED, &ACTION_MPLS, &ACTION_NAT, &ACTION_POLICE, &ACTION_VLAN,
         &CHAIN_FLOWER, &QDISC_BFIFO, &QDISC_CAKE, &QDISC_CLSACT, &QDISC_CODEL, &QDISC_FQ, &QDISC_FQ_CODEL,
         &QDISC_HHF, &QDISC_HTB, &QDISC_INGRESS, &QDISC_NETEM, &QDISC_NOQUEUE, &QDISC_PRIO, &QDISC_TBF,
         &TCLASS_ETS, &TCLASS_FQ_CODEL, &TCLASS_HFSC, &TCLASS_HTB, &TCLASS_QFQ, &TCLASS_TAPRIO, &TFILTER_BPF,
         &TFILTER_FLOWER, &TFILTER_FW, &TFILTER_MATCHALL, &TFILTER_ROUTE, &FILTER_BASIC_U32, &ACTIONS_BEFORE_KINDS,
+        &TABLES_OF_NETEM,
     ]
 }
