@@ -1,7 +1,7 @@
 -- The words of a leaf, given the leaves around it.
 use Rattle.std.specs.List.{after_first, before_first}
 use Rattle.std.specs.Prelude.{Bool, List, None, Option, Some, [], bytes_eq, codes, decimal, false, if◌then◌else◌, nat_lt, suc, true, unwrap_or, zero, ℕ, ◌%◌}
-use Rattle.std.specs.Prelude.{◌&&◌, ◌*◌, ◌+◌, ◌++◌, ◌-◌, ◌/◌, ◌==◌, ◌||◌, ◌∷◌}
+use Rattle.std.specs.Prelude.{◌&&◌, ◌*◌, ◌++◌, ◌-◌, ◌/◌, ◌==◌, ◌||◌, ◌∷◌}
 use Rattle.tc_brief.specs.Leaves as leaf
 use Rattle.tc_brief.specs.Leaves.{Leaf, Value, leaves_view}
 use Rattle.tc_brief.specs.Numbers as numbers

@@ -1,4 +1,4 @@
-use Rattle.std.proofs.Common.{length, ◌++◌, ◌≡◌}
+use Rattle.std.proofs.Common.{length, ◌≡◌}
 use Rattle.tc_brief.specs.Leaves.{leaves_view}
 use Rattle.tc_brief.specs.Lines.{has_any}
 use Rattle.tc_brief.proofs.line.has_any.Given as goal

@@ -1,4 +1,4 @@
-use Rattle.std.proofs.Common.{length, ◌++◌, ◌≡◌}
+use Rattle.std.proofs.Common.{length, ◌≡◌}
 use Rattle.tc_brief.specs.Leaves.{leaves_view}
 use Rattle.tc_brief.specs.Lines.{in_head}
 use Rattle.tc_brief.proofs.line.in_head.Given as goal

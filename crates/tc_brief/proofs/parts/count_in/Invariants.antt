@@ -1,4 +1,4 @@
-use Rattle.std.proofs.Common.{length, ◌++◌, ◌≡◌}
+use Rattle.std.proofs.Common.{length, ◌≡◌}
 use Rattle.tc_brief.specs.Leaves.{leaves_view}
 use Rattle.tc_brief.specs.Parts.{count_in}
 use Rattle.tc_brief.proofs.parts.count_in.Given as goal

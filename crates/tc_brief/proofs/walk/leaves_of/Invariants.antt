@@ -1,4 +1,4 @@
-use Rattle.std.proofs.Common.{Some, length, ◌≡◌}
+use Rattle.std.proofs.Common.{IsUtf8, Some, length, ◌≡◌}
 use Rattle.tc_brief.specs.Tape.{events_in, events_of}
 use Rattle.tc_brief.specs.Walk.{start, state_of, walked}
 use Rattle.tc_brief.proofs.walk.leaves_of.Given as goal
@@ -8,8 +8,11 @@ use Rattle.tc_brief.proofs.walk.leaves_of.Given as goal
 abbrev pub invariant-each : goal.invariant-each
 invariant-each g l =
     let t = g.C.Columns.table (g.C.Columns.options l.columns) in
-    walked t g.W.Words.rows (events_in l.texts l.left) (Some (state_of l.walk))
-    ≡ walked t g.W.Words.rows (events_of l.tape) (Some (start (g.C.Columns.options l.columns).root))
+    record {
+      utf8 : IsUtf8 l.texts;
+      left : walked t g.W.Words.rows (events_in l.texts l.left) (Some (state_of l.walk))
+          ≡ walked t g.W.Words.rows (events_of l.tape) (Some (start (g.C.Columns.options l.columns).root));
+    }
 
 abbrev pub decreases-each : goal.decreases-each
 decreases-each g l = length l.left
