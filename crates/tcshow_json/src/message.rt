@@ -153,7 +153,6 @@ pub fn header_of(name: &'static str, message: &NetlinkMessage<'_>) -> NetlinkHea
     }
 }
 
-// The object of messages of this type.
 // The length of a message's header.
 fn header_length(holds: MessageType) -> usize
     ensures { result ≡ header_length holds }
@@ -164,6 +163,7 @@ fn header_length(holds: MessageType) -> usize
     }
 }
 
+// The object of messages of this type.
 fn root_by_type(header: &NetlinkHeader, payload: &[u8]) -> Root
     ensures { result ≡ root_by_type (header_view header.now) payload.now }
 {

@@ -31,11 +31,11 @@ pub struct Reply<'a> {
 }
 
 impl<'a> Reply<'a> {
-    ghost use Rattle.std.specs.Prelude.{◌≡◌, IfOk, IsAscii, option_map, string_bytes};
+    ghost use Rattle.std.specs.Prelude.{◌≡◌, IfOk, IsAscii};
     ghost use Rattle.tc_capture.specs.Answer.{answer_in, answer_of};
     ghost use Rattle.tc_capture.specs.Message.{message_of};
     ghost use Rattle.tcshow_json.specs.Messages.{answer_with, is_silent, reason_of};
-    ghost use Rattle.tcshow_json.specs.Line.{errno_text, escaped_text, offset_in_message, pointer_at};
+    ghost use Rattle.tcshow_json.specs.Line.{errno_text, escaped_text, offset_in_message};
     ghost use Rattle.tcshow_json.specs.Replies.{reply_thing};
 
     /// The answer in a netlink message. `None` if it isn't an answer, or answers another request.
@@ -90,17 +90,6 @@ impl<'a> Reply<'a> {
         match self.answer.offset {
             Some(offset) => Some(u64::from(offset).saturating_sub(NLMSG_HEADER_LEN as u64)),
             None => None,
-        }
-    }
-
-    // The path of the attribute at fault, if the answer has its offset.
-    fn path(&self, alloc: Global) -> Result<Option<Path>, AllocError>
-        ensures { IfOk result (λ path. option_map (λ p. string_bytes p.pointer) path
-            ≡ pointer_at (message_view self.now.request) (offset_in_message (reason_of (answer_of self.now.answer)).offset)) }
-    {
-        match self.offset() {
-            Some(offset) => self.request.path_at(alloc, offset),
-            None => Ok(None),
         }
     }
 }
@@ -187,7 +176,7 @@ fn show_fault_at<A: Allocator>(
 ) -> Result<(), AllocError> {
     page.text(" at ")?;
     page.number(offset)?;
-    match reply.path(alloc)? {
+    match path_of(alloc, reply)? {
         Some(path) => show_word(page, path.pointer.as_str()),
         None => Ok(()),
     }
@@ -202,9 +191,20 @@ pub fn reply_line<A: Allocator + Copy>(
     ensures { IfOk result (λ line. IsAnswered (header_view reply.now.header) (reason_of (answer_of reply.now.answer))
         (message_view reply.now.request) (string_bytes line)) }
 {
-    let path = reply.path(json)?;
+    let path = path_of(json, reply)?;
     let text = reply.text(alloc)?;
     line_with(json, reply, &text, pointer_of(&path))
+}
+
+// The path of the attribute at fault, if the answer has its offset.
+fn path_of(alloc: Global, reply: &Reply<'_>) -> Result<Option<Path>, AllocError>
+    ensures { IfOk result (λ path. option_map (λ p. string_bytes p.pointer) path
+        ≡ pointer_at (message_view reply.now.request) (offset_in_message (reason_of (answer_of reply.now.answer)).offset)) }
+{
+    match reply.offset() {
+        Some(offset) => reply.request.path_at(alloc, offset),
+        None => Ok(None),
+    }
 }
 
 // The JSON pointer of a path.
