@@ -7,3 +7,4 @@ pub mod laws;
 pub mod mode;
 pub mod program;
 pub mod run;
+mod text;
