@@ -225,7 +225,7 @@ fn line_with(
 ) -> Result<String, AllocError>
     requires text { text.now ≡ escaped_text (reason_of (answer_of reply.now.answer)).text }
     requires ascii { IsAscii text.now }
-    requires path { option_map (λ t. t.now) path.entry
+    requires path { option_map (λ t. t.now) path
         ≡ pointer_at (message_view reply.now.request) (offset_in_message (reason_of (answer_of reply.now.answer)).offset) }
     ensures { IfOk result (λ line. IsAnswered (header_view reply.now.header) (reason_of (answer_of reply.now.answer))
         (message_view reply.now.request) (string_bytes line)) }
