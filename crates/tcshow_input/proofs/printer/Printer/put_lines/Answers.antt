@@ -17,7 +17,8 @@ returns-clause-put g c =
     let fault = is_some c.in_ok-lines.lines.fault in
     let now = c.lines.new.self in
     let view = is_lines options.format options.time options.acks options.all s.before c.args.statistics
-    (names_after options.names.names.now c.names.result.now) m text c.requires (names_same options.names.names.now c.names.result.now c.args.self.now.links.names c.names.ensures) found.lines in
+    (names_after options.names.names.now c.names.result.now) m text c.requires
+    (names_same options.names.names.now c.names.result.now c.args.self.now.links.names c.names.ensures) found.lines in
     on_ok_weaker c.count_fault.result
     (λ counted. (
       text,
