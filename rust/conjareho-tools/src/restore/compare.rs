@@ -138,8 +138,17 @@ impl Key {
         };
         match (filter(self), filter(other)) {
             (Some((place, own)), Some((other, handle))) => place == other && (own == 0 || own == handle),
-            _ => self == other || self.is_in_place_of(other),
+            _ => self == other || self.is_in_place_of(other) || self.is_class_of(other),
         }
+    }
+
+    // True for two keys of one class, which a request to delete names without its parent.
+    fn is_class_of(&self, other: &Key) -> bool {
+        let class = |key: &Key| match key {
+            Key::Object { kind: RTM_NEWTCLASS, index, handle, .. } => Some((*index, *handle)),
+            _ => None,
+        };
+        class(self).is_some() && class(self) == class(other)
     }
 
     /// That of a filter without the number of its hash table of u32, as requests name those in root tables.
