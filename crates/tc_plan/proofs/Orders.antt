@@ -1,13 +1,13 @@
 -- Steps of dumps, and their order.
-use Rattle.std.proofs.Common.{◌≡◌, Bool, List, [], ◌∷◌, ◌++◌, All, IsPermutation, map, sym, ap, ◌∙◌, ℕ, append_assoc, append-nil}
-use Rattle.std.specs.List.{AllByRecursion}
+use Rattle.std.proofs.Common.{◌≡◌, Bool, ◌||◌, ◌&&◌, not, List, [], ◌∷◌, ◌++◌, All, IsPermutation, map, refl, sym, ap, ◌∙◌, ℕ, append_assoc, append-nil}
+use Rattle.std.specs.List.{AllByRecursion, flat_map, list_any}
 use Rattle.std.proofs.lemmas.List.Sorted.{IsPermutation-sym, Contains-permutation}
 use Rattle.std.proofs.lemmas.List.Elements.{All-from_recursion, recursion_from_All}
-use Rattle.tc_order.specs.Order.{IsOrder, none, next}
+use Rattle.tc_order.specs.Order.{IsOrder, none, next, is_in_order, provided, waits}
 use Rattle.tc_order.specs.declared.order.Step.{Step}
 use Rattle.std.proofs.lemmas.List.{map-append}
 use Rattle.std.proofs.lemmas.Grind.{flat_map-append}
-use Rattle.tc_plan.specs.Fates.{Parts, parts_of, links_of, objects}
+use Rattle.tc_plan.specs.Fates.{Parts, parts_of, links_of, objects, same_key, is_refused, waits_for, are_in_order}
 use Rattle.tc_plan.specs.declared.entry.Entry.{Entry}
 use Rattle.tc_plan.specs.declared.entry.Item.{Item}
 use Rattle.tc_plan.specs.declared.key.Key.{Key}
@@ -66,3 +66,26 @@ module _ {A : Type 0} where
       ap (map (λ s. links_of s.item s)) pushed ∙ map-append (λ s. links_of s.item s) old (step ∷ []) ∙ ap (λ l. l ++ links_of step.item step ∷ []) same
       ∙ ap (λ p. map (λ s. links_of s.item.place s) front ++ p ∷ []) one ∙ sym (map-append (λ s. links_of s.item.place s) front (x ∷ []))
       ∙ ap (map (λ s. links_of s.item.place s)) (sym is)
+
+module _ {A : Type 0} where
+  provided_parts : (steps : List (Step Item Key A)) → flat_map (λ (dump : Parts). dump.2) (map parts_of steps) ≡ provided steps
+  provided_parts [] = refl
+  provided_parts (step ∷ steps) = ap (λ l. step.provides.items ++ l) (provided_parts steps)
+
+  waits_same : (steps : List (Step Item Key A)) (step : Step Item Key A) → step.cannot_run ≡ is_refused step.item.fate
+      → waits_for (map parts_of steps) (parts_of step) ≡ waits same_key steps step
+  waits_same steps step is =
+      ap (λ b. b || list_any (λ key. list_any (same_key key) (flat_map (λ (dump : Parts). dump.2) (map parts_of steps))) step.needs.items) (sym is)
+      ∙ ap (λ l. step.cannot_run || list_any (λ key. list_any (same_key key) l) step.needs.items) (provided_parts steps)
+
+  in_order_by : (steps : List (Step Item Key A)) → AllByRecursion (λ step. step.cannot_run ≡ is_refused step.item.fate) steps
+      → are_in_order (map parts_of steps) ≡ is_in_order same_key steps
+  in_order_by [] all = refl
+  in_order_by (step ∷ steps) all =
+      ap (λ b. not b && are_in_order (map parts_of steps)) (waits_same (step ∷ steps) step all.0)
+      ∙ ap (λ b. not (waits same_key (step ∷ steps) step) && b) (in_order_by steps all.1)
+
+  -- dumps are in order if their steps are
+  pub in_order : (steps : List (Step Item Key A)) → All (λ step. step.cannot_run ≡ is_refused step.item.fate) steps
+      → are_in_order (map parts_of steps) ≡ is_in_order same_key steps
+  in_order steps all = in_order_by steps (recursion_from_All (λ step. step.cannot_run ≡ is_refused step.item.fate) steps all)

@@ -1,5 +1,5 @@
 -- The fate of a dump among others.
-use Rattle.std.specs.Prelude.{◌≡◌, ℕ, negsuc, Bool, true, false, List, [], ◌∷◌, ◌++◌, Option, Some, None, if◌then◌else◌, not}
+use Rattle.std.specs.Prelude.{◌≡◌, ℕ, negsuc, Bool, true, false, List, [], ◌∷◌, ◌++◌, ◌||◌, ◌&&◌, Option, Some, None, if◌then◌else◌, not}
 use Rattle.std.specs.List.{list_any, flat_map}
 use Rattle.std.specs.HashSet as bag
 use Rattle.std.specs.HashSet.{HashSet}
@@ -91,6 +91,16 @@ parts_among given before [] = []
 parts_among given before (entry ∷ entries) =
     (entry.place, fate_among given (objects before) entry, provides_by (fate_among given (objects before) entry) entry.provides.items, entry.needs.items)
     ∷ parts_among given (before ++ entry ∷ []) entries
+
+-- a dump waits for these: it is refused, or it needs a key that one of them provides
+abbrev pub waits_for : List Parts → Parts → Bool
+waits_for dumps (place, fate, provides, needs) =
+    is_refused fate || list_any (λ key. list_any (same_key key) (flat_map (λ (dump : Parts). dump.2) dumps)) needs
+
+-- no dump waits for itself or for a later one
+abbrev pub are_in_order : List Parts → Bool
+are_in_order [] = true
+are_in_order (dump ∷ dumps) = not (waits_for (dump ∷ dumps) dump) && are_in_order dumps
 
 -- a place, and the keys that a step provides and needs
 abbrev pub links_of : {T A : Type 0} → ℕ → Step T Key A → ℕ × List Key × List Key

@@ -3,7 +3,7 @@
 ghost use Rattle.std.specs.List.{list_any};
 ghost use Rattle.std.specs.Prelude.{◌≡◌, ◌++◌, List, [], true, false, All, map, IfOk, IsPermutation};
 ghost use Rattle.tc_order.specs.Order.{waits, IsOrder};
-ghost use Rattle.tc_plan.specs.Fates.{parts_of, parts_among, links_of, all_provided, same_key, is_refused, IsSetOf, among, any_among};
+ghost use Rattle.tc_plan.specs.Fates.{parts_of, parts_among, links_of, all_provided, same_key, is_refused, are_in_order, IsSetOf, among, any_among};
 ghost use Rattle.tc_plan.specs.Fates.{lacks, again, fate_by, provides_by, is_shared};
 
 use crate::entry::{Entry, Item};
@@ -16,7 +16,7 @@ use tc_order::{Order, Step, ordered};
 
 /// Sorts the requests that restore dumps, each after all of these that it needs, and decides the fate of each dump. `sorted` has
 /// requests and the objects that they make. `unordered` has dumps that can't be made, that need such, or that need one another in a
-/// circle.
+/// circle. Dumps that are in order already stay in it.
 pub fn plan<A: Allocator + Copy>(
     alloc: A,
     entries: Vec<Entry<A>, A>,
@@ -30,6 +30,9 @@ pub fn plan<A: Allocator + Copy>(
         All (λ step. is_refused step.item.fate ≡ false) made.sorted.items) }
     ensures stuck { IfOk result (λ made.
         All (λ step. waits same_key made.unordered.items step ≡ true) made.unordered.items) }
+    ensures same { IfOk result (λ made.
+        are_in_order (parts_among (all_provided entries.items) [] entries.items) ≡ true
+        → map parts_of made.sorted.items ≡ parts_among (all_provided entries.items) [] entries.items) }
 {
     let steps = steps_of(alloc, entries)?;
     let order = ordered(alloc, steps)?;

@@ -1,7 +1,7 @@
-use Rattle.std.proofs.Common.{◌≡◌, ◌++◌, false, map, IsPermutation, sym, subst, ◌∙◌}
+use Rattle.std.proofs.Common.{◌≡◌, ◌++◌, false, true, map, IsPermutation, sym, ap, subst, ◌∙◌}
 use Rattle.std.proofs.lemmas.List.Sorted.{IsPermutation-map, All-permutation}
-use Rattle.tc_plan.specs.Fates.{parts_of, same_key, is_refused}
-use Rattle.tc_plan.proofs.Orders.{order_again, front_of, all_both}
+use Rattle.tc_plan.specs.Fates.{parts_of, same_key, is_refused, are_in_order}
+use Rattle.tc_plan.proofs.Orders.{order_again, front_of, all_both, in_order}
 use Rattle.tc_plan.proofs.planned.plan.Goals as goal
 
 pub returns-clause-once : goal.returns-clause-once
@@ -25,3 +25,10 @@ returns-clause-free g c =
 
 pub returns-clause-stuck : goal.returns-clause-stuck
 returns-clause-stuck g c = c.in_ok-order.ensures.stuck
+
+pub returns-clause-same : goal.returns-clause-same
+returns-clause-same g c = λ sorted.
+    let steps = c.in_ok-steps.steps.items in
+    let parts = c.in_ok-steps.ensures.parts in
+    let here = subst (λ l. are_in_order l ≡ true) (sym parts) sorted in
+    ap (map parts_of) (c.in_ok-order.ensures.same (sym (in_order steps c.in_ok-steps.ensures.refused) ∙ here)) ∙ parts
