@@ -4,12 +4,14 @@ use Rattle.std.proofs.Common.{refl, sym, ap, subst, ◌∙◌, append_assoc, app
 use Rattle.std.proofs.lemmas.List.Elements.{All-head, All-tail, All-append}
 use Rattle.std.proofs.BufReadLemmas.{Consumes_shown}
 use Rattle.std.proofs.KnownBytes.{Consumes-trans}
-use Rattle.std.specs.Prelude.{⊤, Option, OnSome, IfSome, take}
+use Rattle.std.proofs.lemmas.Bool.{cases_lt, eqb-true, ltb-false, true≢false}
+use Rattle.std.specs.Prelude.{⊤, ◌⊎◌, ◌<◌, ◌==◌, ◌↔◌, Bool, IsTrue, nat_lt, Option, OnSome, IfSome, take}
+use Rattle.std.specs.Str.{IsTrimAsciiStart}
 use Rattle.std.specs.Io.{StartsWith}
 use Rattle.std.specs.Io.BufRead.{DropsConsumable}
 use Rattle.std.specs.Io.KnownBytes.{Consumes, IsAtEnd, Keeps}
 use Rattle.tcmake_lines.specs.Ends.{TakesPart, IsEmptyAtEnd, IsLast, with_end}
-use Rattle.tcmake_lines.specs.Lines.{lines_of, in_front, Reads, AreLines, IsFound, IsNext, EndsLine, is_end}
+use Rattle.tcmake_lines.specs.Lines.{lines_of, in_front, Reads, AreLines, IsBlank, IsFound, IsNext, IsRead, IsTooLong, EndsLine, is_end, values}
 use Rattle.tcmake_lines.specs.declared.input.Ends.{Ends}
 use Rattle.tcmake_lines.specs.declared.input.LineStatus.{LineStatus}
 use Rattle.tcmake_lines.specs.declared.input.LineStatus.TheVariants.{Whole, TooLong, End}
@@ -144,6 +146,27 @@ next_by_end a b c result found kept text part all taken p h ends = by_case resul
     by_case End e = (reads_none a b c text e taken kept_all p.last.1, reads_end a b c text e taken kept_all)
     by_case Whole e = (text, reads e.0, subst (λ f. IsFound f text kept) (sym e.1) here)
     by_case TooLong e = (text, reads e.0, subst (λ f. IsFound f text kept) (sym e.1) here)
+
+-- ---- what is read of a line
+
+-- a line is blank if nothing is left of it without the blanks at its front
+pub blank_by : (line rest : List ℕ) (is : Bool) → IsTrimAsciiStart line rest → is ≡ (length rest == 0) → IsTrue is ↔ IsBlank line
+blank_by line rest is v test = (
+  (λ yes k within. let none = eqb-true _ _ (sym test ∙ yes) in v.3 k (omega (arith, v.2, none, within))),
+  (λ blank. test ∙ eq-eqb _ _ (none blank (cases_lt v.0 (length line)))),
+)
+  where
+    none : IsBlank line → (v.0 < length line) ⊎ (length line ≤ v.0) → length rest ≡ 0
+    none blank (inl below) = absurd (true≢false (sym (blank v.0 below) ∙ v.4 below))
+    none blank (inr all) = omega (arith, v.2, all)
+
+-- a line with few values isn't too long
+pub short_by : (line : List ℕ) → length line ≤ 4194304 → nat_lt 2097312 (values line) ≡ false → ¬ IsTooLong line
+short_by line most few (inl long) = omega (arith, most, long)
+short_by line most few (inr many) = omega (arith, ltb-false _ _ few, many)
+
+pub read_by : (line : List ℕ) (is : Bool) → length line ≤ 4194304 → nat_lt 2097312 (values line) ≡ false → IsTrue is ↔ IsBlank line → is ≡ false → IsRead line
+read_by line is most few blank not = (short_by line most few, λ b. true≢false (sym (blank.1 b) ∙ not))
 
 -- ---- the end
 

@@ -1,5 +1,5 @@
 -- The lines of an input.
-use Rattle.std.specs.Prelude.{◌≡◌, ◌≢◌, ◌⊎◌, ◌<◌, ◌≤◌, ◌==◌, ⊤, ℕ, Bool, true, false, List, [], ◌∷◌, ◌++◌, length, slice_index, Option, Some, None}
+use Rattle.std.specs.Prelude.{◌≡◌, ◌≢◌, ◌⊎◌, ◌<◌, ◌≤◌, ◌==◌, ⊤, ℕ, ◌+◌, ◌*◌, Bool, true, false, List, [], ◌∷◌, ◌++◌, length, slice_index, Option, Some, None}
 use Rattle.std.specs.Prelude.{if◌then◌else◌}
 use Rattle.std.specs.List.{filter}
 use Rattle.std.specs.Io.KnownBytes.{IsAtEnd}
@@ -41,16 +41,21 @@ AreFirstLines (Some xs) lines = (later : List (List ℕ)) × (lines_of xs ≡ li
 abbrev pub most_line : ℕ
 most_line = 4194304
 
--- the most objects of a line, and how many it opens
-abbrev pub most_objects : ℕ
-most_objects = 196624
+-- how often a byte is in a line
+abbrev pub count : ℕ → List ℕ → ℕ
+count byte line = length (filter (λ c. c == byte) line)
 
-abbrev pub opened : List ℕ → ℕ
-opened line = length (filter (λ c. c == 123) line)
+-- the values of a line: ten for each object and each list that it opens, and one for each comma
+abbrev pub values : List ℕ → ℕ
+values line = 10 * (count 123 line + count 91 line) + count 44 line
 
--- a line that is too long, or opens too many objects
+-- the most values of a line
+abbrev pub most_values : ℕ
+most_values = 2097312
+
+-- a line that is too long, or has too many values
 abbrev pub IsTooLong : List ℕ → Type 0
-IsTooLong line = (most_line < length line) ⊎ (most_objects < opened line)
+IsTooLong line = (most_line < length line) ⊎ (most_values < values line)
 
 -- the part of a line that is kept: all, or the front if it is too long
 abbrev pub IsFound : LineStatus → List ℕ → List ℕ → Type 0
@@ -81,3 +86,7 @@ left_in remaining r = reader_remaining (λ inside. remaining (reader_inside insi
 -- a line of blanks
 abbrev pub IsBlank : List ℕ → Type 0
 IsBlank line = (k : ℕ) → k < length line → is_ascii_whitespace (slice_index line k) ≡ true
+
+-- a line that is read as text: it is neither too long nor blank
+abbrev pub IsRead : List ℕ → Type 0
+IsRead line = (¬ IsTooLong line) × (¬ IsBlank line)

@@ -1,22 +1,22 @@
 //! Reading lines.
 
-ghost use Rattle.std.specs.Prelude.{◌≡◌, ◌≢◌, ◌≤◌, ℕ, nat_lt, true, List, ◌++◌, All, length, take, IfErr, IfOk};
+ghost use Rattle.std.specs.Prelude.{◌≡◌, ◌≢◌, ◌≤◌, ◌↔◌, ℕ, nat_lt, IsTrue, List, ◌++◌, All, length, take, IfErr, IfOk};
 ghost use Rattle.program_io.specs.declared.stop.Stop.TheVariants.{Closed};
 ghost use Rattle.tcmake_lines.specs.Ends.{IsEmptyAtEnd, TakesPart, with_end};
-ghost use Rattle.tcmake_lines.specs.Lines.{EndsLine, IsBlank, IsFound, IsNext, opened};
+ghost use Rattle.tcmake_lines.specs.Lines.{EndsLine, IsBlank, IsFound, IsNext, count, values};
 
 use memchr::memchr;
 use program_io::Stop;
 use std::alloc::AllocError;
 use std::io::BufRead;
 
-/// The longest line that is read, in bytes: 4 MiB, 16 for each byte of a message of 256 KiB. The longest line of such a message
-/// has 50 bytes for each attribute without a payload, which takes four: `{"Taprio":{"SchedCycleTimeExtension":{"raw":""}}},`.
+/// The longest line that is read, in bytes: 4 MiB, 16 for each byte of a message of 256 KiB. The longest line of such a message has 63 bytes
+/// for each attribute without a payload, which takes four: `{"Taprio":{"SchedCycleTimeExtension":{"raw":""},"word":49161}},`.
 pub const MOST_LINE: usize = 4 * 1024 * 1024;
 
-/// The most objects in a line: three for each attribute of such a message, and 16 around them. They bound the memory that a
-/// line takes.
-pub const MOST_OBJECTS: usize = 3 * 65_536 + 16;
+/// The most values in a line: what its commas separate, and ten for each object or list, since one takes that much memory. An attribute of such
+/// a message has 32 at most, three objects and two commas, and 160 are around them. They bound the memory that a line takes.
+pub const MOST_VALUES: u128 = 32 * 65_536 + 160;
 
 /// How reading a line ended.
 #[derive(Clone, Copy, PartialEq, Eq, Debug)]
@@ -145,19 +145,23 @@ fn append(part: &[u8], line: &mut Vec<u8>, found: LineStatus) -> Result<LineStat
     Ok(LineStatus::Whole)
 }
 
-/// True if a line opens more than [`MOST_OBJECTS`] objects. A brace in a text counts too.
-pub fn has_many_objects(line: &[u8]) -> bool
-    ensures { result ≡ nat_lt 196624 (opened line.now) }
+/// True if a line has more than [`MOST_VALUES`] values. Braces, brackets and commas in texts count too.
+pub fn has_many_values(line: &[u8]) -> bool
+    ensures { result ≡ nat_lt 2097312 (values line.now) }
 {
-    opened_in(line) > MOST_OBJECTS
+    let objects = count_of(b'{', line) as u128;
+    let lists = count_of(b'[', line) as u128;
+    let commas = count_of(b',', line) as u128;
+    10 * (objects + lists) + commas > MOST_VALUES
 }
 
-fn opened_in(line: &[u8]) -> usize
-    ensures { result ≡ opened line.now }
+// How often a byte is in a line.
+fn count_of(byte: u8, line: &[u8]) -> usize
+    ensures { result ≡ count byte line.now }
 {
     let mut count = 0;
-    for byte in line {
-        if *byte == b'{' {
+    for other in line {
+        if *other == byte {
             count += 1;
         }
     }
@@ -166,7 +170,7 @@ fn opened_in(line: &[u8]) -> usize
 
 /// True if the line is blank.
 pub fn is_blank(line: &[u8]) -> bool
-    ensures { result ≡ true → IsBlank line.now }
+    ensures { IsTrue result ↔ IsBlank line.now }
 {
     line.trim_ascii_start().is_empty()
 }
