@@ -16,7 +16,7 @@ use serde_json::Value;
 use std::alloc::{AllocError, Global};
 use std::io::BufRead;
 use tc_capture::MessageType;
-use tcmake_lines::{LineStatus, NetlinkHeader, has_many_values, is_blank, next_line};
+use tcmake_lines::{LineContent, LineStatus, NetlinkHeader, content_of, next_line};
 use tcmake_messages::{
     Forms, Found, LineError, Made, Making, is_answer, is_of_save, json_in, made_of_json,
 };
@@ -171,12 +171,10 @@ fn dump_in<T: Tables>(
 ) -> Result<Option<Made>, Complaint> {
     match found {
         LineStatus::TooLong => Err(without_json(save, number, LineError::LongLine)),
-        LineStatus::Whole | LineStatus::End => if has_many_values(&line) {
-            Err(without_json(save, number, LineError::ManyValues))
-        } else if is_blank(&line) {
-            Ok(None)
-        } else {
-            dump_in_text(alloc, forms, reading, save, line, number)
+        LineStatus::Whole | LineStatus::End => match content_of(&line) {
+            LineContent::ManyValues => Err(without_json(save, number, LineError::ManyValues)),
+            LineContent::Blank => Ok(None),
+            LineContent::Text => dump_in_text(alloc, forms, reading, save, line, number),
         },
     }
 }
@@ -281,14 +279,14 @@ fn as_dump(alloc: Global, made: Made, index: Option<i32>) -> Result<Option<Made>
     Err(no_answer(made.given.flags))
 }
 
-// True of a message with `NLM_F_REQUEST` (1) of `linux/netlink.h`.
+// True if a message has `NLM_F_REQUEST` (1) of `linux/netlink.h`.
 fn is_request(given: &NetlinkHeader) -> bool
     ensures { result ≡ is_request given.now }
 {
     given.flags % 2 == 1
 }
 
-// True of the request of a dump: a GET with `NLM_F_DUMP` (0x300), whose bits are those of `NLM_F_REPLACE` and `NLM_F_EXCL` where the type isn't
+// True if a message is the request of a dump: a GET with `NLM_F_DUMP` (0x300), whose bits are those of `NLM_F_REPLACE` and `NLM_F_EXCL` where the type isn't
 // a GET.
 fn asks_for_dump(given: &NetlinkHeader) -> bool
     ensures { result ≡ asks_for_dump given.now }
@@ -296,7 +294,7 @@ fn asks_for_dump(given: &NetlinkHeader) -> bool
     is_request(given) && given.flags / 256 % 4 == 3 && is_get(given.kind)
 }
 
-// True of the type of a GET: the types of rtnetlink go in fours, NEW, DEL, GET and SET.
+// True for the type of a GET: the types of rtnetlink go in fours, NEW, DEL, GET and SET.
 fn is_get(kind: Option<u16>) -> bool
     ensures { result ≡ is_get kind }
 {

@@ -1,18 +1,20 @@
 -- Lines, one after the other.
-use Rattle.std.proofs.Common.{◌≡◌, ◌≢◌, ℕ, ◌≤◌, true, false, List, [], ◌∷◌, ◌++◌, All, None, Some, cond, length}
+use Rattle.std.proofs.Common.{◌≡◌, ◌≢◌, inl, inr, ℕ, ◌≤◌, true, false, List, [], ◌∷◌, ◌++◌, All, None, Some, cond, length}
 use Rattle.std.proofs.Common.{refl, sym, ap, subst, ◌∙◌, append_assoc, append-nil, eq-eqb, ne_eqb, arith}
 use Rattle.std.proofs.lemmas.List.Elements.{All-head, All-tail, All-append}
 use Rattle.std.proofs.BufReadLemmas.{Consumes_shown}
 use Rattle.std.proofs.KnownBytes.{Consumes-trans}
-use Rattle.std.proofs.lemmas.Bool.{cases_lt, eqb-true, ltb-false, true≢false}
+use Rattle.std.proofs.lemmas.Bool.{cases_lt, eqb-true, ltb-false, ltb-true, true≢false}
 use Rattle.std.specs.Prelude.{⊤, ◌⊎◌, ◌<◌, ◌==◌, ◌↔◌, Bool, IsTrue, nat_lt, Option, OnSome, IfSome, take}
 use Rattle.std.specs.Str.{IsTrimAsciiStart}
 use Rattle.std.specs.Io.{StartsWith}
 use Rattle.std.specs.Io.BufRead.{DropsConsumable}
 use Rattle.std.specs.Io.KnownBytes.{Consumes, IsAtEnd, Keeps}
 use Rattle.tcmake_lines.specs.Ends.{TakesPart, IsEmptyAtEnd, IsLast, with_end}
-use Rattle.tcmake_lines.specs.Lines.{lines_of, in_front, Reads, AreLines, IsBlank, IsFound, IsNext, IsRead, IsTooLong, EndsLine, is_end, values}
+use Rattle.tcmake_lines.specs.Lines.{lines_of, in_front, Reads, AreLines, IsBlank, IsFound, IsNext, IsRead, IsTooLong, EndsLine, HasContent, is_end, values}
 use Rattle.tcmake_lines.specs.declared.input.Ends.{Ends}
+use Rattle.tcmake_lines.specs.declared.input.LineContent.{LineContent}
+use Rattle.tcmake_lines.specs.declared.input.LineContent.TheVariants.{Text}
 use Rattle.tcmake_lines.specs.declared.input.LineStatus.{LineStatus}
 use Rattle.tcmake_lines.specs.declared.input.LineStatus.TheVariants.{Whole, TooLong, End}
 use Rattle.tcmake_lines.specs.declared.input.Ends.TheVariants.{Nowhere, LineFeed, Input}
@@ -160,13 +162,26 @@ blank_by line rest is v test = (
     none blank (inl below) = absurd (true≢false (sym (blank v.0 below) ∙ v.4 below))
     none blank (inr all) = omega (arith, v.2, all)
 
--- a line with few values isn't too long
-pub short_by : (line : List ℕ) → length line ≤ 4194304 → nat_lt 2097312 (values line) ≡ false → ¬ IsTooLong line
-short_by line most few (inl long) = omega (arith, most, long)
-short_by line most few (inr many) = omega (arith, ltb-false _ _ few, many)
+-- what is in a line
+pub many_by : (line : List ℕ) (many : Bool) → many ≡ nat_lt 2097312 (values line) → many ≡ true → 2097312 < values line
+many_by line many is so = ltb-true _ _ (sym is ∙ so)
 
-pub read_by : (line : List ℕ) (is : Bool) → length line ≤ 4194304 → nat_lt 2097312 (values line) ≡ false → IsTrue is ↔ IsBlank line → is ≡ false → IsRead line
-read_by line is most few blank not = (short_by line most few, λ b. true≢false (sym (blank.1 b) ∙ not))
+pub few_by : (line : List ℕ) (many : Bool) → many ≡ nat_lt 2097312 (values line) → many ≡ false → ¬ (2097312 < values line)
+few_by line many is few more = omega (arith, ltb-false _ _ (sym is ∙ few), more)
+
+pub not_blank : (line : List ℕ) (is : Bool) → IsTrue is ↔ IsBlank line → is ≡ false → ¬ IsBlank line
+not_blank line is blank other b = true≢false (sym (blank.1 b) ∙ other)
+
+pub content_at : (found known : LineContent) (kept line : List ℕ) → found ≡ known → kept ≡ line → HasContent found kept → HasContent known line
+content_at found known kept line is same h = subst (λ l. HasContent known l) same (subst (λ f. HasContent f kept) is h)
+
+-- a line with few values isn't too long
+pub short_by : (line : List ℕ) → length line ≤ 4194304 → ¬ (2097312 < values line) → ¬ IsTooLong line
+short_by line most few (inl long) = omega (arith, most, long)
+short_by line most few (inr many) = few many
+
+pub read_by : (line : List ℕ) → length line ≤ 4194304 → HasContent Text line → IsRead line
+read_by line most h = (short_by line most h.0, h.1)
 
 -- ---- the end
 

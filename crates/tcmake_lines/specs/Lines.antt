@@ -8,6 +8,8 @@ use Rattle.std.specs.declared.io.BufReader.{BufReader}
 use Rattle.program_io.specs.Streams.{reader_inside}
 use Rattle.program_io.specs.declared.streams.Reader.{Reader}
 use Rattle.std.specs.Char.{is_ascii_whitespace}
+use Rattle.tcmake_lines.specs.declared.input.LineContent.{LineContent}
+use Rattle.tcmake_lines.specs.declared.input.LineContent.TheVariants.{ManyValues, Blank, Text}
 use Rattle.tcmake_lines.specs.declared.input.LineStatus.{LineStatus}
 use Rattle.tcmake_lines.specs.declared.input.LineStatus.TheVariants.{Whole, TooLong, End}
 
@@ -86,6 +88,12 @@ left_in remaining r = reader_remaining (λ inside. remaining (reader_inside insi
 -- a line of blanks
 abbrev pub IsBlank : List ℕ → Type 0
 IsBlank line = (k : ℕ) → k < length line → is_ascii_whitespace (slice_index line k) ≡ true
+
+-- what is in a line: too many values, blanks, or a text
+abbrev pub HasContent : LineContent → List ℕ → Type 0
+HasContent ManyValues line = most_values < values line
+HasContent Blank line = (¬ (most_values < values line)) × IsBlank line
+HasContent Text line = (¬ (most_values < values line)) × (¬ IsBlank line)
 
 -- a line that is read as text: it is neither too long nor blank
 abbrev pub IsRead : List ℕ → Type 0

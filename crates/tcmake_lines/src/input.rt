@@ -3,7 +3,7 @@
 ghost use Rattle.std.specs.Prelude.{◌≡◌, ◌≢◌, ◌≤◌, ◌↔◌, ℕ, nat_lt, IsTrue, List, ◌++◌, All, length, take, IfErr, IfOk};
 ghost use Rattle.program_io.specs.declared.stop.Stop.TheVariants.{Closed};
 ghost use Rattle.tcmake_lines.specs.Ends.{IsEmptyAtEnd, TakesPart, with_end};
-ghost use Rattle.tcmake_lines.specs.Lines.{EndsLine, IsBlank, IsFound, IsNext, count, values};
+ghost use Rattle.tcmake_lines.specs.Lines.{EndsLine, HasContent, IsBlank, IsFound, IsNext, count, values};
 
 use memchr::memchr;
 use program_io::Stop;
@@ -27,6 +27,17 @@ pub enum LineStatus {
     TooLong,
     /// The end of the input.
     End,
+}
+
+/// What is in a line.
+#[derive(Clone, Copy, PartialEq, Eq, Debug)]
+pub enum LineContent {
+    /// More than [`MOST_VALUES`] values.
+    ManyValues,
+    /// Nothing, or blanks.
+    Blank,
+    /// A text that is to be read.
+    Text,
 }
 
 // How a part of a line ends.
@@ -145,8 +156,22 @@ fn append(part: &[u8], line: &mut Vec<u8>, found: LineStatus) -> Result<LineStat
     Ok(LineStatus::Whole)
 }
 
-/// True if a line has more than [`MOST_VALUES`] values. Braces, brackets and commas in texts count too.
-pub fn has_many_values(line: &[u8]) -> bool
+/// What is in a line. Braces, brackets and commas in texts count as values, too.
+#[tactic(auto, using(crate::proofs::Lines::many_by, crate::proofs::Lines::few_by, crate::proofs::Lines::not_blank))]
+pub fn content_of(line: &[u8]) -> LineContent
+    ensures { HasContent result line.now }
+{
+    if has_many_values(line) {
+        return LineContent::ManyValues;
+    }
+    if is_blank(line) {
+        return LineContent::Blank;
+    }
+    LineContent::Text
+}
+
+// True if a line has more values than it may have.
+fn has_many_values(line: &[u8]) -> bool
     ensures { result ≡ nat_lt 2097312 (values line.now) }
 {
     let objects = count_of(b'{', line) as u128;
@@ -168,8 +193,8 @@ fn count_of(byte: u8, line: &[u8]) -> usize
     count
 }
 
-/// True if the line is blank.
-pub fn is_blank(line: &[u8]) -> bool
+// True if a line is blank.
+fn is_blank(line: &[u8]) -> bool
     ensures { IsTrue result ↔ IsBlank line.now }
 {
     line.trim_ascii_start().is_empty()

@@ -4,12 +4,12 @@ ghost use Rattle.std.specs.Prelude.{◌≡◌, ◌≢◌, ◌≤◌, ◌||◌, �
 ghost use Rattle.std.specs.Io.Buffered.{reader_inner};
 ghost use Rattle.program_io.specs.Streams.{Shows, read_failure, write_failure, writer_inside};
 ghost use Rattle.program_io.specs.declared.stop.Stop.TheVariants.{Closed, NoMemory};
-ghost use Rattle.tcmake_lines.specs.Lines.{IsFound, is_end, left_in};
+ghost use Rattle.tcmake_lines.specs.Lines.{IsFound, IsRead, is_end, left_in};
 ghost use Rattle.tcmake_lines.specs.Parts.{Ran, RanOn, RanPartly};
 ghost use Rattle.tcmake_lines.specs.State.{PutsLine, PutsOrNot, state_of};
 
 use crate::format::{OutputFormat, check};
-use crate::input::{LineStatus, has_many_values, is_blank, next_line};
+use crate::input::{LineContent, LineStatus, content_of, next_line};
 use crate::maker::{Answer, Maker};
 use crate::netlink::NetlinkHeader;
 use crate::output::Output;
@@ -135,12 +135,27 @@ fn put_whole_line<M: Maker, E: Write>(
     ensures { IfOk result (λ is_wrong. PutsLine (M.Makes maker.now) (M.Passes maker.now) (M.Refuses maker.now) line.items is_wrong
         (state_of output.old) (state_of output.new)) }
 {
-    if has_many_values(&line) {
-        return report(alloc, errors, number, MANY_VALUES);
+    match content_of(&line) {
+        LineContent::ManyValues => report(alloc, errors, number, MANY_VALUES),
+        LineContent::Blank => Ok(false),
+        LineContent::Text => put_text(alloc, maker, line, number, output, errors),
     }
-    if is_blank(&line) {
-        return Ok(false);
-    }
+}
+
+// Appends the message of a line that is read.
+#[tactic(auto, using(crate::proofs::Parts::puts_nothing, crate::proofs::Parts::puts_complaint))]
+fn put_text<M: Maker, E: Write>(
+    alloc: Global,
+    maker: &M,
+    line: Vec<u8>,
+    number: u64,
+    output: &mut Output,
+    errors: &mut E,
+) -> Result<bool, AllocError>
+    requires { IsRead line.items }
+    ensures { IfOk result (λ is_wrong. PutsLine (M.Makes maker.now) (M.Passes maker.now) (M.Refuses maker.now) line.items is_wrong
+        (state_of output.old) (state_of output.new)) }
+{
     match maker.make(line)? {
         Answer::Message {
             given,
