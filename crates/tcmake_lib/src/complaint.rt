@@ -1,10 +1,5 @@
 //! Why no request is made of a line.
 
-ghost use Rattle.std.specs.Prelude.{◌≡◌, ◌≢◌, ◌⊎◌};
-ghost use Rattle.tc_restore.specs.declared.restore_error.RestoreError.TheVariants.{OutOfMemory};
-ghost use Rattle.tcmake_lib.specs.declared.complaint.Complaint.TheVariants.{Line, Restore};
-ghost use Rattle.tcmake_messages.specs.declared.error.LineError.TheVariants.{NoMemory};
-
 use crate::save::SaveFault;
 use nla_frames::DecodeError;
 use std::alloc::{AllocError, AllocFailed};
@@ -57,32 +52,24 @@ impl Complaint {
 }
 
 impl From<AllocError> for Complaint {
-    ghost from_gives = { λ _ e. e ≡ Line NoMemory };
-
     fn from(_e: AllocError) -> Complaint {
         Complaint::Line(LineError::NoMemory)
     }
 }
 
 impl<T: Drop> From<AllocFailed<T>> for Complaint {
-    ghost from_gives = { λ _ e. e ≡ Line NoMemory };
-
     fn from(_e: AllocFailed<T>) -> Complaint {
         Complaint::Line(LineError::NoMemory)
     }
 }
 
 impl From<LineError> for Complaint {
-    ghost from_gives = { λ from e. e ≡ Line from };
-
     fn from(e: LineError) -> Complaint {
         Complaint::Line(e)
     }
 }
 
 impl From<RestoreError> for Complaint {
-    ghost from_gives = { λ from e. ((from ≡ OutOfMemory) × (e ≡ Line NoMemory)) ⊎ ((from ≢ OutOfMemory) × (e ≡ Restore from)) };
-
     fn from(e: RestoreError) -> Complaint {
         match e {
             RestoreError::OutOfMemory => Complaint::Line(LineError::NoMemory),
@@ -99,8 +86,6 @@ impl From<SaveFault> for Complaint {
 
 // Of bytes that the codec reads: reading them again fails only if memory runs out.
 impl From<DecodeError> for Complaint {
-    ghost from_gives = { λ _ e. e ≡ Line NoMemory };
-
     fn from(_e: DecodeError) -> Complaint {
         Complaint::Line(LineError::NoMemory)
     }

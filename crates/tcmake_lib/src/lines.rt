@@ -1,12 +1,5 @@
 //! Lines of an input, and the dumps in them.
 
-ghost use Rattle.std.specs.Prelude.{◌≡◌, ◌≢◌, ◌⊎◌, Some, true, false, IfErr, IfOk, MatchOption};
-ghost use Rattle.tc_capture.specs.declared.kind.MessageType.TheVariants.{Tc};
-ghost use Rattle.tc_restore.specs.declared.restore_error.RestoreError.TheVariants.{MadeByKernel};
-ghost use Rattle.tcmake_lib.specs.Requests.{HasNoDump, IsDump, IsMoved, IsPassed, asks_for_dump, is_get, is_request, no_interface};
-ghost use Rattle.tcmake_lib.specs.declared.complaint.Complaint.TheVariants.{Line, Restore};
-ghost use Rattle.tcmake_messages.specs.declared.error.LineError.TheVariants.{NoMemory};
-
 use crate::complaint::Complaint;
 use crate::names::{Interfaces, mapped};
 use crate::save::{Names, Save};
@@ -216,10 +209,9 @@ fn dump_in_json<T: Tables>(
     match (reading.names, saved) {
         (Some(now), Some(saved)) => {
             let json = json_now(alloc, json, Interfaces { saved, now })?;
-            as_dump(alloc, made_of_json(alloc, forms, &json, Making::Restored)?, None)
+            as_dump(made_of_json(alloc, forms, &json, Making::Restored)?, None)
         }
         _ => as_dump(
-            alloc,
             made_of_json(alloc, forms, &json, Making::Restored)?,
             reading.index,
         ),
@@ -245,12 +237,7 @@ pub(crate) fn dump_in_line<T: Tables>(
     forms: Forms<T>,
     index: Option<i32>,
     line: Vec<u8>,
-) -> Result<Option<Made>, Complaint>
-    ensures dump { IfOk result (λ found. MatchOption found (IsPassed (T.parts_of forms.table) forms.tc forms.action index line.items)
-        (λ made. IsDump (T.parts_of forms.table) forms.tc forms.action index line.items made.given made.bytes.items)) }
-    ensures wrong { IfErr result (λ e. (e ≡ Line NoMemory)
-        ⊎ ((e ≢ Restore MadeByKernel) × HasNoDump (T.parts_of forms.table) forms.tc forms.action index line.items)) }
-{
+) -> Result<Option<Made>, Complaint> {
     let json = json_in(alloc, line)?;
     if is_of_save(&json) {
         return Err(Complaint::LineByLine);
@@ -258,92 +245,59 @@ pub(crate) fn dump_in_line<T: Tables>(
     if is_answer(&json) {
         return Ok(None);
     }
-    let made = made_of_json(alloc, forms, &json, Making::Restored)?;
-    as_dump(alloc, made, index)
+    as_dump(made_of_json(alloc, forms, &json, Making::Restored)?, index)
 }
 
-// The dump that a message is, of this interface if one is given. None if it asks for a dump.
-fn as_dump(alloc: Global, made: Made, index: Option<i32>) -> Result<Option<Made>, Complaint>
-    ensures dump { IfOk result (λ found. MatchOption found (asks_for_dump made.given ≡ true)
-        (λ dump. (dump.given ≡ made.given) × (is_request made.given ≡ false) × IsMoved made.given.holds index made.bytes.items dump.bytes.items)) }
-    ensures wrong { IfErr result (λ e. (e ≡ Line NoMemory)
-        ⊎ ((e ≢ Restore MadeByKernel) × (is_request made.given ≡ true) × (asks_for_dump made.given ≡ false))) }
-{
-    if !is_request(&made.given) {
-        let moved = with_index(alloc, made, index)?;
-        return Ok(Some(moved));
+fn as_dump(made: Made, index: Option<i32>) -> Result<Option<Made>, Complaint> {
+    if is_dump(&made.given)? {
+        Ok(Some(with_index(made, index)))
+    } else {
+        Ok(None)
     }
-    if asks_for_dump(&made.given) {
-        return Ok(None);
-    }
-    Err(no_answer(made.given.flags))
 }
 
-// True if a message has `NLM_F_REQUEST` (1) of `linux/netlink.h`.
-fn is_request(given: &NetlinkHeader) -> bool
-    ensures { result ≡ is_request given.now }
-{
-    given.flags % 2 == 1
-}
+// Flags of `linux/netlink.h`.
+const NLM_F_REQUEST: u16 = 1;
 
-// True if a message is the request of a dump: a GET with `NLM_F_DUMP` (0x300), whose bits are those of `NLM_F_REPLACE` and `NLM_F_EXCL` where the type isn't
-// a GET.
-fn asks_for_dump(given: &NetlinkHeader) -> bool
-    ensures { result ≡ asks_for_dump given.now }
-{
-    is_request(given) && given.flags / 256 % 4 == 3 && is_get(given.kind)
-}
+// Its bits are those of `NLM_F_REPLACE` and `NLM_F_EXCL` where the type isn't a GET.
+const NLM_F_DUMP: u16 = 0x300;
 
-// True for the type of a GET: the types of rtnetlink go in fours, NEW, DEL, GET and SET.
-fn is_get(kind: Option<u16>) -> bool
-    ensures { result ≡ is_get kind }
-{
+// True of the type of a GET: the types of rtnetlink go in fours, NEW, DEL, GET and SET.
+fn is_get(kind: Option<u16>) -> bool {
     match kind {
         Some(kind) => kind % 4 == 2,
         None => false,
     }
 }
 
-fn no_answer(flags: u16) -> Complaint
-    ensures { result ≢ Restore MadeByKernel }
-{
-    Complaint::Line(LineError::Member {
+// True of a dump, false of the request of one.
+fn is_dump(given: &NetlinkHeader) -> Result<bool, Complaint> {
+    let flags = given.flags;
+    if flags & NLM_F_REQUEST == 0 {
+        return Ok(true);
+    }
+    if flags & NLM_F_DUMP == NLM_F_DUMP && is_get(given.kind) {
+        return Ok(false);
+    }
+    Err(Complaint::Line(LineError::Member {
         name: "flags",
         found: Found::Number(u64::from(flags)),
         wanted: "those of a dump, without NLM_F_REQUEST (1)",
-    })
+    }))
 }
 
 // A message of this interface, if one is given; what is in a block that interfaces share has none (its index is -1).
-fn with_index(alloc: Global, made: Made, index: Option<i32>) -> Result<Made, AllocError>
-    ensures given { IfOk result (λ moved. moved.given ≡ made.given) }
-    ensures moved { IfOk result (λ moved. IsMoved made.given.holds index made.bytes.items moved.bytes.items) }
-{
-    match (made.given.holds, index) {
-        (MessageType::Tc, Some(index)) => Ok(Made {
-            given: made.given,
-            bytes: moved(alloc, made.bytes, index)?,
-            settled: made.settled,
-        }),
-        _ => Ok(made),
+fn with_index(mut made: Made, index: Option<i32>) -> Made {
+    if let (MessageType::Tc, Some(index)) = (made.given.holds, index) {
+        set_index(&mut made.bytes, index);
     }
+    made
 }
 
-fn moved(alloc: Global, bytes: Vec<u8>, index: i32) -> Result<Vec<u8>, AllocError>
-    ensures { IfOk result (λ made. IsMoved Tc (Some index) bytes.items made.items) }
-{
-    if bytes.len() < 8 || is_of_none(&bytes[4..8]) {
-        return Ok(bytes);
+fn set_index(bytes: &mut Vec<u8>, index: i32) {
+    if let [_, _, _, _, a, b, c, d, ..] = bytes.as_mut_slice() {
+        if i32::from_le_bytes([*a, *b, *c, *d]) != -1 {
+            [*a, *b, *c, *d] = index.to_le_bytes();
+        }
     }
-    let mut made = Vec::with_capacity(alloc, bytes.len())?;
-    made.extend_from_slice(&bytes[..4])?;
-    made.extend_from_slice(&index.to_le_bytes())?;
-    made.extend_from_slice(&bytes[8..])?;
-    Ok(made)
-}
-
-fn is_of_none(interface: &[u8]) -> bool
-    ensures { result ≡ true → interface.now ≡ no_interface }
-{
-    matches!(interface, [255, 255, 255, 255])
 }

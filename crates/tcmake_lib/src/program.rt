@@ -1,12 +1,11 @@
 //! The program: it does over its streams what its arguments say.
 
-ghost use Rattle.std.specs.Prelude.{◌≡◌, ◌≢◌, Err, true, IfErr, OnOk};
+ghost use Rattle.std.specs.Prelude.{◌≡◌, ◌≢◌, Err, IfErr, OnOk};
 ghost use Rattle.std.specs.Io.Buffered.{reader_inner};
 ghost use Rattle.program_io.specs.Streams.{Shows, read_failure, write_failure, writer_inside};
 ghost use Rattle.program_io.specs.declared.stop.Stop.TheVariants.{Closed, NoMemory};
 ghost use Rattle.tcmake_messages.specs.Answer.{IsAnswer, IsMessage, IsRefused};
 ghost use Rattle.tcmake_messages.specs.declared.making.Making.TheVariants.{Restored};
-ghost use Rattle.tcmake_lib.specs.Requests.{IsNothing, IsRequest, IsUnmade};
 ghost use Rattle.tcmake_lines.specs.Lines.{left_in};
 ghost use Rattle.tcmake_lines.specs.Parts.{Ran, RanOn, RanPartly};
 
@@ -249,12 +248,6 @@ pub fn serve<T: Tables, R: Read, W: Write, E: Write>(
         (IsMessage (T.parts_of forms.table) forms.tc forms.action request.now.making) IsAnswer
         (IsRefused (T.parts_of forms.table) forms.tc forms.action request.now.making) request.now.form result.has_refused
         (left_in R.remaining reader.old) (W.contents (writer_inside writer.old)) (W.contents (writer_inside writer.new))) }
-    // At the end of the input each line became a request, nothing or a complaint, where requests have the order of the input.
-    ensures requests { request.now.making ≡ Restored → request.now.in_order ≡ true → OnOk result.outcome (Ran
-        (IsRequest (T.parts_of forms.table) forms.tc forms.action request.now.index)
-        (IsNothing (T.parts_of forms.table) forms.tc forms.action request.now.index)
-        (IsUnmade (T.parts_of forms.table) forms.tc forms.action request.now.index) request.now.form result.has_refused
-        (left_in R.remaining reader.old) (W.contents (writer_inside writer.old)) (W.contents (writer_inside writer.new))) }
     // A stream that failed shows why the run ends early; otherwise memory ran out.
     ensures stopped { IfErr result.outcome (Shows (read_failure (reader_inner reader.new)) (write_failure writer.new)) }
 {
@@ -293,12 +286,6 @@ pub fn serve_asked<T: Tables, R: Read, W: Write, E: Write>(
     ensures partly { request.now.making ≢ Restored → IfErr result.outcome (λ stop. stop ≢ NoMemory → RanPartly
         (IsMessage (T.parts_of forms.table) forms.tc forms.action request.now.making) IsAnswer
         (IsRefused (T.parts_of forms.table) forms.tc forms.action request.now.making) request.now.form result.has_refused
-        (left_in R.remaining reader.old) (W.contents (writer_inside writer.old)) (W.contents (writer_inside writer.new))) }
-    // At the end of the input each line became a request, nothing or a complaint, where requests have the order of the input.
-    ensures requests { request.now.making ≡ Restored → request.now.in_order ≡ true → OnOk result.outcome (Ran
-        (IsRequest (T.parts_of forms.table) forms.tc forms.action asked.now.index)
-        (IsNothing (T.parts_of forms.table) forms.tc forms.action asked.now.index)
-        (IsUnmade (T.parts_of forms.table) forms.tc forms.action asked.now.index) request.now.form result.has_refused
         (left_in R.remaining reader.old) (W.contents (writer_inside writer.old)) (W.contents (writer_inside writer.new))) }
     // A stream that failed shows why the run ends early; otherwise memory ran out.
     ensures stopped { IfErr result.outcome (Shows (read_failure (reader_inner reader.new)) (write_failure writer.new)) }

