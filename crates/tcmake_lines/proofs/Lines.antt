@@ -5,13 +5,13 @@ use Rattle.std.proofs.lemmas.List.Elements.{All-head, All-tail, All-append}
 use Rattle.std.proofs.BufReadLemmas.{Consumes_shown}
 use Rattle.std.proofs.KnownBytes.{Consumes-trans}
 use Rattle.std.proofs.lemmas.Bool.{cases_lt, eqb-true, ltb-false, ltb-true, true≢false}
-use Rattle.std.specs.Prelude.{⊤, ◌⊎◌, ◌<◌, ◌==◌, ◌↔◌, Bool, IsTrue, nat_lt, Option, OnSome, IfSome, take}
+use Rattle.std.specs.Prelude.{⊤, ◌⊎◌, ◌<◌, ◌==◌, ◌↔◌, ◌||◌, Bool, IsTrue, nat_lt, Option, OnSome, IfSome, take}
 use Rattle.std.specs.Str.{IsTrimAsciiStart}
 use Rattle.std.specs.Io.{StartsWith}
 use Rattle.std.specs.Io.BufRead.{DropsConsumable}
 use Rattle.std.specs.Io.KnownBytes.{Consumes, IsAtEnd, Keeps}
 use Rattle.tcmake_lines.specs.Ends.{TakesPart, IsEmptyAtEnd, IsLast, with_end}
-use Rattle.tcmake_lines.specs.Lines.{lines_of, in_front, Reads, AreLines, IsBlank, IsFound, IsNext, IsRead, IsTooLong, EndsLine, HasContent, is_end, values}
+use Rattle.tcmake_lines.specs.Lines.{lines_of, in_front, Reads, AreLines, IsBlank, IsFound, IsNext, IsRead, IsTooLong, EndsLine, HasContent, HasMany, count, is_end, values}
 use Rattle.tcmake_lines.specs.declared.input.Ends.{Ends}
 use Rattle.tcmake_lines.specs.declared.input.LineContent.{LineContent}
 use Rattle.tcmake_lines.specs.declared.input.LineContent.TheVariants.{Text}
@@ -163,11 +163,22 @@ blank_by line rest is v test = (
     none blank (inr all) = omega (arith, v.2, all)
 
 -- what is in a line
-pub many_by : (line : List ℕ) (many : Bool) → many ≡ nat_lt 2097312 (values line) → many ≡ true → 2097312 < values line
-many_by line many is so = ltb-true _ _ (sym is ∙ so)
+pub many_by : (line : List ℕ) (many : Bool) → many ≡ (nat_lt 3604800 (values line) || nat_lt 655520 (count 34 line)) → many ≡ true → HasMany line
+many_by line many is so = by_case (nat_lt 3604800 (values line)) refl (nat_lt 655520 (count 34 line)) refl (sym is ∙ so)
+  where
+    by_case : (a : Bool) → nat_lt 3604800 (values line) ≡ a → (b : Bool) → nat_lt 655520 (count 34 line) ≡ b → (a || b) ≡ true → HasMany line
+    by_case true h b k e = inl (ltb-true _ _ h)
+    by_case false h true k e = inr (ltb-true _ _ k)
+    by_case false h false k e = absurd (true≢false (sym e))
 
-pub few_by : (line : List ℕ) (many : Bool) → many ≡ nat_lt 2097312 (values line) → many ≡ false → ¬ (2097312 < values line)
-few_by line many is few more = omega (arith, ltb-false _ _ (sym is ∙ few), more)
+pub few_by : (line : List ℕ) (many : Bool) → many ≡ (nat_lt 3604800 (values line) || nat_lt 655520 (count 34 line)) → many ≡ false → ¬ HasMany line
+few_by line many is few = by_case (nat_lt 3604800 (values line)) refl (nat_lt 655520 (count 34 line)) refl (sym is ∙ few)
+  where
+    by_case : (a : Bool) → nat_lt 3604800 (values line) ≡ a → (b : Bool) → nat_lt 655520 (count 34 line) ≡ b → (a || b) ≡ false → ¬ HasMany line
+    by_case true h b k e m = true≢false e
+    by_case false h true k e m = true≢false e
+    by_case false h false k e (inl more) = omega (arith, ltb-false _ _ h, more)
+    by_case false h false k e (inr more) = omega (arith, ltb-false _ _ k, more)
 
 pub not_blank : (line : List ℕ) (is : Bool) → IsTrue is ↔ IsBlank line → is ≡ false → ¬ IsBlank line
 not_blank line is blank other b = true≢false (sym (blank.1 b) ∙ other)
@@ -176,7 +187,7 @@ pub content_at : (found known : LineContent) (kept line : List ℕ) → found �
 content_at found known kept line is same h = subst (λ l. HasContent known l) same (subst (λ f. HasContent f kept) is h)
 
 -- a line with few values isn't too long
-pub short_by : (line : List ℕ) → length line ≤ 4194304 → ¬ (2097312 < values line) → ¬ IsTooLong line
+pub short_by : (line : List ℕ) → length line ≤ 4194304 → ¬ HasMany line → ¬ IsTooLong line
 short_by line most few (inl long) = omega (arith, most, long)
 short_by line most few (inr many) = few many
 

@@ -47,17 +47,23 @@ most_line = 4194304
 abbrev pub count : ℕ → List ℕ → ℕ
 count byte line = length (filter (λ c. c == byte) line)
 
--- the values of a line: ten for each object and each list that it opens, and one for each comma
+-- the values of a line, by the memory that they take: 17 for each object and each list that it opens, and two for each comma
 abbrev pub values : List ℕ → ℕ
-values line = 10 * (count 123 line + count 91 line) + count 44 line
+values line = 17 * (count 123 line + count 91 line) + 2 * count 44 line
 
--- the most values of a line
+-- the most values of a line, and the most quotes
 abbrev pub most_values : ℕ
-most_values = 2097312
+most_values = 3604800
+
+abbrev pub most_quotes : ℕ
+most_quotes = 655520
+
+abbrev pub HasMany : List ℕ → Type 0
+HasMany line = (most_values < values line) ⊎ (most_quotes < count 34 line)
 
 -- a line that is too long, or has too many values
 abbrev pub IsTooLong : List ℕ → Type 0
-IsTooLong line = (most_line < length line) ⊎ (most_values < values line)
+IsTooLong line = (most_line < length line) ⊎ HasMany line
 
 -- the part of a line that is kept: all, or the front if it is too long
 abbrev pub IsFound : LineStatus → List ℕ → List ℕ → Type 0
@@ -91,9 +97,9 @@ IsBlank line = (k : ℕ) → k < length line → is_ascii_whitespace (slice_inde
 
 -- what is in a line: too many values, blanks, or a text
 abbrev pub HasContent : LineContent → List ℕ → Type 0
-HasContent ManyValues line = most_values < values line
-HasContent Blank line = (¬ (most_values < values line)) × IsBlank line
-HasContent Text line = (¬ (most_values < values line)) × (¬ IsBlank line)
+HasContent ManyValues line = HasMany line
+HasContent Blank line = (¬ HasMany line) × IsBlank line
+HasContent Text line = (¬ HasMany line) × (¬ IsBlank line)
 
 -- a line that is read as text: it is neither too long nor blank
 abbrev pub IsRead : List ℕ → Type 0

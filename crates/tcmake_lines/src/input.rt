@@ -1,6 +1,6 @@
 //! Reading lines.
 
-ghost use Rattle.std.specs.Prelude.{◌≡◌, ◌≢◌, ◌≤◌, ◌↔◌, ℕ, nat_lt, IsTrue, List, ◌++◌, All, length, take, IfErr, IfOk};
+ghost use Rattle.std.specs.Prelude.{◌≡◌, ◌≢◌, ◌≤◌, ◌↔◌, ◌||◌, ℕ, nat_lt, IsTrue, List, ◌++◌, All, length, take, IfErr, IfOk};
 ghost use Rattle.program_io.specs.declared.stop.Stop.TheVariants.{Closed};
 ghost use Rattle.tcmake_lines.specs.Ends.{IsEmptyAtEnd, TakesPart, with_end};
 ghost use Rattle.tcmake_lines.specs.Lines.{EndsLine, HasContent, IsBlank, IsFound, IsNext, count, values};
@@ -14,9 +14,13 @@ use std::io::BufRead;
 /// for each attribute without a payload, which takes four: `{"Taprio":{"SchedCycleTimeExtension":{"raw":""},"word":49161}},`.
 pub const MOST_LINE: usize = 4 * 1024 * 1024;
 
-/// The most values in a line: what its commas separate, and ten for each object or list, since one takes that much memory. An attribute of such
-/// a message has 32 at most, three objects and two commas, and 160 are around them. They bound the memory that a line takes.
-pub const MOST_VALUES: u128 = 32 * 65_536 + 160;
+/// The most values in a line, by the memory that they take: 17 for each object or list, and two for each comma. Four bytes of such a message have
+/// 55 at most, as an attribute with three objects and two commas, and 320 are around them.
+pub const MOST_VALUES: u128 = 55 * 65_536 + 320;
+
+/// The most quotes in a line, two for each name or text: ten for four bytes of such a message, and 160 around them. Both bound the memory that a
+/// line takes.
+pub const MOST_QUOTES: usize = 10 * 65_536 + 160;
 
 /// How reading a line ended.
 #[derive(Clone, Copy, PartialEq, Eq, Debug)]
@@ -32,7 +36,7 @@ pub enum LineStatus {
 /// What is in a line.
 #[derive(Clone, Copy, PartialEq, Eq, Debug)]
 pub enum LineContent {
-    /// More than [`MOST_VALUES`] values.
+    /// More than [`MOST_VALUES`] values or [`MOST_QUOTES`] quotes.
     ManyValues,
     /// Nothing, or blanks.
     Blank,
@@ -156,7 +160,7 @@ fn append(part: &[u8], line: &mut Vec<u8>, found: LineStatus) -> Result<LineStat
     Ok(LineStatus::Whole)
 }
 
-/// What is in a line. Braces, brackets and commas in texts count as values, too.
+/// What is in a line. Braces, brackets, commas and quotes in texts count, too.
 #[tactic(auto, using(crate::proofs::Lines::many_by, crate::proofs::Lines::few_by, crate::proofs::Lines::not_blank))]
 pub fn content_of(line: &[u8]) -> LineContent
     ensures { HasContent result line.now }
@@ -170,14 +174,14 @@ pub fn content_of(line: &[u8]) -> LineContent
     LineContent::Text
 }
 
-// True if a line has more values than it may have.
+// True if a line has more values or quotes than it may have.
 fn has_many_values(line: &[u8]) -> bool
-    ensures { result ≡ nat_lt 2097312 (values line.now) }
+    ensures { result ≡ (nat_lt 3604800 (values line.now) || nat_lt 655520 (count 34 line.now)) }
 {
     let objects = count_of(b'{', line) as u128;
     let lists = count_of(b'[', line) as u128;
     let commas = count_of(b',', line) as u128;
-    10 * (objects + lists) + commas > MOST_VALUES
+    17 * (objects + lists) + 2 * commas > MOST_VALUES || count_of(b'"', line) > MOST_QUOTES
 }
 
 // How often a byte is in a line.

@@ -20,8 +20,8 @@ use std::io::{BufRead, BufReader, Read, Write};
 /// The error for a line longer than [`MOST_LINE`](crate::MOST_LINE).
 pub const LONG_LINE: &str = "longer than 4194304 bytes";
 
-/// The error for a line with more values than [`MOST_VALUES`](crate::MOST_VALUES).
-pub const MANY_VALUES: &str = "more than 2097312 values (an object or a list counts as ten)";
+/// The error for a line with more than [`MOST_VALUES`](crate::MOST_VALUES) or [`MOST_QUOTES`](crate::MOST_QUOTES).
+pub const MANY_VALUES: &str = "more objects, lists, values or texts than a message of 256 KiB has";
 
 /// Builds the messages of all lines of an input, and writes them. Errors and notices are written to `errors`.
 pub fn run<M: Maker, R: Read, W: Write, E: Write>(

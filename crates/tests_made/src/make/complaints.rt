@@ -163,9 +163,9 @@ fn the_longest_line(rt: HostRuntime) -> Result<(), Fail> {
 #[test]
 fn many_values(rt: HostRuntime) -> Result<(), Fail> {
     let alloc = rt.alloc();
-    let mut lines = vec![in alloc; b'{'; 209_732]?;
+    let mut lines = vec![in alloc; b'{'; 212_048]?;
     lines.extend_from_slice(NEXT.as_bytes())?;
-    let said = "tcmake: line 1: more than 2097312 values (an object or a list counts as ten)\n";
+    let said = "tcmake: line 1: more objects, lists, values or texts than a message of 256 KiB has\n";
     assert!(rt; makes(alloc, &HEX, &lines, 1, NEXT_MADE.as_bytes(), said));
     Ok(())
 }
@@ -174,8 +174,8 @@ fn many_values(rt: HostRuntime) -> Result<(), Fail> {
 #[test]
 fn many_values_of_a_dump(rt: HostRuntime) -> Result<(), Fail> {
     let alloc = rt.alloc();
-    let line = vec![in alloc; b'{'; 209_732]?;
-    let said = "tcmake: line 1: more than 2097312 values (an object or a list counts as ten)\n";
+    let line = vec![in alloc; b'{'; 212_048]?;
+    let said = "tcmake: line 1: more objects, lists, values or texts than a message of 256 KiB has\n";
     assert!(rt; makes(alloc, &bare(Making::Restored), &line, 1, b"", said));
     Ok(())
 }
