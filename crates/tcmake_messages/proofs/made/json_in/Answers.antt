@@ -1,5 +1,5 @@
 use Rattle.tcmake_messages.proofs.Refused.{unread_refused}
 use Rattle.tcmake_messages.proofs.made.json_in.Goals as goal
 
-pub returns-in-Err-clause-refused : goal.returns-in-Err-clause-refused
-returns-in-Err-clause-refused c = unread_refused c.args.line.items c.in-Err.error c.unread.result c.unread.ensures c.in-Err.ensures.refused
+pub returns-clause-refused : goal.returns-clause-refused
+returns-clause-refused c = unread_refused c.args.line.items c.in-Err.error c.unread.result c.unread.ensures c.in-Err.ensures.refused
