@@ -21,5 +21,5 @@ pub use message::outline;
 pub use names::Interfaces;
 pub use page::{Layout, Page};
 pub use path::Path;
-pub use reader::{locate, path_at};
+pub use reader::locate;
 pub use what::What;

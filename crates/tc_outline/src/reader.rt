@@ -149,19 +149,6 @@ fn broken_at(before: &Path, offset: usize, error: DecodeError) -> Fault
     }
 }
 
-/// The path of the attribute whose header is at this offset, four bytes before its value. `None` if there is none.
-pub fn path_at(bytes: &[u8], what: What, offset: usize) -> Option<Path> {
-    let mut path = Path::new();
-    for attribute in attributes_of(bytes, what).ok()? {
-        let attribute = attribute.ok()?;
-        path.enter(&attribute);
-        if attribute.offset == offset.saturating_add(4) {
-            return Some(path);
-        }
-    }
-    None
-}
-
 // The fault of a message that is shorter than its header.
 fn header_fault(error: DecodeError) -> Fault
     ensures place { result.offset ≡ 0 }

@@ -48,7 +48,8 @@ pub word_put : (p : Part) (whole old mid new left word rest : List ℕ) → whol
     → slice_split (λ b. b == 32) left ≡ word ∷ slice_split (λ b. b == 32) rest → mid ≡ old ++ in_colour (colour_in p word) word → new ≡ mid ++ 32 ∷ []
     → whole ≡ new ++ coloured_line (after p word) rest
 word_put p whole old mid new left word rest h e m n =
-    put_more 32 whole old mid new (in_colour (colour_in p word) word) (coloured_line p left) (coloured_line (after p word) rest) (line_more p left word rest e) h m n
+    put_more 32 whole old mid new (in_colour (colour_in p word) word) (coloured_line p left) (coloured_line (after p word) rest)
+        (line_more p left word rest e) h m n
 
 -- the last word
 pub last_word_put : (p : Part) (whole old new left : List ℕ) → whole ≡ old ++ coloured_line p left → slice_split (λ b. b == 32) left ≡ left ∷ []

@@ -2,7 +2,8 @@
 
 ghost use Rattle.std.specs.Prelude.{◌≡◌};
 ghost use Rattle.tcshow_colours.specs.Lines.{after, after_first, after_told, after_words, closes, colour_in, first_colour, is_answer, is_bold, is_fault};
-ghost use Rattle.tcshow_colours.specs.Lines.{is_object, is_removal, is_request, is_said, is_verb, is_warning, object_colour, opens, told_colour, verb_colour, words_colour};
+ghost use Rattle.tcshow_colours.specs.Lines.{is_object, is_removal, is_request, is_said, is_verb, is_warning, object_colour, opens, told_colour};
+ghost use Rattle.tcshow_colours.specs.Lines.{verb_colour, words_colour};
 
 /// A color of a terminal; the color of `Plain` text is the terminal's own.
 #[derive(Clone, Copy, PartialEq, Eq, Debug)]

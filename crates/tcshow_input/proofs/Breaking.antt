@@ -1,5 +1,6 @@
 -- Runs over an input that end early.
-use Rattle.std.proofs.Common.{◌≡◌, ◌≢◌, ◌⊎◌, inl, inr, ◌∙◌, ℕ, Bool, true, false, List, [], ◌∷◌, ◌++◌, take, refl, sym, ap, subst, arith, append_assoc, append-nil}
+use Rattle.std.proofs.Common.{◌≡◌, ◌≢◌, ◌⊎◌, inl, inr, ◌∙◌, ℕ, Bool, true, false, List, [], ◌∷◌, ◌++◌, take, refl, sym, ap, subst, arith}
+use Rattle.std.proofs.Common.{append_assoc, append-nil}
 use Rattle.std.proofs.KnownBytes.{Appends-trans}
 use Rattle.std.specs.Prelude.{Option, Some, None, Result, Ok, Err, IfErr, IfSome, ◌||◌, if◌then◌else◌}
 use Rattle.std.specs.Io.KnownBytes.{Keeps}
@@ -14,7 +15,8 @@ use Rattle.program_io.specs.Written.{GrowsByFront}
 use Rattle.tcshow_input.specs.declared.options.Options.{Options}
 use Rattle.tcshow_input.specs.declared.stop.Stop.{Stop}
 use Rattle.tcshow_input.specs.declared.stop.Stop.TheVariants.{NoMemory}
-use Rattle.tcshow_input.specs.Reading.{AreFirst, AreFirstIn, AreIn, Begins, BeginsWith, GivesFirst, capture_left, is_hex_text, text_left, things_by, things_in_file, things_in_pieces, things_on_lines}
+use Rattle.tcshow_input.specs.Reading.{AreFirst, AreFirstIn, AreIn, Begins, BeginsWith, GivesFirst, capture_left, is_hex_text, text_left, things_by}
+use Rattle.tcshow_input.specs.Reading.{things_in_file, things_in_pieces, things_on_lines}
 use Rattle.tcshow_input.specs.Shown.{ShowsEach, ShowsSummary}
 use Rattle.tcshow_input.specs.Known.{given_in, known_first}
 use Rattle.tcshow_input.specs.State.{State, Breaks, Ends, Halts, RanOn, is_json, start, view_of}
@@ -181,11 +183,13 @@ ran_on options file a b s n fault start same h =
 
 -- ---- the first things, and what is written of their text
 
-pub halts_in : (things : List Thing) (file : Option (List ℕ)) (header : Option MessageType) (a b : Option (List ℕ)) (s n : State) → AreFirstIn file header things
+pub halts_in : (things : List Thing) (file : Option (List ℕ)) (header : Option MessageType) (a b : Option (List ℕ)) (s n : State)
+    → AreFirstIn file header things
     → Halts things a b s n → (things : List Thing) × AreFirstIn file header things × Halts things a b s n
 halts_in things file header a b s n first h = (things, first, h)
 
-pub breaks_in : (things : List Thing) (file : Option (List ℕ)) (header : Option MessageType) (a b : Option (List ℕ)) (s n : State) → AreFirstIn file header things
+pub breaks_in : (things : List Thing) (file : Option (List ℕ)) (header : Option MessageType) (a b : Option (List ℕ)) (s n : State)
+    → AreFirstIn file header things
     → Breaks things a b s n → (things : List Thing) × AreFirstIn file header things × Breaks things a b s n
 breaks_in things file header a b s n first h = (things, first, h)
 

@@ -70,7 +70,8 @@ puts_halts xs a b s m n p h = halts_after xs a a b s m n (progress_puts a xs s m
 
 -- ---- over the rest of an input
 
-pub stops_with : (things : List Thing) (before after : Option (List Thing)) (a b : Option (List ℕ)) (s n : State) → Gives before things after → Halts things a b s n
+pub stops_with : (things : List Thing) (before after : Option (List Thing)) (a b : Option (List ℕ)) (s n : State) → Gives before things after
+    → Halts things a b s n
     → (things : List Thing) × GivesFirst before things × Halts things a b s n
 stops_with things before after a b s n given h = (things, (after, given), h)
 

@@ -1,6 +1,8 @@
 -- Texts appended to the output, one after the other.
 use Rattle.std.proofs.Common.{◌≡◌, ◌∙◌, ℕ, Bool, true, false, List, [], ◌∷◌, ◌++◌, refl, sym, ap, subst, append_assoc, append-nil, true≢false}
-use Rattle.std.specs.Prelude.{◌&&◌, ◌||◌, not, is_some, IsTrue, Option, Some, None}
+use Rattle.std.specs.BTreeMap.{BTreeMap}
+use Rattle.std.specs.Borrow.{Bor}
+use Rattle.std.specs.Prelude.{◌&&◌, ◌||◌, not, is_some, IsTrue, Option, Some, None, String}
 use Rattle.std.proofs.lemmas.List.Elements.{All-push}
 use Rattle.tc_outline.specs.Page.{IsShown, is_shown}
 use Rattle.tc_capture.specs.Message.{Message as Netlink}
@@ -20,7 +22,8 @@ use Rattle.tcshow_input.specs.declared.options.OutputFormat.{OutputFormat}
 use Rattle.tcshow_input.specs.declared.options.OutputFormat.TheVariants.{Lines, Outline, Json}
 use Rattle.tcshow_input.specs.State.{State, Grows, Prints, Puts, laid_out, layout_of, noting, statistics_in, view_with}
 use Rattle.tcshow_lines.specs.Answers.{IsAnswer, IsEnd, dump_of}
-use Rattle.tcshow_lines.specs.Lines.{IsLines}
+use Rattle.tcshow_lines.specs.Lines.{IsLines, names_after}
+use Rattle.tcshow_lines.specs.Past.{Past}
 use Rattle.tcshow_lines.specs.declared.times.TimeFormat.{TimeFormat}
 
 pub or_assoc : (a b c : Bool) → ((a || b) || c) ≡ (a || (b || c))
@@ -37,7 +40,16 @@ nothing = record { no_text = refl; no_fault = refl }
 -- ---- more text
 
 pub grows_none : (s : State) → Grows [] false s s
-grows_none s = record { json = refl; view = refl; header = refl; filter = refl; summary = refl; before = refl; text = sym (append-nil s.text); bad = sym (or_false s.bad) }
+grows_none s = record {
+  json = refl;
+  view = refl;
+  header = refl;
+  filter = refl;
+  summary = refl;
+  before = refl;
+  text = sym (append-nil s.text);
+  bad = sym (or_false s.bad);
+}
 
 pub grows_then : (t u : List ℕ) (b c : Bool) (s m n : State) → Grows t b s m → Grows u c m n → Grows (t ++ u) (b || c) s n
 grows_then t u b c s m n g h = record {
@@ -123,6 +135,14 @@ pub asked_summary : (json asked : Bool) (s n : State) → asked ≡ true → (te
     → (text : List ℕ) × ShowsSummary json asked text × Grows text false s n
 asked_summary json asked s n is x = (x.0, subst (λ a. ShowsSummary json a x.0) (sym is) x.1, x.2)
 
+-- names of interfaces are those of an equal map
+pub names_same : {A : Type 0} (given : List (ℕ × Bor (List ℕ))) (a b : BTreeMap ℕ (String A)) → a ≡ b → names_after given a ≡ names_after given b
+names_same {A} given a b e = ap (λ (links : BTreeMap ℕ (String A)). names_after given links) e
+
+pub ends_with : (past : Past) (names others : List (ℕ × List ℕ)) (statistics : Bool) (time : TimeFormat) (origin : Origin) (m : Netlink) (text : List ℕ)
+    → names ≡ others → IsEnd past names statistics time origin m text → IsEnd past others statistics time origin m text
+ends_with past names others statistics time origin m text e h = subst (λ (ns : List (ℕ × List ℕ)). IsEnd past ns statistics time origin m text) e h
+
 module _ (format : OutputFormat) (time : TimeFormat) (acks all : Bool) (before : Known) where
   -- a page is the outline of a message, if it is laid out in lines
   pub is_view : (m : Message) (page : List ℕ) → statistics_in format ≡ None
@@ -137,22 +157,26 @@ module _ (format : OutputFormat) (time : TimeFormat) (acks all : Bool) (before :
       by_format Json none h = tt
 
   -- lines of objects
-  pub is_lines : (statistics : Bool) (m : Message) (text : List ℕ) → statistics_in format ≡ Some statistics
-      → IsLines before.past statistics time m text → IsViewOf (view_with format time acks all) before m text
-  is_lines statistics m text is h = by_format format is
+  pub is_lines : (statistics : Bool) (names : List (ℕ × List ℕ)) (m : Message) (text : List ℕ) → statistics_in format ≡ Some statistics
+      → names ≡ names_by before → IsLines before.past names statistics time m text → IsViewOf (view_with format time acks all) before m text
+  is_lines statistics names m text is e h = by_format format is
     where
       by_format : (f : OutputFormat) → statistics_in f ≡ Some statistics → IsViewOf (view_with f time acks all) before m text
-      by_format (Lines has) is = subst (λ s. IsLines before.past s time m text) (sym (cc is)) h
+      by_format (Lines has) is =
+          subst (λ s. IsLines before.past (names_by before) s time m text) (sym (cc is))
+          (subst (λ (ns : List (ℕ × List ℕ)). IsLines before.past ns statistics time m text) e h)
       by_format Outline is = absurd (cc is)
       by_format Json is = absurd (cc is)
 
   -- the line of an answer, or no line
-  pub is_answer_line : (statistics : Bool) (r : Reason) (m : Message) (text : List ℕ) → statistics_in format ≡ Some statistics
-      → IsAnswer before.past statistics time r m text → IsAnswerIn (view_with format time acks all) before r m text
-  is_answer_line statistics r m text is h = by_format format is
+  pub is_answer_line : (statistics : Bool) (names : List (ℕ × List ℕ)) (r : Reason) (m : Message) (text : List ℕ) → statistics_in format ≡ Some statistics
+      → names ≡ names_by before → IsAnswer before.past names statistics time r m text → IsAnswerIn (view_with format time acks all) before r m text
+  is_answer_line statistics names r m text is e h = by_format format is
     where
       by_format : (f : OutputFormat) → statistics_in f ≡ Some statistics → IsAnswerIn (view_with f time acks all) before r m text
-      by_format (Lines has) is = subst (λ s. IsAnswer before.past s time r m text) (sym (cc is)) h
+      by_format (Lines has) is =
+          subst (λ s. IsAnswer before.past (names_by before) s time r m text) (sym (cc is))
+          (subst (λ (ns : List (ℕ × List ℕ)). IsAnswer before.past ns statistics time r m text) e h)
       by_format Outline is = absurd (cc is)
       by_format Json is = absurd (cc is)
 
@@ -167,11 +191,11 @@ module _ (format : OutputFormat) (time : TimeFormat) (acks all : Bool) (before :
 
   -- the line of the end of a dump, or none
   pub is_done_line : (statistics : Bool) (origin : Origin) (m : Netlink) (text : List ℕ) → statistics_in format ≡ Some statistics
-      → IsPage text × IsEnd before.past statistics time origin m text → ShowsDone (view_with format time acks all) before origin m text
+      → IsPage text × IsEnd before.past (names_by before) statistics time origin m text → ShowsDone (view_with format time acks all) before origin m text
   is_done_line statistics origin m text is h = by_format format is
     where
       by_format : (f : OutputFormat) → statistics_in f ≡ Some statistics → ShowsDone (view_with f time acks all) before origin m text
-      by_format (Lines has) is = (h.0, subst (λ s. IsEnd before.past s time origin m text) (sym (cc is)) h.1)
+      by_format (Lines has) is = (h.0, subst (λ s. IsEnd before.past (names_by before) s time origin m text) (sym (cc is)) h.1)
       by_format Outline is = absurd (cc is)
       by_format Json is = absurd (cc is)
 

@@ -1,6 +1,7 @@
 -- Why an input is rejected, step by step.
 use Rattle.std.proofs.Math.Dec.{eqb-suc-zero}
-use Rattle.std.proofs.Common.{◌≡◌, ◌∙◌, ◌<◌, ◌-◌, ℕ, zero, suc, Bool, true, false, List, [], ◌∷◌, ◌++◌, take, length, refl, sym, ap, subst, arith, append-nil, true≢false}
+use Rattle.std.proofs.Common.{◌≡◌, ◌∙◌, ◌<◌, ◌-◌, ℕ, zero, suc, Bool, true, false, List, [], ◌∷◌, ◌++◌, take, length, refl, sym, ap, subst, arith}
+use Rattle.std.proofs.Common.{append-nil, true≢false}
 use Rattle.std.specs.Prelude.{◌&&◌, ◌||◌, ◌==◌, not, Option, Some, None, Result, Ok, Err, IfErr, IfSome, IsErrAnd, if◌then◌else◌}
 use Rattle.std.specs.Io.KnownBytes.{Keeps, prepend_known}
 use Rattle.std.specs.List.{list_all, list_any}
@@ -21,15 +22,19 @@ use Rattle.tcshow_input.specs.declared.first_lines.FirstLines.{FirstLines}
 use Rattle.tcshow_input.specs.declared.stop.Stop.{Stop}
 use Rattle.tcshow_input.specs.declared.stop.Stop.TheVariants.{NoCapture, NoRoute}
 use Rattle.tcshow_input.specs.Reading.{dump_after, dump_by_place, is_passed, is_hex_text}
-use Rattle.tcshow_input.specs.Rejected.{is_hex_alone, is_hex_by_place, is_hex_at, are_hex, is_no_hex, is_no_hex_by, is_no_hex_after, is_route, is_foreign, holds}
-use Rattle.tcshow_input.specs.Rejected.{stop_if, is_rejection, rejection_by, rejection_begun, rejection_left, rejection_of, Explains, text_rejection, text_rejection_after}
-use Rattle.tcshow_input.specs.Rejected.{Met, none_met, met_with, met_after, is_all_foreign, has_no_route_after, capture_rejection, met_rejection, StaysKnown, TellsUpTo}
+use Rattle.tcshow_input.specs.Rejected.{is_hex_alone, is_hex_by_place, is_hex_at, are_hex, is_no_hex, is_no_hex_by, is_no_hex_after, is_route}
+use Rattle.tcshow_input.specs.Rejected.{is_foreign, holds}
+use Rattle.tcshow_input.specs.Rejected.{stop_if, is_rejection, rejection_by, rejection_begun, rejection_left, rejection_of, Explains, text_rejection}
+use Rattle.tcshow_input.specs.Rejected.{text_rejection_after}
+use Rattle.tcshow_input.specs.Rejected.{Met, none_met, met_with, met_after, is_all_foreign, has_no_route_after, capture_rejection, met_rejection}
+use Rattle.tcshow_input.specs.Rejected.{StaysKnown, TellsUpTo}
 use Rattle.tcshow_input.proofs.Puts.{or_false}
 
 -- ---- the first lines
 
 -- a line with content is one
-some_line : (has_any is_hex : Bool) (left : ℕ) (later : List Bool) → is_no_hex_by false true left (is_hex ∷ later) ≡ is_no_hex_by false has_any left (is_hex ∷ later)
+some_line : (has_any is_hex : Bool) (left : ℕ) (later : List Bool)
+    → is_no_hex_by false true left (is_hex ∷ later) ≡ is_no_hex_by false has_any left (is_hex ∷ later)
 some_line true is_hex left later = refl
 some_line false is_hex left later = sym (ap (λ b. not b && list_all not (take left (is_hex ∷ later))) (eqb-suc-zero (length later)))
 
@@ -72,7 +77,8 @@ other_text false true zero none so later = refl
 other_text false false zero none so later = absurd (true≢false (sym so))
 
 -- once a line is hex, the others don't count
-pub told_by_hex : (has_hex has_any : Bool) (left : ℕ) (xs ys : List Bool) → has_hex ≡ true → is_no_hex_by has_hex has_any left xs ≡ is_no_hex_by has_hex has_any left ys
+pub told_by_hex : (has_hex has_any : Bool) (left : ℕ) (xs ys : List Bool) → has_hex ≡ true
+    → is_no_hex_by has_hex has_any left xs ≡ is_no_hex_by has_hex has_any left ys
 told_by_hex true has_any left xs ys is = refl
 told_by_hex false has_any left xs ys is = absurd (true≢false (sym is))
 
@@ -108,7 +114,8 @@ explains_before (Some r) (Some q) stop same h is = sym same ∙ h is
 pub explained : (rejection : Option (Option Stop)) (stop : Stop) → is_rejection stop ≡ false → Explains rejection stop
 explained rejection stop other is = absurd (true≢false (sym is ∙ other))
 
-pub explained_by : {T : Type 0} (r : Result T Stop) (rejection : Option (Option Stop)) → IfErr r (λ stop. is_rejection stop ≡ false) → IfErr r (Explains rejection)
+pub explained_by : {T : Type 0} (r : Result T Stop) (rejection : Option (Option Stop)) → IfErr r (λ stop. is_rejection stop ≡ false)
+    → IfErr r (Explains rejection)
 explained_by (Ok x) rejection h = tt
 explained_by (Err stop) rejection h = explained rejection stop h
 

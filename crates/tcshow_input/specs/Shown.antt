@@ -64,7 +64,7 @@ pub record IsOutline (names : List (ℕ × List ℕ)) (all : Bool) (m : Message)
 
 -- the text of a message in each view
 abbrev pub IsViewOf : View → Known → Message → List ℕ → Type 0
-IsViewOf (lines statistics format acks) known m text = IsLines known.past statistics format m text
+IsViewOf (lines statistics format acks) known m text = IsLines known.past (names_by known) statistics format m text
 IsViewOf (outline all) known m text = IsOutline (names_by known) all m text
 IsViewOf in_json known m text = ⊤
 
@@ -75,7 +75,7 @@ ShowsMessage false view known m text bad = IsPage text × IsViewOf view known m 
 
 -- the text of an answer in each view
 abbrev pub IsAnswerIn : View → Known → Reason → Message → List ℕ → Type 0
-IsAnswerIn (lines statistics format acks) known r m text = IsAnswer known.past statistics format r m text
+IsAnswerIn (lines statistics format acks) known r m text = IsAnswer known.past (names_by known) statistics format r m text
 IsAnswerIn (outline all) known r m text = ⊤
 IsAnswerIn in_json known r m text = ⊤
 
@@ -129,7 +129,8 @@ is_done_shown (outline all) known filter origin m = false
 is_done_shown in_json known filter origin m = false
 
 abbrev pub ShowsDone : View → Known → Origin → Netlink → List ℕ → Type 0
-ShowsDone (lines statistics format acks) known origin m text = IsPage text × IsEnd known.past statistics format origin m text
+ShowsDone (lines statistics format acks) known origin m text =
+    IsPage text × IsEnd known.past (names_by known) statistics format origin m text
 ShowsDone (outline all) known origin m text = text ≡ []
 ShowsDone in_json known origin m text = text ≡ []
 

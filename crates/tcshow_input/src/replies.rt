@@ -31,6 +31,7 @@ impl<'a, A: Allocator + Copy> Printer<'a, A> {
     ghost use Rattle.tcshow_json.specs.Messages.{done, header_view, is_silent, message_view, reason_of};
     ghost use Rattle.tcshow_json.specs.Replies.{thing_view};
     ghost use Rattle.tcshow_input.specs.Shown.{IfTaken, IsPage, ShowsAnswer, has_acks, is_answer_matched, is_request_matched};
+    ghost use Rattle.tcshow_input.specs.Known.{names_by};
     ghost use Rattle.tcshow_input.specs.State.{state_of, statistics_in, Grows, Puts};
     ghost use Rattle.tcshow_lines.specs.Answers.{IsEnd, dump_of};
 
@@ -57,7 +58,8 @@ impl<'a, A: Allocator + Copy> Printer<'a, A> {
     fn put_told(&mut self, reply: &Reply<'_>) -> Result<(), AllocError>
         ensures form { self.new.output.is_json ≡ self.old.output.is_json }
         ensures put { OnOk result ((text : List ℕ) × IfTaken (is_answer_matched (state_of self.old).before (state_of self.old).filter
-            (reason_of (answer_of reply.now.answer)) (message_view reply.now.request)) (ShowsAnswer self.old.output.is_json (state_of self.old).view (state_of self.old).before
+            (reason_of (answer_of reply.now.answer)) (message_view reply.now.request))
+            (ShowsAnswer self.old.output.is_json (state_of self.old).view (state_of self.old).before
             (header_view reply.now.header) (reason_of (answer_of reply.now.answer)) (message_view reply.now.request) text × (false ≡ false)) text false
             × Grows text false (state_of self.old) (state_of self.new)) }
     {
@@ -173,7 +175,8 @@ impl<'a, A: Allocator + Copy> Printer<'a, A> {
         requires known { is_some (dump_of (state_of self.old).before.past origin (message_of message.now)) ≡ true }
         ensures form { self.new.output.is_json ≡ self.old.output.is_json }
         ensures put { OnOk result ((text : List ℕ) × IsPage text
-            × IsEnd (state_of self.old).before.past statistics self.old.options.now.time origin (message_of message.now) text
+            × IsEnd (state_of self.old).before.past (names_by (state_of self.old).before) statistics self.old.options.now.time origin
+            (message_of message.now) text
             × Grows text false (state_of self.old) (state_of self.new)) }
     {
         let options = self.options;
@@ -208,7 +211,7 @@ impl<'a, A: Allocator + Copy> Printer<'a, A> {
             (reason_of (answer_of reply.now.answer)) (message_view reply.now.request) text × Grows text false (state_of self.old) (state_of self.new)) }
     {
         self.page.restart(layout_of(self.options.format));
-        show_reason(self.alloc, &mut self.page, reply)?;
+        show_reason(self.json, &mut self.page, reply)?;
         let request = self.request_page(reply)?;
         put_request(&mut self.page, request)?;
         self.put_page()

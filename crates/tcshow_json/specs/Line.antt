@@ -2,7 +2,7 @@
 use Rattle.std.specs.Fmt.{decimal}
 use Rattle.std.specs.Prelude.{◌⊎◌, ◌↔◌, ℕ, zero, suc, ◌+◌, ◌<◌, ◌^◌, ◌/◌, ◌%◌, Bool, true, false, IsTrue, List, [], ◌∷◌, ◌++◌, ◌-◌, Option, Some, None}
 use Rattle.std.specs.Prelude.{codes, ◌==◌, if◌then◌else◌}
-use Rattle.std.specs.Prelude.{flat_map, option_map, unwrap_or}
+use Rattle.std.specs.Prelude.{flat_map, option_and_then, option_map, unwrap_or}
 use Rattle.serde.specs.Event.{Event, boolean, unsigned, text, map_begins, map_ends, field_key}
 use Rattle.serde.specs.declared.name.Case.TheVariants.{AsIs}
 use Rattle.serde_json.specs.Sent.{IsTextOf}
@@ -21,6 +21,7 @@ use Rattle.forms_json.specs.Shown.{shown_of}
 use Rattle.tc_meaning.specs.Message.{Message as Meaning}
 use Rattle.tc_meaning.specs.Whole.{Words}
 use Rattle.forms_kinds.specs.Table.{tc_tables, tc_message, action_message}
+use Rattle.tc_paths.specs.Paths.{Path, path_in}
 use Rattle.tcshow_json.specs.declared.message.Origin.{Origin}
 use Rattle.tcshow_json.specs.declared.serialized.Verdict.{Verdict}
 use Rattle.tcshow_json.specs.declared.serialized.Verdict.TheVariants.{Read, Refused}
@@ -226,11 +227,24 @@ some_text (c ∷ cs) = Some (c ∷ cs)
 abbrev pub offset_in_message : Option ℕ → Option ℕ
 offset_in_message offset = option_map (λ n. n - 16) offset
 
--- the error, the text and the offset of an answer's bytes, and a path
-abbrev pub told_events : Reason → Option (List ℕ) → List Event
-told_events r path = error_events (errno_text r.error) (some_text (escaped_text r.text)) (offset_in_message r.offset) path
+-- the length of a message's header: `struct tcmsg`, or `struct tcamsg`
+abbrev pub header_length : MessageType → ℕ
+header_length Tc = 20
+header_length Action = 4
+
+-- the path of the attribute that begins at this byte of a message; `None` if none begins there
+abbrev pub path_at : Message → ℕ → Option Path
+path_at m n = path_in (form_of m.holds) (header_length m.holds) m.payload n
+
+-- its JSON pointer, if there is an offset
+abbrev pub pointer_at : Message → Option ℕ → Option (List ℕ)
+pointer_at m offset = option_map (λ (p : Path). p.pointer) (option_and_then (path_at m) offset)
+
+-- the error, the text and the place of an answer's bytes
+abbrev pub told_events : Reason → Message → List Event
+told_events r m =
+    error_events (errno_text r.error) (some_text (escaped_text r.text)) (offset_in_message r.offset) (pointer_at m (offset_in_message r.offset))
 
 -- the JSON line of an answer
 unfoldable pub IsAnswered : Header → Reason → Message → List ℕ → Type 0
-IsAnswered h r m line =
-    (path : Option (List ℕ)) × IsTextOf (Some (answered_events (time_of m) h (told_events r path) r.is_capped m)) line
+IsAnswered h r m line = IsTextOf (Some (answered_events (time_of m) h (told_events r m) r.is_capped m)) line

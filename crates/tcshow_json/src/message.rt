@@ -4,13 +4,17 @@ ghost use Rattle.std.specs.Prelude.{◌≡◌, is_some, if◌then◌else◌};
 ghost use Rattle.tc_capture.specs.Message.{message_of};
 ghost use Rattle.tc_columns.specs.declared.root.Root.TheVariants.{Qdisc};
 ghost use Rattle.tc_select.specs.Kinds.{actions_type};
+ghost use Rattle.tcshow_json.specs.Line.{header_length};
 ghost use Rattle.tcshow_json.specs.Messages.{header_view, header_with};
 ghost use Rattle.tcshow_json.specs.Objects.{action_root, filter_root, root_by_kind, root_by_type};
 
+use crate::serialized::form_of;
 use nla_frames::{NlasIterator, strip_nul};
+use std::alloc::{AllocError, Global};
 use tc_capture::{MessageType, NetlinkMessage, Time, rtm_of};
 use tc_columns::Root;
 use tc_outline::What;
+use tc_paths::{Path, path_in};
 use tc_select::{is_filter_kind, kind_of};
 
 /// A netlink header (`struct nlmsghdr`) without its length.
@@ -58,10 +62,12 @@ pub struct Message<'a> {
 }
 
 impl<'a> Message<'a> {
-    ghost use Rattle.std.specs.Prelude.{◌≡◌, None, option_map};
+    ghost use Rattle.std.specs.Prelude.{◌≡◌, IfOk, None, option_map};
     ghost use Rattle.tc_capture.specs.Message.{message_of};
     ghost use Rattle.tc_outline.specs.Outline.{what_of};
     ghost use Rattle.tcshow_json.specs.Messages.{header_view, message_view, message_in, no_origin};
+    ghost use Rattle.tc_paths.specs.Views.{path_view};
+    ghost use Rattle.tcshow_json.specs.Line.{path_at};
     ghost use Rattle.tcshow_json.specs.Objects.{root_of};
 
     /// The traffic control message in a netlink message. `None` if its type is another.
@@ -106,6 +112,19 @@ impl<'a> Message<'a> {
         What::of_root(self.root())
     }
 
+    /// The path of the attribute that begins at an offset in its bytes. `None` if none begins there.
+    pub fn path_at(&self, alloc: Global, offset: u64) -> Result<Option<Path>, AllocError>
+        ensures { IfOk result (λ path. option_map path_view path ≡ path_at (message_view self.now) offset) }
+    {
+        path_in(
+            alloc,
+            form_of(self.holds),
+            header_length(self.holds),
+            self.payload,
+            offset as usize,
+        )
+    }
+
     /// Name of the message type. Empty without a netlink header.
     pub fn name(&self) -> &'static str {
         match &self.header {
@@ -135,6 +154,16 @@ pub fn header_of(name: &'static str, message: &NetlinkMessage<'_>) -> NetlinkHea
 }
 
 // The object of messages of this type.
+// The length of a message's header.
+fn header_length(holds: MessageType) -> usize
+    ensures { result ≡ header_length holds }
+{
+    match holds {
+        MessageType::Tc => 20,
+        MessageType::Action => 4,
+    }
+}
+
 fn root_by_type(header: &NetlinkHeader, payload: &[u8]) -> Root
     ensures { result ≡ root_by_type (header_view header.now) payload.now }
 {

@@ -152,12 +152,6 @@ pub fn show_time_of<A: Allocator>(page: &mut Page<A>, origin: &Origin) -> Result
     Ok(())
 }
 
-/// The text on a page. `None` if it is empty.
-pub fn some_text<A: Allocator>(page: &Page<A>) -> Option<&str> {
-    let text = text_of(page);
-    if text.is_empty() { None } else { Some(text) }
-}
-
 /// Writes the path of a message's first fault, and returns its offset in bytes.
 pub fn show_place<A: Allocator>(
     path: &mut Page<A>,

@@ -5,11 +5,11 @@ ghost use Rattle.serde_json.specs.Sent.{IsTextOf};
 ghost use Rattle.tc_capture.specs.Answer.{answer_of};
 ghost use Rattle.tc_texts.specs.Escape.{escaped_byte};
 ghost use Rattle.tcshow_json.specs.Messages.{header_view, message_view, reason_of};
-ghost use Rattle.tcshow_json.specs.Line.{IsAnswered, answered_events, error_events, escaped_text, some_text, time_of};
+ghost use Rattle.tcshow_json.specs.Line.{IsAnswered, answered_events, error_events, escaped_text, offset_in_message, pointer_at, some_text, time_of};
 
 use crate::line::json_of;
 use crate::message::{Message, NetlinkHeader, Origin, header_of};
-use crate::pages::{show_numbers, show_time_of, show_word, some_text, text_of};
+use crate::pages::{show_numbers, show_time_of, show_word, text_of};
 use crate::serialized::{AnswerLine, Reason};
 use crate::time::{borrowed_text, some_time_text};
 use itoa::Buffer;
@@ -17,7 +17,8 @@ use nla_frames::strip_nul;
 use std::alloc::{AllocError, Allocator, Global};
 use std::str;
 use tc_capture::{Answer, NLMSG_HEADER_LEN, NetlinkMessage, answer_in, errno_name};
-use tc_outline::{Layout, Page, path_at};
+use tc_outline::Page;
+use tc_paths::Path;
 use tc_texts::put_escaped_byte;
 
 /// An answer of the kernel to a traffic control request: an error, a warning or an acknowledgement.
@@ -30,11 +31,11 @@ pub struct Reply<'a> {
 }
 
 impl<'a> Reply<'a> {
-    ghost use Rattle.std.specs.Prelude.{◌≡◌, IfOk, IsAscii};
+    ghost use Rattle.std.specs.Prelude.{◌≡◌, IfOk, IsAscii, option_map, string_bytes};
     ghost use Rattle.tc_capture.specs.Answer.{answer_in, answer_of};
     ghost use Rattle.tc_capture.specs.Message.{message_of};
     ghost use Rattle.tcshow_json.specs.Messages.{answer_with, is_silent, reason_of};
-    ghost use Rattle.tcshow_json.specs.Line.{errno_text, escaped_text, offset_in_message};
+    ghost use Rattle.tcshow_json.specs.Line.{errno_text, escaped_text, offset_in_message, pointer_at};
     ghost use Rattle.tcshow_json.specs.Replies.{reply_thing};
 
     /// The answer in a netlink message. `None` if it isn't an answer, or answers another request.
@@ -92,18 +93,15 @@ impl<'a> Reply<'a> {
         }
     }
 
-    // Writes the path of the fault, if the answer has its offset.
-    fn show_path<A: Allocator>(&self, page: &mut Page<A>) -> Result<(), AllocError> {
-        if let Some(offset) = self.offset() {
-            if let Some(path) = path_at(
-                self.request.payload,
-                self.request.what(),
-                offset as usize,
-            ) {
-                path.show(page)?;
-            }
+    // The path of the attribute at fault, if the answer has its offset.
+    fn path(&self, alloc: Global) -> Result<Option<Path>, AllocError>
+        ensures { IfOk result (λ path. option_map (λ p. string_bytes p.pointer) path
+            ≡ pointer_at (message_view self.now.request) (offset_in_message (reason_of (answer_of self.now.answer)).offset)) }
+    {
+        match self.offset() {
+            Some(offset) => self.request.path_at(alloc, offset),
+            None => Ok(None),
         }
-        Ok(())
     }
 }
 
@@ -156,8 +154,8 @@ fn put_indented<A: Allocator>(page: &mut Page<A>, text: &str) -> Result<(), Allo
 }
 
 /// Writes the line of an answer: time, error, netlink header, text and place of the fault.
-pub fn show_reason<A: Allocator + Copy>(
-    alloc: A,
+pub fn show_reason<A: Allocator>(
+    alloc: Global,
     page: &mut Page<A>,
     reply: &Reply<'_>,
 ) -> Result<(), AllocError> {
@@ -182,16 +180,17 @@ fn begin_answer<A: Allocator>(page: &mut Page<A>, reply: &Reply<'_>) -> Result<(
 
 // Writes the offset and the path of the fault.
 fn show_fault_at<A: Allocator>(
-    alloc: A,
+    alloc: Global,
     page: &mut Page<A>,
     offset: u64,
     reply: &Reply<'_>,
 ) -> Result<(), AllocError> {
     page.text(" at ")?;
     page.number(offset)?;
-    let mut path = Page::new(alloc, Layout::OneLine);
-    reply.show_path(&mut path)?;
-    show_word(page, text_of(&path))
+    match reply.path(alloc)? {
+        Some(path) => show_word(page, path.pointer.as_str()),
+        None => Ok(()),
+    }
 }
 
 /// Writes the JSON line of an answer, without a line feed.
@@ -203,10 +202,19 @@ pub fn reply_line<A: Allocator + Copy>(
     ensures { IfOk result (λ line. IsAnswered (header_view reply.now.header) (reason_of (answer_of reply.now.answer))
         (message_view reply.now.request) (string_bytes line)) }
 {
-    let mut path = Page::new(alloc, Layout::OneLine);
-    reply.show_path(&mut path)?;
+    let path = reply.path(json)?;
     let text = reply.text(alloc)?;
-    line_with(json, reply, &text, some_text(&path))
+    line_with(json, reply, &text, pointer_of(&path))
+}
+
+// The JSON pointer of a path.
+fn pointer_of(path: &Option<Path>) -> Option<&str>
+    ensures { option_map (λ text. text.now) result ≡ option_map (λ p. string_bytes p.pointer) path.now }
+{
+    match path {
+        Some(path) => Some(path.pointer.as_str()),
+        None => None,
+    }
 }
 
 fn line_with(
@@ -217,6 +225,8 @@ fn line_with(
 ) -> Result<String, AllocError>
     requires text { text.now ≡ escaped_text (reason_of (answer_of reply.now.answer)).text }
     requires ascii { IsAscii text.now }
+    requires path { option_map (λ t. t.now) path
+        ≡ pointer_at (message_view reply.now.request) (offset_in_message (reason_of (answer_of reply.now.answer)).offset) }
     ensures { IfOk result (λ line. IsAnswered (header_view reply.now.header) (reason_of (answer_of reply.now.answer))
         (message_view reply.now.request) (string_bytes line)) }
 {

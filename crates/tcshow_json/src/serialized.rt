@@ -349,7 +349,8 @@ fn show_message<S: Serializer>(
     show_bytes(holds, payload, alloc, out)
 }
 
-fn form_of(holds: MessageType) -> Form
+/// The form of a message.
+pub(crate) fn form_of(holds: MessageType) -> Form
     ensures { result ≡ form_of holds }
 {
     match holds {

@@ -14,7 +14,9 @@ use Rattle.tc_capture.specs.Message.{Message as Netlink}
 use Rattle.tcshow_json.specs.Messages.{Message, Reason}
 use Rattle.tcshow_json.specs.Objects.{root_of}
 use Rattle.tcshow_json.specs.declared.message.Origin.{Origin}
-use Rattle.tcshow_lines.specs.Answers.{IsAsked, end_sentence, end_text, end_words, request_begin, sentence, sentence_byte, sentence_bytes, told_text, told_words}
+use Rattle.tcshow_json.specs.Line.{offset_in_message}
+use Rattle.tcshow_lines.specs.Answers.{IsAsked, end_sentence, end_text, end_words, place_in, request_begin, sentence, sentence_byte, sentence_bytes, told_text}
+use Rattle.tcshow_lines.specs.Answers.{told_words}
 use Rattle.tcshow_lines.specs.Begins.{time_in, timed, words_text}
 use Rattle.tcshow_lines.specs.Lines.{IsEnded, IsFault, IsSaid, fault_of, leaves_at, leaves_with, options_with, said_as}
 use Rattle.tcshow_lines.specs.Past.{Past}
@@ -96,27 +98,29 @@ module _ (said : Said) (begin : IsShown true said.begin) (end : IsShown true sai
   found_ended (Some ls) text h = subst IsEnded (cc h) (lines_ended ls)
 
 -- lines of a message that begin with printable text
-pub said_ended : (begin : List ℕ) (stats : Bool) (port : ℕ) (m : Message) (text : List ℕ) → IsShown true begin → IsSaid begin stats port m text
-    → IsEnded text
-said_ended begin stats port m text b h =
-    found_ended (said_as begin stats port (written h.fault) m) b (written_shown h.fault) (leaves_with h.names m) text h.line
+pub said_ended : (names : List (ℕ × List ℕ)) (begin : List ℕ) (stats : Bool) (port : ℕ) (m : Message) (text : List ℕ) → IsShown true begin
+    → IsSaid names begin stats port m text → IsEnded text
+said_ended names begin stats port m text b h =
+    found_ended (said_as begin stats port (written h.fault) m) b (written_shown h.fault) (leaves_with names m) text h.line
 
 -- what the code knows of a message's lines
-pub is_said : (begin : List ℕ) (stats : Bool) (port : ℕ) (m : Message) (object : Object) (about : Root) (names : List (ℕ × List ℕ))
+pub is_said : (names : List (ℕ × List ℕ)) (begin : List ℕ) (stats : Bool) (port : ℕ) (m : Message) (object : Object) (about : Root)
     → (fault : List (List ℕ)) (end text : List ℕ) → object ≡ object_in about → about ≡ root_of m → IsFault (fault_of m) fault → end ≡ written fault
     → option_map (message_lines (record { begin = begin; object = object; statistics = stats; port = port; end = end }))
-    (leaves_at (options_with names about) about m.payload) ≡ Some text → IsSaid begin stats port m text
-is_said begin stats port m object about names fault end text o r f e h =
+    (leaves_at (options_with names about) about m.payload) ≡ Some text → IsSaid names begin stats port m text
+is_said names begin stats port m object about fault end text o r f e h =
     let with : Object → Root → List ℕ → Option (List ℕ) = λ y t z.
     option_map (message_lines (record { begin = begin; object = y; statistics = stats; port = port; end = z }))
     (leaves_at (options_with names t) t m.payload) in
     let same : with object about end ≡ with (object_in (root_of m)) (root_of m) (written fault) =
     ap (λ (y : Object). with y about end) (o ∙ ap object_in r) ∙ ap (λ (t : Root). with (object_in (root_of m)) t end) r
     ∙ ap (λ (z : List ℕ). with (object_in (root_of m)) (root_of m) z) e in
-    record { names = names; fault = fault; is_fault = f; line = sym same ∙ h }
+    record { fault = fault; is_fault = f; line = sym same ∙ h }
 
-pub said_equal : (b c : List ℕ) (stats : Bool) (p q : ℕ) (m : Message) (text : List ℕ) → b ≡ c → p ≡ q → IsSaid b stats p m text → IsSaid c stats q m text
-said_equal b c stats p q m text e f h = subst (λ (n : ℕ). IsSaid c stats n m text) f (subst (λ (begin : List ℕ). IsSaid begin stats p m text) e h)
+pub said_equal : (names : List (ℕ × List ℕ)) (b c : List ℕ) (stats : Bool) (p q : ℕ) (m : Message) (text : List ℕ) → b ≡ c → p ≡ q
+    → IsSaid names b stats p m text → IsSaid names c stats q m text
+said_equal names b c stats p q m text e f h =
+    subst (λ (n : ℕ). IsSaid names c stats n m text) f (subst (λ (begin : List ℕ). IsSaid names begin stats p m text) e h)
 
 -- ---- answers
 
@@ -144,8 +148,9 @@ sentence_shown (Some text) =
     (All-cons Clean 32 (34 ∷ []) blank_shown (All-cons Clean 34 [] quote_shown (All-nil Clean)))
     (All-append Clean (sentence_bytes 32 (strip text)) (34 ∷ []) (sentence_bytes_shown 32 (strip text)) (All-cons Clean 34 [] quote_shown (All-nil Clean)))
 
-pub told_shown : (past : Past) (format : TimeFormat) (r : Reason) (m : Message) (place : List (List ℕ)) → IsShown true (told_text past format r m place)
-told_shown past format r m place =
+pub told_shown : (past : Past) (format : TimeFormat) (r : Reason) (m whole : Message) → IsShown true (told_text past format r m whole)
+told_shown past format r m whole =
+    let place = place_in whole (offset_in_message r.offset) in
     All-append Clean (words_text (timed (time_in format past m.origin.time) (told_words r))) (sentence r.text ++ written place)
     (words_shown (timed (time_in format past m.origin.time) (told_words r)))
     (All-append Clean (sentence r.text) (written place) (sentence_shown r.text) (written_shown place))
@@ -160,15 +165,15 @@ begin_shown begin m b =
     All-append Clean begin (written (verb_words (asked_verb (object_in (root_of m)) m.header))) b
     (written_shown (verb_words (asked_verb (object_in (root_of m)) m.header)))
 
-pub asked_ended : (begin : List ℕ) (stats : Bool) (m : Message) (bytes : Option (List ℕ)) (text : List ℕ) → IsShown true begin
-    → IsAsked begin stats m bytes text → IsEnded text
-asked_ended begin stats m None text b h =
+pub asked_ended : (names : List (ℕ × List ℕ)) (begin : List ℕ) (stats : Bool) (m : Message) (bytes : Option (List ℕ)) (text : List ℕ)
+    → IsShown true begin → IsAsked names begin stats m bytes text → IsEnded text
+asked_ended names begin stats m None text b h =
     subst IsEnded (sym h) (lines_ended (said_as (request_begin begin m) stats 0 [] m) (begin_shown begin m b) (All-nil Clean) [])
-asked_ended begin stats m (Some bytes) text b h =
-    said_ended (request_begin begin (record m { payload = bytes })) stats 0 (record m { payload = bytes }) text
+asked_ended names begin stats m (Some bytes) text b h =
+    said_ended names (request_begin begin (record m { payload = bytes })) stats 0 (record m { payload = bytes }) text
     (begin_shown begin (record m { payload = bytes }) b) h
 
-pub asked_equal : (b c : List ℕ) (stats : Bool) (m : Message) (bytes others : Option (List ℕ)) (text : List ℕ) → b ≡ c → bytes ≡ others
-    → IsAsked b stats m bytes text → IsAsked c stats m others text
-asked_equal b c stats m bytes others text e f h =
-    subst (λ (o : Option (List ℕ)). IsAsked c stats m o text) f (subst (λ (begin : List ℕ). IsAsked begin stats m bytes text) e h)
+pub asked_equal : (names : List (ℕ × List ℕ)) (b c : List ℕ) (stats : Bool) (m : Message) (bytes others : Option (List ℕ)) (text : List ℕ) → b ≡ c
+    → bytes ≡ others → IsAsked names b stats m bytes text → IsAsked names c stats m others text
+asked_equal names b c stats m bytes others text e f h =
+    subst (λ (o : Option (List ℕ)). IsAsked names c stats m o text) f (subst (λ (begin : List ℕ). IsAsked names begin stats m bytes text) e h)

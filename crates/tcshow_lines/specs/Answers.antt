@@ -2,13 +2,15 @@
 use Rattle.byteorder.specs.Endian.{little_number}
 use Rattle.nla_frames.specs.Frame.{Frame, type_of}
 use Rattle.nla_frames.specs.Value.{strip}
-use Rattle.std.specs.Prelude.{Bool, List, None, Option, Some, [], codes, drop, if◌then◌else◌, is_some, length, nat_le, nat_lt, not, option_and_then, option_map, ℕ}
+use Rattle.std.specs.Prelude.{Bool, List, None, Option, Some, [], codes, drop, if◌then◌else◌, is_some, length, nat_le, nat_lt, not, option_and_then}
+use Rattle.std.specs.Prelude.{option_map, ℕ}
 use Rattle.std.specs.Prelude.{◌%◌, ◌&&◌, ◌++◌, ◌-◌, ◌==◌, ◌≡◌, ◌||◌, ◌∷◌, false}
 use Rattle.tc_brief.specs.Lines.{message_lines}
 use Rattle.tc_brief.specs.Words.{word_byte, written}
 use Rattle.tc_capture.specs.Message.{Message as Netlink}
+use Rattle.tc_paths.specs.Paths.{Path}
 use Rattle.tc_select.specs.Kinds.{frames_in}
-use Rattle.tcshow_json.specs.Line.{errno_text, offset_in_message}
+use Rattle.tcshow_json.specs.Line.{errno_text, offset_in_message, path_at}
 use Rattle.tcshow_json.specs.Messages.{Header, Message, Reason}
 use Rattle.tcshow_json.specs.Objects.{root_of}
 use Rattle.tcshow_json.specs.declared.message.Origin.{Origin}
@@ -38,10 +40,14 @@ abbrev pub sentence : Option (List ℕ) → List ℕ
 sentence None = []
 sentence (Some text) = codes " \"" ++ (sentence_bytes 32 (strip text) ++ codes "\"")
 
+-- the names of the attributes that contain the one that begins at this byte of a message, from the outside in, and its own; `None` if none begins there
+abbrev pub names_at : Message → ℕ → Option (List ℕ)
+names_at m n = option_map (λ (p : Path). p.names) (path_at m n)
+
 -- the place in the request, if it names one
-abbrev pub IsPlace : Option ℕ → List (List ℕ) → Type 0
-IsPlace None words = words ≡ []
-IsPlace (Some n) words = (names : Option (List ℕ)) × (words ≡ place_words names n)
+abbrev pub place_in : Message → Option ℕ → List (List ℕ)
+place_in m None = []
+place_in m (Some n) = place_words (names_at m n) n
 
 -- ---- the request
 
@@ -75,22 +81,22 @@ request_of past r m = with_bytes (asked_bytes past r m) m
 abbrev pub request_begin : List ℕ → Message → List ℕ
 request_begin begin m = begin ++ written (verb_words (asked_verb (object_in (root_of m)) m.header))
 
-abbrev pub IsAsked : List ℕ → Bool → Message → Option (List ℕ) → List ℕ → Type 0
-IsAsked begin stats m None text = text ≡ message_lines (said_as (request_begin begin m) stats 0 [] m) []
-IsAsked begin stats m (Some bytes) text =
-    IsSaid (request_begin begin (record m { payload = bytes })) stats 0 (record m { payload = bytes }) text
+abbrev pub IsAsked : List (ℕ × List ℕ) → List ℕ → Bool → Message → Option (List ℕ) → List ℕ → Type 0
+IsAsked names begin stats m None text = text ≡ message_lines (said_as (request_begin begin m) stats 0 [] m) []
+IsAsked names begin stats m (Some bytes) text =
+    IsSaid names (request_begin begin (record m { payload = bytes })) stats 0 (record m { payload = bytes }) text
 
 -- ---- answers
 
--- what the line of an answer begins with, up to the verb of its request: time, error, sentence and place
-abbrev pub told_text : Past → TimeFormat → Reason → Message → List (List ℕ) → List ℕ
-told_text past format r m place = words_text (timed (time_in format past m.origin.time) (told_words r)) ++ (sentence r.text ++ written place)
+-- what the line of an answer begins with, up to the verb of its request: time, error, sentence and place in these bytes of the request
+abbrev pub told_text : Past → TimeFormat → Reason → Message → Message → List ℕ
+told_text past format r m whole =
+    words_text (timed (time_in format past m.origin.time) (told_words r))
+    ++ (sentence r.text ++ written (place_in whole (offset_in_message r.offset)))
 
--- the lines of an answer after these messages
-pub record IsAnswer (past : Past) (stats : Bool) (format : TimeFormat) (r : Reason) (m : Message) (text : List ℕ) : Type 0 where
-  pub place : List (List ℕ)
-  pub is_place : IsPlace (offset_in_message r.offset) place
-  pub asked : IsAsked (told_text past format r m place) stats m (asked_bytes past r m) text
+-- the lines of an answer after these messages, with these names of interfaces
+abbrev pub IsAnswer : Past → List (ℕ × List ℕ) → Bool → TimeFormat → Reason → Message → List ℕ → Type 0
+IsAnswer past names stats format r m text = IsAsked names (told_text past format r m (request_of past r m)) stats m (asked_bytes past r m) text
 
 -- ---- ends of dumps
 
@@ -144,11 +150,11 @@ request_at origin r = record { origin = origin; header = Some r.header; holds = 
 abbrev pub dump_of : Past → Origin → Netlink → Option Message
 dump_of past origin m = option_map (λ (r : Request). with_bytes r.payload (request_at origin r)) (ended_dump past m)
 
-abbrev pub IsEndOf : Past → Bool → TimeFormat → Origin → Netlink → Option Request → List ℕ → Type 0
-IsEndOf past stats format origin m None text = text ≡ []
-IsEndOf past stats format origin m (Some r) text =
-    IsAsked (end_text past format origin m) stats (request_at origin r) r.payload text
+abbrev pub IsEndOf : Past → List (ℕ × List ℕ) → Bool → TimeFormat → Origin → Netlink → Option Request → List ℕ → Type 0
+IsEndOf past names stats format origin m None text = text ≡ []
+IsEndOf past names stats format origin m (Some r) text =
+    IsAsked names (end_text past format origin m) stats (request_at origin r) r.payload text
 
--- the line of a dump that ends badly, after these messages
-abbrev pub IsEnd : Past → Bool → TimeFormat → Origin → Netlink → List ℕ → Type 0
-IsEnd past stats format origin m text = IsEndOf past stats format origin m (ended_dump past m) text
+-- the line of a dump that ends badly, after these messages, with these names of interfaces
+abbrev pub IsEnd : Past → List (ℕ × List ℕ) → Bool → TimeFormat → Origin → Netlink → List ℕ → Type 0
+IsEnd past names stats format origin m text = IsEndOf past names stats format origin m (ended_dump past m) text

@@ -4,12 +4,15 @@ use Rattle.forms_kinds.specs.Table.{tc_tables}
 use Rattle.forms_values.specs.Sent.{events}
 use Rattle.nla_frames.specs.declared.error.DecodeError.{DecodeError}
 use Rattle.nla_frames.specs.declared.error.DecodeError.TheVariants as error
-use Rattle.std.specs.Prelude.{Bool, List, None, Option, Some, [], codes, decimal, false, if◌then◌else◌, option_map, true, ℕ, ◌++◌, ◌==◌, ◌≡◌, ◌∷◌}
+use Rattle.std.specs.BTreeMap.{BTreeMap}
+use Rattle.std.specs.Borrow.{Bor}
+use Rattle.std.specs.Prelude.{Bool, List, None, Option, Some, String, [], codes, decimal, false, if◌then◌else◌, map, option_map, true, ℕ, ◌++◌, ◌==◌, ◌≡◌, ◌∷◌}
 use Rattle.tc_brief.specs.Leaves.{Leaf}
 use Rattle.tc_brief.specs.Lines.{Said, message_lines}
 use Rattle.tc_brief.specs.Walk.{leaves}
 use Rattle.tc_brief.specs.Words.{written}
 use Rattle.tc_columns.specs.Kinds.{kind_table, root_place}
+use Rattle.tc_columns.specs.Names.{names_in}
 use Rattle.tc_columns.specs.declared.root.Root.{Root}
 use Rattle.tc_lines.specs.Columns.{Options}
 use Rattle.tc_outline.specs.Located.{items_of_message, message_fault}
@@ -22,6 +25,10 @@ use Rattle.tcshow_lines.specs.Begins.{time_in, timed, words_text}
 use Rattle.tcshow_lines.specs.Past.{Past}
 use Rattle.tcshow_lines.specs.Verbs.{object_in, speech_of, verb_words}
 use Rattle.tcshow_lines.specs.declared.times.TimeFormat.{TimeFormat}
+
+-- names of interfaces: the caller's, then those of a map by index; the first of an interface counts
+abbrev pub names_after : {A : Type 0} → List (ℕ × Bor (List ℕ)) → BTreeMap ℕ (String A) → List (ℕ × List ℕ)
+names_after given links = map (λ name. (name.0, name.1.now)) given ++ names_in links
 
 -- the columns of a root, with these names of interfaces
 abbrev pub options_with : List (ℕ × List ℕ) → Root → Options
@@ -76,9 +83,8 @@ fault_of m = message_fault (items_of_message (what_of (root_of m)) m.payload)
 
 -- ---- lines
 
--- the lines of a message that begin with a text: its words, and its fault, if it has one
-pub record IsSaid (begin : List ℕ) (stats : Bool) (port : ℕ) (m : Message) (text : List ℕ) : Type 0 where
-  pub names : List (ℕ × List ℕ)
+-- the lines of a message that begin with a text, with these names of interfaces: its words, and its fault, if it has one
+pub record IsSaid (names : List (ℕ × List ℕ)) (begin : List ℕ) (stats : Bool) (port : ℕ) (m : Message) (text : List ℕ) : Type 0 where
   pub fault : List (List ℕ)
   pub is_fault : IsFault (fault_of m) fault
   pub line : option_map (message_lines (said_as begin stats port (written fault) m)) (leaves_with names m) ≡ Some text
@@ -87,9 +93,9 @@ pub record IsSaid (begin : List ℕ) (stats : Bool) (port : ℕ) (m : Message) (
 abbrev pub begin_of : Past → TimeFormat → Message → List ℕ
 begin_of past format m = words_text (timed (time_in format past m.origin.time) (verb_words (speech_of past m).verb))
 
--- the lines of a message after these messages
-abbrev pub IsLines : Past → Bool → TimeFormat → Message → List ℕ → Type 0
-IsLines past stats format m text = IsSaid (begin_of past format m) stats (speech_of past m).port m text
+-- the lines of a message after these messages, with these names of interfaces
+abbrev pub IsLines : Past → List (ℕ × List ℕ) → Bool → TimeFormat → Message → List ℕ → Type 0
+IsLines past names stats format m text = IsSaid names (begin_of past format m) stats (speech_of past m).port m text
 
 -- printable ASCII and line feeds, and the line feed that ends it
 abbrev pub IsEnded : List ℕ → Type 0

@@ -1,5 +1,6 @@
 -- The time that a line begins with.
-use Rattle.std.specs.Prelude.{List, Option, [], if◌then◌else◌, ℕ, zero, suc, ◌%◌, ◌+◌, ◌-◌, ◌++◌, ◌/◌, ◌==◌, ◌&&◌, ◌||◌, ◌∷◌, Bool, decimal, nat_le, nat_lt, not, unwrap_or}
+use Rattle.std.specs.Prelude.{List, Option, [], if◌then◌else◌, ℕ, zero, suc, ◌%◌, ◌+◌, ◌-◌, ◌++◌, ◌/◌, ◌==◌, ◌&&◌, ◌||◌, ◌∷◌, Bool, decimal, nat_le}
+use Rattle.std.specs.Prelude.{nat_lt, not, unwrap_or}
 use Rattle.tc_capture.specs.declared.time.Time.{Time}
 use Rattle.tc_select.specs.Calendar.{is_leap, month_length, year_length}
 use Rattle.tcshow_lines.specs.declared.times.Place.{Place}

@@ -1,18 +1,18 @@
 //! The lines of the kernel's answers.
 
-ghost use Rattle.std.specs.Prelude.{◌≡◌, ◌∷◌, ◌++◌, [], List, ℕ, IfOk, None, OnOk, Option, codes, if◌then◌else◌, is_some, option_map};
+ghost use Rattle.std.specs.Prelude.{◌≡◌, ◌∷◌, ◌++◌, [], IfOk, None, OnOk, Some, codes, if◌then◌else◌, is_some, option_map};
 ghost use Rattle.tc_brief.specs.Words.{written};
 ghost use Rattle.tc_capture.specs.Answer.{answer_of};
 ghost use Rattle.tcshow_json.specs.Line.{offset_in_message};
 ghost use Rattle.tcshow_json.specs.Messages.{header_view, message_view, reason_of};
-ghost use Rattle.tcshow_lines.specs.Answers.{IsAnswer, IsAsked, IsPlace, asked_bytes, bytes_like, is_like, last_where, request_begin};
-ghost use Rattle.tcshow_lines.specs.Answers.{request_of, sentence, sentence_byte, sentence_bytes, told_text, told_words, with_bytes};
+ghost use Rattle.tcshow_lines.specs.Answers.{IsAnswer, IsAsked, asked_bytes, bytes_like, is_like, last_where};
+ghost use Rattle.tcshow_lines.specs.Answers.{place_in, request_begin, request_of, sentence, sentence_byte, sentence_bytes, told_text, told_words, with_bytes};
 ghost use Rattle.tcshow_lines.specs.Begins.{time_in, timed, words_text};
-ghost use Rattle.tcshow_lines.specs.Lines.{IsEnded, IsSaid, place_words};
+ghost use Rattle.tcshow_lines.specs.Lines.{IsEnded, IsSaid, names_after};
 ghost use Rattle.tcshow_lines.specs.Past.{past_of, request_view, requests_view};
 
 use crate::begin::{begin_with, put_verb};
-use crate::fault::{names_of, put_place};
+use crate::fault::put_place;
 use crate::line::{Lines, line_without_bytes, lines_said};
 use crate::past::{Request, Requests};
 use crate::times::TimeFormat;
@@ -23,7 +23,6 @@ use std::alloc::{AllocError, Global};
 use tc_brief::{put_byte, put_word};
 use tc_capture::{NLMSG_HEADER_LEN, Time};
 use tc_columns::LinkNames;
-use tc_outline::path_at;
 use tcshow_json::{Message, NetlinkHeader, Reply};
 
 // Appends a byte of the kernel's sentence after another.
@@ -64,21 +63,6 @@ pub(crate) fn put_sentence(out: &mut Vec<u8>, text: Option<&[u8]>) -> Result<(),
     }
 }
 
-// The names of the attributes on the way to an offset of a request. `None` if no attribute begins there.
-fn names_at(
-    alloc: Global,
-    request: &Message<'_>,
-    offset: u64,
-) -> Result<Option<String>, AllocError> {
-    match path_at(request.payload, request.what(), offset as usize) {
-        Some(path) => {
-            let names = names_of(alloc, &path)?;
-            Ok(Some(names))
-        }
-        None => Ok(None),
-    }
-}
-
 // Appends an offset of a request, and the names of the attributes on the way to it.
 fn put_place_at(
     alloc: Global,
@@ -86,11 +70,11 @@ fn put_place_at(
     request: &Message<'_>,
     offset: u64,
 ) -> Result<(), AllocError>
-    ensures { OnOk result ((names : Option (List ℕ)) × (out.new.items ≡ out.old.items ++ written (place_words names offset))) }
+    ensures { OnOk result (out.new.items ≡ out.old.items ++ written (place_in (message_view request.now) (Some offset))) }
 {
-    let names = names_at(alloc, request, offset)?;
-    match names {
-        Some(names) => put_place(alloc, out, Some(names.as_str()), offset),
+    let path = request.path_at(alloc, offset)?;
+    match path {
+        Some(path) => put_place(alloc, out, Some(path.names.as_bytes()), offset),
         None => put_place(alloc, out, None, offset),
     }
 }
@@ -112,8 +96,8 @@ fn put_place_of(
     request: &Message<'_>,
     reply: &Reply<'_>,
 ) -> Result<(), AllocError>
-    ensures { OnOk result ((place : List (List ℕ)) × IsPlace (offset_in_message (reason_of (answer_of reply.now.answer)).offset) place
-        × (out.new.items ≡ out.old.items ++ written place)) }
+    ensures { OnOk result (out.new.items ≡ out.old.items
+        ++ written (place_in (message_view request.now) (offset_in_message (reason_of (answer_of reply.now.answer)).offset))) }
 {
     match offset_in(reply) {
         Some(offset) => put_place_at(alloc, out, request, offset),
@@ -175,8 +159,8 @@ fn told_text(
     request: &Message<'_>,
     reply: &Reply<'_>,
 ) -> Result<Vec<u8>, AllocError>
-    ensures { IfOk result (λ text. (place : List (List ℕ)) × IsPlace (offset_in_message (reason_of (answer_of reply.now.answer)).offset) place
-        × (text.items ≡ told_text (past_of past.now) format (reason_of (answer_of reply.now.answer)) (message_view reply.now.request) place)) }
+    ensures { IfOk result (λ text. text.items ≡ told_text (past_of past.now) format (reason_of (answer_of reply.now.answer))
+        (message_view reply.now.request) (message_view request.now)) }
 {
     let mut text = told(alloc, past, format, reply)?;
     put_sentence(&mut text, reply.answer.text)?;
@@ -256,7 +240,8 @@ fn lines_of_bytes(
     statistics: bool,
     request: &Message<'_>,
 ) -> Result<Vec<u8>, AllocError>
-    ensures { IfOk result (λ text. IsSaid (request_begin begin.items (message_view request.now)) statistics 0 (message_view request.now) text.items) }
+    ensures { IfOk result (λ text. IsSaid (names_after interfaces.now links.now)
+        (request_begin begin.items (message_view request.now)) statistics 0 (message_view request.now) text.items) }
 {
     put_asked(alloc, &mut begin, request)?;
     let lines = lines_said(
@@ -282,7 +267,8 @@ pub(crate) fn lines_asked(
     request: &Message<'_>,
     bytes: Option<&[u8]>,
 ) -> Result<Vec<u8>, AllocError>
-    ensures { IfOk result (λ text. IsAsked begin.items statistics (message_view request.now) (option_map (λ bytes. bytes.now) bytes.entry) text.items) }
+    ensures { IfOk result (λ text. IsAsked (names_after interfaces.now links.now) begin.items statistics (message_view request.now)
+        (option_map (λ bytes. bytes.now) bytes.entry) text.items) }
 {
     match bytes {
         Some(payload) => {
@@ -330,8 +316,8 @@ pub fn lines_of_reply(
     format: TimeFormat,
     reply: &Reply<'_>,
 ) -> Result<Vec<u8>, AllocError>
-    ensures answer { IfOk result (λ text. IsAnswer (past_of past.now) statistics format (reason_of (answer_of reply.now.answer))
-        (message_view reply.now.request) text.items) }
+    ensures answer { IfOk result (λ text. IsAnswer (past_of past.now) (names_after interfaces.now links.now) statistics format
+        (reason_of (answer_of reply.now.answer)) (message_view reply.now.request) text.items) }
     ensures ended { IfOk result (λ text. IsEnded text.items) }
 {
     let bytes = asked_bytes(past, reply);

@@ -9,7 +9,7 @@ ghost use Rattle.tcshow_lines.specs.Answers.{IsEnd, dump_of, end_error, end_word
 ghost use Rattle.tcshow_lines.specs.Answers.{end_sentence, end_text, last_text, last_where, request_at};
 ghost use Rattle.tc_select.specs.Kinds.{frames_in};
 ghost use Rattle.tcshow_lines.specs.Begins.{time_in, timed, words_text};
-ghost use Rattle.tcshow_lines.specs.Lines.{IsEnded};
+ghost use Rattle.tcshow_lines.specs.Lines.{IsEnded, names_after};
 ghost use Rattle.tcshow_lines.specs.Past.{headers_view, past_of, request_view, requests_view};
 
 use crate::answer::{bytes_of, lines_asked, put_sentence, refused};
@@ -237,7 +237,8 @@ pub fn lines_of_end(
     origin: Origin,
     message: &NetlinkMessage<'_>,
 ) -> Result<Vec<u8>, AllocError>
-    ensures end { IfOk result (λ text. IsEnd (past_of past.now) statistics format origin (message_of message.now) text.items) }
+    ensures end { IfOk result (λ text. IsEnd (past_of past.now) (names_after interfaces.now links.now) statistics format origin
+        (message_of message.now) text.items) }
     ensures ended { is_some (dump_of (past_of past.now) origin (message_of message.now)) ≡ true → IfOk result (λ text. IsEnded text.items) }
 {
     let request = match ended_dump(past, message) {

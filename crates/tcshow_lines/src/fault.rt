@@ -41,7 +41,7 @@ fn malformed_at(
     let mut text = Vec::with_capacity(alloc, 64)?;
     put_word(&mut text, b"malformed:")?;
     put_error(alloc, &mut text, error)?;
-    put_place(alloc, &mut text, Some(names), offset)?;
+    put_place(alloc, &mut text, Some(names.as_bytes()), offset)?;
     Ok(text)
 }
 
@@ -58,7 +58,7 @@ fn put_number(alloc: Global, out: &mut Vec<u8>, n: u64) -> Result<(), AllocError
 pub(crate) fn put_place(
     alloc: Global,
     out: &mut Vec<u8>,
-    names: Option<&str>,
+    names: Option<&[u8]>,
     offset: u64,
 ) -> Result<(), AllocError>
     ensures { OnOk result (out.new.items ≡ out.old.items ++ written (place_words (option_map (λ names. names.now) names.entry) offset)) }
@@ -66,7 +66,7 @@ pub(crate) fn put_place(
     put_word(out, b"at")?;
     match names {
         Some(names) => {
-            put_word(out, names.as_bytes())?;
+            put_word(out, names)?;
             put_word(out, b"(byte")?;
             put_closed(alloc, out, offset)
         }
@@ -145,8 +145,8 @@ fn bytes_word(len: usize) -> &'static [u8]
     b"bytes,"
 }
 
-/// The names of the attributes on a path: `Options/FqCodel/Limit`.
-pub(crate) fn names_of(alloc: Global, path: &Path) -> Result<String, AllocError> {
+// The names of the attributes on a path: `Options/FqCodel/Limit`.
+fn names_of(alloc: Global, path: &Path) -> Result<String, AllocError> {
     let mut page = Page::new(alloc, Layout::OneLine);
     path.show(&mut page)?;
     names_in(alloc, text_of(&page))

@@ -1,10 +1,10 @@
 //! The lines of a message.
 
-ghost use Rattle.std.specs.Prelude.{◌≡◌, ℕ, [], List, IfOk, Some, is_some, option_map};
+ghost use Rattle.std.specs.Prelude.{◌≡◌, [], IfOk, Some, is_some, option_map};
 ghost use Rattle.tc_outline.specs.Outline.{form_of};
 ghost use Rattle.tc_brief.specs.Lines.{message_lines, said_view};
 ghost use Rattle.tcshow_json.specs.Messages.{message_view};
-ghost use Rattle.tcshow_lines.specs.Lines.{IsEnded, IsLines, IsSaid, fault_of, leaves_at, options_with, said_as};
+ghost use Rattle.tcshow_lines.specs.Lines.{IsEnded, IsLines, IsSaid, fault_of, leaves_at, names_after, options_with, said_as};
 ghost use Rattle.tcshow_lines.specs.Past.{past_of};
 
 use crate::begin::begin;
@@ -28,8 +28,8 @@ pub struct Lines {
     pub fault: Option<&'static str>,
 }
 
-// The form of messages of this root.
-fn form_of(root: Root) -> Form
+/// The form of messages of this root.
+pub(crate) fn form_of(root: Root) -> Form
     ensures { result ≡ form_of root }
 {
     match root {
@@ -47,8 +47,8 @@ fn lines_with(
     said: &Said<'_>,
     bytes: &[u8],
 ) -> Result<Vec<u8>, AllocError>
-    ensures { IfOk result (λ text. (names : List (ℕ × List ℕ))
-        × (option_map (message_lines (said_view said.now)) (leaves_at (options_with names root) root bytes.now) ≡ Some text.items)) }
+    ensures { IfOk result (λ text. option_map (message_lines (said_view said.now))
+        (leaves_at (options_with (names_after interfaces.now links.now) root) root bytes.now) ≡ Some text.items) }
 {
     let columns = KindColumns {
         root,
@@ -89,7 +89,7 @@ pub(crate) fn lines_said(
     port: u32,
     found: &Message<'_>,
 ) -> Result<Lines, AllocError>
-    ensures lines { IfOk result (λ lines. IsSaid begin.now statistics port (message_view found.now) lines.text.items) }
+    ensures lines { IfOk result (λ lines. IsSaid (names_after interfaces.now links.now) begin.now statistics port (message_view found.now) lines.text.items) }
     ensures fault { IfOk result (λ lines. is_some lines.fault ≡ is_some (fault_of (message_view found.now))) }
 {
     let fault = locate(found.payload, found.what());
@@ -141,7 +141,8 @@ pub fn lines_of_message(
     format: TimeFormat,
     found: &Message<'_>,
 ) -> Result<Lines, AllocError>
-    ensures lines { IfOk result (λ lines. IsLines (past_of past.now) statistics format (message_view found.now) lines.text.items) }
+    ensures lines { IfOk result (λ lines. IsLines (past_of past.now) (names_after interfaces.now links.now) statistics format
+        (message_view found.now) lines.text.items) }
     ensures ended { IfOk result (λ lines. IsEnded lines.text.items) }
     ensures fault { IfOk result (λ lines. is_some lines.fault ≡ is_some (fault_of (message_view found.now))) }
 {

@@ -2,7 +2,8 @@
 
 ghost use Rattle.std.specs.Prelude.{◌<◌, ◌≡◌, ◌++◌, ◌||◌, ◌∷◌, [], OnOk, IfOk, Some, length, option_map};
 ghost use Rattle.tcshow_json.specs.Messages.{header_view, message_view};
-ghost use Rattle.tcshow_lines.specs.Past.{bytes_kept, has_flag, headers_view, interrupted_with, is_fine_time, kept, or_time, request_view, requests_view, requests_with};
+ghost use Rattle.tcshow_lines.specs.Past.{bytes_kept, has_flag, headers_view, interrupted_with, is_fine_time, kept, or_time, request_view};
+ghost use Rattle.tcshow_lines.specs.Past.{requests_view, requests_with};
 
 use crate::times::is_fine;
 use std::alloc::{AllocError, Global};

@@ -1,7 +1,9 @@
 //! Where a message is refused, by the proved walk over its attributes and the tables of forms.
 
 use crate::DecodeError;
+use crate::forms_kinds::{ACTION_MESSAGE, TC_MESSAGE};
 use crate::tc_outline::{self, Layout, Page, Path, What};
+use crate::tc_paths::path_in;
 use alloc::string::String;
 use core::fmt;
 
@@ -54,6 +56,9 @@ pub fn locate_action(bytes: &[u8]) -> Option<Located> {
 /// The path of the attribute that begins at this offset in a message of this type without its netlink header.
 #[must_use]
 pub fn path_at(bytes: &[u8], message_type: u16, offset: usize) -> Option<String> {
-    let what = What::of_type(message_type)?;
-    tc_outline::path_at(bytes, what, offset).map(|path| text_of(&path))
+    let (form, header) = match What::of_type(message_type)? {
+        What::Action => (ACTION_MESSAGE, 4),
+        _ => (TC_MESSAGE, 20),
+    };
+    Some(path_in(form, header, bytes, offset).ok()??.pointer)
 }

@@ -1,7 +1,9 @@
-//! The names in paths, of every kind.
+//! Paths of attributes of every kind.
 
+use forms_json::Form;
+use forms_kinds::{ACTION_MESSAGE, TC_MESSAGE};
 use std::alloc::Global;
-use tc_outline::{Layout, Page, What, path_at};
+use tc_paths::path_in;
 
 // A qdisc `htb` with empty options, an ingress block, and an attribute of type 99.
 const HTB: &str =
@@ -14,64 +16,98 @@ const OTHER: &str = "0000000000000000000000000000000000000000090001006e6f6e65000
 const ACTIONS: &str =
     "00000000380001001c0001000900010067616374000000000c00028004000200040003001800020008000280040001000b0001006d69727265640000";
 
-// The object that a message describes, the message, where the header of an attribute begins, and its path.
-static PATHS: [(What, &str, usize, &str); 10] = [
-    (What::Qdisc, HTB, 20, "/attributes/0/Kind"),
-    (What::Qdisc, HTB, 28, "/attributes/1/Options"),
-    (What::Qdisc, HTB, 32, "/attributes/2/IngressBlock"),
-    (What::Qdisc, HTB, 40, "/attributes/3"),
-    (What::Qdisc, OTHER, 32, "/attributes/1/OptionsRaw"),
-    (What::Action, ACTIONS, 8, "/attributes/0/Actions/0"),
+// The form of a message, the length of its header, the message, where an attribute begins, its names and its JSON pointer.
+type Row = (Form, usize, &'static str, usize, &'static str, &'static str);
+
+static PATHS: [Row; 10] = [
+    (TC_MESSAGE, 20, HTB, 20, "Kind", "/attributes/0/Kind"),
+    (TC_MESSAGE, 20, HTB, 28, "Options", "/attributes/1/Options"),
     (
-        What::Action,
+        TC_MESSAGE,
+        20,
+        HTB,
+        32,
+        "IngressBlock",
+        "/attributes/2/IngressBlock",
+    ),
+    (TC_MESSAGE, 20, HTB, 40, "3", "/attributes/3"),
+    (
+        TC_MESSAGE,
+        20,
+        OTHER,
+        32,
+        "OptionsRaw",
+        "/attributes/1/OptionsRaw",
+    ),
+    (
+        ACTION_MESSAGE,
+        4,
+        ACTIONS,
+        8,
+        "Actions/0",
+        "/attributes/0/Actions/0",
+    ),
+    (
+        ACTION_MESSAGE,
+        4,
         ACTIONS,
         24,
+        "Actions/0/Options",
         "/attributes/0/Actions/0/attributes/1/Options",
     ),
     (
-        What::Action,
+        ACTION_MESSAGE,
+        4,
         ACTIONS,
         28,
+        "Actions/0/Options/Gact/Parms",
         "/attributes/0/Actions/0/attributes/1/Options/0/Gact/Parms",
     ),
     (
-        What::Action,
+        ACTION_MESSAGE,
+        4,
         ACTIONS,
         44,
+        "Actions/1/Options/Mirror/Tm",
         "/attributes/0/Actions/1/attributes/0/Options/0/Mirror/Tm",
     ),
     (
-        What::Action,
+        ACTION_MESSAGE,
+        4,
         ACTIONS,
         48,
+        "Actions/1/Kind",
         "/attributes/0/Actions/1/attributes/1/Kind",
     ),
 ];
 
-// True if this is the path of the attribute whose header begins at an offset.
-fn is_path(alloc: Global, what: What, bytes: &[u8], offset: usize, want: &str) -> bool {
-    match path_at(bytes, what, offset) {
-        Some(path) => {
-            let mut page = Page::new(alloc, Layout::Lines);
-            path.show(&mut page).is_ok() && page.bytes() == want.as_bytes()
-        }
-        None => false,
+// True if this is the path of the attribute that begins at an offset.
+fn is_path(alloc: Global, row: &Row) -> bool {
+    let (form, header, digits, offset, names, pointer) = row;
+    match hex::decode(alloc, digits) {
+        Ok(bytes) => match path_in(alloc, *form, *header, &bytes, *offset) {
+            Ok(Some(path)) => path.names.as_str() == *names && path.pointer.as_str() == *pointer,
+            _ => false,
+        },
+        Err(_) => false,
     }
 }
 
-fn is_path_in_hex(alloc: Global, what: What, digits: &str, offset: usize, want: &str) -> bool {
+// True if no attribute begins at an offset of this message.
+fn is_none(alloc: Global, digits: &str, offset: usize) -> bool {
     match hex::decode(alloc, digits) {
-        Ok(bytes) => is_path(alloc, what, &bytes, offset, want),
+        Ok(bytes) => matches!(path_in(alloc, TC_MESSAGE, 20, &bytes, offset), Ok(None)),
         Err(_) => false,
     }
 }
 
 #[test]
 fn paths(rt: HostRuntime) {
-    for (what, digits, offset, want) in &PATHS {
-        assert!(rt;
-            is_path_in_hex(rt.alloc(), *what, digits, *offset, want),
-            "{want}"
-        );
+    for row in &PATHS {
+        assert!(rt; is_path(rt.alloc(), row), "{}", row.5);
+    }
+    // In the header, in an attribute's header, in its value, in its padding, and at the end.
+    for offset in [0, 19, 21, 24, 27, 44] {
+        assert!(rt; is_none(rt.alloc(), HTB, offset), "{offset}");
     }
 }

@@ -17,7 +17,7 @@ returns-clause-lines c =
     let speech = c.speech_of-speech.ensures in
     let begins = c.as_slice.ensures.value ∙ c.in_ok-front.ensures ∙ ap (λ (s : Speech). words_text (timed time (verb_words s.verb))) speech in
     IfOk-weaker c.lines_said.result _ _
-    (λ lines h. said_equal _ _ c.args.statistics _ _ m lines.text.items begins (ap (λ (s : Speech). s.port) speech) h) c.lines_said.ensures.lines
+    (λ lines h. said_equal _ _ _ c.args.statistics _ _ m lines.text.items begins (ap (λ (s : Speech). s.port) speech) h) c.lines_said.ensures.lines
 
 pub returns-clause-ended : goal.returns-clause-ended
 returns-clause-ended c =
@@ -25,4 +25,5 @@ returns-clause-ended c =
     let speech = c.speech_of-speech.result in
     let time = time_in c.args.format (past_of c.args.past.now) m.origin.time in
     let shown = subst (IsShown true) (sym (c.as_slice.ensures.value ∙ c.in_ok-front.ensures)) (words_shown (timed time (verb_words speech.verb))) in
-    IfOk-weaker c.lines_said.result _ _ (λ lines h. said_ended c.as_slice.result.now c.args.statistics _ m lines.text.items shown h) c.lines_said.ensures.lines
+    IfOk-weaker c.lines_said.result _ _ (λ lines h. said_ended _ c.as_slice.result.now c.args.statistics _ m lines.text.items shown h)
+    c.lines_said.ensures.lines

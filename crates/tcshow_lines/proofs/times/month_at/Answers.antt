@@ -8,7 +8,8 @@ pub returns-then-place-length : goal.returns-then-place-length
 returns-then-place-length c =
     let less : c.loop-month.place.before < (month_length c.args.leap) c.loop-month.place.part = search rules in
     record {
-      place = sym (place_found (month_length c.args.leap) (c.args.months - c.loop-month._month) c.loop-month.place.part c.loop-month.place.before less) ∙ c.loop-month.invariant.place;
+      place = sym (place_found (month_length c.args.leap) (c.args.months - c.loop-month._month) c.loop-month.place.part c.loop-month.place.before less)
+          ∙ c.loop-month.invariant.place;
       few = c.loop-month.invariant.few;
     }
 
@@ -17,8 +18,10 @@ loop-month-preserved c =
     let one_less : c.args.months - c.loop-month._month ≡ suc (c.args.months - (c.loop-month._month + 1)) = omega (arith, c.loop-month-test.true) in
     let big : (month_length c.args.leap) c.loop-month.place.part ≤ c.loop-month.place.before = search rules in
     record {
-      place = ap (λ n. place_in (month_length c.args.leap) (c.args.months - (c.loop-month._month + 1)) (c.loop-month.place.part + 1) (c.loop-month.place.before - n)) c.month_length-length.ensures
-          ∙ sym (place_later (month_length c.args.leap) (c.args.months - c.loop-month._month) (c.args.months - (c.loop-month._month + 1)) c.loop-month.place.part c.loop-month.place.before one_less big)
+      place = ap (λ n. place_in (month_length c.args.leap) (c.args.months - (c.loop-month._month + 1)) (c.loop-month.place.part + 1)
+          (c.loop-month.place.before - n)) c.month_length-length.ensures
+          ∙ sym (place_later (month_length c.args.leap) (c.args.months - c.loop-month._month) (c.args.months - (c.loop-month._month + 1))
+          c.loop-month.place.part c.loop-month.place.before one_less big)
           ∙ c.loop-month.invariant.place;
       part = search rules;
       few = search rules;
@@ -28,6 +31,7 @@ pub returns : goal.returns
 returns c =
     let none : c.args.months - c.loop-month._month ≡ 0 = search rules in
     record {
-      place = sym (place_last (month_length c.args.leap) (c.args.months - c.loop-month._month) c.loop-month.place.part c.loop-month.place.before none) ∙ c.loop-month.invariant.place;
+      place = sym (place_last (month_length c.args.leap) (c.args.months - c.loop-month._month) c.loop-month.place.part c.loop-month.place.before none)
+          ∙ c.loop-month.invariant.place;
       few = c.loop-month.invariant.few;
     }

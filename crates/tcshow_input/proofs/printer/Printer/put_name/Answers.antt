@@ -14,5 +14,10 @@ pub returns-clause-put : goal.returns-clause-put
 returns-clause-put g c =
     let page = text_on c.show_name.new.page in
     on_ok_weaker c.put_page_line.result
-    (λ put. (ended page, subst (λ j. ShowsName j (ended page)) (sym (sym c.is_json.ensures ∙ c.if-is_json.false)) (page, c.put_page_line.ensures.shown, refl), put))
+    (λ put. (
+      ended page,
+      subst (λ j. ShowsName j (ended page)) (sym (sym c.is_json.ensures ∙ c.if-is_json.false))
+          (page, c.put_page_line.ensures.shown, refl),
+      put,
+    ))
     c.put_page_line.ensures.put

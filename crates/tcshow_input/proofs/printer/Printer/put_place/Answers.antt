@@ -33,4 +33,5 @@ returns-in-Begins-clause-dump g c =
 
 pub returns-in-Apart-clause-dump : goal.returns-in-Apart-clause-dump
 returns-in-Apart-clause-dump g c =
-    on_ok_weaker c.put_separate.result (λ d. d ∙ sym (ap (λ p. dump_by_place (dump_of c.args.dump.now) (seen_place p)) c.in-Apart.is)) c.put_separate.ensures.dump
+    on_ok_weaker c.put_separate.result (λ d. d ∙ sym (ap (λ p. dump_by_place (dump_of c.args.dump.now) (seen_place p)) c.in-Apart.is))
+    c.put_separate.ensures.dump

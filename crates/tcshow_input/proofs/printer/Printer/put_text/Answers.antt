@@ -15,5 +15,6 @@ returns-clause-put g c =
     let header = (state_of c.args.self.now).header in
     let place = c.in_ok-place.ensures in
     on_ok_weaker c.put_place.result
-    (λ p. subst (λ x. Puts (things_by_place header (dump_of c.args.dump.now) c.args.line.now x) (state_of c.args.self.now) (state_of c.put_place.new.self)) place p)
+    (λ p. subst (λ x. Puts (things_by_place header (dump_of c.args.dump.now) c.args.line.now x) (state_of c.args.self.now) (state_of c.put_place.new.self))
+    place p)
     c.put_place.ensures.put

@@ -1,0 +1,182 @@
+//! The path of an attribute.
+
+ghost use Rattle.std.specs.Prelude.{◌≡◌, [], IfOk, OnOk, option_map, string_bytes};
+ghost use Rattle.forms_attributes.specs.Frames.{frame_view};
+ghost use Rattle.forms_attributes.specs.Rows.{shown_row};
+ghost use Rattle.forms_kinds.specs.Table.{tc_tables};
+ghost use Rattle.forms_values.specs.Places.{form_of, layer_of, part_at, rows_under};
+ghost use Rattle.forms_values.specs.Tables.{row_view};
+ghost use Rattle.tc_paths.specs.Paths.{by_kind, by_row, placed, slash, slashed};
+ghost use Rattle.tc_paths.specs.Views.{path_view};
+
+use forms_attributes::attributes_shown::{Frame, kind_in};
+use forms_attributes::rows::{rows_under, shown_row};
+use forms_json::{Form, Part, Row, Tables};
+use forms_kinds::TcTables;
+use itoa::Buffer;
+use std::alloc::AllocError;
+
+/// The path of an attribute.
+#[derive(Drop)]
+pub struct Path {
+    /// The names of the attributes that contain it, from the outside in, and its own, with slashes between: `Options/FqCodel/Limit`. An action, or an
+    /// attribute without a name, has its number in its list, from 0 on.
+    pub names: String,
+    /// Its JSON pointer: `/attributes/1/Options/0/FqCodel/Limit`.
+    pub pointer: String,
+}
+
+// Appends a slash and a text.
+fn put_slash(out: &mut String, part: &str) -> Result<(), AllocError>
+    ensures { OnOk result (string_bytes out.new ≡ slash (string_bytes out.old) part.now) }
+{
+    out.push_str("/")?;
+    out.push_str(part)?;
+    Ok(())
+}
+
+// The same, but without the slash at the beginning.
+fn put_slashed(out: &mut String, part: &str) -> Result<(), AllocError>
+    ensures { OnOk result (string_bytes out.new ≡ slashed (string_bytes out.old) part.now) }
+{
+    if out.is_empty() {
+        out.push_str(part)?;
+        return Ok(());
+    }
+    put_slash(out, part)
+}
+
+impl Path {
+    ghost use Rattle.std.specs.Prelude.{◌≡◌, OnOk};
+    ghost use Rattle.tc_paths.specs.Paths.{called, counted, in_layer, numbered};
+    ghost use Rattle.tc_paths.specs.Views.{path_view};
+
+    fn number(&mut self, n: u64) -> Result<(), AllocError>
+        ensures { OnOk result (path_view self.new ≡ numbered (path_view self.old) n) }
+    {
+        put_slash(&mut self.pointer, Buffer::new().format(n))
+    }
+
+    fn call(&mut self, name: &str) -> Result<(), AllocError>
+        ensures { OnOk result (path_view self.new ≡ called (path_view self.old) name.now) }
+    {
+        put_slashed(&mut self.names, name)?;
+        put_slash(&mut self.pointer, name)
+    }
+
+    fn enter_layer(&mut self, layer: &str) -> Result<(), AllocError>
+        ensures { OnOk result (path_view self.new ≡ in_layer (path_view self.old) layer.now) }
+    {
+        if layer.is_empty() {
+            return Ok(());
+        }
+        self.call(layer)
+    }
+
+    fn count(&mut self, n: u64) -> Result<(), AllocError>
+        ensures { OnOk result (path_view self.new ≡ counted (path_view self.old) n) }
+    {
+        let mut buffer = Buffer::new();
+        self.call(buffer.format(n))
+    }
+}
+
+// Goes on with an attribute by its row, after n others. Returns the form of its value.
+fn put_by_row(
+    path: &mut Path,
+    n: u64,
+    layer: &str,
+    row: Option<Row<'static>>,
+) -> Result<Form, AllocError>
+    ensures { IfOk result (λ form. (path_view path.new, form) ≡ by_row (path_view path.old) n layer.now (option_map row_view row.entry)) }
+{
+    match row {
+        Some(row) => {
+            path.number(n)?;
+            path.enter_layer(layer)?;
+            path.call(row.name)?;
+            Ok(row.form)
+        }
+        None => {
+            path.count(n)?;
+            Ok(Form::Hex)
+        }
+    }
+}
+
+// The same in a list with kinds.
+fn put_by_kind(
+    path: &mut Path,
+    n: u64,
+    row: Option<Row<'static>>,
+    kind: Option<&str>,
+) -> Result<Form, AllocError>
+    ensures { IfOk result (λ form. (path_view path.new, form) ≡ by_kind (path_view path.old) n (option_map row_view row.entry)
+        (option_map (λ t. t.now) kind.entry)) }
+{
+    match kind {
+        Some(_) => {
+            path.number(n)?;
+            path.call("Kind")?;
+            Ok(Form::Hex)
+        }
+        None => put_by_row(path, n, "", row),
+    }
+}
+
+// The name of the layer of a list.
+fn layer_at(place: usize) -> &'static str
+    ensures { result.now ≡ layer_of (part_at tc_tables place) }
+{
+    match TcTables.part(place) {
+        Part::Rows(layer, _) => layer,
+        _ => "",
+    }
+}
+
+// The form at a place.
+fn form_at(place: usize) -> Form
+    ensures { result ≡ form_of place (part_at tc_tables place) }
+{
+    match TcTables.part(place) {
+        Part::One(form) => form,
+        Part::Names(_) => Form::Hex,
+        Part::Fields(_) => Form::Record(place),
+        Part::Rows(_, _) | Part::Kinds(_, _, _) => Form::List(place),
+        Part::Choices(_) => Form::Choice(place),
+    }
+}
+
+// The row of an attribute.
+fn row_at(place: usize, kind: &str, word: u16) -> Option<Row<'static>>
+    ensures { option_map row_view result ≡ shown_row (rows_under tc_tables place kind.now) word }
+{
+    shown_row(&rows_under(TcTables, place, kind), word)
+}
+
+/// Goes on with an attribute of this list under a kind, after n others. Returns the form of its value.
+pub(crate) fn put_place(
+    path: &mut Path,
+    kind: &str,
+    n: u64,
+    frame: &Frame<'_>,
+    list: Form,
+) -> Result<Form, AllocError>
+    ensures { IfOk result (λ form. (path_view path.new, form) ≡ placed (path_view path.old) kind.now n (frame_view frame.now) list) }
+{
+    match list {
+        Form::List(place) => {
+            let row = row_at(place, kind, frame.word);
+            put_by_row(path, n, layer_at(place), row)
+        }
+        Form::InForce(place) | Form::Own(place) => {
+            let row = row_at(place, kind, frame.word);
+            put_by_kind(path, n, row, kind_in(true, frame))
+        }
+        Form::Indexed(place) => {
+            path.count(n)?;
+            Ok(form_at(place))
+        }
+        _ => Ok(Form::Hex),
+    }
+}

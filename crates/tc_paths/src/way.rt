@@ -1,0 +1,237 @@
+//! The way to a byte of a message, through the attributes that contain it.
+
+ghost use Rattle.std.specs.Prelude.{◌≡◌, [], IfOk, OnOk, codes, drop, option_map, string_bytes};
+ghost use Rattle.forms_attributes.specs.Frames.{frame_view};
+ghost use Rattle.forms_values.specs.Tables.{fields_view};
+ghost use Rattle.tc_paths.specs.Paths.{along, attributes_in, is_list, kind_after, kind_within, list_of, list_path, path_in};
+ghost use Rattle.tc_paths.specs.Views.{path_view, way_view};
+
+use crate::path::{Path, put_place};
+use forms_attributes::attributes_shown::{Frame, front, kind_in, own_kind};
+use forms_json::{Field, Form, Part, Tables};
+use forms_kinds::TcTables;
+use std::alloc::{AllocError, Global};
+
+// The way to a byte.
+#[derive(Drop)]
+pub(crate) struct Way<'a> {
+    // The path, the form and the kind of the innermost list that contains the byte.
+    path: Path,
+    list: Form,
+    kind: &'a str,
+    // How many attributes of the list come before the byte.
+    passed: u64,
+    // The rest of the list, and how many bytes of it come before the byte.
+    left: &'a [u8],
+    before: usize,
+}
+
+// A step on the way.
+#[derive(Clone, Copy)]
+pub(crate) enum Next {
+    // An attribute begins at the byte.
+    Here,
+    // None does.
+    Nowhere,
+    On,
+}
+
+fn kind_after<'a>(list: Form, kind: &'a str, frame: &Frame<'a>) -> &'a str
+    ensures { result.now ≡ kind_after list kind.now (frame_view frame.now) }
+{
+    match list {
+        Form::InForce(_) => match kind_in(true, frame) {
+            Some(own) => own,
+            None => kind,
+        },
+        _ => kind,
+    }
+}
+
+fn kind_within<'a>(list: Form, kind: &'a str, bytes: &'a [u8]) -> &'a str
+    ensures { result.now ≡ kind_within list kind.now bytes.now }
+{
+    match list {
+        Form::Own(_) => own_kind(bytes),
+        _ => kind,
+    }
+}
+
+fn is_list(form: Form) -> bool
+    ensures { result ≡ is_list form }
+{
+    matches!(
+        form,
+        Form::List(_) | Form::InForce(_) | Form::Own(_) | Form::Indexed(_)
+    )
+}
+
+// From the path of an attribute in a list of this form to that of the list in it.
+fn enter_list(path: &mut Path, list: Form) -> Result<(), AllocError>
+    ensures { OnOk result (path_view path.new ≡ list_path list (path_view path.old)) }
+{
+    if matches!(list, Form::Indexed(_)) {
+        path.pointer.push_str("/attributes")?;
+    }
+    Ok(())
+}
+
+impl<'a> Way<'a> {
+    ghost use Rattle.std.specs.Prelude.{◌≡◌, ◌<◌, ◌≤◌, ◌+◌, ◌^◌, ◌-◌, IfOk};
+    ghost use Rattle.forms_attributes.specs.Frames.{after_first, frame_view};
+    ghost use Rattle.tc_paths.specs.Paths.{into, step, step_by};
+    ghost use Rattle.tc_paths.specs.Views.{path_view, step_of, way_view};
+
+    // One step: into the attribute at the front of the rest, or past it.
+    fn next(&mut self) -> Result<Next, AllocError>
+        requires { self.old.passed < 2 ^ 64 - 1 }
+        ensures step { IfOk result (λ next. step (way_view self.old) ≡ step_of next (way_view self.new)) }
+        ensures few { IfOk result (λ next. self.new.passed ≤ self.old.passed + 1) }
+    {
+        match front(self.left) {
+            Some((frame, after)) => {
+                self.kind = kind_after(self.list, self.kind, &frame);
+                self.pass(&frame, after)
+            }
+            None => Ok(Next::Nowhere),
+        }
+    }
+
+    fn pass(&mut self, frame: &Frame<'a>, after: &'a [u8]) -> Result<Next, AllocError>
+        requires passed { self.old.passed < 2 ^ 64 - 1 }
+        requires after { after.now ≡ after_first self.old.left.now }
+        ensures step { IfOk result (λ next. step_by (way_view self.old) (frame_view frame.now) ≡ step_of next (way_view self.new)) }
+        ensures few { IfOk result (λ next. self.new.passed ≤ self.old.passed + 1) }
+    {
+        if self.before == 0 {
+            put_place(&mut self.path, self.kind, self.passed, frame, self.list)?;
+            return Ok(Next::Here);
+        }
+        if self.before < 4 {
+            return Ok(Next::Nowhere);
+        }
+        let within = self.before - 4;
+        if within < frame.value.len() {
+            let form = put_place(&mut self.path, self.kind, self.passed, frame, self.list)?;
+            return self.enter(form, frame.value, within);
+        }
+        let beyond = within - frame.value.len();
+        if beyond < frame.pad.len() {
+            return Ok(Next::Nowhere);
+        }
+        self.passed += 1;
+        self.left = after;
+        self.before = beyond - frame.pad.len();
+        Ok(Next::On)
+    }
+
+    // Into a value of this form, with the path of its attribute.
+    fn enter(&mut self, form: Form, value: &'a [u8], before: usize) -> Result<Next, AllocError>
+        ensures step { IfOk result (λ next. into self.old.list (path_view self.old.path, form) self.old.kind.now value.now before
+            ≡ step_of next (way_view self.new)) }
+        ensures few { IfOk result (λ next. self.new.passed ≤ self.old.passed) }
+    {
+        if !is_list(form) {
+            return Ok(Next::Nowhere);
+        }
+        enter_list(&mut self.path, self.list)?;
+        self.kind = kind_within(form, self.kind, value);
+        self.list = form;
+        self.passed = 0;
+        self.left = value;
+        self.before = before;
+        Ok(Next::On)
+    }
+}
+
+// The path at the end of the way, of at most so many steps.
+fn along(start: Way<'_>, most: usize) -> Result<Option<Path>, AllocError>
+    requires { start.passed ≡ 0 }
+    ensures { IfOk result (λ path. option_map path_view path ≡ along most (way_view start.entry)) }
+{
+    let mut way = start;
+    for _step in 0..most {
+        match way.next()? {
+            Next::Here => {
+                let Way { path, .. } = way;
+                return Ok(Some(path));
+            }
+            Next::Nowhere => return Ok(None),
+            Next::On => {}
+        }
+    }
+    Ok(None)
+}
+
+// The form of the attributes among fields.
+fn attributes_in(fields: &[Field<'static>]) -> Form
+    ensures { result ≡ attributes_in (fields_view fields.now) }
+{
+    match fields.split_first() {
+        Some((field, _)) if field.name == "attributes" => field.form,
+        Some((_, others)) => attributes_in(others),
+        None => Form::Hex,
+    }
+}
+
+// The form of the attributes in a message of this form.
+fn list_of(form: Form) -> Form
+    ensures { result ≡ list_of form }
+{
+    match form {
+        Form::Record(place) => match TcTables.part(place) {
+            Part::Fields(fields) => attributes_in(fields),
+            _ => Form::Hex,
+        },
+        _ => Form::Hex,
+    }
+}
+
+// The bytes after a header.
+fn after_header(bytes: &[u8], header: usize) -> &[u8]
+    ensures { result.now ≡ drop header bytes.now }
+{
+    if bytes.len() < header {
+        return &[];
+    }
+    let (_, left) = bytes.split_at(header);
+    left
+}
+
+fn path_to_list(alloc: Global) -> Result<Path, AllocError>
+    ensures names { IfOk result (λ path. string_bytes path.names ≡ []) }
+    ensures pointer { IfOk result (λ path. string_bytes path.pointer ≡ codes "/attributes") }
+{
+    let mut pointer = String::new(alloc);
+    pointer.push_str("/attributes")?;
+    Ok(Path {
+        names: String::new(alloc),
+        pointer,
+    })
+}
+
+/// The path of the attribute that begins at an offset in a message of this form (`TC_MESSAGE` or `ACTION_MESSAGE` of `forms_kinds`), after a header of this
+/// length. `None` if no attribute begins there. It takes time in proportion to the attributes before it.
+#[tactic(auto, unfolding(crate::specs::Paths::path_in))]
+pub fn path_in(
+    alloc: Global,
+    form: Form,
+    header: usize,
+    bytes: &[u8],
+    offset: usize,
+) -> Result<Option<Path>, AllocError>
+    ensures path { IfOk result (λ path. option_map path_view path ≡ path_in form header bytes.now offset) }
+{
+    if offset < header {
+        return Ok(None);
+    }
+    let way = Way {
+        path: path_to_list(alloc)?,
+        list: list_of(form),
+        kind: "",
+        passed: 0,
+        left: after_header(bytes, header),
+        before: offset - header,
+    };
+    along(way, bytes.len())
+}
