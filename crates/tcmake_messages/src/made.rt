@@ -31,6 +31,7 @@ pub struct Made {
 }
 
 /// The message of a line, which is freed once it is read. An answer of the kernel, and the first and the last line of a save, have none.
+#[tactic(auto, using(crate::proofs::Refused::refused_by))]
 pub fn made_of<T: Tables>(
     alloc: Global,
     forms: Forms<T>,
