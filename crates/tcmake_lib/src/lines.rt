@@ -4,15 +4,14 @@ use crate::complaint::Complaint;
 use crate::names::{Interfaces, mapped};
 use crate::save::{Names, Save};
 use forms_json::Tables;
-use forms_text::read_json;
 use program_io::Stop;
 use serde_json::Value;
 use std::alloc::{AllocError, Global};
 use std::io::BufRead;
 use tc_capture::MessageType;
-use tcmake_lines::{LineStatus, NetlinkHeader, is_blank, next_line};
+use tcmake_lines::{LineContent, LineStatus, NetlinkHeader, content_of, next_line};
 use tcmake_messages::{
-    Forms, Found, LineError, Made, Making, is_answer, is_of_save, made_of_json, unread,
+    Forms, Found, LineError, Made, Making, is_answer, is_of_save, json_in, made_of_json,
 };
 
 /// The input of a line.
@@ -120,13 +119,13 @@ pub(crate) fn read_lines<T: Tables, R: BufRead>(
 ) -> Result<Lines, Stop> {
     let mut lines = Lines::new(alloc);
     let mut save = Save::new();
-    let mut line = Vec::new(alloc);
     for number in 1..u64::MAX {
+        let mut line = Vec::new(alloc);
         let found = next_line(reader, &mut line)?;
         if found == LineStatus::End {
             break;
         }
-        match dump_in(alloc, forms, reading, &mut save, found, &line, number) {
+        match dump_in(alloc, forms, reading, &mut save, found, line, number) {
             Ok(Some(made)) => lines.keep(number, made)?,
             Ok(None) => {}
             Err(complaint) => lines.fail_with(alloc, reading.source, number, &complaint)?,
@@ -160,27 +159,23 @@ fn dump_in<T: Tables>(
     reading: Reading<'_>,
     save: &mut Save,
     found: LineStatus,
-    line: &[u8],
+    line: Vec<u8>,
     number: u64,
 ) -> Result<Option<Made>, Complaint> {
     match found {
-        LineStatus::TooLong => Err(without_json(
-            save,
-            number,
-            Complaint::Line(LineError::LongLine),
-        )),
-        LineStatus::Whole | LineStatus::End => if is_blank(line) {
-            Ok(None)
-        } else {
-            dump_in_text(alloc, forms, reading, save, line, number)
+        LineStatus::TooLong => Err(without_json(save, number, LineError::LongLine)),
+        LineStatus::Whole | LineStatus::End => match content_of(&line) {
+            LineContent::ManyValues => Err(without_json(save, number, LineError::ManyValues)),
+            LineContent::Blank => Ok(None),
+            LineContent::Text => dump_in_text(alloc, forms, reading, save, line, number),
         },
     }
 }
 
 // The complaint about a line that isn't read as JSON: that it is behind the end, or this one.
-fn without_json(save: &mut Save, number: u64, complaint: Complaint) -> Complaint {
+fn without_json(save: &mut Save, number: u64, error: LineError) -> Complaint {
     match save.take_line(number) {
-        Ok(()) => complaint,
+        Ok(()) => Complaint::Line(error),
         Err(fault) => Complaint::Save(fault),
     }
 }
@@ -190,17 +185,17 @@ fn dump_in_text<T: Tables>(
     forms: Forms<T>,
     reading: Reading<'_>,
     save: &mut Save,
-    line: &[u8],
+    line: Vec<u8>,
     number: u64,
 ) -> Result<Option<Made>, Complaint> {
-    match read_json(alloc, line) {
+    match json_in(alloc, line) {
         Ok(json) => {
             if save.take(alloc, number, &json)? || is_answer(&json) {
                 return Ok(None);
             }
-            dump_in_json(alloc, forms, reading, save.names(), &json)
+            dump_in_json(alloc, forms, reading, save.names(), json)
         }
-        Err(error) => Err(without_json(save, number, Complaint::Line(unread(error, line)))),
+        Err(error) => Err(without_json(save, number, error)),
     }
 }
 
@@ -209,25 +204,30 @@ fn dump_in_json<T: Tables>(
     forms: Forms<T>,
     reading: Reading<'_>,
     saved: Option<&Names>,
-    json: &Value,
+    json: Value,
 ) -> Result<Option<Made>, Complaint> {
     match (reading.names, saved) {
         (Some(now), Some(saved)) => {
-            let text = json.to_vec(alloc)?;
-            let mapped = mapped(alloc, &text, Interfaces { saved, now })?;
-            if mapped == text {
-                return as_dump(made_of_json(alloc, forms, json, Making::Restored)?, None);
-            }
-            match read_json(alloc, &mapped) {
-                Ok(json) => as_dump(made_of_json(alloc, forms, &json, Making::Restored)?, None),
-                Err(error) => Err(Complaint::Line(unread(error, &mapped))),
-            }
+            let json = json_now(alloc, json, Interfaces { saved, now })?;
+            as_dump(made_of_json(alloc, forms, &json, Making::Restored)?, None)
         }
         _ => as_dump(
-            made_of_json(alloc, forms, json, Making::Restored)?,
+            made_of_json(alloc, forms, &json, Making::Restored)?,
             reading.index,
         ),
     }
+}
+
+// The JSON of a line with the present indices. The other is freed before it is read.
+fn json_now(alloc: Global, json: Value, interfaces: Interfaces<'_>) -> Result<Value, Complaint> {
+    let text = json.to_vec(alloc)?;
+    let mapped = mapped(alloc, &text, interfaces)?;
+    if mapped == text {
+        return Ok(json);
+    }
+    drop(json);
+    drop(text);
+    Ok(json_in(alloc, mapped)?)
 }
 
 /// The dump of a line by itself, of this interface if one is given. An answer of the kernel has none, nor has the request of a dump, which
@@ -236,20 +236,16 @@ pub(crate) fn dump_in_line<T: Tables>(
     alloc: Global,
     forms: Forms<T>,
     index: Option<i32>,
-    line: &[u8],
+    line: Vec<u8>,
 ) -> Result<Option<Made>, Complaint> {
-    match read_json(alloc, line) {
-        Ok(json) => {
-            if is_of_save(&json) {
-                return Err(Complaint::LineByLine);
-            }
-            if is_answer(&json) {
-                return Ok(None);
-            }
-            as_dump(made_of_json(alloc, forms, &json, Making::Restored)?, index)
-        }
-        Err(error) => Err(Complaint::Line(unread(error, line))),
+    let json = json_in(alloc, line)?;
+    if is_of_save(&json) {
+        return Err(Complaint::LineByLine);
     }
+    if is_answer(&json) {
+        return Ok(None);
+    }
+    as_dump(made_of_json(alloc, forms, &json, Making::Restored)?, index)
 }
 
 fn as_dump(made: Made, index: Option<i32>) -> Result<Option<Made>, Complaint> {

@@ -117,7 +117,7 @@ impl<T: Tables> Maker for RequestMaker<T> {
 
     ghost Refuses = { λ _ _. ⊤ };
 
-    fn make(&self, line: &[u8]) -> Result<Answer, AllocError> {
+    fn make(&self, line: Vec<u8>) -> Result<Answer, AllocError> {
         match request_in(self.alloc, self.forms, self.index, line) {
             Ok(
                 Some(
@@ -149,7 +149,7 @@ fn request_in<T: Tables>(
     alloc: Global,
     forms: Forms<T>,
     index: Option<i32>,
-    line: &[u8],
+    line: Vec<u8>,
 ) -> Result<Option<Made>, Complaint> {
     match dump_in_line(alloc, forms, index, line)? {
         Some(dump) => request_for(alloc, &dump),

@@ -1,16 +1,20 @@
 -- Lines, one after the other.
-use Rattle.std.proofs.Common.{◌≡◌, ◌≢◌, ℕ, ◌≤◌, true, false, List, [], ◌∷◌, ◌++◌, All, None, Some, cond, length}
+use Rattle.std.proofs.Common.{◌≡◌, ◌≢◌, inl, inr, ℕ, ◌≤◌, true, false, List, [], ◌∷◌, ◌++◌, All, None, Some, cond, length}
 use Rattle.std.proofs.Common.{refl, sym, ap, subst, ◌∙◌, append_assoc, append-nil, eq-eqb, ne_eqb, arith}
 use Rattle.std.proofs.lemmas.List.Elements.{All-head, All-tail, All-append}
 use Rattle.std.proofs.BufReadLemmas.{Consumes_shown}
 use Rattle.std.proofs.KnownBytes.{Consumes-trans}
-use Rattle.std.specs.Prelude.{⊤, Option, OnSome, IfSome, take}
+use Rattle.std.proofs.lemmas.Bool.{cases_lt, eqb-true, ltb-false, ltb-true, true≢false}
+use Rattle.std.specs.Prelude.{⊤, ◌⊎◌, ◌<◌, ◌==◌, ◌↔◌, ◌||◌, Bool, IsTrue, nat_lt, Option, OnSome, IfSome, take}
+use Rattle.std.specs.Str.{IsTrimAsciiStart}
 use Rattle.std.specs.Io.{StartsWith}
 use Rattle.std.specs.Io.BufRead.{DropsConsumable}
 use Rattle.std.specs.Io.KnownBytes.{Consumes, IsAtEnd, Keeps}
 use Rattle.tcmake_lines.specs.Ends.{TakesPart, IsEmptyAtEnd, IsLast, with_end}
-use Rattle.tcmake_lines.specs.Lines.{lines_of, in_front, Reads, AreLines, IsFound, IsNext, EndsLine, is_end}
+use Rattle.tcmake_lines.specs.Lines.{lines_of, in_front, Reads, AreLines, IsBlank, IsFound, IsNext, IsRead, IsTooLong, EndsLine, HasContent, HasMany, count, is_end, values}
 use Rattle.tcmake_lines.specs.declared.input.Ends.{Ends}
+use Rattle.tcmake_lines.specs.declared.input.LineContent.{LineContent}
+use Rattle.tcmake_lines.specs.declared.input.LineContent.TheVariants.{Text}
 use Rattle.tcmake_lines.specs.declared.input.LineStatus.{LineStatus}
 use Rattle.tcmake_lines.specs.declared.input.LineStatus.TheVariants.{Whole, TooLong, End}
 use Rattle.tcmake_lines.specs.declared.input.Ends.TheVariants.{Nowhere, LineFeed, Input}
@@ -144,6 +148,51 @@ next_by_end a b c result found kept text part all taken p h ends = by_case resul
     by_case End e = (reads_none a b c text e taken kept_all p.last.1, reads_end a b c text e taken kept_all)
     by_case Whole e = (text, reads e.0, subst (λ f. IsFound f text kept) (sym e.1) here)
     by_case TooLong e = (text, reads e.0, subst (λ f. IsFound f text kept) (sym e.1) here)
+
+-- ---- what is read of a line
+
+-- a line is blank if nothing is left of it without the blanks at its front
+pub blank_by : (line rest : List ℕ) (is : Bool) → IsTrimAsciiStart line rest → is ≡ (length rest == 0) → IsTrue is ↔ IsBlank line
+blank_by line rest is v test = (
+  (λ yes k within. let none = eqb-true _ _ (sym test ∙ yes) in v.3 k (omega (arith, v.2, none, within))),
+  (λ blank. test ∙ eq-eqb _ _ (none blank (cases_lt v.0 (length line)))),
+)
+  where
+    none : IsBlank line → (v.0 < length line) ⊎ (length line ≤ v.0) → length rest ≡ 0
+    none blank (inl below) = absurd (true≢false (sym (blank v.0 below) ∙ v.4 below))
+    none blank (inr all) = omega (arith, v.2, all)
+
+-- what is in a line
+pub many_by : (line : List ℕ) (many : Bool) → many ≡ (nat_lt 3604800 (values line) || nat_lt 655520 (count 34 line)) → many ≡ true → HasMany line
+many_by line many is so = by_case (nat_lt 3604800 (values line)) refl (nat_lt 655520 (count 34 line)) refl (sym is ∙ so)
+  where
+    by_case : (a : Bool) → nat_lt 3604800 (values line) ≡ a → (b : Bool) → nat_lt 655520 (count 34 line) ≡ b → (a || b) ≡ true → HasMany line
+    by_case true h b k e = inl (ltb-true _ _ h)
+    by_case false h true k e = inr (ltb-true _ _ k)
+    by_case false h false k e = absurd (true≢false (sym e))
+
+pub few_by : (line : List ℕ) (many : Bool) → many ≡ (nat_lt 3604800 (values line) || nat_lt 655520 (count 34 line)) → many ≡ false → ¬ HasMany line
+few_by line many is few = by_case (nat_lt 3604800 (values line)) refl (nat_lt 655520 (count 34 line)) refl (sym is ∙ few)
+  where
+    by_case : (a : Bool) → nat_lt 3604800 (values line) ≡ a → (b : Bool) → nat_lt 655520 (count 34 line) ≡ b → (a || b) ≡ false → ¬ HasMany line
+    by_case true h b k e m = true≢false e
+    by_case false h true k e m = true≢false e
+    by_case false h false k e (inl more) = omega (arith, ltb-false _ _ h, more)
+    by_case false h false k e (inr more) = omega (arith, ltb-false _ _ k, more)
+
+pub not_blank : (line : List ℕ) (is : Bool) → IsTrue is ↔ IsBlank line → is ≡ false → ¬ IsBlank line
+not_blank line is blank other b = true≢false (sym (blank.1 b) ∙ other)
+
+pub content_at : (found known : LineContent) (kept line : List ℕ) → found ≡ known → kept ≡ line → HasContent found kept → HasContent known line
+content_at found known kept line is same h = subst (λ l. HasContent known l) same (subst (λ f. HasContent f kept) is h)
+
+-- a line with few values isn't too long
+pub short_by : (line : List ℕ) → length line ≤ 4194304 → ¬ HasMany line → ¬ IsTooLong line
+short_by line most few (inl long) = omega (arith, most, long)
+short_by line most few (inr many) = few many
+
+pub read_by : (line : List ℕ) → length line ≤ 4194304 → HasContent Text line → IsRead line
+read_by line most h = (short_by line most h.0, h.1)
 
 -- ---- the end
 

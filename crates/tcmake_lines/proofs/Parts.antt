@@ -11,7 +11,7 @@ use Rattle.tcmake_lines.specs.declared.format.OutputFormat.{OutputFormat}
 use Rattle.tcmake_lines.specs.declared.format.OutputFormat.TheVariants.{Hex, Bare, Stream, Capture}
 use Rattle.tcmake_lines.specs.declared.netlink.NetlinkHeader.{NetlinkHeader}
 use Rattle.tcmake_lines.specs.Parts.{Part, message, nothing, complaint, messages_of, is_complaint, has_complaint, Becomes, BecomeEach, Ran, RanOn, RanPartly}
-use Rattle.tcmake_lines.specs.Lines.{AreFirstLines, AreLines, IsFound, Reads, lines_of}
+use Rattle.tcmake_lines.specs.Lines.{AreFirstLines, AreLines, IsBlank, IsFound, IsRead, IsTooLong, Reads, lines_of}
 use Rattle.tcmake_lines.specs.declared.input.LineStatus.{LineStatus}
 use Rattle.tcmake_lines.specs.declared.input.LineStatus.TheVariants.{Whole}
 use Rattle.tcmake_lines.specs.State.{State, PutsPart, PutsLine, PutsOrNot, brought, held_then, ended}
@@ -237,9 +237,29 @@ if_shown shown stop P (inr none) h not = absurd (not none)
 -- a message that is put on the output, or can't be written
 pub puts_line : (Makes : List ℕ → NetlinkHeader → List ℕ → Type 0) (Passes Refuses : List ℕ → Type 0)
     (line : List ℕ) (g : NetlinkHeader) (bytes : List ℕ) (wrong : Bool) (old new : State)
-    → Makes line g bytes → PutsOrNot g bytes wrong old new → PutsLine Makes Passes Refuses line wrong old new
-puts_line Makes Passes Refuses line g bytes true old new made h = (complaint, inr (inr (g, bytes, made, h.0)), refl, h.1)
-puts_line Makes Passes Refuses line g bytes false old new made h = (message (record { given = g; bytes = bytes }), (made, h.0), refl, h.1)
+    → IsRead line → Makes line g bytes → PutsOrNot g bytes wrong old new → PutsLine Makes Passes Refuses line wrong old new
+puts_line Makes Passes Refuses line g bytes true old new read made h = (complaint, inr (read, inr (g, bytes, made, h.0)), refl, h.1)
+puts_line Makes Passes Refuses line g bytes false old new read made h = (message (record { given = g; bytes = bytes }), (read, made, h.0), refl, h.1)
+
+-- a line that is too long
+pub puts_long : (Makes : List ℕ → NetlinkHeader → List ℕ → Type 0) (Passes Refuses : List ℕ → Type 0) (line : List ℕ) (wrong : Bool) (s : State)
+    → IsTooLong line → wrong ≡ true → PutsLine Makes Passes Refuses line wrong s s
+puts_long Makes Passes Refuses line wrong s long is = (complaint, inl long, is, refl)
+
+-- a blank line
+pub puts_blank : (Makes : List ℕ → NetlinkHeader → List ℕ → Type 0) (Passes Refuses : List ℕ → Type 0) (line : List ℕ) (s : State)
+    → (¬ IsTooLong line) → IsBlank line → PutsLine Makes Passes Refuses line false s s
+puts_blank Makes Passes Refuses line s short blank = (nothing, inl (short, blank), refl, refl)
+
+-- a line without a message
+pub puts_nothing : (Makes : List ℕ → NetlinkHeader → List ℕ → Type 0) (Passes Refuses : List ℕ → Type 0) (line : List ℕ) (s : State)
+    → IsRead line → Passes line → PutsLine Makes Passes Refuses line false s s
+puts_nothing Makes Passes Refuses line s read passes = (nothing, inr (read, passes), refl, refl)
+
+-- a line with an error
+pub puts_complaint : (Makes : List ℕ → NetlinkHeader → List ℕ → Type 0) (Passes Refuses : List ℕ → Type 0) (line : List ℕ) (wrong : Bool) (s : State)
+    → IsRead line → Refuses line → wrong ≡ true → PutsLine Makes Passes Refuses line wrong s s
+puts_complaint Makes Passes Refuses line wrong s read refuses is = (complaint, inr (read, inl refuses), is, refl)
 
 -- a line that is there
 pub puts_whole : (Makes : List ℕ → NetlinkHeader → List ℕ → Type 0) (Passes Refuses : List ℕ → Type 0) (found : LineStatus) (line kept : List ℕ)

@@ -1,5 +1,5 @@
 -- The lines of an input.
-use Rattle.std.specs.Prelude.{◌≡◌, ◌≢◌, ◌⊎◌, ◌<◌, ◌≤◌, ◌==◌, ⊤, ℕ, Bool, true, false, List, [], ◌∷◌, ◌++◌, length, slice_index, Option, Some, None}
+use Rattle.std.specs.Prelude.{◌≡◌, ◌≢◌, ◌⊎◌, ◌<◌, ◌≤◌, ◌==◌, ⊤, ℕ, ◌+◌, ◌*◌, Bool, true, false, List, [], ◌∷◌, ◌++◌, length, slice_index, Option, Some, None}
 use Rattle.std.specs.Prelude.{if◌then◌else◌}
 use Rattle.std.specs.List.{filter}
 use Rattle.std.specs.Io.KnownBytes.{IsAtEnd}
@@ -8,6 +8,8 @@ use Rattle.std.specs.declared.io.BufReader.{BufReader}
 use Rattle.program_io.specs.Streams.{reader_inside}
 use Rattle.program_io.specs.declared.streams.Reader.{Reader}
 use Rattle.std.specs.Char.{is_ascii_whitespace}
+use Rattle.tcmake_lines.specs.declared.input.LineContent.{LineContent}
+use Rattle.tcmake_lines.specs.declared.input.LineContent.TheVariants.{ManyValues, Blank, Text}
 use Rattle.tcmake_lines.specs.declared.input.LineStatus.{LineStatus}
 use Rattle.tcmake_lines.specs.declared.input.LineStatus.TheVariants.{Whole, TooLong, End}
 
@@ -41,16 +43,27 @@ AreFirstLines (Some xs) lines = (later : List (List ℕ)) × (lines_of xs ≡ li
 abbrev pub most_line : ℕ
 most_line = 4194304
 
--- the most objects of a line, and how many it opens
-abbrev pub most_objects : ℕ
-most_objects = 196624
+-- how often a byte is in a line
+abbrev pub count : ℕ → List ℕ → ℕ
+count byte line = length (filter (λ c. c == byte) line)
 
-abbrev pub opened : List ℕ → ℕ
-opened line = length (filter (λ c. c == 123) line)
+-- the values of a line, by the memory that they take: 17 for each object and each list that it opens, and two for each comma
+abbrev pub values : List ℕ → ℕ
+values line = 17 * (count 123 line + count 91 line) + 2 * count 44 line
 
--- a line that is too long, or opens too many objects
+-- the most values of a line, and the most quotes
+abbrev pub most_values : ℕ
+most_values = 3604800
+
+abbrev pub most_quotes : ℕ
+most_quotes = 655520
+
+abbrev pub HasMany : List ℕ → Type 0
+HasMany line = (most_values < values line) ⊎ (most_quotes < count 34 line)
+
+-- a line that is too long, or has too many values
 abbrev pub IsTooLong : List ℕ → Type 0
-IsTooLong line = (most_line < length line) ⊎ (most_objects < opened line)
+IsTooLong line = (most_line < length line) ⊎ HasMany line
 
 -- the part of a line that is kept: all, or the front if it is too long
 abbrev pub IsFound : LineStatus → List ℕ → List ℕ → Type 0
@@ -81,3 +94,13 @@ left_in remaining r = reader_remaining (λ inside. remaining (reader_inside insi
 -- a line of blanks
 abbrev pub IsBlank : List ℕ → Type 0
 IsBlank line = (k : ℕ) → k < length line → is_ascii_whitespace (slice_index line k) ≡ true
+
+-- what is in a line: too many values, blanks, or a text
+abbrev pub HasContent : LineContent → List ℕ → Type 0
+HasContent ManyValues line = HasMany line
+HasContent Blank line = (¬ HasMany line) × IsBlank line
+HasContent Text line = (¬ HasMany line) × (¬ IsBlank line)
+
+-- a line that is read as text: it is neither too long nor blank
+abbrev pub IsRead : List ℕ → Type 0
+IsRead line = (¬ IsTooLong line) × (¬ IsBlank line)

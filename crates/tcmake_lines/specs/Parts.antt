@@ -5,7 +5,7 @@ use Rattle.tcmake_lines.specs.declared.format.OutputFormat.{OutputFormat}
 use Rattle.tcmake_lines.specs.declared.netlink.NetlinkHeader.{NetlinkHeader}
 use Rattle.tcmake_lines.specs.declared.maker.Answer.{Answer}
 use Rattle.tcmake_lines.specs.declared.maker.Answer.TheVariants as answered
-use Rattle.tcmake_lines.specs.Lines.{AreFirstLines, AreLines, IsBlank, IsTooLong, Reads}
+use Rattle.tcmake_lines.specs.Lines.{AreFirstLines, AreLines, IsBlank, IsRead, IsTooLong, Reads}
 use Rattle.tcmake_lines.specs.Written.{Message, IsWritable, written}
 
 -- a message, nothing, or a complaint
@@ -43,12 +43,12 @@ module _ (Makes : List ℕ → NetlinkHeader → List ℕ → Type 0) (Passes Re
   abbrev pub IsUnwritable : OutputFormat → List ℕ → Type 0
   IsUnwritable form line = (given : NetlinkHeader) × (bytes : List ℕ) × Makes line given bytes × (¬ IsWritable form given bytes)
 
-  -- a line becomes a message that can be written; nothing if it is blank or holds no message; a complaint if it has an error, is too long, or
-  -- holds a message that can't be written
+  -- a line that is read becomes a message that can be written; nothing if it holds no message; a complaint if it has an error, or holds a message
+  -- that can't be written. A line that is too long becomes a complaint, and another that is blank nothing
   abbrev pub Becomes : OutputFormat → List ℕ → Part → Type 0
-  Becomes form line (message m) = Makes line m.given m.bytes × IsWritable form m.given m.bytes
-  Becomes form line nothing = IsBlank line ⊎ Passes line
-  Becomes form line complaint = Refuses line ⊎ IsTooLong line ⊎ IsUnwritable form line
+  Becomes form line (message m) = IsRead line × Makes line m.given m.bytes × IsWritable form m.given m.bytes
+  Becomes form line nothing = ((¬ IsTooLong line) × IsBlank line) ⊎ (IsRead line × Passes line)
+  Becomes form line complaint = IsTooLong line ⊎ (IsRead line × (Refuses line ⊎ IsUnwritable form line))
 
   -- each of some lines becomes one part
   abbrev pub BecomeEach : OutputFormat → List (List ℕ) → List Part → Type 0

@@ -1,22 +1,26 @@
 //! Reading lines.
 
-ghost use Rattle.std.specs.Prelude.{◌≡◌, ◌≢◌, ◌≤◌, ℕ, nat_lt, true, List, ◌++◌, All, length, take, IfErr, IfOk};
+ghost use Rattle.std.specs.Prelude.{◌≡◌, ◌≢◌, ◌≤◌, ◌↔◌, ◌||◌, ℕ, nat_lt, IsTrue, List, ◌++◌, All, length, take, IfErr, IfOk};
 ghost use Rattle.program_io.specs.declared.stop.Stop.TheVariants.{Closed};
 ghost use Rattle.tcmake_lines.specs.Ends.{IsEmptyAtEnd, TakesPart, with_end};
-ghost use Rattle.tcmake_lines.specs.Lines.{EndsLine, IsBlank, IsFound, IsNext, opened};
+ghost use Rattle.tcmake_lines.specs.Lines.{EndsLine, HasContent, IsBlank, IsFound, IsNext, count, values};
 
 use memchr::memchr;
 use program_io::Stop;
 use std::alloc::AllocError;
 use std::io::BufRead;
 
-/// The longest line that is read, in bytes: 4 MiB, 16 for each byte of a message of 256 KiB. The longest line of such a message
-/// has 50 bytes for each attribute without a payload, which takes four: `{"Taprio":{"SchedCycleTimeExtension":{"raw":""}}},`.
+/// The longest line that is read, in bytes: 4 MiB, 16 for each byte of a message of 256 KiB. The longest line of such a message has 63 bytes
+/// for each attribute without a payload, which takes four: `{"Taprio":{"SchedCycleTimeExtension":{"raw":""},"word":49161}},`.
 pub const MOST_LINE: usize = 4 * 1024 * 1024;
 
-/// The most objects in a line: three for each attribute of such a message, and 16 around them. They bound the memory that a
+/// The most values in a line, by the memory that they take: 17 for each object or list, and two for each comma. Four bytes of such a message have
+/// 55 at most, as an attribute with three objects and two commas, and 320 are around them.
+pub const MOST_VALUES: u128 = 55 * 65_536 + 320;
+
+/// The most quotes in a line, two for each name or text: ten for four bytes of such a message, and 160 around them. Both bound the memory that a
 /// line takes.
-pub const MOST_OBJECTS: usize = 3 * 65_536 + 16;
+pub const MOST_QUOTES: usize = 10 * 65_536 + 160;
 
 /// How reading a line ended.
 #[derive(Clone, Copy, PartialEq, Eq, Debug)]
@@ -27,6 +31,17 @@ pub enum LineStatus {
     TooLong,
     /// The end of the input.
     End,
+}
+
+/// What is in a line.
+#[derive(Clone, Copy, PartialEq, Eq, Debug)]
+pub enum LineContent {
+    /// More than [`MOST_VALUES`] values or [`MOST_QUOTES`] quotes.
+    ManyValues,
+    /// Nothing, or blanks.
+    Blank,
+    /// A text that is to be read.
+    Text,
 }
 
 // How a part of a line ends.
@@ -145,28 +160,46 @@ fn append(part: &[u8], line: &mut Vec<u8>, found: LineStatus) -> Result<LineStat
     Ok(LineStatus::Whole)
 }
 
-/// True if a line opens more than [`MOST_OBJECTS`] objects. A brace in a text counts too.
-pub fn has_many_objects(line: &[u8]) -> bool
-    ensures { result ≡ nat_lt 196624 (opened line.now) }
+/// What is in a line. Braces, brackets, commas and quotes in texts count, too.
+#[tactic(auto, using(crate::proofs::Lines::many_by, crate::proofs::Lines::few_by, crate::proofs::Lines::not_blank))]
+pub fn content_of(line: &[u8]) -> LineContent
+    ensures { HasContent result line.now }
 {
-    opened_in(line) > MOST_OBJECTS
+    if has_many_values(line) {
+        return LineContent::ManyValues;
+    }
+    if is_blank(line) {
+        return LineContent::Blank;
+    }
+    LineContent::Text
 }
 
-fn opened_in(line: &[u8]) -> usize
-    ensures { result ≡ opened line.now }
+// True if a line has more values or quotes than it may have.
+fn has_many_values(line: &[u8]) -> bool
+    ensures { result ≡ (nat_lt 3604800 (values line.now) || nat_lt 655520 (count 34 line.now)) }
+{
+    let objects = count_of(b'{', line) as u128;
+    let lists = count_of(b'[', line) as u128;
+    let commas = count_of(b',', line) as u128;
+    17 * (objects + lists) + 2 * commas > MOST_VALUES || count_of(b'"', line) > MOST_QUOTES
+}
+
+// How often a byte is in a line.
+fn count_of(byte: u8, line: &[u8]) -> usize
+    ensures { result ≡ count byte line.now }
 {
     let mut count = 0;
-    for byte in line {
-        if *byte == b'{' {
+    for other in line {
+        if *other == byte {
             count += 1;
         }
     }
     count
 }
 
-/// True if the line is blank.
-pub fn is_blank(line: &[u8]) -> bool
-    ensures { result ≡ true → IsBlank line.now }
+// True if a line is blank.
+fn is_blank(line: &[u8]) -> bool
+    ensures { IsTrue result ↔ IsBlank line.now }
 {
     line.trim_ascii_start().is_empty()
 }

@@ -13,7 +13,9 @@ mod output;
 pub mod run;
 
 pub use format::{OutputFormat, Unwritable, check};
-pub use input::{LineStatus, MOST_LINE, MOST_OBJECTS, has_many_objects, is_blank, next_line};
+pub use input::{
+    LineContent, LineStatus, MOST_LINE, MOST_QUOTES, MOST_VALUES, content_of, next_line,
+};
 pub use maker::{Answer, Maker};
 pub use netlink::{NetlinkHeader, OUTGOING, PacketOf, packet_at};
 pub use output::Output;

@@ -35,7 +35,7 @@ pub trait Maker {
     // No message is built from the line, and it has an error.
     ghost Refuses: { Self → List ℕ → Type 0 };
 
-    /// Builds the message of a line. Fails only if memory runs out.
-    fn make(&self, line: &[u8]) -> Result<Answer, AllocError>
-        ensures { IfOk result (IsAnswer (Makes self.now) (Passes self.now) (Refuses self.now) line.now) };
+    /// Builds the message of a line. The line is freed as soon as it is read. Fails only if memory runs out.
+    fn make(&self, line: Vec<u8>) -> Result<Answer, AllocError>
+        ensures { IfOk result (IsAnswer (Makes self.now) (Passes self.now) (Refuses self.now) line.items) };
 }

@@ -1,15 +1,15 @@
 //! A run over an input.
 
-ghost use Rattle.std.specs.Prelude.{◌≡◌, ◌≢◌, ◌||◌, ℕ, Err, true, false, List, IfErr, IfOk, OnOk};
+ghost use Rattle.std.specs.Prelude.{◌≡◌, ◌≢◌, ◌≤◌, ◌||◌, ℕ, Err, true, false, List, length, IfErr, IfOk, OnOk};
 ghost use Rattle.std.specs.Io.Buffered.{reader_inner};
 ghost use Rattle.program_io.specs.Streams.{Shows, read_failure, write_failure, writer_inside};
 ghost use Rattle.program_io.specs.declared.stop.Stop.TheVariants.{Closed, NoMemory};
-ghost use Rattle.tcmake_lines.specs.Lines.{IsFound, is_end, left_in};
+ghost use Rattle.tcmake_lines.specs.Lines.{IsFound, IsRead, is_end, left_in};
 ghost use Rattle.tcmake_lines.specs.Parts.{Ran, RanOn, RanPartly};
 ghost use Rattle.tcmake_lines.specs.State.{PutsLine, PutsOrNot, state_of};
 
 use crate::format::{OutputFormat, check};
-use crate::input::{LineStatus, has_many_objects, is_blank, next_line};
+use crate::input::{LineContent, LineStatus, content_of, next_line};
 use crate::maker::{Answer, Maker};
 use crate::netlink::NetlinkHeader;
 use crate::output::Output;
@@ -20,8 +20,8 @@ use std::io::{BufRead, BufReader, Read, Write};
 /// The error for a line longer than [`MOST_LINE`](crate::MOST_LINE).
 pub const LONG_LINE: &str = "longer than 4194304 bytes";
 
-/// The error for a line with more objects than [`MOST_OBJECTS`](crate::MOST_OBJECTS).
-pub const MANY_OBJECTS: &str = "more than 196624 objects";
+/// The error for a line with more than [`MOST_VALUES`](crate::MOST_VALUES) or [`MOST_QUOTES`](crate::MOST_QUOTES).
+pub const MANY_VALUES: &str = "more objects, lists, values or texts than a message of 256 KiB has";
 
 /// Builds the messages of all lines of an input, and writes them. Errors and notices are written to `errors`.
 pub fn run<M: Maker, R: Read, W: Write, E: Write>(
@@ -74,16 +74,16 @@ fn make_all<M: Maker, R: BufRead, W: Write, E: Write>(
 {
     let mut output = Output::new(alloc, form);
     output.begin()?;
-    let mut line = Vec::new(alloc);
     for number in 1..u64::MAX {
         output.write(writer)?;
+        let mut line = Vec::new(alloc);
         let found = next_line(reader, &mut line)?;
         if is_end(found) {
             output.end()?;
             output.write(writer)?;
             return Ok(());
         }
-        let is_wrong = put_line(alloc, maker, found, &line, number, &mut output, errors)?;
+        let is_wrong = put_line(alloc, maker, found, line, number, &mut output, errors)?;
         *has_refused = either(*has_refused, is_wrong);
     }
     Err(Stop::Read)
@@ -106,12 +106,13 @@ fn put_line<M: Maker, E: Write>(
     alloc: Global,
     maker: &M,
     found: LineStatus,
-    line: &[u8],
+    line: Vec<u8>,
     number: u64,
     output: &mut Output,
     errors: &mut E,
 ) -> Result<bool, AllocError>
-    ensures { (whole : List ℕ) → IsFound found whole line.now → IfOk result (λ is_wrong. PutsLine (M.Makes maker.now) (M.Passes maker.now)
+    requires { length line.items ≤ 4194304 }
+    ensures { (whole : List ℕ) → IsFound found whole line.items → IfOk result (λ is_wrong. PutsLine (M.Makes maker.now) (M.Passes maker.now)
         (M.Refuses maker.now) whole is_wrong (state_of output.old) (state_of output.new)) }
 {
     match found {
@@ -125,20 +126,36 @@ fn put_line<M: Maker, E: Write>(
 fn put_whole_line<M: Maker, E: Write>(
     alloc: Global,
     maker: &M,
-    line: &[u8],
+    line: Vec<u8>,
     number: u64,
     output: &mut Output,
     errors: &mut E,
 ) -> Result<bool, AllocError>
-    ensures { IfOk result (λ is_wrong. PutsLine (M.Makes maker.now) (M.Passes maker.now) (M.Refuses maker.now) line.now is_wrong
+    requires { length line.items ≤ 4194304 }
+    ensures { IfOk result (λ is_wrong. PutsLine (M.Makes maker.now) (M.Passes maker.now) (M.Refuses maker.now) line.items is_wrong
         (state_of output.old) (state_of output.new)) }
 {
-    if is_blank(line) {
-        return Ok(false);
+    match content_of(&line) {
+        LineContent::ManyValues => report(alloc, errors, number, MANY_VALUES),
+        LineContent::Blank => Ok(false),
+        LineContent::Text => put_text(alloc, maker, line, number, output, errors),
     }
-    if has_many_objects(line) {
-        return report(alloc, errors, number, MANY_OBJECTS);
-    }
+}
+
+// Appends the message of a line that is read.
+#[tactic(auto, using(crate::proofs::Parts::puts_nothing, crate::proofs::Parts::puts_complaint))]
+fn put_text<M: Maker, E: Write>(
+    alloc: Global,
+    maker: &M,
+    line: Vec<u8>,
+    number: u64,
+    output: &mut Output,
+    errors: &mut E,
+) -> Result<bool, AllocError>
+    requires { IsRead line.items }
+    ensures { IfOk result (λ is_wrong. PutsLine (M.Makes maker.now) (M.Passes maker.now) (M.Refuses maker.now) line.items is_wrong
+        (state_of output.old) (state_of output.new)) }
+{
     match maker.make(line)? {
         Answer::Message {
             given,

@@ -14,6 +14,10 @@ use Rattle.tcmake_lines.specs.declared.netlink.NetlinkHeader.{NetlinkHeader}
 abbrev pub IsAnswer : List ℕ → Type 0
 IsAnswer line = (json : Data) × (read line ≡ Some json) × (IsOfKernel json ⊎ IsOfSave json)
 
+-- the line isn't JSON in UTF-8 that has each name of an object once
+abbrev pub HasNoJson : List ℕ → Type 0
+HasNoJson line = (¬ IsUtf8 line) ⊎ (read line ≡ None) ⊎ (¬ HasNamesOnce line)
+
 module _ (table : Table) (tc action : Form) where
   -- the message that is made of a line, and what the line says of it
   pub record IsMessage (making : Making) (line : List ℕ) (given : NetlinkHeader) (bytes : List ℕ) : Type 0 where

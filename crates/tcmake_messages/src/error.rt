@@ -10,13 +10,15 @@ use nla_frames::DecodeError;
 use std::alloc::{AllocError, AllocFailed};
 use std::fmt;
 use tc_capture::rtm_of;
-use tcmake_lines::run::LONG_LINE;
+use tcmake_lines::run::{LONG_LINE, MANY_VALUES};
 
 /// Why no message is made of a line.
 #[derive(Drop)]
 pub enum LineError {
     /// It is longer than the longest line.
     LongLine,
+    /// It has more values than a line may have.
+    ManyValues,
     /// It isn't read as JSON.
     Read(ReadError),
     /// It is a part of JSON that goes on on other lines.
@@ -204,6 +206,7 @@ impl LineError {
     fn text(&self) -> &'static str {
         match self {
             LineError::LongLine => LONG_LINE,
+            LineError::ManyValues => MANY_VALUES,
             LineError::OnePart =>
                 "a part of JSON on several lines; wanted all of it on one, as jq -c writes it",
             LineError::Refused => "this line reports a refused message; there is nothing to make",

@@ -19,7 +19,7 @@ mod verdict;
 
 pub use error::{Found, LineError, Notice, Place};
 pub use given::is_answer;
-pub use made::{Made, made_of, made_of_json, unread};
+pub use made::{Made, json_in, made_of, made_of_json};
 pub use maker::{MessageMaker, notices_of};
 pub use making::Making;
 pub use members::{Numbered, number_of, wrong};

@@ -1,9 +1,10 @@
 //! A message of a line.
 
-ghost use Rattle.std.specs.Prelude.{◌≡◌, ◌⊎◌, IfErr, IfOk, MatchOption};
+ghost use Rattle.std.specs.Prelude.{◌≡◌, ◌⊎◌, Some, IfErr, IfOk, MatchOption};
 ghost use Rattle.forms_text.specs.declared.error.ReadError.TheVariants.{OutOfMemory};
+ghost use Rattle.serde_json.specs.Read.{read};
 ghost use Rattle.serde_json.specs.View.{view};
-ghost use Rattle.tcmake_messages.specs.Answer.{IsAnswer, IsMessage, IsRefused, IsWrong};
+ghost use Rattle.tcmake_messages.specs.Answer.{HasNoJson, IsAnswer, IsMessage, IsRefused, IsWrong};
 ghost use Rattle.tcmake_messages.specs.Line.{IsGiven, message_in};
 ghost use Rattle.tcmake_messages.specs.Made.{IsMade, IsUnmade, form_of};
 ghost use Rattle.tcmake_messages.specs.declared.error.LineError.TheVariants.{NoMemory};
@@ -29,22 +30,20 @@ pub struct Made {
     pub settled: Vec<Difference>,
 }
 
-/// The message of a line. An answer of the kernel, and the first and the last line of a save, have none.
+/// The message of a line, which is freed once it is read. An answer of the kernel, and the first and the last line of a save, have none.
+#[tactic(auto, using(crate::proofs::Refused::refused_by))]
 pub fn made_of<T: Tables>(
     alloc: Global,
     forms: Forms<T>,
-    line: &[u8],
+    line: Vec<u8>,
     making: Making,
 ) -> Result<Option<Made>, LineError>
     // Number, time, flags and message type are the line's.
-    ensures made { IfOk result (λ found. MatchOption found (IsAnswer line.now)
-        (λ made. IsMessage (T.parts_of forms.table) forms.tc forms.action making line.now made.given made.bytes.items)) }
-    ensures refused { IfErr result (λ e. (e ≡ NoMemory) ⊎ IsRefused (T.parts_of forms.table) forms.tc forms.action making line.now) }
+    ensures made { IfOk result (λ found. MatchOption found (IsAnswer line.items)
+        (λ made. IsMessage (T.parts_of forms.table) forms.tc forms.action making line.items made.given made.bytes.items)) }
+    ensures refused { IfErr result (λ e. (e ≡ NoMemory) ⊎ IsRefused (T.parts_of forms.table) forms.tc forms.action making line.items) }
 {
-    let json = match read_json(alloc, line) {
-        Ok(json) => json,
-        Err(error) => return Err(unread(error, line)),
-    };
+    let json = json_in(alloc, line)?;
     if is_answer(&json) || is_of_save(&json) {
         return Ok(None);
     }
@@ -52,6 +51,18 @@ pub fn made_of<T: Tables>(
     Ok(Some(made))
 }
 
+/// The JSON of a line, which is freed.
+pub fn json_in(alloc: Global, line: Vec<u8>) -> Result<Value, LineError>
+    ensures read { IfOk result (λ json. read line.items ≡ Some (view json)) }
+    ensures refused { IfErr result (λ e. (e ≡ NoMemory) ⊎ HasNoJson line.items) }
+{
+    match read_json(alloc, &line) {
+        Ok(json) => Ok(json),
+        Err(error) => Err(unread(error, &line)),
+    }
+}
+
+/// The message of JSON that isn't an answer of the kernel, nor the first or the last line of a save.
 pub fn made_of_json<T: Tables>(
     alloc: Global,
     forms: Forms<T>,
@@ -91,8 +102,8 @@ fn message_in<T: Tables>(
     }
 }
 
-/// Why a line isn't read as JSON.
-pub fn unread(error: ReadError, line: &[u8]) -> LineError
+// Why a line isn't read as JSON.
+fn unread(error: ReadError, line: &[u8]) -> LineError
     ensures { error ≡ OutOfMemory → result ≡ NoMemory }
 {
     match error {

@@ -28,7 +28,7 @@ impl<T: Tables> Maker for MessageMaker<T> {
 
     ghost Refuses = { λ m line. IsRefused (T.parts_of m.forms.table) m.forms.tc m.forms.action m.making line };
 
-    fn make(&self, line: &[u8]) -> Result<Answer, AllocError> {
+    fn make(&self, line: Vec<u8>) -> Result<Answer, AllocError> {
         match made_of(self.alloc, self.forms, line, self.making) {
             Ok(
                 Some(

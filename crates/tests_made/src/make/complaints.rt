@@ -159,13 +159,25 @@ fn the_longest_line(rt: HostRuntime) -> Result<(), Fail> {
     Ok(())
 }
 
-// More objects than such a message has.
+// More values than such a message has.
 #[test]
-fn many_objects(rt: HostRuntime) -> Result<(), Fail> {
+fn many_values(rt: HostRuntime) -> Result<(), Fail> {
     let alloc = rt.alloc();
-    let mut lines = vec![in alloc; b'{'; 196_625]?;
+    let mut lines = vec![in alloc; b'{'; 212_048]?;
     lines.extend_from_slice(NEXT.as_bytes())?;
-    let said = "tcmake: line 1: more than 196624 objects\n";
+    let said =
+        "tcmake: line 1: more objects, lists, values or texts than a message of 256 KiB has\n";
     assert!(rt; makes(alloc, &HEX, &lines, 1, NEXT_MADE.as_bytes(), said));
+    Ok(())
+}
+
+// The same of a dump.
+#[test]
+fn many_values_of_a_dump(rt: HostRuntime) -> Result<(), Fail> {
+    let alloc = rt.alloc();
+    let line = vec![in alloc; b'{'; 212_048]?;
+    let said =
+        "tcmake: line 1: more objects, lists, values or texts than a message of 256 KiB has\n";
+    assert!(rt; makes(alloc, &bare(Making::Restored), &line, 1, b"", said));
     Ok(())
 }

@@ -1,5 +1,4 @@
 use Rattle.std.proofs.Common.{◌∙◌, [], ◌∷◌, ◌++◌, ap, append-nil, subst, sym}
-use Rattle.tcmake_lines.specs.Lines.{IsFound}
 use Rattle.tcmake_lines.specs.State.{state_of}
 use Rattle.tcmake_lines.specs.Written.{header_of}
 use Rattle.tcmake_lines.proofs.Lines.{at_end, at_end_all, line_found, reads_all, reads_nothing, reads_then}
@@ -33,8 +32,7 @@ loop-number-preserved g c =
     until_write Makes Passes Refuses c.args.form _ _ _ (state_of c.loop-number.output) (state_of c.write.new.self) _ i.0 i.2 c.in_ok-write.ensures.written
     c.write.ensures.form c.write.ensures.held c.write.ensures.text in
     let l = line_found _ _ c.in_ok-found.found _ (sym c.is_end.ensures ∙ c.if-is_end.false) c.in_ok-found.ensures.next in
-    let here = subst (IsFound c.in_ok-found.found l.0) (sym c.deref.ensures.value) l.2 in
-    let put = c.in_ok-is_wrong.ensures l.0 here in (
+    let put = c.in_ok-is_wrong.ensures l.0 l.2 in (
       i.0 ++ l.0 ∷ [],
       reads_then _ _ _ i.0 (l.0 ∷ []) i.1 l.1,
       until_line Makes Passes Refuses c.args.form _ _ (state_of c.write.new.self) (state_of c.put_line.new.output) c.loop-number.has_refused c.in_ok-is_wrong.is_wrong _
