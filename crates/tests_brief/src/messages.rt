@@ -722,7 +722,7 @@ static ACTIONS_BEFORE_KINDS: Known = Known {
     counted: &[],
 };
 
-// Two tables of netem, of 33 and of 32 numbers: a list of more than 32 is told by its count.
+// Two tables of netem, of 33 and of 32 numbers. A line has only the count of a list of more than 32.
 #[rattlefmt::skip]
 static TABLES_OF_NETEM: Known = Known {
     root: Root::Qdisc,
