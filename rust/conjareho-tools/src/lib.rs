@@ -54,7 +54,7 @@ use user::memchr;
 include!(concat!(env!("OUT_DIR"), "/programs.rs"));
 
 #[cfg(target_os = "linux")]
-pub use {apply::tcapply, restore::tcrestore, tcnl::tcnl, tcsave::tcsave};
+pub use {apply::tcapply, apply::tcrestore, tcnl::tcnl, tcsave::tcsave};
 
 use host::HostRuntime;
 use std::io::IsTerminal as _;

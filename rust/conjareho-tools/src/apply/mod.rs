@@ -1,11 +1,13 @@
-//! The program tcapply: from what interfaces have to what a file says.
+//! The program tcapply: from what interfaces have to what a file says. tcrestore is a call of it.
 
-mod arguments;
+mod actions;
+pub(crate) mod arguments;
 mod hold;
 mod lock;
 mod outline;
 pub(crate) mod plan;
 mod prepare;
+mod restore;
 mod scratch;
 #[cfg(test)]
 mod tests;
@@ -13,7 +15,7 @@ mod trial;
 mod wanted;
 mod words;
 
-use arguments::{Arguments, arguments_of};
+use arguments::{Arguments, Way};
 use plan::{plan, plan_anew};
 use prepare::{Planned, Prepared, planned, prepare};
 use wanted::{Wanted, wanted_of};
@@ -21,7 +23,7 @@ use wanted::{Wanted, wanted_of};
 use crate::netlink::fault::Printable;
 use crate::netlink::{Socket, Transport};
 use crate::restore::back::without;
-use crate::restore::compare::by_place;
+use crate::restore::compare::{Held, Key, by_place};
 use crate::restore::prepare::Ended;
 use crate::restore::sending::Sending;
 use crate::restore::status::Status;
@@ -41,8 +43,17 @@ type Hold<'h> = &'h mut dyn FnMut() -> Result<(), Stop>;
 
 /// The whole program.
 pub fn tcapply() -> ExitCode {
-    match arguments_of(std::env::args_os()) {
-        Ok(arguments) => obey(&arguments).into(),
+    program("tcapply", arguments::arguments_of(std::env::args_os()))
+}
+
+/// The whole program tcrestore.
+pub fn tcrestore() -> ExitCode {
+    program("tcrestore", restore::arguments_of(std::env::args_os()))
+}
+
+fn program(name: &'static str, arguments: Result<Arguments, ::clap::Error>) -> ExitCode {
+    match arguments {
+        Ok(arguments) => obey(name, &arguments).into(),
         Err(error) => {
             let _ = error.print();
             ExitCode::from(if error.use_stderr() { Status::Usage as u8 } else { 0 })
@@ -50,13 +61,13 @@ pub fn tcapply() -> ExitCode {
     }
 }
 
-fn obey(arguments: &Arguments) -> Status {
+fn obey(name: &'static str, arguments: &Arguments) -> Status {
     let mut said = Vec::new();
-    let status = opened(arguments, &mut said).unwrap_or_else(|ended| {
+    let status = opened(name, arguments, &mut said).unwrap_or_else(|ended| {
         said.extend(ended.said);
         ended.status
     });
-    say_all("tcapply", &said);
+    say_all(name, &said);
     status
 }
 
@@ -65,11 +76,10 @@ fn failed(why: String) -> Ended {
 }
 
 // Reads the file, or runs the command, and does what is asked for.
-fn opened(arguments: &Arguments, said: &mut Vec<String>) -> Result<Status, Ended> {
-    let restored = &arguments.restored;
-    let file = match (&arguments.command, &restored.dev) {
+fn opened(name: &'static str, arguments: &Arguments, said: &mut Vec<String>) -> Result<Status, Ended> {
+    let file = match (&arguments.command, &arguments.dev) {
         (Some(command), Some(dev)) => trial::made_by(command, dev)?,
-        _ => read(restored).map_err(|error| failed(format!("{}: {error}", restored.file_name())))?,
+        _ => read(arguments).map_err(|error| failed(format!("{}: {error}", arguments.file_name())))?,
     };
     // Until here nothing was asked for that a signal shouldn't end.
     let signals = Signals::catch().map_err(failed)?;
@@ -82,13 +92,13 @@ fn opened(arguments: &Arguments, said: &mut Vec<String>) -> Result<Status, Ended
     if arguments.check {
         return trial::check(arguments, file, &mut world, said);
     }
-    let _lock = lock::lock(&signal)?;
+    let _lock = lock::lock(arguments.way, &signal)?;
     let mut hold = || {
         let Some(time) = arguments.trial else { return Ok(()) };
         let seconds = time.as_secs();
         let asked = format!("the plan is applied; press Enter within {seconds} seconds, or it goes back");
         // A terminal that nobody reads mustn't hold up the way back.
-        thread::spawn(move || say_all("tcapply", &[asked]));
+        thread::spawn(move || say_all(name, &[asked]));
         hold::hold(&mut io::stdin().lock(), time, &signal)
     };
     Ok(apply(arguments, file, &mut world, &mut hold, said))
@@ -102,7 +112,7 @@ fn dry_run(
     said: &mut Vec<String>,
 ) -> Result<Status, Ended> {
     let mut wanted = wanted_of(arguments, file, world, said)?;
-    let Planned { dump, before, steps, .. } = planned(world, &mut wanted)?;
+    let Planned { dump, before, steps, .. } = planned(arguments, world, &mut wanted)?;
     let text: String = outline::lines(&steps, &before, &wanted.messages, &dump.devices)
         .iter()
         .map(|line| format!("{}\n", Printable(line)))
@@ -130,7 +140,8 @@ fn apply<T: Transport, L: Transport>(
         }
     };
     let mut sending = Sending::new(world, &prepared.place);
-    match carried_out(&prepared, &mut sending, hold, said) {
+    match carried_out(arguments.way, &prepared, &mut sending, hold, said) {
+        Ok(()) if prepared.wanted.is_partial => Status::Otherwise,
         Ok(()) => {
             let is_kept = arguments.trial.is_some() && !prepared.steps.is_empty();
             said.extend(is_kept.then(|| "Enter was pressed, so it stays".to_string()));
@@ -138,8 +149,7 @@ fn apply<T: Transport, L: Transport>(
         }
         Err(stop) => {
             said.push(stop.to_string());
-            let is_left = arguments.restored.no_rollback;
-            prepared.before.ended(&prepared.wanted.objects, is_left, &mut sending, &stop, said)
+            prepared.before.ended(&prepared.wanted.objects, arguments.no_rollback, &mut sending, &stop, said)
         }
     }
 }
@@ -168,6 +178,7 @@ fn begun<T: Transport, L: Transport>(
 
 // Sends all, compares, and waits.
 fn carried_out<T: Transport, L: Transport>(
+    way: Way,
     prepared: &Prepared,
     sending: &mut Sending<'_, '_, T, L>,
     hold: Hold<'_>,
@@ -175,10 +186,10 @@ fn carried_out<T: Transport, L: Transport>(
 ) -> Result<(), Stop> {
     let wanted = &prepared.wanted;
     sending.carry_out(&prepared.steps)?;
-    let after = match reached(prepared, sending) {
-        Err(stop @ Stop::Differs(_)) => {
+    let after = match reached(way, prepared, sending) {
+        Err(stop @ Stop::Differs(_)) if way != Way::Beside => {
             made_anew(prepared, sending, stop, said)?;
-            reached(prepared, sending)?
+            reached(way, prepared, sending)?
         }
         after => after?,
     };
@@ -188,14 +199,19 @@ fn carried_out<T: Transport, L: Transport>(
     if prepared.steps.is_empty() { Ok(()) } else { hold() }
 }
 
-// What is there, as it is dumped; an error if it isn't what is wanted.
+// What is there, as it is dumped; an error if it isn't what is wanted. Actions belong to no interface: others may be there.
 fn reached<T: Transport, L: Transport>(
+    way: Way,
     prepared: &Prepared,
     sending: &mut Sending<'_, '_, T, L>,
 ) -> Result<Vec<Vec<u8>>, Stop> {
-    // Actions belong to no interface.
-    let after = same(sending, &prepared.wanted.objects, by_place, |key, _| key.is_action())?;
-    check_after(&without(&after, &prepared.before.others), &prepared.wanted, sending.place)?;
+    let (wanted, before) = (&prepared.wanted, &prepared.before);
+    if way == Way::Beside {
+        let was_there = |key: &Key, held: &Held| before.objects.get(key).is_some_and(|it| it.is_same(held));
+        return same(sending, &wanted.objects, |all| all, |key, held| key.is_action() || was_there(key, held));
+    }
+    let after = same(sending, &wanted.objects, by_place, |key, _| key.is_action())?;
+    check_after(&without(&after, &before.others), wanted, sending.place)?;
     Ok(after)
 }
 

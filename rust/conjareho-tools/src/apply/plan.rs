@@ -4,7 +4,7 @@ use crate::netlink::message::{HEADER, RTM_NEWCHAIN, RTM_NEWQDISC, RTM_NEWTCLASS,
 use crate::nla_frames::ParseableBytes as _;
 use crate::program_io::Stop;
 use crate::restore::compare::Key;
-use crate::restore::messages::{actions_of, chain_of, kind_of, payload_of, type_of};
+use crate::restore::messages::{actions_of, chain_of, deletes, kind_of, payload_of, replaces, type_of};
 use crate::restore::plan::{LINES_BEFORE, dumps_of, requests_of_dump};
 use crate::tc_action_messages::TcActionMessage;
 use crate::tc_changes::{self, Rules};
@@ -75,6 +75,17 @@ fn unmade_by_itself(dump: &[u8]) -> Option<String> {
 /// changed; of others only those for which `may_go` is true are deleted.
 pub(crate) fn plan(now: &[Vec<u8>], wanted: &[Vec<u8>], may_go: impl Fn(&Key) -> bool) -> Plan {
     plan_by(&KindRules, now, wanted, may_go)
+}
+
+/// The plan that makes all that is wanted where nothing is but these actions, so that what is there already is refused. What isn't whole by itself is
+/// planned beside what there is, of which nothing goes.
+pub(crate) fn plan_beside(now: &[Vec<u8>], actions: &[Vec<u8>], wanted: &[Vec<u8>]) -> Plan {
+    plan(actions, wanted, |_| false).or_else(|faults| {
+        let objects = now.iter().filter(|dump| !is_action(type_of(dump)));
+        let both: Vec<Vec<u8>> = objects.chain(wanted).cloned().collect();
+        let stays = |step: &Vec<u8>| !deletes(step) && (!replaces(step) || is_action(type_of(step)));
+        plan(now, &both, |_| false).ok().filter(|steps| steps.iter().all(stays)).ok_or(faults)
+    })
 }
 
 /// The same without changes in place: what differs is deleted and made. No other action is deleted.

@@ -1,8 +1,10 @@
 //! What is planned and asked before the first request is sent.
 
-use super::arguments::Arguments;
-use super::plan::{Fault, plan};
+use super::actions::Actions;
+use super::arguments::{Arguments, Way};
+use super::plan::{Fault, Plan, plan, plan_beside};
 use super::wanted::Wanted;
+use crate::netlink::clear::clearing;
 use crate::netlink::{Dump, Transport};
 use crate::restore::back::{Before, Others, without};
 use crate::restore::compare::objects_of;
@@ -10,8 +12,11 @@ use crate::restore::messages::blocks_of;
 use crate::restore::named::named;
 use crate::restore::plan::requests_of_dump;
 use crate::restore::prepare::{Ended, blocks_of_others, check_blocks, is_in_block, keep};
+use crate::restore::sending::{PATIENCE, PAUSE};
 use crate::restore::status::Status;
 use crate::restore::world::{Place, World, text_of};
+use std::thread::sleep;
+use std::time::Instant;
 
 /// All that is known before the first request.
 #[derive(Debug)]
@@ -35,18 +40,45 @@ pub(crate) struct Planned {
     pub(crate) steps: Vec<Vec<u8>>,
 }
 
-/// Dumps what there is, and plans. What is in blocks of others has to be as it is wanted, and is left out.
+/// Dumps what there is, and plans. What is in blocks of others has to be as it is wanted, and is left out. The actions of filters that were just deleted
+/// are there for a time, and held by nobody's filter.
 pub(crate) fn planned<T: Transport, L: Transport>(
+    arguments: &Arguments,
     world: &mut World<'_, T, L>,
     wanted: &mut Wanted,
 ) -> Result<Planned, Ended> {
     let others = blocks_of_others(world, &wanted.targets)?;
     check_blocks(world, &others, &wanted.requests, &wanted.targets)?;
-    let dump = world.first_dump(&wanted.targets.own())?;
-    let before = without(&dump.messages, &others);
     wanted.leave_out(|message| is_in_block(message, &others));
-    let steps = plan(&before, &wanted.messages, |_| false).map_err(|faults| nothing_sent(wanted.said_of(&faults)))?;
-    Ok(Planned { dump, before, others, steps })
+    let until = Instant::now() + PATIENCE;
+    loop {
+        let dump = world.first_dump(&wanted.targets.own())?;
+        let before = without(&dump.messages, &others);
+        let actions = Actions::of(&before);
+        let steps = steps_to(wanted, arguments.way, &before, &actions);
+        let steps = steps.map_err(|faults| nothing_sent(wanted.said_of(&faults)))?;
+        let held = if arguments.spares_actions { actions.of_others(&steps) } else { Vec::new() };
+        if held.is_empty() {
+            return Ok(Planned { dump, before, others, steps });
+        }
+        if Instant::now() >= until {
+            return Err(nothing_sent(wanted.said_of_held(&held)));
+        }
+        sleep(PAUSE);
+    }
+}
+
+// The requests that lead to what is wanted. Where all is made, there is nothing, but for actions.
+fn steps_to(wanted: &Wanted, way: Way, before: &[Vec<u8>], actions: &Actions) -> Plan {
+    match way {
+        Way::Change => plan(before, &wanted.messages, |_| false),
+        Way::Beside => plan_beside(before, &actions.alone(), &wanted.messages),
+        Way::Anew => {
+            let makes = plan(&actions.staying(), &wanted.messages, |_| false)?;
+            let own = wanted.targets.own();
+            Ok(own.iter().flat_map(|index| clearing(before, *index)).chain(makes).collect())
+        }
+    }
 }
 
 /// Plans, and asks whether what is planned may be sent.
@@ -56,12 +88,12 @@ pub(crate) fn prepare<T: Transport, L: Transport>(
     world: &mut World<'_, T, L>,
 ) -> Result<Prepared, Ended> {
     let mut wanted = wanted;
-    let Planned { dump, before, others, steps } = planned(world, &mut wanted)?;
+    let Planned { dump, before, others, steps } = planned(arguments, world, &mut wanted)?;
     let kept = if steps.is_empty() {
         None
     } else {
         check_back(arguments, &before, &wanted)?;
-        Some(keep(&arguments.restored, &wanted.targets, &text_of(&dump, &wanted.targets.own())?.0)?)
+        Some(keep(arguments, &wanted.targets, &text_of(&dump, &wanted.targets.own())?.0)?)
     };
     let blocks = wanted.messages.iter().flat_map(|it| blocks_of(it)).chain(dump.blocks).collect();
     Ok(Prepared {
@@ -81,17 +113,20 @@ fn nothing_sent(said: Vec<String>) -> Ended {
     Ended::because(Status::NothingSent, said)
 }
 
-// An error if what there is now can't be made again once it is as wanted.
+// An error if what there is now can't be made again once it is as wanted, or once it is cleared.
 fn check_back(arguments: &Arguments, now: &[Vec<u8>], wanted: &Wanted) -> Result<(), Ended> {
-    if arguments.restored.no_rollback {
+    if arguments.no_rollback {
         return Ok(());
     }
-    plan(&wanted.messages, now, |_| true).map(drop).map_err(|faults| {
+    let (back, done) = match arguments.way {
+        Way::Change => (plan(&wanted.messages, now, |_| true), "changed"),
+        Way::Beside => return Ok(()),
+        Way::Anew => (plan(&Actions::of(now).staying(), now, |_| false), "deleted"),
+    };
+    back.map(drop).map_err(|faults| {
         let text = |fault: &Fault| format!("what is there now: {}", named(&wanted.targets.devices, &fault.text));
         let mut said: Vec<String> = faults.iter().map(text).collect();
-        said.push(
-            "what is there now couldn't be made again, so that it isn't changed without --no-rollback".to_string(),
-        );
+        said.push(format!("what is there now couldn't be made again, so that it isn't {done} without --no-rollback"));
         nothing_sent(said)
     })
 }

@@ -47,8 +47,8 @@ fn run_held(
     let mut said = Vec::new();
     let mut hold = || held().map_err(Stop::Signal);
     let status = apply(&arguments, file.as_bytes().to_vec(), &mut world, &mut hold, &mut said);
-    let kept = std::fs::read_dir(&arguments.restored.state).map_or(0, Iterator::count);
-    let _ = std::fs::remove_dir_all(&arguments.restored.state);
+    let kept = std::fs::read_dir(&arguments.state).map_or(0, Iterator::count);
+    let _ = std::fs::remove_dir_all(&arguments.state);
     let state = fake.state.borrow();
     Ran { status, said: said.join("\n"), objects: state.objects.clone(), sent: state.sent.clone(), kept }
 }

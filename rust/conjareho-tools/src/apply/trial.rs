@@ -73,7 +73,7 @@ pub(crate) fn check<T: Transport, L: Transport>(
     said: &mut Vec<String>,
 ) -> Result<Status, Ended> {
     let mut wanted = wanted_of(arguments, file, world, said)?;
-    let Planned { dump, before, others, .. } = planned(world, &mut wanted)?;
+    let Planned { dump, before, others, .. } = planned(arguments, world, &mut wanted)?;
     wanted.objects.retain(|key, _| key.block().is_none_or(|block| !others.contains_key(&block)));
     let now = requests_of_dump(&before);
     if now.is_void || !now.complaints.is_empty() {
