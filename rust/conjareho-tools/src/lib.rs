@@ -25,8 +25,6 @@ pub mod netlink;
 #[cfg(target_os = "linux")]
 pub mod requests;
 #[cfg(target_os = "linux")]
-mod restore;
-#[cfg(target_os = "linux")]
 pub mod save;
 #[path = "../../erase/shims/events.rs"]
 mod serde;

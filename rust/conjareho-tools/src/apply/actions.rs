@@ -1,9 +1,9 @@
 //! Actions, which belong to no interface: who holds them, and which of them stay where interfaces are cleared.
 
+use super::compare::{Key, key_of};
+use super::messages::{Action, actions_of, listed_in, payload_of, replaces, type_of};
 use crate::netlink::message::{MAGIC_BLOCK, RTM_NEWTFILTER, is_action, tcmsg_of};
 use crate::nla_frames::ParseableBytes as _;
-use crate::restore::compare::{Key, key_of};
-use crate::restore::messages::{Action, actions_of, listed_in, payload_of, replaces, type_of};
 use crate::tc_messages::TcMessage;
 use crate::tc_restore::actions_of_filter;
 use std::collections::{BTreeMap, BTreeSet};

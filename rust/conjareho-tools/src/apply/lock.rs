@@ -2,8 +2,8 @@
 
 use super::arguments::Way;
 use super::scratch::OWN_NETWORK;
-use crate::restore::prepare::Ended;
-use crate::restore::status::Status;
+use super::status::Ended;
+use super::status::Status;
 use nix::errno::Errno;
 use nix::fcntl::{FlockArg, flock};
 use std::fs::File;

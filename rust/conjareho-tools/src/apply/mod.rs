@@ -1,37 +1,53 @@
 //! The program tcapply: from what interfaces have to what a file says. tcrestore is a call of it.
 
 mod actions;
-pub(crate) mod arguments;
+mod after;
+mod arguments;
+mod back;
+mod blocks;
+mod compare;
+mod file;
+mod hardware;
 mod hold;
 mod lock;
+mod messages;
+mod named;
 mod outline;
-pub(crate) mod plan;
+mod plan;
 mod prepare;
+mod requests;
 mod restore;
 mod scratch;
+mod sending;
+mod signals;
+mod state;
+mod status;
+mod targets;
 #[cfg(test)]
 mod tests;
 mod trial;
 mod wanted;
 mod words;
+mod world;
 
+use after::{check_after, same};
 use arguments::{Arguments, Way};
-use plan::{plan, plan_anew};
+use blocks::without;
+use compare::{Held, Key, by_place};
+use plan::plan_anew;
 use prepare::{Planned, Prepared, planned, prepare};
+use sending::Sending;
+use signals::Signals;
+use status::{Ended, Status};
 use wanted::{Wanted, wanted_of};
+use world::{Stop, World};
 
 use crate::netlink::fault::Printable;
-use crate::netlink::{Socket, Transport};
-use crate::restore::back::without;
-use crate::restore::compare::{Held, Key, by_place};
-use crate::restore::prepare::Ended;
-use crate::restore::sending::Sending;
-use crate::restore::status::Status;
-use crate::restore::world::{Place, Stop, World};
-use crate::restore::{Signals, hardware, open_kernel, read, same, say_all};
+use crate::netlink::{Fault, Kernel, Listener, Socket, Transport};
 use crate::save::release;
 use crate::shown::lines_of;
-use std::io::{self, Write as _};
+use std::fs;
+use std::io::{self, Read as _, Write as _};
 use std::process::ExitCode;
 use std::thread;
 
@@ -104,6 +120,30 @@ fn opened(name: &'static str, arguments: &Arguments, said: &mut Vec<String>) -> 
     Ok(apply(arguments, file, &mut world, &mut hold, said))
 }
 
+/// The kernel of this network namespace, and two that hear what changes in it.
+pub(crate) fn open_kernel() -> Result<(Kernel, [Listener; 2]), String> {
+    let said = |fault: Fault| fault.to_string();
+    Ok((Kernel::open().map_err(said)?, [Listener::open().map_err(said)?, Listener::open().map_err(said)?]))
+}
+
+// Reads the file that is named, or standard input.
+fn read(arguments: &Arguments) -> io::Result<Vec<u8>> {
+    match &arguments.file {
+        Some(path) => fs::read(path),
+        None => {
+            let mut bytes = Vec::new();
+            io::stdin().read_to_end(&mut bytes)?;
+            Ok(bytes)
+        }
+    }
+}
+
+/// Says what is to be said. A terminal that nobody reads would hold up what is sent, so nothing is written before the end.
+pub(crate) fn say_all(program: &str, said: &[String]) {
+    let text: String = said.iter().map(|line| format!("{program}: {}\n", Printable(line))).collect();
+    let _ = io::stderr().write_all(text.as_bytes());
+}
+
 // Prints the plan.
 fn dry_run(
     arguments: &Arguments,
@@ -139,7 +179,7 @@ fn apply<T: Transport, L: Transport>(
             return ended.status;
         }
     };
-    let mut sending = Sending::new(world, &prepared.place);
+    let mut sending = Sending::new(world, &prepared.place, arguments.way != Way::Beside);
     match carried_out(arguments.way, &prepared, &mut sending, hold, said) {
         Ok(()) if prepared.wanted.is_partial => Status::Otherwise,
         Ok(()) => {
@@ -233,11 +273,4 @@ fn made_anew<T: Transport, L: Transport>(
     said.extend(unmade.into_iter().map(warning));
     let steps = plan_anew(&now, &wanted.messages).map_err(|faults| Stop::Unplanned(wanted.said_of(&faults)))?;
     sending.carry_out(&steps)
-}
-
-/// An error if there is still a plan to what is wanted.
-fn check_after(after: &[Vec<u8>], wanted: &Wanted, place: &Place) -> Result<(), Stop> {
-    let left = plan(after, &wanted.messages, |_| false).map_err(|faults| Stop::Unplanned(wanted.said_of(&faults)))?;
-    let what = || left.iter().map(|request| place.what_of(request)).collect();
-    if left.is_empty() { Ok(()) } else { Err(Stop::Differs(what())) }
 }

@@ -1,11 +1,11 @@
 //! Plans: the requests that bring what there is to what is wanted, by the proved plan.
 
+use super::compare::Key;
+use super::messages::{actions_of, chain_of, deletes, kind_of, payload_of, replaces, type_of};
+use super::requests::{LINES_BEFORE, dumps_of, requests_of_dump};
 use crate::netlink::message::{HEADER, RTM_NEWCHAIN, RTM_NEWQDISC, RTM_NEWTCLASS, RTM_NEWTFILTER, is_action, tcmsg_of};
 use crate::nla_frames::ParseableBytes as _;
 use crate::program_io::Stop;
-use crate::restore::compare::Key;
-use crate::restore::messages::{actions_of, chain_of, deletes, kind_of, payload_of, replaces, type_of};
-use crate::restore::plan::{LINES_BEFORE, dumps_of, requests_of_dump};
 use crate::tc_action_messages::TcActionMessage;
 use crate::tc_changes::{self, Rules};
 use crate::tc_messages::TcMessage;
@@ -77,6 +77,11 @@ pub(crate) fn plan(now: &[Vec<u8>], wanted: &[Vec<u8>], may_go: impl Fn(&Key) ->
     plan_by(&KindRules, now, wanted, may_go)
 }
 
+/// The same without changes in place: what differs is deleted and made. No other action is deleted.
+pub(crate) fn plan_anew(now: &[Vec<u8>], wanted: &[Vec<u8>]) -> Plan {
+    plan_by(&NoChanges, now, wanted, |_| false)
+}
+
 /// The plan that makes all that is wanted where nothing is but these actions, so that what is there already is refused. What isn't whole by itself is
 /// planned beside what there is, of which nothing goes.
 pub(crate) fn plan_beside(now: &[Vec<u8>], actions: &[Vec<u8>], wanted: &[Vec<u8>]) -> Plan {
@@ -86,11 +91,6 @@ pub(crate) fn plan_beside(now: &[Vec<u8>], actions: &[Vec<u8>], wanted: &[Vec<u8
         let stays = |step: &Vec<u8>| !deletes(step) && (!replaces(step) || is_action(type_of(step)));
         plan(now, &both, |_| false).ok().filter(|steps| steps.iter().all(stays)).ok_or(faults)
     })
-}
-
-/// The same without changes in place: what differs is deleted and made. No other action is deleted.
-pub(crate) fn plan_anew(now: &[Vec<u8>], wanted: &[Vec<u8>]) -> Plan {
-    plan_by(&NoChanges, now, wanted, |_| false)
 }
 
 // Nothing is changed in place.

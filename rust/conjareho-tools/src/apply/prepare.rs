@@ -2,19 +2,21 @@
 
 use super::actions::Actions;
 use super::arguments::{Arguments, Way};
+use super::back::Before;
+use super::blocks::{Others, blocks_of_others, check_blocks, is_in_block, without};
+use super::compare::objects_of;
+use super::messages::blocks_of;
+use super::named::named;
 use super::plan::{Fault, Plan, plan, plan_beside};
+use super::requests::requests_of_dump;
+use super::sending::{PATIENCE, PAUSE};
+use super::state;
+use super::status::{Ended, Status};
+use super::targets::Targets;
 use super::wanted::Wanted;
+use super::world::{Place, World, text_of};
 use crate::netlink::clear::clearing;
 use crate::netlink::{Dump, Transport};
-use crate::restore::back::{Before, Others, without};
-use crate::restore::compare::objects_of;
-use crate::restore::messages::blocks_of;
-use crate::restore::named::named;
-use crate::restore::plan::requests_of_dump;
-use crate::restore::prepare::{Ended, blocks_of_others, check_blocks, is_in_block, keep};
-use crate::restore::sending::{PATIENCE, PAUSE};
-use crate::restore::status::Status;
-use crate::restore::world::{Place, World, text_of};
 use std::thread::sleep;
 use std::time::Instant;
 
@@ -109,24 +111,46 @@ pub(crate) fn prepare<T: Transport, L: Transport>(
     })
 }
 
+// The file that keeps what is there now.
+fn keep(arguments: &Arguments, targets: &Targets, now: &str) -> Result<String, Ended> {
+    let folder = &arguments.state;
+    match state::keep(folder, &targets.names(), now) {
+        Ok(path) => Ok(path.display().to_string()),
+        Err(error) => {
+            let why = format!("what is there now can't be kept in {}: {error}", folder.display());
+            Err(Ended::because(Status::Failed, vec![why]))
+        }
+    }
+}
+
 fn nothing_sent(said: Vec<String>) -> Ended {
     Ended::because(Status::NothingSent, said)
 }
 
-// An error if what there is now can't be made again once it is as wanted, or once it is cleared.
+// An error if what there is now can't be made again once it is as wanted, or once it is cleared: then all of it is to be made.
 fn check_back(arguments: &Arguments, now: &[Vec<u8>], wanted: &Wanted) -> Result<(), Ended> {
-    if arguments.no_rollback {
+    let (why, so) = match arguments.way {
+        _ if arguments.no_rollback => return Ok(()),
+        Way::Beside => return Ok(()),
+        Way::Change => {
+            (said_of(plan(&wanted.messages, now, |_| true), wanted), "couldn't be made again, so that it isn't changed")
+        }
+        Way::Anew => {
+            let back = || said_of(plan(&Actions::of(now).staying(), now, |_| false), wanted);
+            let why = Some(requests_of_dump(now).complaints).filter(|said| !said.is_empty()).unwrap_or_else(back);
+            (why, "can't be made again, so that it isn't deleted")
+        }
+    };
+    if why.is_empty() {
         return Ok(());
     }
-    let (back, done) = match arguments.way {
-        Way::Change => (plan(&wanted.messages, now, |_| true), "changed"),
-        Way::Beside => return Ok(()),
-        Way::Anew => (plan(&Actions::of(now).staying(), now, |_| false), "deleted"),
-    };
-    back.map(drop).map_err(|faults| {
-        let text = |fault: &Fault| format!("what is there now: {}", named(&wanted.targets.devices, &fault.text));
-        let mut said: Vec<String> = faults.iter().map(text).collect();
-        said.push(format!("what is there now couldn't be made again, so that it isn't {done} without --no-rollback"));
-        nothing_sent(said)
-    })
+    let mut said: Vec<String> = why.iter().map(|why| format!("what is there now: {why}")).collect();
+    said.push(format!("what is there now {so} without --no-rollback"));
+    Err(nothing_sent(said))
+}
+
+// Why there is no plan.
+fn said_of(plan: Plan, wanted: &Wanted) -> Vec<String> {
+    let text = |fault: &Fault| named(&wanted.targets.devices, &fault.text);
+    plan.err().iter().flatten().map(text).collect()
 }

@@ -1,19 +1,19 @@
 //! What is wanted: the objects of a save, for the interfaces of today.
 
 use super::arguments::{Arguments, Way};
+use super::compare::{Key, Objects, key_of, objects_of};
+use super::file::{Save, read_save};
+use super::hardware;
+use super::messages::{actions_of, kind_of, type_of};
+use super::named::named;
 use super::plan::Fault;
+use super::requests::{Asked, requests};
+use super::status::{Ended, Status};
+use super::targets::{STRANGE, Targets, targets_of};
+use super::world::World;
 use crate::forms_kinds::{ACTION_MESSAGE, TC_MESSAGE, TcTables};
 use crate::netlink::message::{RTM_NEWQDISC, RTM_NEWTCLASS, Tcmsg, is_action, request, tcmsg_of};
 use crate::netlink::{Devices, Transport};
-use crate::restore::compare::{Key, Objects, key_of, objects_of};
-use crate::restore::hardware;
-use crate::restore::messages::{actions_of, kind_of, type_of};
-use crate::restore::named::named;
-use crate::restore::plan::{Wanted as Asked, requests};
-use crate::restore::prepare::{Ended, names_of, save_in};
-use crate::restore::status::Status;
-use crate::restore::targets::{STRANGE, Targets, targets_of};
-use crate::restore::world::World;
 use crate::tc_texts::handle_text;
 use crate::tcmake_lib::lines::{Dumped, Reading, RemarkKind, Source, read_lines};
 use crate::tcmake_messages::Forms;
@@ -86,14 +86,11 @@ pub(crate) fn wanted_of<T: Transport, L: Transport>(
     let targets = targets_of(&save, arguments, &devices).map_err(nothing)?;
     said.extend(targets.warnings.iter().cloned());
     let names = names_of(&save, &targets);
-    let asked = Asked {
-        text: &save.text,
-        names: save.head.as_ref().map(|_| names.as_slice()),
-        index: targets.only,
-    };
+    let asked = Asked { text: &save.text, names: save.head.as_ref().map(|_| names.as_slice()), index: targets.only };
     let in_file = |text: &String| format!("{}: {text}", arguments.file_name());
     let in_lines = |faults: Vec<String>| nothing(faults.iter().map(in_file).collect());
     let made = requests(&asked);
+    said.extend(made.notices.iter().map(in_file));
     // Whether there is a plan to what can't be made, the plan says; but where nothing is, all is to be made.
     let is_partial = arguments.way != Way::Change && !made.complaints.is_empty();
     if is_partial && (made.is_void || !arguments.partial) {
@@ -108,7 +105,6 @@ pub(crate) fn wanted_of<T: Transport, L: Transport>(
     if !faults.is_empty() {
         return Err(in_lines(faults));
     }
-    said.extend(made.notices.iter().map(in_file));
     let (numbers, messages) = dumps.into_iter().unzip();
     Ok(Wanted {
         messages,
@@ -120,6 +116,22 @@ pub(crate) fn wanted_of<T: Transport, L: Transport>(
         targets,
         is_partial,
     })
+}
+
+// The save of a file.
+fn save_in(arguments: &Arguments, file: Vec<u8>) -> Result<Save, Ended> {
+    let refused = |why: String| Ended::because(Status::NothingSent, vec![format!("{}: {why}", arguments.file_name())]);
+    let save = read_save(file).map_err(|error| refused(error.to_string()))?;
+    if arguments.way == Way::Anew && save.head.is_none() {
+        return Err(refused("--clear requires a save with a head and an end".to_string()));
+    }
+    Ok(save)
+}
+
+// The names of the save, and the interfaces that have them today.
+fn names_of<'a>(save: &'a Save, targets: &Targets) -> Vec<(u32, &'a str)> {
+    let names = save.head.iter().flat_map(|head| &head.names);
+    names.filter_map(|(index, name)| Some((*targets.indices.get(index)?, name.as_str()))).collect()
 }
 
 // True for a message about this action.

@@ -6,7 +6,7 @@ use crate::netlink::message::{Header, header_of, is_action};
 use crate::program_io::Stop;
 use crate::tc_capture::{MessageType, Time};
 use crate::tcmake_lib::lines::RemarkKind;
-use crate::tcmake_lib::order::{Asked, Restored, requests_of, requests_of_dumps};
+use crate::tcmake_lib::order::{Asked as Lines, Restored, requests_of, requests_of_dumps};
 use crate::tcmake_lines::{NetlinkHeader, packet_at};
 use crate::tcmake_messages::Forms;
 use std::collections::BTreeSet;
@@ -16,7 +16,7 @@ pub(crate) const LINES_BEFORE: u64 = 1;
 
 /// What is to be made.
 #[derive(Clone, Copy, Default, Debug)]
-pub(crate) struct Wanted<'a> {
+pub(crate) struct Asked<'a> {
     /// A save, or lines of JSON without a head.
     pub(crate) text: &'a str,
     /// The interfaces of today by the names of the save's head.
@@ -27,7 +27,7 @@ pub(crate) struct Wanted<'a> {
 
 /// Requests, and what is said of lines.
 #[derive(Clone, PartialEq, Eq, Default, Debug)]
-pub(crate) struct Plan {
+pub(crate) struct Made {
     pub(crate) requests: Vec<Vec<u8>>,
     /// What can't be made, with the numbers of the lines.
     pub(crate) complaints: Vec<String>,
@@ -40,9 +40,9 @@ pub(crate) struct Plan {
 }
 
 /// The requests that make what lines say.
-pub(crate) fn requests(wanted: &Wanted<'_>) -> Plan {
+pub(crate) fn requests(wanted: &Asked<'_>) -> Made {
     let forms = Forms { table: TcTables, tc: TC_MESSAGE, action: ACTION_MESSAGE };
-    let asked = Asked {
+    let asked = Lines {
         index: wanted.index.and_then(|index| i32::try_from(index).ok()),
         now: None,
         plans: false,
@@ -54,7 +54,7 @@ pub(crate) fn requests(wanted: &Wanted<'_>) -> Plan {
 }
 
 /// The requests that make what was dumped: those of its lines in a save, whose numbers complaints have.
-pub(crate) fn requests_of_dump(messages: &[Vec<u8>]) -> Plan {
+pub(crate) fn requests_of_dump(messages: &[Vec<u8>]) -> Made {
     requests_of_dumps(dumps_of(messages))
         .and_then(|restored| planned(restored, LINES_BEFORE))
         .unwrap_or_else(|_| no_memory())
@@ -73,13 +73,13 @@ fn given_of(message: &[u8]) -> Option<NetlinkHeader> {
     Some(NetlinkHeader { holds, kind: Some(kind), flags, sequence, port, packet })
 }
 
-fn no_memory() -> Plan {
-    Plan { complaints: vec!["out of memory".to_string()], is_void: true, ..Plan::default() }
+fn no_memory() -> Made {
+    Made { complaints: vec!["out of memory".to_string()], is_void: true, ..Made::default() }
 }
 
 // The requests, and what is said of lines, of which there are some before the first.
-fn planned(restored: Restored, lines_before: u64) -> Result<Plan, Stop> {
-    let mut plan = Plan { is_void: restored.is_void, ..Plan::default() };
+fn planned(restored: Restored, lines_before: u64) -> Result<Made, Stop> {
+    let mut plan = Made { is_void: restored.is_void, ..Made::default() };
     for remark in &restored.remarks {
         let number = remark.number + lines_before;
         let place = if remark.number == 0 { String::new() } else { format!("line {number}: ") };

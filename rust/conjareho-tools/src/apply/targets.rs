@@ -1,7 +1,7 @@
 //! The interfaces of a save, and which ones of today they are.
 
+use super::arguments::Arguments;
 use super::file::{self, Head, Save};
-use crate::apply::arguments::Arguments;
 use crate::netlink::message::{MAGIC_BLOCK, tcmsg_of};
 use crate::netlink::{Device, Devices};
 use ::serde_json::Value;

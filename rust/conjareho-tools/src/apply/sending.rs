@@ -15,6 +15,8 @@ pub(crate) const PAUSE: Duration = Duration::from_millis(10);
 pub(crate) struct Sending<'w, 's, T, L> {
     pub(crate) world: &'w mut World<'s, T, L>,
     pub(crate) place: &'w Place,
+    // Something may have been deleted shortly before, so that what it held up passes.
+    waits: bool,
     // A request was sent.
     has_sent: bool,
     // The way back goes on whatever signals come.
@@ -22,8 +24,9 @@ pub(crate) struct Sending<'w, 's, T, L> {
 }
 
 impl<'w, 's, T: Transport, L: Transport> Sending<'w, 's, T, L> {
-    pub(crate) fn new(world: &'w mut World<'s, T, L>, place: &'w Place) -> Self {
-        Sending { world, place, has_sent: false, minds_signals: true }
+    /// Nothing is sent yet. If it `waits`, what is refused since something else was deleted shortly before is tried again.
+    pub(crate) fn new(world: &'w mut World<'s, T, L>, place: &'w Place, waits: bool) -> Self {
+        Sending { world, place, waits, has_sent: false, minds_signals: true }
     }
 
     /// Sends the requests of a plan. What is to be deleted and isn't there is deleted; the kernel makes chains by itself.
@@ -50,9 +53,9 @@ impl<'w, 's, T: Transport, L: Transport> Sending<'w, 's, T, L> {
         self.has_sent
     }
 
-    /// From here on no signal ends it.
+    /// From here on no signal ends it, and what was deleted is waited for.
     pub(crate) fn turn_back(&mut self) {
-        self.minds_signals = false;
+        (self.minds_signals, self.waits) = (false, true);
     }
 
     // Signals, and what others do.
@@ -83,7 +86,7 @@ impl<'w, 's, T: Transport, L: Transport> Sending<'w, 's, T, L> {
                 Err(fault) => return Err(Stop::Fault(fault)),
             };
             let passes = [Errno::EEXIST, Errno::EPERM, Errno::EBUSY].iter().any(|errno| refusal.is(*errno));
-            if !(passes && Instant::now() < until) {
+            if !(passes && self.waits && Instant::now() < until) {
                 return Err(Stop::Refused { what: self.place.asked_by(request), refusal });
             }
             sleep(PAUSE);
