@@ -95,5 +95,5 @@ class Programs:
     def requests(self, file, *options):
         """The requests that tcmake makes of a save, as a netlink stream."""
         with open(file) as lines:
-            words = [self.paths["tcmake"], "--request", "--stream", *options]
+            words = [self.paths["tcmake"], *options, "--stream"]
             return subprocess.run(words, stdin=lines, capture_output=True).stdout
