@@ -66,3 +66,64 @@ fn held_in(dumps: &[Vec<u8>]) -> BTreeMap<Key, u32> {
     }
     held
 }
+
+#[cfg(test)]
+mod tests {
+    use super::*;
+    use crate::netlink::attributes::put;
+    use crate::netlink::message::{RTM_NEWACTION, Tcmsg, request, tc_request};
+
+    // A list of mirred actions: index, references and filters of each.
+    fn list(actions: &[[u32; 3]]) -> Vec<u8> {
+        let mut list = Vec::new();
+        for (number, [index, references, filters]) in actions.iter().enumerate() {
+            let parameters = [*index, 0, 3, *references, *filters, 1, 8].map(u32::to_ne_bytes).concat();
+            let (mut options, mut action) = (Vec::new(), Vec::new());
+            put(&mut options, 2, &parameters);
+            put(&mut action, 1, b"mirred\0");
+            put(&mut action, 2, &options);
+            put(&mut list, number as u16 + 1, &action);
+        }
+        list
+    }
+
+    fn of_actions(actions: &[[u32; 3]], flags: u16) -> Vec<u8> {
+        let mut body = vec![0; 4];
+        put(&mut body, 1, &list(actions));
+        request(RTM_NEWACTION, flags, &body)
+    }
+
+    fn filter(index: i32, handle: u32, actions: &[[u32; 3]]) -> Vec<u8> {
+        let header = Tcmsg { index, handle, parent: 5, info: 0x0001_0008 };
+        let mut body = tc_request(0, 0, header)[16..].to_vec();
+        let mut options = Vec::new();
+        put(&mut options, 2, &list(actions));
+        put(&mut body, 1, b"matchall\0");
+        put(&mut body, 2, &options);
+        request(RTM_NEWTFILTER, 0, &body)
+    }
+
+    fn numbers(messages: &[Vec<u8>]) -> Vec<u32> {
+        messages.iter().flat_map(|it| actions_of(it)).map(|action| action.index).collect()
+    }
+
+    #[test]
+    fn what_only_filters_hold_goes_with_them() {
+        // alone; of one filter; of two; of two and standalone; of two and of another interface's
+        let all = [[1, 1, 0], [2, 1, 1], [3, 2, 2], [4, 3, 2], [5, 3, 3]];
+        let dumps = [of_actions(&all, 0), filter(7, 1, &all[1..]), filter(7, 2, &all[2..])];
+        let actions = Actions::of(&dumps);
+        assert_eq!(numbers(&actions.staying()), [1, 4, 5]);
+        assert_eq!(numbers(&actions.alone()), [1, 2, 3, 4, 5]);
+        assert_eq!(actions.of_others(&[of_actions(&[[4, 0, 0], [5, 0, 0]], 0x505)]).len(), 1);
+        assert_eq!(actions.of_others(&[of_actions(&[[5, 0, 0]], 0x605)]), [], "it is made");
+    }
+
+    #[test]
+    fn filters_of_a_block_count_once() {
+        let one = [[2, 1, 1]];
+        let dumps = [of_actions(&one, 0), filter(MAGIC_BLOCK, 1, &one), filter(MAGIC_BLOCK, 1, &one)];
+        assert_eq!(numbers(&Actions::of(&dumps).staying()), [0_u32; 0]);
+        assert_eq!(numbers(&Actions::of(&dumps[..1]).staying()), [2]);
+    }
+}

@@ -3,7 +3,7 @@
 use super::fake::{EBUSY, EEXIST, ENOENT, Fake, Hook, OTHER, State, object};
 use super::{Ran, of, plain, run_by, saved, taking, tree, types};
 use crate::apply::messages::type_of;
-use crate::apply::requests::{Asked, requests};
+use crate::apply::plan::plan;
 use crate::apply::restore::arguments_of;
 use crate::apply::status::Status;
 use crate::netlink::message::*;
@@ -246,7 +246,25 @@ fn a_save_without_a_head() {
     assert_eq!((ran.status, ran.sent.len()), (Status::NothingSent, 0));
 }
 
-// What is sent is what tcmake makes of the same file; of the program at `TCMAKE`, if there is one.
+// Without --clear a file may lack what is there, such as the qdisc of a filter; it stays. What is nowhere is named.
+#[test]
+fn a_file_of_some_objects() {
+    let whole = saved(tree(1000));
+    let lines: Vec<&str> = whole.lines().collect();
+    let filter = lines.iter().find(|it| it.contains("RTM_NEWTFILTER")).expect("a filter");
+    let file = format!("{}\n{filter}\n{{\"end\":true}}\n", lines[0]);
+    let before: Vec<_> = tree(1000).into_iter().filter(|it| type_of(it) != RTM_NEWTFILTER).collect();
+    let ran = run(&[], &file, before.clone(), &Fake::new(taking()));
+    assert_eq!((ran.status, ran.said.as_str(), types(&ran.sent)), (Status::Restored, "", vec![44]));
+    assert_eq!(ran.objects.len(), before.len() + 1);
+    for (words, objects) in [(&[][..], Vec::new()), (&["--clear"], before)] {
+        let ran = run(words, &file, objects, &Fake::new(taking()));
+        assert_eq!((ran.status, ran.sent.len()), (Status::NothingSent, 0), "{}", ran.said);
+        assert!(ran.said.contains("line 2: ") && ran.said.contains("is missing"), "{}", ran.said);
+    }
+}
+
+// What is sent is what tcmake plans where nothing is; of the program at `TCMAKE`, if there is one.
 #[test]
 fn sends_what_tcmake_makes() {
     let file = saved(tree(1000));
@@ -261,10 +279,12 @@ fn sends_what_tcmake_makes() {
 
 fn made_by_tcmake(file: &str) -> Vec<u8> {
     let Some(program) = std::env::var_os("TCMAKE") else {
-        return requests(&Asked { text: file, ..Asked::default() }).requests.concat();
+        let mut dumps = tree(1000);
+        dumps.sort_by_key(|it| type_of(it));
+        return plan(&[], &dumps, |_| false).expect("a plan").concat();
     };
     let mut child = Command::new(program)
-        .args(["--request", "--stream"])
+        .args(["--plan", "/dev/null", "--stream"])
         .stdin(Stdio::piped())
         .stdout(Stdio::piped())
         .spawn()
