@@ -97,9 +97,14 @@ pub(crate) fn wanted_of<T: Transport, L: Transport>(
         return Err(in_lines(made.complaints));
     }
     let mut dumps = messages_in(&asked, arguments.partial).map_err(in_lines)?;
+    let objects = objects_of(&made.requests);
     if is_partial {
         said.extend(made.complaints.iter().map(in_file));
-        dumps.retain(|number, _| !made.unmade.contains(number));
+        let is_made = |number: &u64| !made.unmade.contains(number);
+        dumps = dumps
+            .into_iter()
+            .flat_map(|dump| if is_made(&dump.0) { vec![dump] } else { left_of(dump, &objects) })
+            .collect();
     }
     let faults = faults_in(&dumps, &targets);
     if !faults.is_empty() {
@@ -110,12 +115,19 @@ pub(crate) fn wanted_of<T: Transport, L: Transport>(
         messages,
         numbers,
         file: arguments.file_name(),
-        objects: objects_of(&made.requests),
+        objects,
         requests: made.requests,
         in_hardware: hardware::count(save.lines()),
         targets,
         is_partial,
     })
+}
+
+// What is left of the dump of a line with something that can't be made: the actions in it that are made.
+fn left_of((number, message): (u64, Vec<u8>), objects: &Objects) -> Vec<(u64, Vec<u8>)> {
+    let listed = if is_action(type_of(&message)) { actions_of(&message) } else { Vec::new() };
+    let made = listed.into_iter().filter(|action| objects.contains_key(&action.key()));
+    made.map(|action| (number, action.change())).collect()
 }
 
 // The save of a file.
@@ -139,8 +151,8 @@ fn key_in(message: &[u8], key: &Key) -> bool {
     actions_of(message).iter().any(|action| action.key() == *key)
 }
 
-// The dumps of lines, by the numbers of these. The error is what is wrong with lines, unless those are left out.
-fn messages_in(asked: &Asked<'_>, leaves_out: bool) -> Result<BTreeMap<u64, Vec<u8>>, Vec<String>> {
+// The dumps of lines, with the numbers of these. The error is what is wrong with lines, unless those are left out.
+fn messages_in(asked: &Asked<'_>, leaves_out: bool) -> Result<Vec<(u64, Vec<u8>)>, Vec<String>> {
     let forms = Forms { table: TcTables, tc: TC_MESSAGE, action: ACTION_MESSAGE };
     let index = asked.index.and_then(|index| i32::try_from(index).ok());
     let reading = Reading { source: Source::Wanted, index, names: asked.names };
@@ -161,10 +173,10 @@ fn messages_in(asked: &Asked<'_>, leaves_out: bool) -> Result<BTreeMap<u64, Vec<
 }
 
 // What the save has twice, what is of another interface than those that it is of, and what has a class as its parent that it doesn't have.
-fn faults_in(dumps: &BTreeMap<u64, Vec<u8>>, targets: &Targets) -> Vec<String> {
+fn faults_in(dumps: &[(u64, Vec<u8>)], targets: &Targets) -> Vec<String> {
     let mut faults = Vec::new();
     let mut seen = BTreeMap::new();
-    let classes = Classes::of(dumps.values());
+    let classes = Classes::of(dumps.iter().map(|(_, message)| message));
     for (number, message) in dumps {
         let Some(key) = key_of(message) else { continue };
         let name = named(&targets.devices, &key);
