@@ -31,7 +31,7 @@ def pairs(seed, count):
     """The commands of what there is and of what is wanted, and two parts of a plan, after which something goes wrong: each second time the wanted ones
     are most of those that there are, and some others."""
     chance = random.Random(seed)
-    own = [[least(it) for it in some] for some in interfaces(seed, 2 * count)]
+    own = [[least(it) for it in some] for some in interfaces(seed, 2 * count, comes_back=True)]
     for number in range(count):
         before, wanted = own[2 * number], own[2 * number + 1]
         if number % 2:
