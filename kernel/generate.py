@@ -1,6 +1,7 @@
 """Random interfaces: commands of tc that make one of every kind of qdisc, class, filter and action that the guest has, with chains,
 blocks, u32's tables and actions that are shared. What a command can't have is refused, and that is no fault."""
 
+import itertools
 import random
 
 # Options of qdiscs that hold no classes of their own, or those that the kernel makes. One line each.
@@ -474,11 +475,17 @@ class Interface:
             self.tables(side)
 
 
-def interfaces(seed, count, comes_back=False):
-    """The commands of so many interfaces; of those that come back, without what can't be made again, and with all kinds that the guest has."""
+def endless(seed, comes_back=False):
+    """The commands of interfaces without end; of those that come back without what can't be made again, and with all kinds that the guest has."""
     chance = random.Random(seed)
     deal = Deal(chance)
-    return [Interface(chance, deal, comes_back).commands for _ in range(count)]
+    while True:
+        yield Interface(chance, deal, comes_back).commands
+
+
+def interfaces(seed, count):
+    """The commands of so many interfaces."""
+    return list(itertools.islice(endless(seed), count))
 
 
 def all_kinds():

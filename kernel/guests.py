@@ -89,7 +89,7 @@ class Guest:
         """Adds a try of lines as the script has them."""
         return self.tries.setdefault("\n".join(lines), len(self.tries))
 
-    def run(self):
+    def run(self, silence=SILENCE):
         with open(f"{self.folder}/script", "w") as file:
             file.writelines(f"try {number}\n{text}\n" for text, number in self.tries.items())
         words = [linux(), "mem=256M", "rootfstype=hostfs", "rw", "quiet", "con=null", "con0=fd:0,fd:1"]
@@ -99,7 +99,7 @@ class Guest:
             how = {"stdin": subprocess.DEVNULL, "stdout": console, "stderr": console, "start_new_session": True}
             guest = subprocess.Popen(words, env=environment(), **how)
             try:
-                self.wait(guest)
+                self.wait(guest, silence)
             finally:
                 try:
                     os.killpg(guest.pid, signal.SIGKILL)
@@ -108,7 +108,7 @@ class Guest:
         self.read()
         print(f"Linux {self.kernel}: {len(self.tries)} tries in {time.monotonic() - began:.0f} s", flush=True)
 
-    def wait(self, guest):
+    def wait(self, guest, silence):
         """Waits until the guest ends, as long as it writes answers."""
         size, since = -1, time.monotonic()
         while guest.poll() is None:
@@ -117,8 +117,8 @@ class Guest:
             now = os.path.getsize(path) if os.path.exists(path) else 0
             if now != size:
                 size, since = now, time.monotonic()
-            elif time.monotonic() - since > SILENCE:
-                return fail(f"the guest in {self.folder} wrote nothing for {SILENCE} seconds")
+            elif time.monotonic() - since > silence:
+                return fail(f"the guest in {self.folder} wrote nothing for {silence} seconds")
 
     def read(self):
         number, got, said, lines = None, [], [], []
@@ -154,7 +154,7 @@ class Guest:
             fail(f"the guest wrote nothing past try {number} of {self.folder}/script; see the file console beside it")
 
 
-def run_all(guests):
-    """Runs guests, two at a time."""
-    with concurrent.futures.ThreadPoolExecutor(2) as pool:
+def run_all(guests, at_once):
+    """Runs guests, so many at a time."""
+    with concurrent.futures.ThreadPoolExecutor(at_once) as pool:
         list(pool.map(Guest.run, guests))
