@@ -33,7 +33,7 @@ def error_name(number):
 
 
 def compile_guest():
-    """Compiles the guest's first process, and on a processor with AMX what its kernel needs there."""
+    """Compiles the guest's first process, and the calls of its kernel."""
     compiler = shutil.which("gcc")
     if not compiler:
         lacks("The package gcc is not installed, which compiles the guest.")
@@ -42,8 +42,8 @@ def compile_guest():
     if subprocess.run([compiler, *flags, "-o", f"{OUT}/guest", f"{HERE}/guest.c"]).returncode:
         lacks("guest.c was not compiled: it takes the packages gcc, libc6-dev and linux-libc-dev.")
     with open("/proc/cpuinfo") as file:
-        if "amx_tile" in file.read().split():
-            subprocess.run([compiler, *flags[:3], "-shared", "-fPIC", "-o", f"{OUT}/registers.so", f"{HERE}/registers.c"], check=True)
+        own = ["-DAMX"] if "amx_tile" in file.read().split() else []
+    subprocess.run([compiler, *flags[:3], *own, "-shared", "-fPIC", "-o", f"{OUT}/traced.so", f"{HERE}/traced.c"], check=True)
 
 
 def linux():
@@ -55,11 +55,9 @@ def linux():
 
 
 def environment():
-    """The environment of a kernel: on a processor with AMX it needs the calls of registers.c."""
-    own = {**os.environ, "TMPDIR": OUT}
-    if os.path.exists(f"{OUT}/registers.so"):
-        own["LD_PRELOAD"] = f"{OUT}/registers.so"
-    return own
+    """The environment of a kernel: its calls are those of traced.c. Its memory is a file, which is in memory where there is room for such files."""
+    folder = "/dev/shm" if os.access("/dev/shm", os.W_OK) and not os.statvfs("/dev/shm").f_flag & os.ST_NOEXEC else OUT
+    return {**os.environ, "TMPDIR": folder, "LD_PRELOAD": f"{OUT}/traced.so"}
 
 
 # How a request ended, and the (type, bytes) that came back before that; `offset` is None if the kernel names no
