@@ -9,7 +9,7 @@ use crate::nla_frames::{Emitable as _, ParseableBytes as _};
 use crate::tc_action_messages::{TcActionMessage, TcActionMessageAttribute};
 use crate::tc_actions::TcAction;
 use crate::tc_messages::TcMessage;
-use crate::tc_restore::{actions_of_filter, kind_of_action, standalone_index};
+use crate::tc_restore::{actions_of_filter, kind_of_action, standalone_index, use_of_action};
 
 /// Flags of `linux/netlink.h`.
 pub(crate) const NLM_F_REPLACE: u16 = 0x100;
@@ -72,17 +72,35 @@ pub(crate) fn blocks_of(message: &[u8]) -> Vec<u32> {
 
 /// The standalone actions of a request.
 pub(crate) fn actions_of(message: &[u8]) -> Vec<Action> {
+    listed(message)
+        .into_iter()
+        .filter_map(|parts| {
+            Some(Action { kind: kind_of_action(&parts).to_string(), index: standalone_index(&parts)?, parts })
+        })
+        .collect()
+}
+
+// The actions of a message of actions.
+fn listed(message: &[u8]) -> Vec<TcAction> {
     let lists = TcActionMessage::parse(payload_of(message)).map_or_else(|_| Vec::new(), |read| read.attributes);
     let actions = lists.into_iter().filter_map(|it| match it {
         TcActionMessageAttribute::Actions(actions) => Some(actions),
         _ => None,
     });
-    actions
-        .flatten()
-        .filter_map(|parts| {
-            Some(Action { kind: kind_of_action(&parts).to_string(), index: standalone_index(&parts)?, parts })
-        })
-        .collect()
+    actions.flatten().collect()
+}
+
+/// True for a message with an action whose parameters have no number, such as one of iptables: it can't be found again.
+pub(crate) fn has_unnumbered_action(message: &[u8]) -> bool {
+    let actions = match type_of(message) {
+        RTM_NEWTFILTER => {
+            let read = TcMessage::parse(payload_of(message)).ok();
+            read.and_then(|filter| actions_of_filter(filter).ok()).unwrap_or_default()
+        }
+        kind if is_action(kind) => listed(message),
+        _ => Vec::new(),
+    };
+    actions.iter().any(|action| use_of_action(action).is_none())
 }
 
 /// True for a message that the codec reads.

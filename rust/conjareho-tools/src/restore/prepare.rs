@@ -5,7 +5,7 @@ use super::back::{Before, Others};
 use super::compare::{Objects, differences_in_blocks, key_of, objects_of};
 use super::file::{Save, read_save};
 use super::hardware;
-use super::messages::{blocks_of, type_of};
+use super::messages::{blocks_of, has_unnumbered_action, type_of};
 use super::named::named;
 use super::plan::{Plan, Wanted, requests, requests_beside, requests_of_dump};
 use super::sending::{PATIENCE, PAUSE};
@@ -80,6 +80,7 @@ pub(crate) fn prepare<T: Transport, L: Transport>(
         planned(arguments, &wanted, &alone, &targets, &others, world)?;
     let plan = checked(arguments, plan, said)?;
     let wanted = alone.requests;
+    check_numbers(arguments, &wanted, &dump.messages, &targets)?;
     check_blocks(world, &others, &wanted, &targets)?;
     let is_own = |request: &Vec<u8>| !is_in_block(request, &others);
     let blocks = wanted.iter().flat_map(|request| blocks_of(request)).chain(dump.blocks).collect();
@@ -207,6 +208,28 @@ fn check_back(arguments: &Arguments, back: &Plan) -> Result<(), Ended> {
         back.complaints.iter().map(|complaint| format!("what is there now: {complaint}")).collect();
     said.push("what is there now can't be made again, so that it isn't deleted without --no-rollback".to_string());
     Err(Ended::because(Status::NothingSent, said))
+}
+
+// An error if an action can't be found again, so that there is no plan for a way back.
+fn check_numbers(
+    arguments: &Arguments,
+    wanted: &[Vec<u8>],
+    now: &[Vec<u8>],
+    targets: &Targets,
+) -> Result<(), Ended> {
+    let what = |message: &Vec<u8>| match key_of(message) {
+        Some(key) => format!("{}: an action without a number", named(&targets.devices, key)),
+        None => "an action without a number".to_string(),
+    };
+    let found = |messages: &[Vec<u8>], place: &str| {
+        let some = messages.iter().filter(|message| has_unnumbered_action(message));
+        some.map(|message| format!("{place}: {}", what(message))).collect::<Vec<_>>()
+    };
+    let mut said = found(wanted, &arguments.file_name());
+    if !arguments.no_rollback {
+        said.extend(found(now, "what is there now"));
+    }
+    if said.is_empty() { Ok(()) } else { Err(Ended::because(Status::NothingSent, said)) }
 }
 
 /// The blocks that interfaces hold which aren't restored, each with one of these.
