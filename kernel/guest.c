@@ -12,6 +12,7 @@
 //           watch FILE                  writes all messages of route netlink, in both directions, that processes of the try exchange with
 //                                       the kernel from here on
 //           unwatch                     the end of that
+//           call FILE COMMAND           runs a program without a shell, by its path; its output goes to FILE, `-` for none
 //           kill FILE PART COMMAND      runs a program, and kills it before it sends a request that makes, changes or deletes something: the
 //                                       one at this part of those in a file that `watch` wrote
 //           spoil FILE PART COMMAND     the same, but that request is sent with a kind or a type that no kernel has
@@ -623,33 +624,61 @@ static int traced(pid_t child, int is_killed, int number) {
     return status;
 }
 
-static void cut(int is_killed, int number, char *command) {
-    char *words[16] = {strtok(command, " ")}, *line = NULL;
-    size_t room = 0;
+// Starts a program without a shell, and returns its process. What it writes to standard error, and to standard output too if no file is named, is to be read
+// from `said`.
+static pid_t start(char *command, const char *to, int is_traced, FILE **said) {
+    char *words[16] = {strtok(command, " ")};
     int ends[2];
 
     for (int i = 0; i < 14 && words[i]; i++)
         words[i + 1] = strtok(NULL, " ");
     fflush(answers);
     if (pipe(ends))
-        return;
+        return -1;
     pid_t child = fork();
     if (!child) {
-        dup2(ends[1], 1), dup2(ends[1], 2);
+        dup2(to ? open(to, O_WRONLY | O_CREAT | O_TRUNC, 0644) : ends[1], 1), dup2(ends[1], 2);
         close(ends[0]), close(ends[1]);
         alarm(100);
-        ptrace(PTRACE_TRACEME, 0, NULL, NULL);
+        if (is_traced)
+            ptrace(PTRACE_TRACEME, 0, NULL, NULL);
         execv(words[0], words);
         _exit(127);
     }
     close(ends[1]);
-    int status = traced(child, is_killed, number);
-    FILE *said = fdopen(ends[0], "r");
+    *said = fdopen(ends[0], "r");
+    return child;
+}
+
+static void write_said(FILE *said) {
+    char *line = NULL;
+    size_t room = 0;
+
     while (said && getline(&line, &room, said) > 0)
         fprintf(answers, "said %.*s\n", (int)strcspn(line, "\n"), line);
-    fprintf(answers, "status %d\n", WIFEXITED(status) ? WEXITSTATUS(status) : 128 + WTERMSIG(status));
-    fclose(said);
+    if (said)
+        fclose(said);
     free(line);
+}
+
+static void write_status(int status) { fprintf(answers, "status %d\n", WIFEXITED(status) ? WEXITSTATUS(status) : 128 + WTERMSIG(status)); }
+
+static void call(const char *to, char *command) {
+    FILE *said = NULL;
+    int status = -1;
+    pid_t child = start(command, strcmp(to, "-") ? to : NULL, 0, &said);
+
+    write_said(said);
+    waitpid(child, &status, 0);
+    write_status(status);
+}
+
+static void cut(int is_killed, int number, char *command) {
+    FILE *said = NULL;
+    int status = traced(start(command, NULL, 1, &said), is_killed, number);
+
+    write_said(said);
+    write_status(status);
 }
 
 // ---- Namespaces
@@ -723,6 +752,8 @@ static void try(char *line) {
             dump_links(line + 5);
         else if (sscanf(line, "steps %9s %n", word, &at) == 1)
             send_steps(word, line + at);
+        else if (sscanf(line, "call %1023s %n", path, &at) == 1)
+            call(path, line + at);
         else if (!strncmp(line, "into ", 5))
             stream = fopen(line + 5, "w");
         else if (!strncmp(line, "run ", 4))

@@ -5,12 +5,12 @@ import collections
 import concurrent.futures
 import random
 import re
+import shutil
 import threading
 import time
 
 from generate import all_kinds, endless
 from guests import HERE, Guest, Said, fail
-from interfaces import FLUSH
 from messages import Names
 from states import State, as_used
 from steps import judge as judge_steps
@@ -22,6 +22,7 @@ SILENCE = 300  # seconds
 THERE = "what is there is what is wanted"  # notices of what no dump shows may follow
 KILLED, CAME_BACK = 128 + 9, 5  # the status of a command that SIGKILL ends, and of tcapply if what there was is there again
 LINKS = [f"link {it} 4" for it in (7, 8, 9)]
+TC = shutil.which("tc", path="/usr/sbin:/usr/bin:/sbin:/bin") or "tc"
 
 
 def least(command):
@@ -55,25 +56,20 @@ class Pair:
         for name, own in (("before", before), ("wanted", wanted)):
             with open(f"{self.file}.{name}.tc", "w") as file:
                 file.writelines(f"{it}\n" for it in own)
-        save, state, sent, stream = [f"{self.file}.{it}" for it in ("json", "state", "sent", "stream")]
+        save, state, sent, now, stream = [f"{self.file}.{it}" for it in ("json", "state", "sent", "now", "stream")]
         devs, numbers = [f"d{it}" for it in links], ",".join(map(str, links))
-        dump, apply, words = f"dump {numbers}", f"run {programs.apply(save, state)}", programs.applying(save, state)
-        first = [
-            ("make_wanted", self.made("wanted")),
-            ("wanted", dump),
-            ("save", f"run {programs.save(save, ' '.join(devs))}"),
-            ("clear", f"run {' && '.join(map(programs.clear, devs))} && (tc -force -batch {guest.folder}/flush > /dev/null 2>&1 || true)"),
-        ]
-        before, after = [("make_before", self.made("before")), ("before", dump)], ("after", dump)
-        last = [after, ("plan", f"run {programs.command(f'$TCAPPLY -n {save}')}")]
-        self.add([*first, *before, ("", f"watch {sent}"), ("apply", apply), ("", "unwatch"), *last])
-        self.add([*before, ("cut", f"kill {sent} {parts[0]} {words}"), ("apply", apply), *last])
-        self.add([*before, ("cut", f"spoil {sent} {parts[1]} {words}"), after])
-        plan = programs.plan(save, " ".join(devs), f"{self.file}.now", stream)
-        self.add([before[0], ("plan", f"run {plan}"), before[1], ("steps", f"steps {numbers} {stream}")])
+        saving, apply = programs.words("tcsave", *devs), programs.words("tcapply", "--state", state, save)
+        dump, last = f"dump {numbers}", [("after", f"dump {numbers}"), ("plan", f"call - {programs.words('tcapply', '-n', save)}")]
+        before = [("make_before", self.made("before")), ("before", dump)]
+        self.add([("make_wanted", self.made("wanted")), ("wanted", dump), ("save", f"call {save} {saving}")])
+        self.add([*before, ("", f"watch {sent}"), ("apply", f"call - {apply}"), ("", "unwatch"), *last])
+        self.add([*before, ("cut", f"kill {sent} {parts[0]} {apply}"), ("apply", f"call - {apply}"), *last])
+        self.add([*before, ("cut", f"spoil {sent} {parts[1]} {apply}"), last[0]])
+        plan = programs.command(f"$TCMAKE --plan {now} --stream < {save} > {stream} 2> /dev/null")
+        self.add([*before, ("save", f"call {now} {saving}"), ("plan", f"run {plan}"), ("steps", f"steps {numbers} {stream}")])
 
     def made(self, name):
-        return f"run tc -force -batch {self.file}.{name}.tc > /dev/null 2>&1 || true"
+        return f"call /dev/null {TC} -force -batch {self.file}.{name}.tc"
 
     def add(self, steps):
         self.tries.append((self.guest.add_lines([*LINKS, *[line for _, line in steps]]), [name for name, _ in steps if name]))
@@ -94,8 +90,8 @@ class Pair:
         if None in tries:
             return None
         self.sent, self.steps, self.ends, self.wanted = 0, collections.Counter(), [], self.state(tries[0]["wanted"])
-        self.kinds = self.wanted.kinds() | self.state(tries[0]["before"]).kinds()
-        ways = (self.judge_whole, self.judge_killed, self.judge_refused, self.judge_stepped)
+        self.kinds = self.wanted.kinds() | self.state(tries[1]["before"]).kinds()
+        ways = (self.judge_saved, self.judge_whole, self.judge_killed, self.judge_refused, self.judge_stepped)
         return [f"{way.__name__[6:]}: {wrong}" for way, it in zip(ways, tries) for wrong in [way(it)] if wrong]
 
     def state(self, answer):
@@ -106,9 +102,10 @@ class Pair:
         found = wanted.differences(self.state(after), counts_filters)
         return "; ".join([it for it in found if not (it.startswith("action ") and it.endswith("is new"))][:4])
 
+    def judge_saved(self, answers):
+        return "" if answers["save"] == Said(0, []) else f"{answers['save']}"
+
     def judge_whole(self, answers):
-        if any(answers[it] != Said(0, []) for it in ("save", "clear")):
-            return f"{answers['save']}, {answers['clear']}"
         with open(f"{self.file}.sent", "rb") as file:
             self.sent = len(requests_in(asked(file.read()), ALL))
         return self.is_wanted(answers)
@@ -137,8 +134,8 @@ class Pair:
         return self.unlike(self.state(answers["before"]), answers["after"])
 
     def judge_stepped(self, answers):
-        if answers["plan"] != Said(0, []):
-            return f"{answers['plan']}"
+        if answers["save"] != Said(0, []) or answers["plan"] != Said(0, []):
+            return f"{answers['save']}, {answers['plan']}"
         with open(f"{self.file}.stream", "rb") as file:
             requests = stream_of(file.read())
         wrong, counts = judge_steps(requests, [answers["before"], *answers["steps"]])
@@ -167,8 +164,6 @@ class Pairs:
         """Runs pairs in one guest, and those after one that has no whole answer in another."""
         while batch:
             guest = Guest(f"pairs.{batch[0][0]}")
-            with open(f"{guest.folder}/flush", "w") as file:
-                file.write(FLUSH)
             own = [Pair(number, pair, guest, self.programs, self.names) for number, pair in batch]
             guest.run(SILENCE)
             with self.lock:
@@ -202,4 +197,6 @@ class Pairs:
         missing = [" ".join(it) for it in sorted(every - self.kinds.keys())]
         if missing and self.asks_for_all:
             fail(f"no pair has {', '.join(missing)}")
+        elif missing:
+            print(f"no pair has {', '.join(missing)}")
         return f"{self.good} of {self.count} pairs as wanted; {len(every) - len(missing)} of {len(every)} kinds; {self.said()}"

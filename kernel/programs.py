@@ -77,13 +77,9 @@ class Programs:
         """Applies a save. What was there before is kept in the folder `state`."""
         return self.command(f"timeout 100 $TCAPPLY --state {state} {file}")
 
-    def applying(self, file, state):
-        """The words that apply a save, without a shell."""
-        return f"{self.paths['tcapply']} --state {state} {file}"
-
-    def plan(self, file, devs, now, stream):
-        """The requests of a plan that leads from what interfaces have to a save, as a netlink stream."""
-        return self.command(f"$TCSAVE {devs} > {now} && $TCMAKE --plan {now} --stream < {file} > {stream} 2> /dev/null")
+    def words(self, name, *options):
+        """The words that start a program, without a shell."""
+        return " ".join([self.paths[name], *options])
 
     def clear(self, dev="d7"):
         return self.command(f"$TCNL clear dev {dev}")
