@@ -66,16 +66,23 @@ long ptrace(enum __ptrace_request request, ...) {
     return result;
 }
 
+// Whether somebody stopped this process or let it go on, and not itself, as it does in its beginning: then it goes on, or will when it is let go on.
+static int is_passed_over(pid_t pid) {
+    siginfo_t signal;
+
+    if (syscall(SYS_ptrace, PTRACE_GETSIGINFO, pid, NULL, &signal))
+        return errno == ESRCH || !syscall(SYS_ptrace, PTRACE_CONT, pid, NULL, NULL);
+    int request = pid < PROCESSES && resumed[pid] ? resumed[pid] : PTRACE_CONT;
+    return signal.si_pid != pid && !syscall(SYS_ptrace, request, pid, NULL, NULL);
+}
+
 pid_t waitpid(pid_t pid, int *status, int options) {
     for (;;) {
         int how = 0;
         pid_t got = syscall(SYS_wait4, pid, &how, options, NULL);
-        int is_known = got > 0 && got < PROCESSES;
-        if (is_known && (WIFEXITED(how) || WIFSIGNALED(how)))
+        if (got > 0 && got < PROCESSES && (WIFEXITED(how) || WIFSIGNALED(how)))
             resumed[got] = 0;
-        // The first stop of a process is the kernel's own.
-        int is_passed = is_known && resumed[got] && WIFSTOPPED(how) && (WSTOPSIG(how) == SIGSTOP || WSTOPSIG(how) == SIGCONT);
-        if (is_passed && !syscall(SYS_ptrace, resumed[got], got, NULL, NULL))
+        if (got > 0 && WIFSTOPPED(how) && (WSTOPSIG(how) == SIGSTOP || WSTOPSIG(how) == SIGCONT) && is_passed_over(got))
             continue;
         if (status)
             *status = how;
