@@ -8,6 +8,7 @@ import struct
 from states import ACTIONS_OF, CHAIN, CLASS, COUNTED_OF_ACTION, FILTER, QDISC, TIMES_OF, Object, attributes, text
 
 NEW = (QDISC, CLASS, FILTER, CHAIN, 48)  # 48 is RTM_NEWACTION
+ALL = (*NEW, *[it + 1 for it in NEW])  # those that delete too
 OF_BLOCK = -1  # TCM_IFINDEX_MAGIC_BLOCK
 
 # What the sender of a stream adds to flags: NLM_F_REQUEST, NLM_F_ACK, NLM_F_ECHO
@@ -40,12 +41,12 @@ def asked(data):
     return [it for (_, port), it in first.items() if port]
 
 
-def requests_in(some):
-    """Of messages, the requests that make or change something. What is sent again after a refusal counts once."""
+def requests_in(some, types=NEW):
+    """Of messages, the requests of these types: that make or change something. What is sent again after a refusal counts once."""
     out = []
     for type_, flags, _, payload in some:
         it = type_, flags & ~SENDERS, payload
-        if type_ in NEW and it not in out[-1:]:
+        if type_ in types and it not in out[-1:]:
             out.append(it)
     return out
 

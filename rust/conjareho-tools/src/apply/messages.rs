@@ -77,14 +77,32 @@ pub(crate) fn actions_of(message: &[u8]) -> Vec<Action> {
     actions
 }
 
-/// All actions of a message about actions; filters' own, too.
+/// All numbered actions of a message about actions; filters' own, too.
 pub(crate) fn listed_in(message: &[u8]) -> Vec<Action> {
+    listed(message).into_iter().filter_map(Action::of).collect()
+}
+
+// The actions of a message of actions.
+fn listed(message: &[u8]) -> Vec<TcAction> {
     let lists = TcActionMessage::parse(payload_of(message)).map_or_else(|_| Vec::new(), |read| read.attributes);
     let actions = lists.into_iter().filter_map(|it| match it {
         TcActionMessageAttribute::Actions(actions) => Some(actions),
         _ => None,
     });
-    actions.flatten().filter_map(Action::of).collect()
+    actions.flatten().collect()
+}
+
+/// True for a message with an action whose parameters have no number, such as one of iptables: it can't be found again.
+pub(crate) fn has_unnumbered_action(message: &[u8]) -> bool {
+    let actions = match type_of(message) {
+        RTM_NEWTFILTER => {
+            let read = TcMessage::parse(payload_of(message)).ok();
+            read.and_then(|filter| actions_of_filter(filter).ok()).unwrap_or_default()
+        }
+        kind if is_action(kind) => listed(message),
+        _ => Vec::new(),
+    };
+    actions.iter().any(|action| use_of_action(action).is_none())
 }
 
 /// True for a message that the codec reads.

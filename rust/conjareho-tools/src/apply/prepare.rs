@@ -4,8 +4,8 @@ use super::actions::Actions;
 use super::arguments::{Arguments, Way};
 use super::back::Before;
 use super::blocks::{Others, blocks_of_others, check_blocks, is_in_block, without};
-use super::compare::objects_of;
-use super::messages::blocks_of;
+use super::compare::{key_of, objects_of};
+use super::messages::{blocks_of, has_unnumbered_action};
 use super::named::named;
 use super::plan::{Fault, Plan, plan, plan_beside};
 use super::requests::requests_of_dump;
@@ -56,6 +56,9 @@ pub(crate) fn planned<T: Transport, L: Transport>(
     loop {
         let dump = world.first_dump(&wanted.targets.own())?;
         let before = without(&dump.messages, &others);
+        if arguments.way != Way::Change {
+            check_numbers(arguments, wanted, &before)?;
+        }
         let actions = Actions::of(&before);
         let steps = steps_to(wanted, arguments.way, &before, &actions);
         let steps = steps.map_err(|faults| nothing_sent(wanted.said_of(&faults)))?;
@@ -68,6 +71,23 @@ pub(crate) fn planned<T: Transport, L: Transport>(
         }
         sleep(PAUSE);
     }
+}
+
+// An error if an action can't be found again, so that there is no plan for a way back.
+fn check_numbers(arguments: &Arguments, wanted: &Wanted, now: &[Vec<u8>]) -> Result<(), Ended> {
+    let what = |message: &Vec<u8>| match key_of(message) {
+        Some(key) => format!("{}: an action without a number", named(&wanted.targets.devices, key)),
+        None => "an action without a number".to_string(),
+    };
+    let found = |messages: &[Vec<u8>], place: &str| {
+        let some = messages.iter().filter(|message| has_unnumbered_action(message));
+        some.map(|message| format!("{place}: {}", what(message))).collect::<Vec<_>>()
+    };
+    let mut said = found(&wanted.messages, &arguments.file_name());
+    if !arguments.no_rollback {
+        said.extend(found(now, "what is there now"));
+    }
+    if said.is_empty() { Ok(()) } else { Err(nothing_sent(said)) }
 }
 
 // The requests that lead to what is wanted. Where all is made, there is nothing, but for actions.

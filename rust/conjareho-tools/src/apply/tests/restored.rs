@@ -1,11 +1,12 @@
 //! Runs of tcrestore.
 
 use super::fake::{EBUSY, EEXIST, ENOENT, Fake, Hook, OTHER, State, object};
-use super::{Ran, of, plain, run_by, saved, taking, tree, types};
+use super::{Ran, WAN, of, plain, run_by, saved, taking, tree, types};
 use crate::apply::messages::type_of;
 use crate::apply::plan::plan;
 use crate::apply::restore::arguments_of;
 use crate::apply::status::Status;
+use crate::netlink::attributes::put;
 use crate::netlink::message::*;
 use std::io::Write as _;
 use std::process::{Command, Stdio};
@@ -41,6 +42,35 @@ fn nothing_is_sent_of_a_save_that_was_cut() {
         let ran = run(&["--clear"], &lines[..count].join("\n"), tree(2), &Fake::new(taking()));
         assert_eq!((ran.status, ran.sent.len()), (Status::NothingSent, 0), "{count} lines: {}", ran.said);
     }
+}
+
+// A filter with an action of iptables, whose number isn't among its parameters.
+fn of_iptables() -> Vec<u8> {
+    let nest = |attributes: &[(u16, &[u8])]| {
+        let mut list = Vec::new();
+        attributes.iter().for_each(|(kind, value)| put(&mut list, *kind, value));
+        list
+    };
+    let options = nest(&[(3, &11u32.to_ne_bytes()), (6, &[0; 40])]);
+    let actions = nest(&[(1, &nest(&[(1, b"xt\0"), (2, &options)]))]);
+    let header = Tcmsg { index: WAN, handle: 2, parent: 0xFFFF_FFF2, info: 0x0003_0008 };
+    let mut body = tc_request(0, 0, header)[HEADER..].to_vec();
+    body.extend(nest(&[(1, b"matchall\0"), (2, &nest(&[(2, &actions)]))]));
+    let mut message = request(RTM_NEWTFILTER, 0, &body);
+    message[6..8].copy_from_slice(&2u16.to_ne_bytes());
+    message
+}
+
+#[test]
+fn nothing_is_sent_if_an_action_has_no_number() {
+    let (with, without) = ([tree(1), vec![of_iptables()]].concat(), tree(2));
+    for (wanted, now) in [(&with, &without), (&without, &with)] {
+        let ran = run(&["--clear"], &saved(wanted.clone()), now.clone(), &Fake::new(taking()));
+        assert_eq!((ran.status, ran.sent.len()), (Status::NothingSent, 0), "{}", ran.said);
+        assert!(ran.said.contains("an action without a number"), "{}", ran.said);
+    }
+    let ran = run(&["--clear", "--no-rollback"], &saved(without.clone()), with, &Fake::new(taking()));
+    assert_eq!((ran.status, plain(&ran.objects)), (Status::Restored, plain(&without)), "{}", ran.said);
 }
 
 // Each request refused in turn.
