@@ -1,6 +1,7 @@
 """Random interfaces: commands of tc that make one of every kind of qdisc, class, filter and action that the guest has, with chains,
 blocks, u32's tables and actions that are shared. What a command can't have is refused, and that is no fault."""
 
+import itertools
 import random
 
 # Options of qdiscs that hold no classes of their own, or those that the kernel makes. One line each.
@@ -102,7 +103,9 @@ QDISCS = {
     "drr": [""],
     "qfq": [""],
 }
-ROOTS = ("mqprio", "taprio", "multiq")  # only at the root, since they need a link with several queues
+# With those without options, which only interfaces that come back have.
+ALL_QDISCS = {**QDISCS, **{it: [""] for it in ("pfifo_fast", "mq", "noqueue", "blackhole", "teql0")}}
+ROOTS = ("mqprio", "taprio", "multiq", "mq", "noqueue", "teql0")  # only at the root, since they need a link with several queues, or a link
 CHILD = ("tbf", "netem", "sfb", "cbs", "plug")  # these have room for one qdisc, in their class 1
 
 CLASSES = {
@@ -263,12 +266,13 @@ class Deal:
 
 
 class Interface:
-    """The commands that make the interface d7 of a number, by the chance and the deal of a run."""
+    """The commands that make the interface d7 of a number, by the chance and the deal of a run. What comes back has only what can be made again."""
 
-    def __init__(self, chance, deal):
-        self.chance, self.deal, self.commands = chance, deal, []
+    def __init__(self, chance, deal, comes_back=False):
+        self.chance, self.deal, self.commands, self.comes_back = chance, deal, [], comes_back
         self.handles, self.shared, self.priorities = iter(chance.sample(range(1, 200), 40)), [], {}
-        self.is_unmade = self.likely(0.15)
+        self.qdiscs = ALL_QDISCS if comes_back else QDISCS
+        self.is_unmade = self.likely(0.15) and not comes_back
         self.standalone_actions()
         self.root, self.classes, self.places = "", [], []
         if self.likely(0.85):
@@ -307,9 +311,9 @@ class Interface:
                 cookie = f"cookie {self.chance.randrange(1 << 32):08x}" if self.likely(0.3) else ""
                 self.say(f"actions add {action} {cookie}")
 
-    def action(self, is_below_ingress, others):
+    def action(self, is_below_ingress, others, is_own):
         """An action of a list that has these already. None is there twice: if its number is new, Linux 6.1 never answers."""
-        if self.shared and self.likely(0.3):
+        if self.shared and self.likely(0.3) and not is_own:
             it = self.chance.choice(self.shared)
             if it not in others:
                 return it
@@ -317,14 +321,14 @@ class Interface:
         more = self.chance.choice(["", "", "", "hw_stats disabled", "no_percpu", f"cookie {self.chance.randrange(1 << 32):08x}"])
         return f"action {kind} {self.deal.options(ACTIONS, kind)} {more}"
 
-    def verdict(self, is_below_ingress, chain="", kind=""):
-        """What a filter does: a class, or actions, of which the last may go on in another chain."""
+    def verdict(self, is_below_ingress, chain="", kind="", is_own=False):
+        """What a filter does: a class, or actions, its own or shared ones, of which the last may go on in another chain."""
         if self.classes and kind != "cgroup" and self.likely(0.4):
             return f"classid {self.chance.choice(self.classes)}"
         count = self.chance.choice([1, 1, 1, 2, 3, 5])
         actions = []
         for _ in range(count):
-            actions.append(self.action(is_below_ingress, actions))
+            actions.append(self.action(is_below_ingress, actions, is_own))
         if chain and self.likely(0.2):
             actions.append(f"action gact goto chain {chain}")
         return " ".join(actions)
@@ -335,8 +339,14 @@ class Interface:
         if self.likely(0.6):
             kind = self.chance.choice(["htb", "htb", "hfsc", "drr", "qfq", "prio"])
         else:
-            kind = self.deal.one("qdisc", list(QDISCS))
+            kind = self.kind_of_qdisc("root")
         self.root = self.qdisc("root", kind, 0)
+
+    def kind_of_qdisc(self, place):
+        """Of interfaces that come back, roots have a deal of their own, so that none is dealt where it can't be."""
+        if not self.comes_back:
+            return self.deal.one("qdisc", list(QDISCS))
+        return self.deal.one(place, [it for it in self.qdiscs if place == "root" or it not in ROOTS])
 
     def qdisc(self, parent, kind, depth):
         """A qdisc in this place, with what is below it. Returns its handle."""
@@ -345,7 +355,7 @@ class Interface:
             self.say(f"qdisc add dev d7 {parent} {f'handle {handle}' if handle else ''} {self.deal.one('unmade', UNMADE_QDISCS)}")
             return handle
         prefix = self.chance.choice([ESTIMATOR, ESTIMATOR if depth else STAB]) if self.is_unmade and self.likely(0.2) else ""
-        self.say(f"qdisc add dev d7 {parent} {f'handle {handle}' if handle else ''} {prefix} {kind} {self.deal.options(QDISCS, kind)}")
+        self.say(f"qdisc add dev d7 {parent} {f'handle {handle}' if handle else ''} {prefix} {kind} {self.deal.options(self.qdiscs, kind)}")
         if handle:
             self.below(handle, kind, depth)
         return handle
@@ -355,7 +365,7 @@ class Interface:
             leaves = self.class_tree(handle, kind, 4 - depth)
         elif kind in CHILD:
             leaves = [f"{handle}1"]
-        elif kind in (*ROOTS, "prio"):
+        elif kind in ("mqprio", "taprio", "multiq", "mq", "prio"):
             leaves = [f"{handle}{it}" for it in "12"]
         else:
             leaves = []
@@ -366,7 +376,7 @@ class Interface:
             self.places.append(f"dev d7 parent {handle}")
         for leaf in leaves:
             if depth < 3 and self.likely(0.6):
-                inner = self.deal.one("qdisc", list(QDISCS))
+                inner = self.kind_of_qdisc("inner")
                 if inner not in ROOTS:
                     self.qdisc(f"parent {leaf}", inner, depth + 1)
 
@@ -404,7 +414,8 @@ class Interface:
             protocol, keys = self.deal.options(FILTERS, kind)
             where = f"{place} chain {chain}" if chain else place
             priority = self.priority(where, kind, protocol)
-            verdict = self.verdict(is_below_ingress, self.chance.choice([*chains, ""]), kind)
+            has_offload_flag = self.comes_back and "skip_" in keys  # with which no filter shares an action
+            verdict = self.verdict(is_below_ingress, self.chance.choice([*chains, ""]), kind, has_offload_flag)
             self.say(f"filter add {where} prio {priority} protocol {protocol} {self.handle(kind)} {kind} {keys} {verdict}")
         if self.is_unmade and self.likely(0.2):
             self.say(f"filter add {place} prio 900 protocol ip u32 match ip src 9.9.9.9 police rate 1mbit burst 10k drop flowid 1:1")
@@ -464,8 +475,20 @@ class Interface:
             self.tables(side)
 
 
-def interfaces(seed, count):
-    """The commands of so many interfaces."""
+def endless(seed, comes_back=False):
+    """The commands of interfaces without end; of those that come back without what can't be made again, and with all kinds that the guest has."""
     chance = random.Random(seed)
     deal = Deal(chance)
-    return [Interface(chance, deal).commands for _ in range(count)]
+    while True:
+        yield Interface(chance, deal, comes_back).commands
+
+
+def interfaces(seed, count):
+    """The commands of so many interfaces."""
+    return list(itertools.islice(endless(seed), count))
+
+
+def all_kinds():
+    """Each kind that an interface which comes back may have, with its sort."""
+    sorts = {"qdisc": [*ALL_QDISCS, "clsact", "ingress"], "class": CLASSES, "filter": FILTERS, "action": ACTIONS, "template": ["flower"]}
+    return {(sort, kind) for sort, kinds in sorts.items() for kind in kinds}

@@ -5,15 +5,17 @@
 // script:   try NAME                    what follows up to the next try belongs to NAME
 //           link NUMBER [QUEUES]        makes the dummy link dNUMBER, which stays down, so that no packet is counted
 //           send TYPE FLAGS PAYLOAD     a request: message type and flags in decimal, the payload after nlmsghdr in hex
-//           dump NUMBER                 asks for all that the link dNUMBER has, and for all actions (see `dump_link`)
-//           steps NUMBER FILE           sends each request of a netlink stream, and after each asks for all that the link dNUMBER has
+//           dump NUMBER,NUMBER..        asks for all that the links dNUMBER have, and for all actions (see `dump_link`)
+//           steps NUMBER,.. FILE        sends each request of a netlink stream, and after each asks for the same
 //           into FILE                   what comes back from here on is written to FILE too, as a netlink stream
 //           run COMMAND                 runs a command by the shell
 //           watch FILE                  writes all messages of route netlink, in both directions, that processes of the try exchange with
 //                                       the kernel from here on
-//           watch FILE OTHER PART       the same, and kills tcapply at a request that makes, changes or deletes something: the one at this part
-//                                       of those in the file OTHER, which was written so
 //           unwatch                     the end of that
+//           call FILE COMMAND           runs a program without a shell, by its path; its output goes to FILE, `-` for none
+//           kill FILE PART COMMAND      runs a program, and kills it before it sends a request that makes, changes or deletes something: the
+//                                       one at this part of those in a file that `watch` wrote
+//           spoil FILE PART COMMAND     the same, but that request is sent with a kind or a type that no kernel has
 // answers:  try NAME
 //           got TYPE PAYLOAD            a message that came back, masked (see `mask`)
 //           ack ERRNO OFFSET SENTENCE   how the request ended: offset is that of the attribute at fault in the
@@ -25,7 +27,6 @@
 // The last line is `finished`. One eBPF program, which lets every packet through, is open as descriptor 100 in all
 // tries.
 #define _GNU_SOURCE
-#include <dirent.h>
 #include <errno.h>
 #include <fcntl.h>
 #include <linux/bpf.h>
@@ -42,10 +43,12 @@
 #include <stdlib.h>
 #include <string.h>
 #include <sys/mount.h>
+#include <sys/ptrace.h>
 #include <sys/reboot.h>
 #include <sys/socket.h>
 #include <sys/syscall.h>
 #include <sys/time.h>
+#include <sys/user.h>
 #include <sys/utsname.h>
 #include <sys/wait.h>
 #include <unistd.h>
@@ -376,13 +379,12 @@ static void dump_block(__u32 parent) {
     ask_for_roots();
 }
 
-// Writes all actions of the namespace, the qdiscs and classes of a link, and the chains and filters of each of these.
+// Writes the qdiscs and classes of a link, and the chains and filters of each of these.
 // Classes are asked for by qdisc: a dump of all classes ends at netem without a child and at sfb.
 static void dump_link(int number) {
     struct nlmsghdr *h;
 
     asked_link = number, tree_length = 0;
-    dump_actions();
     dump_tc(RTM_GETQDISC, 0);
     for (size_t at = 0, end = tree_length; at < end; at += NLMSG_ALIGN(h->nlmsg_len)) {
         h = (struct nlmsghdr *)(tree + at);
@@ -401,6 +403,13 @@ static void dump_link(int number) {
         } else if (handle)
             dump_block(handle);
     }
+}
+
+// Writes all actions of the namespace, and what some links have. They are numbers, with a comma between two.
+static void dump_links(const char *numbers) {
+    dump_actions();
+    for (const char *it = numbers; it; it = strchr(it, ',') ? strchr(it, ',') + 1 : NULL)
+        dump_link(atoi(it));
     fputs("end 0\n", answers);
 }
 
@@ -412,9 +421,9 @@ static int is_tried_again(struct nlmsghdr *last) {
     return error == EBUSY || error == EEXIST || error == EPERM;
 }
 
-// Sends each request of a stream, for up to a second if what was deleted before lives on. After each it writes how that ended, and all that a
-// link has.
-static void send_steps(int number, const char *path) {
+// Sends each request of a stream, for up to a second if what was deleted before lives on. After each it writes how that ended, and all that
+// some links have.
+static void send_steps(const char *numbers, const char *path) {
     static unsigned char stream[1 << 20] __attribute__((aligned(NLMSG_ALIGNTO)));
     FILE *file = fopen(path, "r");
     int left = file ? (int)fread(stream, 1, sizeof stream, file) : 0;
@@ -430,7 +439,7 @@ static void send_steps(int number, const char *path) {
             write_ack(last);
         else
             fprintf(answers, "ack %d - no answer\n", errno);
-        dump_link(number);
+        dump_links(numbers);
     }
     if (file)
         fclose(file);
@@ -467,58 +476,9 @@ static volatile sig_atomic_t is_over;
 
 static void end_watching(int signal) { is_over = signal; }
 
-static __u32 newest; // the sequence number of the last request
-
-// How many requests of messages make, change or delete something. A notification has the number of its request.
-static int requests_in(unsigned char *bytes, ssize_t left) {
-    int count = 0;
-
-    for (struct nlmsghdr *h = (struct nlmsghdr *)bytes; NLMSG_OK(h, left); h = NLMSG_NEXT(h, left)) {
-        int is_tc = (h->nlmsg_type >= RTM_NEWQDISC && h->nlmsg_type <= RTM_DELACTION) || h->nlmsg_type == RTM_NEWCHAIN ||
-                    h->nlmsg_type == RTM_DELCHAIN;
-        if (h->nlmsg_pid && h->nlmsg_seq > newest) {
-            newest = h->nlmsg_seq;
-            count += is_tc && h->nlmsg_type % 4 < 2;
-        }
-    }
-    return count;
-}
-
-// The number of the request at this part of those in a file; 0 if there is none.
-static int request_at(const char *path, double part) {
-    static unsigned char bytes[1 << 23] __attribute__((aligned(NLMSG_ALIGNTO)));
-    FILE *file = fopen(path, "r");
-    int count = file ? requests_in(bytes, fread(bytes, 1, sizeof bytes, file)) : 0;
-
-    if (file)
-        fclose(file);
-    newest = 0;
-    return count ? 1 + (int)(part * count) : 0;
-}
-
-// Kills each process of this name.
-static void kill_all(const char *name) {
-    char path[300], own[32];
-    struct dirent *entry;
-    DIR *all = opendir("/proc");
-
-    while (all && (entry = readdir(all))) {
-        snprintf(path, sizeof path, "/proc/%s/comm", entry->d_name);
-        FILE *file = atoi(entry->d_name) > 1 ? fopen(path, "r") : NULL;
-        if (!file)
-            continue;
-        if (fgets(own, sizeof own, file) && !strncmp(own, name, strlen(name)))
-            kill(atoi(entry->d_name), SIGKILL);
-        fclose(file);
-    }
-    if (all)
-        closedir(all);
-}
-
-static void write_watched(int s, FILE *file, int last) {
+static void write_watched(int s, FILE *file) {
     static unsigned char frame[1 << 17] __attribute__((aligned(NLMSG_ALIGNTO)));
     struct sockaddr_ll from;
-    int count = 0;
 
     signal(SIGTERM, end_watching);
     for (;;) {
@@ -526,17 +486,14 @@ static void write_watched(int s, FILE *file, int last) {
         ssize_t got = recvfrom(s, frame, sizeof frame, 0, (struct sockaddr *)&from, &size);
         if (got < 0 && is_over)
             break;
-        if (got > 0 && from.sll_protocol == htons(NETLINK_ROUTE)) {
-            if (last && count < last && (count += requests_in(frame, got)) >= last)
-                kill_all("tcapply");
+        if (got > 0 && from.sll_protocol == htons(NETLINK_ROUTE))
             fwrite(frame, 1, got, file);
-        }
     }
     fclose(file);
     _exit(0);
 }
 
-static void watch(const char *path, int last) {
+static void watch(const char *path) {
     int size = 1 << 23;
     struct timeval wait = {.tv_usec = 20000};
     struct sockaddr_ll monitor = {.sll_family = AF_PACKET, .sll_protocol = htons(ETH_P_ALL), .sll_ifindex = MONITOR};
@@ -551,7 +508,7 @@ static void watch(const char *path, int last) {
     fflush(answers);
     watcher = fork();
     if (!watcher)
-        write_watched(s, file, last);
+        write_watched(s, file);
     fclose(file);
     close(s);
 }
@@ -562,6 +519,166 @@ static void unwatch(void) {
     kill(watcher, SIGTERM);
     waitpid(watcher, NULL, 0);
     watcher = 0;
+}
+
+// ---- Programs that are cut
+
+// True for a message that makes, changes or deletes something of traffic control.
+static int is_request(struct nlmsghdr *h) {
+    int is_tc = (h->nlmsg_type >= RTM_NEWQDISC && h->nlmsg_type <= RTM_DELACTION) || h->nlmsg_type == RTM_NEWCHAIN || h->nlmsg_type == RTM_DELCHAIN;
+
+    return is_tc && h->nlmsg_type % 4 < 2;
+}
+
+// True for a request that is sent again.
+static int is_again(struct nlmsghdr *h, struct nlmsghdr *last) {
+    int is_alike = h->nlmsg_type == last->nlmsg_type && h->nlmsg_len == last->nlmsg_len;
+
+    return is_alike && !memcmp(NLMSG_DATA(h), NLMSG_DATA(last), h->nlmsg_len - NLMSG_HDRLEN);
+}
+
+// The number of the request at this part of those in a file that `watch` wrote; 0 if there is none. A notification has the number of its request.
+static int request_at(const char *path, double part) {
+    static unsigned char bytes[1 << 23] __attribute__((aligned(NLMSG_ALIGNTO)));
+    FILE *file = fopen(path, "r");
+    ssize_t left = file ? fread(bytes, 1, sizeof bytes, file) : 0;
+    struct nlmsghdr *last = NULL;
+    __u32 newest = 0;
+    int count = 0;
+
+    for (struct nlmsghdr *h = (struct nlmsghdr *)bytes; NLMSG_OK(h, left); h = NLMSG_NEXT(h, left)) {
+        int is_new = h->nlmsg_pid && h->nlmsg_seq > newest;
+        if (is_new)
+            newest = h->nlmsg_seq;
+        if (is_new && is_request(h) && !(last && is_again(h, last))) {
+            last = h;
+            count++;
+        }
+    }
+    if (file)
+        fclose(file);
+    return count ? 1 + (int)(part * count) : 0;
+}
+
+// Reads what a stopped process is about to send, if that is a request, and returns its place in the process; 0 if it is none, or the one of the time
+// before again.
+static unsigned long about_to_send(pid_t child, int memory, unsigned char *bytes, size_t size) {
+    static unsigned char last[1 << 17] __attribute__((aligned(NLMSG_ALIGNTO)));
+    struct user_regs_struct registers;
+    struct nlmsghdr *h = (struct nlmsghdr *)bytes;
+
+    if (ptrace(PTRACE_GETREGS, child, NULL, &registers) || registers.orig_rax != SYS_sendto || registers.rdx > size)
+        return 0;
+    if (pread(memory, bytes, registers.rdx, registers.rsi) < (ssize_t)sizeof *h || h->nlmsg_len != registers.rdx)
+        return 0;
+    if (!is_request(h) || is_again(h, (struct nlmsghdr *)last))
+        return 0;
+    memcpy(last, bytes, h->nlmsg_len);
+    return registers.rsi;
+}
+
+// Gives a request a kind that no kernel has; a type, if it deletes something or is of a class or of actions.
+static void spoil(int memory, unsigned char *bytes, unsigned long place) {
+    struct nlmsghdr *h = (struct nlmsghdr *)bytes;
+    unsigned char *p = (unsigned char *)NLMSG_DATA(h) + sizeof(struct tcmsg);
+    int left = h->nlmsg_len - NLMSG_LENGTH(sizeof(struct tcmsg));
+
+    if (h->nlmsg_type == RTM_NEWQDISC || h->nlmsg_type == RTM_NEWTFILTER || h->nlmsg_type == RTM_NEWCHAIN)
+        FOR_EACH(a, p, left)
+            if (TYPE(a) == TCA_KIND && LENGTH(a) > 1) {
+                if (pwrite(memory, "?", 1, place + (PAYLOAD(a) - bytes)) == 1)
+                    return;
+            }
+    h->nlmsg_type = 0xfff;
+    if (pwrite(memory, h, sizeof *h, place) != sizeof *h)
+        fprintf(answers, "ack %d - not spoilt\n", errno);
+}
+
+// Goes with a process up to its request of this number, and kills it before that, or spoils the request. Returns how it ended.
+static int traced(pid_t child, int is_killed, int number) {
+    static unsigned char bytes[1 << 17] __attribute__((aligned(NLMSG_ALIGNTO)));
+    char path[40];
+    int status, signal = 0, count = 0, is_entry = 0;
+    unsigned long place;
+
+    waitpid(child, &status, 0);
+    snprintf(path, sizeof path, "/proc/%d/mem", child);
+    int memory = open(path, O_RDWR | O_CLOEXEC);
+    ptrace(PTRACE_SETOPTIONS, child, NULL, PTRACE_O_TRACESYSGOOD | PTRACE_O_EXITKILL);
+    while (WIFSTOPPED(status) && count < number && !ptrace(PTRACE_SYSCALL, child, NULL, signal) && waitpid(child, &status, 0) == child) {
+        if (!WIFSTOPPED(status))
+            break;
+        signal = WSTOPSIG(status) & 0x80 ? 0 : WSTOPSIG(status);
+        if (signal || !(is_entry = !is_entry) || !(place = about_to_send(child, memory, bytes, sizeof bytes)))
+            continue;
+        if (++count == number && is_killed)
+            kill(child, SIGKILL);
+        else if (count == number)
+            spoil(memory, bytes, place);
+    }
+    close(memory);
+    if (WIFSTOPPED(status)) {
+        ptrace(PTRACE_DETACH, child, NULL, 0);
+        waitpid(child, &status, 0);
+    }
+    return status;
+}
+
+// Starts a program without a shell, and returns its process. What it writes to standard error, and to standard output too if no file is named, is to be read
+// from `said`.
+static pid_t start(char *command, const char *to, int is_traced, FILE **said) {
+    char *words[16] = {strtok(command, " ")};
+    int ends[2];
+
+    for (int i = 0; i < 14 && words[i]; i++)
+        words[i + 1] = strtok(NULL, " ");
+    fflush(answers);
+    if (pipe(ends))
+        return -1;
+    pid_t child = fork();
+    if (!child) {
+        dup2(to ? open(to, O_WRONLY | O_CREAT | O_TRUNC, 0644) : ends[1], 1), dup2(ends[1], 2);
+        close(ends[0]), close(ends[1]);
+        alarm(100);
+        if (is_traced)
+            ptrace(PTRACE_TRACEME, 0, NULL, NULL);
+        execv(words[0], words);
+        _exit(127);
+    }
+    close(ends[1]);
+    *said = fdopen(ends[0], "r");
+    return child;
+}
+
+static void write_said(FILE *said) {
+    char *line = NULL;
+    size_t room = 0;
+
+    while (said && getline(&line, &room, said) > 0)
+        fprintf(answers, "said %.*s\n", (int)strcspn(line, "\n"), line);
+    if (said)
+        fclose(said);
+    free(line);
+}
+
+static void write_status(int status) { fprintf(answers, "status %d\n", WIFEXITED(status) ? WEXITSTATUS(status) : 128 + WTERMSIG(status)); }
+
+static void call(const char *to, char *command) {
+    FILE *said = NULL;
+    int status = -1;
+    pid_t child = start(command, strcmp(to, "-") ? to : NULL, 0, &said);
+
+    write_said(said);
+    waitpid(child, &status, 0);
+    write_status(status);
+}
+
+static void cut(int is_killed, int number, char *command) {
+    FILE *said = NULL;
+    int status = traced(start(command, NULL, 1, &said), is_killed, number);
+
+    write_said(said);
+    write_status(status);
 }
 
 // ---- Namespaces
@@ -624,25 +741,29 @@ static void try(char *line) {
 
     open_namespace();
     for (line = strtok_r(line, "\n", &rest); line; line = strtok_r(NULL, "\n", &rest)) {
-        char path[1024], other[1024];
+        char path[1024], word[10];
         int type, flags, at, number, queues = 1;
-        double part = -1;
+        double part;
         if (sscanf(line, "link %d %d", &number, &queues) >= 1)
             make_link(number, "dummy", 0, queues);
         else if (sscanf(line, "send %d %d %n", &type, &flags, &at) == 2)
             talk(type, flags, payload, from_hex(line + at, payload));
-        else if (sscanf(line, "dump %d", &number) == 1)
-            dump_link(number);
-        else if (sscanf(line, "steps %d %n", &number, &at) == 1)
-            send_steps(number, line + at);
+        else if (!strncmp(line, "dump ", 5))
+            dump_links(line + 5);
+        else if (sscanf(line, "steps %9s %n", word, &at) == 1)
+            send_steps(word, line + at);
+        else if (sscanf(line, "call %1023s %n", path, &at) == 1)
+            call(path, line + at);
         else if (!strncmp(line, "into ", 5))
             stream = fopen(line + 5, "w");
         else if (!strncmp(line, "run ", 4))
             run(line + 4);
-        else if (sscanf(line, "watch %1023s %1023s %lf", path, other, &part) >= 1)
-            watch(path, part < 0 ? 0 : request_at(other, part));
+        else if (sscanf(line, "watch %1023s", path) == 1)
+            watch(path);
         else if (!strcmp(line, "unwatch"))
             unwatch();
+        else if (sscanf(line, "%9s %1023s %lf %n", word, path, &part, &at) == 3)
+            cut(*word == 'k', request_at(path, part), line + at);
         else
             fprintf(answers, "%s\n", line);
         if (stream)

@@ -33,7 +33,7 @@ def error_name(number):
 
 
 def compile_guest():
-    """Compiles the guest's first process, and on a processor with AMX what its kernel needs there."""
+    """Compiles the guest's first process, and the calls of its kernel."""
     compiler = shutil.which("gcc")
     if not compiler:
         lacks("The package gcc is not installed, which compiles the guest.")
@@ -42,8 +42,8 @@ def compile_guest():
     if subprocess.run([compiler, *flags, "-o", f"{OUT}/guest", f"{HERE}/guest.c"]).returncode:
         lacks("guest.c was not compiled: it takes the packages gcc, libc6-dev and linux-libc-dev.")
     with open("/proc/cpuinfo") as file:
-        if "amx_tile" in file.read().split():
-            subprocess.run([compiler, *flags[:3], "-shared", "-fPIC", "-o", f"{OUT}/registers.so", f"{HERE}/registers.c"], check=True)
+        own = ["-DAMX"] if "amx_tile" in file.read().split() else []
+    subprocess.run([compiler, *flags[:3], *own, "-shared", "-fPIC", "-o", f"{OUT}/traced.so", f"{HERE}/traced.c"], check=True)
 
 
 def linux():
@@ -55,11 +55,9 @@ def linux():
 
 
 def environment():
-    """The environment of a kernel: on a processor with AMX it needs the calls of registers.c."""
-    own = {**os.environ, "TMPDIR": OUT}
-    if os.path.exists(f"{OUT}/registers.so"):
-        own["LD_PRELOAD"] = f"{OUT}/registers.so"
-    return own
+    """The environment of a kernel: its calls are those of traced.c. Its memory is a file, which is in memory where there is room for such files."""
+    folder = "/dev/shm" if os.access("/dev/shm", os.W_OK) and not os.statvfs("/dev/shm").f_flag & os.ST_NOEXEC else OUT
+    return {**os.environ, "TMPDIR": folder, "LD_PRELOAD": f"{OUT}/traced.so"}
 
 
 # How a request ended, and the (type, bytes) that came back before that; `offset` is None if the kernel names no
@@ -89,7 +87,7 @@ class Guest:
         """Adds a try of lines as the script has them."""
         return self.tries.setdefault("\n".join(lines), len(self.tries))
 
-    def run(self):
+    def run(self, silence=SILENCE):
         with open(f"{self.folder}/script", "w") as file:
             file.writelines(f"try {number}\n{text}\n" for text, number in self.tries.items())
         words = [linux(), "mem=256M", "rootfstype=hostfs", "rw", "quiet", "con=null", "con0=fd:0,fd:1"]
@@ -99,7 +97,7 @@ class Guest:
             how = {"stdin": subprocess.DEVNULL, "stdout": console, "stderr": console, "start_new_session": True}
             guest = subprocess.Popen(words, env=environment(), **how)
             try:
-                self.wait(guest)
+                self.wait(guest, silence)
             finally:
                 try:
                     os.killpg(guest.pid, signal.SIGKILL)
@@ -108,7 +106,7 @@ class Guest:
         self.read()
         print(f"Linux {self.kernel}: {len(self.tries)} tries in {time.monotonic() - began:.0f} s", flush=True)
 
-    def wait(self, guest):
+    def wait(self, guest, silence):
         """Waits until the guest ends, as long as it writes answers."""
         size, since = -1, time.monotonic()
         while guest.poll() is None:
@@ -117,8 +115,8 @@ class Guest:
             now = os.path.getsize(path) if os.path.exists(path) else 0
             if now != size:
                 size, since = now, time.monotonic()
-            elif time.monotonic() - since > SILENCE:
-                return fail(f"the guest in {self.folder} wrote nothing for {SILENCE} seconds")
+            elif time.monotonic() - since > silence:
+                return fail(f"the guest in {self.folder} wrote nothing for {silence} seconds")
 
     def read(self):
         number, got, said, lines = None, [], [], []
@@ -154,7 +152,7 @@ class Guest:
             fail(f"the guest wrote nothing past try {number} of {self.folder}/script; see the file console beside it")
 
 
-def run_all(guests):
-    """Runs guests, two at a time."""
-    with concurrent.futures.ThreadPoolExecutor(2) as pool:
+def run_all(guests, at_once):
+    """Runs guests, so many at a time."""
+    with concurrent.futures.ThreadPoolExecutor(at_once) as pool:
         list(pool.map(Guest.run, guests))

@@ -2,23 +2,27 @@
 request is refused, so that it goes back; and by the proved plan's requests, with a look at what there is after each."""
 
 import collections
-import os
+import concurrent.futures
 import random
 import re
+import shutil
+import threading
+import time
 
-from generate import interfaces
+from generate import all_kinds, endless
 from guests import HERE, Guest, Said, fail
-from interfaces import FLUSH
 from messages import Names
 from states import State, as_used
 from steps import judge as judge_steps
-from streams import asked, stream_of
+from streams import ALL, asked, requests_in, stream_of
 
-OF_A_GUEST = 12  # pairs
+OF_A_GUEST = 50  # pairs
+ALL_KINDS_IN = 200  # pairs
+SILENCE = 300  # seconds
 THERE = "what is there is what is wanted"  # notices of what no dump shows may follow
-KILLED = 128 + 9  # the status of a command that SIGKILL ends
-STEPPED = 3  # each so many pairs the requests of the plan are sent one by one
+KILLED, CAME_BACK = 128 + 9, 5  # the status of a command that SIGKILL ends, and of tcapply if what there was is there again
 LINKS = [f"link {it} 4" for it in (7, 8, 9)]
+TC = shutil.which("tc", path="/usr/sbin:/usr/bin:/sbin:/bin") or "tc"
 
 
 def least(command):
@@ -28,14 +32,15 @@ def least(command):
 
 
 def pairs(seed, count):
-    """The commands of what there is and of what is wanted, and two parts of a plan, after which something goes wrong: each second time the wanted ones
-    are most of those that there are, and some others."""
-    chance = random.Random(seed)
-    own = [[least(it) for it in some] for some in interfaces(seed, 2 * count)]
+    """The commands of what there is and of what is wanted, which aren't the same, and two parts of a plan, at which something goes wrong: each second
+    time the wanted ones are most of those that there are, and some others."""
+    chance, own = random.Random(seed), ([least(it) for it in some] for some in endless(seed, comes_back=True))
     for number in range(count):
-        before, wanted = own[2 * number], own[2 * number + 1]
-        if number % 2:
-            wanted = [it for it in before if chance.random() < 0.8] + [it for it in wanted if chance.random() < 0.2]
+        before = wanted = []
+        while len(set(before) ^ set(wanted)) < 1 + number % 2 * 4:
+            before, wanted = next(own), next(own)
+            if number % 2:
+                wanted = [it for it in before if chance.random() < 0.8] + [it for it in wanted if chance.random() < 0.2]
         yield before, wanted, [f"{chance.random():.3f}" for _ in range(2)]
 
 
@@ -46,147 +51,152 @@ class Pair:
         before, wanted, parts = pair
         self.number, self.guest, self.names, self.tries = number, guest, names, []
         # A block that d8 has too is one of both interfaces, which are one plan.
-        self.devs = ["d7", "d8"] if any("dev d8 ingress_block" in it for it in [*before, *wanted]) else ["d7"]
+        links = [7, 8] if any("dev d8 ingress_block" in it for it in [*before, *wanted]) else [7]
         self.file = f"{guest.folder}/{number}"
         for name, own in (("before", before), ("wanted", wanted)):
             with open(f"{self.file}.{name}.tc", "w") as file:
                 file.writelines(f"{it}\n" for it in own)
-        save, state = f"{self.file}.json", f"{self.file}.state"
-        bad, sent = f"{self.file}.bad.json", f"{self.file}.sent"
-        apply, plan = f"run {programs.apply(save, state)}", f"run {programs.command(f'$TCAPPLY -n {save}')}"
-        first = [
-            ("make_wanted", self.made("wanted")),
-            ("wanted", "dump 7"),
-            ("save", f"run {programs.save(save, ' '.join(self.devs))}"),
-            ("clear", f"run {' && '.join(map(programs.clear, self.devs))} && (tc -force -batch {guest.folder}/flush > /dev/null 2>&1 || true)"),
-        ]
-        before = [("make_before", self.made("before")), ("before", "dump 7")]
-        last = [("after", "dump 7"), ("plan", plan)]
-        stream = f"{self.file}.stream"
-        watch = lambda words: [("", f"watch {words}")]
-        end = [("", "unwatch")]
-        self.add([*first, *before, *watch(sent), ("apply", apply), *end, *last])
-        self.add([*before, *watch(f"{self.file}.killed {sent} {parts[0]}"), ("cut", apply), *end, ("apply", apply), *last])
-        self.add([*before, ("bad", f"run {programs.refused(save, parts[1], bad)}"), ("cut", f"run {programs.apply(bad, state)}"), ("after", "dump 7")])
-        if number % STEPPED == 0:
-            steps = [("make_before", self.made("before")), ("plan", f"run {programs.plan(save, f'{self.file}.now', stream)}"), ("before", "dump 7")]
-            self.add(steps, stream)
+        save, state, sent, now, stream = [f"{self.file}.{it}" for it in ("json", "state", "sent", "now", "stream")]
+        devs, numbers = [f"d{it}" for it in links], ",".join(map(str, links))
+        saving, apply = programs.words("tcsave", *devs), programs.words("tcapply", "--state", state, save)
+        dump, last = f"dump {numbers}", [("after", f"dump {numbers}"), ("plan", f"call - {programs.words('tcapply', '-n', save)}")]
+        before = [("make_before", self.made("before")), ("before", dump)]
+        self.add([("make_wanted", self.made("wanted")), ("wanted", dump), ("save", f"call {save} {saving}")])
+        self.add([*before, ("", f"watch {sent}"), ("apply", f"call - {apply}"), ("", "unwatch"), *last])
+        self.add([*before, ("cut", f"kill {sent} {parts[0]} {apply}"), ("apply", f"call - {apply}"), *last])
+        self.add([*before, ("cut", f"spoil {sent} {parts[1]} {apply}"), last[0]])
+        plan = programs.command(f"$TCMAKE --plan {now} --stream < {save} > {stream} 2> /dev/null")
+        self.add([*before, ("save", f"call {now} {saving}"), ("plan", f"run {plan}"), ("steps", f"steps {numbers} {stream}")])
 
     def made(self, name):
-        return f"run tc -force -batch {self.file}.{name}.tc > /dev/null 2>&1 || true"
+        return f"call /dev/null {TC} -force -batch {self.file}.{name}.tc"
 
-    def add(self, steps, stream=""):
-        """Adds a try of these steps, and of the requests of a stream, if there is one, with a dump after each."""
-        lines = [*LINKS, *[line for _, line in steps], *[f"steps 7 {stream}"] * bool(stream)]
-        self.tries.append((self.guest.add_lines(lines), [name for name, _ in steps if name], bool(stream)))
+    def add(self, steps):
+        self.tries.append((self.guest.add_lines([*LINKS, *[line for _, line in steps]]), [name for name, _ in steps if name]))
 
     def answers(self):
-        """The answers of each try, by their names; None if they aren't whole."""
-        for number, names, has_more in self.tries:
-            found = self.guest.answers.get(number, [])
+        """The answers of each try, by their names; None if they aren't whole. Of steps there is an answer for each request, and one for each dump."""
+        for number, names in self.tries:
+            found = self.guest.answers.pop(number, [])
             own = dict(zip(names, found))
-            if has_more and len(found) >= len(names):
-                yield {**own, "steps": found[len(names) :]}
+            if names[-1] == "steps" and len(found) >= len(names) - 1:
+                yield {**own, "steps": found[len(names) - 1 :]}
             else:
                 yield own if len(found) == len(names) else None
 
     def judge(self):
-        """Returns what is wrong, a text for each try."""
+        """Returns what is wrong, a text for each try; None if there is no whole answer."""
         tries = list(self.answers())
         if None in tries:
-            return ["no whole answer"]
-        self.sent, self.steps, self.named, self.ends, self.wanted = 0, collections.Counter(), [], [], tries[0]["wanted"]
-        ways = (self.judge_whole, self.judge_killed, self.judge_refused, self.judge_stepped)
+            return None
+        self.sent, self.steps, self.ends, self.wanted = 0, collections.Counter(), [], self.state(tries[0]["wanted"])
+        self.kinds = self.wanted.kinds() | self.state(tries[1]["before"]).kinds()
+        ways = (self.judge_saved, self.judge_whole, self.judge_killed, self.judge_refused, self.judge_stepped)
         return [f"{way.__name__[6:]}: {wrong}" for way, it in zip(ways, tries) for wrong in [way(it)] if wrong]
 
     def state(self, answer):
         return State(self.names, list(map(as_used, answer.got)))
 
-    def unlike(self, wanted, after):
+    def unlike(self, wanted, after, counts_filters=True):
         """How a state differs from another, but for actions that nobody wants and that no filter holds."""
-        found = wanted.differences(after)
+        found = wanted.differences(self.state(after), counts_filters)
         return "; ".join([it for it in found if not (it.startswith("action ") and it.endswith("is new"))][:4])
 
-    def ended_without(self, answers):
-        """What is wrong if nothing was sent, since something can't be made again."""
-        before, said = self.state(answers["before"]), answers["apply"]
-        unmade = self.state(self.wanted).cannot_be_made() | before.cannot_be_made()
-        self.named = [why for why in sorted(unmade) if any(why in it for it in said.lines)]
-        if said.status != 1 or not self.named:
-            return f"status {said.status}: {said.lines[:4]}"
-        return self.unlike(before, self.state(answers["after"]))
+    def judge_saved(self, answers):
+        return "" if answers["save"] == Said(0, []) else f"{answers['save']}"
 
     def judge_whole(self, answers):
-        if any(answers[it] != Said(0, []) for it in ("save", "clear")):
-            return f"{answers['save']}, {answers['clear']}"
-        if answers["apply"].status:
-            return self.ended_without(answers)
         with open(f"{self.file}.sent", "rb") as file:
-            self.sent = sum(it[0] % 4 < 2 for it in asked(file.read()))  # NEW and DEL
+            self.sent = len(requests_in(asked(file.read()), ALL))
         return self.is_wanted(answers)
 
     def is_wanted(self, answers):
-        """What there is is what is wanted, and a second plan is empty."""
-        wrong = self.unlike(self.state(self.wanted), self.state(answers["after"]))
-        plan = answers["plan"]
+        """tcapply ended with 0, what there is is what is wanted, and a second plan is empty."""
+        if answers["apply"].status:
+            return f"{answers['apply']}"
+        wrong, plan = self.unlike(self.wanted, answers["after"]), answers["plan"]
         if not wrong and (plan.status or plan.lines[:1] != [THERE]):
             wrong = f"a second plan: {plan}"
         return wrong
 
     def judge_killed(self, answers):
-        self.ends.append("killed" if answers["cut"].status == KILLED else "too late to kill")
-        if answers["apply"].status:
-            return "" if self.named and answers["apply"].status == 1 else f"{answers['apply']}"
+        if self.sent and answers["cut"].status != KILLED:
+            return f"not killed: {answers['cut']}"
+        self.ends += ["killed"] * bool(self.sent)
         return self.is_wanted(answers)
 
     def judge_refused(self, answers):
-        """Where nothing can be refused, it may end as it is wanted; where something can't be made, nothing is sent."""
-        status = answers["cut"].status
-        self.ends.append({0: "without a refusal", 1: "planned to nothing", 5: "came back"}.get(status, "lost"))
-        if status not in (0, 1, 5):
+        if not self.sent:
+            return ""
+        if answers["cut"].status != CAME_BACK:
             return f"{answers['cut']}"
-        return self.unlike(self.state(answers["before"] if status else self.wanted), self.state(answers["after"]))
+        self.ends.append("came back")
+        return self.unlike(self.state(answers["before"]), answers["after"])
 
     def judge_stepped(self, answers):
-        """What can't be made has no plan. The steps are looked at of one interface."""
-        path = f"{self.file}.stream"
-        if answers["plan"].status or len(self.devs) > 1 or not os.path.exists(path):
-            return ""
-        with open(path, "rb") as file:
+        if answers["save"] != Said(0, []) or answers["plan"] != Said(0, []):
+            return f"{answers['save']}, {answers['plan']}"
+        with open(f"{self.file}.stream", "rb") as file:
             requests = stream_of(file.read())
         wrong, counts = judge_steps(requests, [answers["before"], *answers["steps"]])
         self.steps += counts
-        return wrong
+        # Filters that were deleted last hold their actions for a grace period.
+        return wrong or self.unlike(self.wanted, [answers["before"], *answers["steps"]][-1], counts_filters=False)
 
 
 class Pairs:
-    """Pairs in as many guests as it takes."""
+    """Pairs in as many guests as it takes. Each guest's are judged when it ends."""
 
     def __init__(self, programs, seed, count, numbers=()):
-        self.seed, self.guests, self.pairs = seed, [], []
-        names = Names(f"{HERE}/sent.txt")
-        for number, pair in enumerate(pairs(seed, count)):
-            if numbers and number not in numbers:
-                continue
-            if len(self.pairs) % OF_A_GUEST == 0:
-                self.guests.append(Guest(f"pairs.{number}"))
-                with open(f"{self.guests[-1].folder}/flush", "w") as file:
-                    file.write(FLUSH)
-            self.pairs.append(Pair(number, pair, self.guests[-1], programs, names))
+        self.programs, self.seed, self.names = programs, seed, Names(f"{HERE}/sent.txt")
+        self.left = [(number, pair) for number, pair in enumerate(pairs(seed, count)) if not numbers or number in numbers]
+        self.count, self.asks_for_all = len(self.left), len(self.left) >= ALL_KINDS_IN
+        self.judged, self.good, self.sent, self.lock = 0, 0, 0, threading.Lock()
+        self.ends, self.steps, self.kinds = [collections.Counter() for _ in range(3)]
+
+    def run(self, at_once):
+        """Runs all of them, in so many guests at once."""
+        batches = [self.left[at : at + OF_A_GUEST] for at in range(0, self.count, OF_A_GUEST)]
+        with concurrent.futures.ThreadPoolExecutor(at_once) as pool:
+            list(pool.map(self.run_batch, batches))
+
+    def run_batch(self, batch):
+        """Runs pairs in one guest, and those after one that has no whole answer in another."""
+        while batch:
+            guest = Guest(f"pairs.{batch[0][0]}")
+            own = [Pair(number, pair, guest, self.programs, self.names) for number, pair in batch]
+            guest.run(SILENCE)
+            with self.lock:
+                batch = batch[self.judge_guest(own) :]
+
+    def judge_guest(self, own):
+        """Judges the pairs of a guest up to one that has no whole answer. Returns how many."""
+        began = time.monotonic()
+        for count, pair in enumerate(own, 1):
+            wrong = pair.judge()
+            for it in ["no whole answer"] if wrong is None else wrong:
+                fail(f"pair {pair.number} of seed {self.seed} ({pair.file}.before.tc, .wanted.tc): {it}")
+            if wrong is None:
+                break
+            self.take(pair, not wrong)
+        print(f"pairs {own[0].number} to {own[count - 1].number} judged in {time.monotonic() - began:.0f} s: {self.said()}", flush=True)
+        return count
+
+    def take(self, pair, is_good):
+        self.judged, self.good, self.sent = self.judged + 1, self.good + is_good, self.sent + pair.sent
+        self.ends.update(pair.ends)
+        self.steps.update(pair.steps)
+        self.kinds.update(pair.kinds)
+
+    def said(self):
+        ends, steps = [", ".join(f"{count} {what}" for what, count in sorted(some.items())) for some in (self.ends, self.steps)]
+        return f"{self.good} of {self.judged} as wanted; {self.sent} requests, {ends}; looked at after each of {steps}"
 
     def judge(self):
-        good, named, sent, ends, steps, reasons = 0, 0, 0, collections.Counter(), collections.Counter(), collections.Counter()
-        for pair in self.pairs:
-            wrong = pair.judge()
-            for it in wrong:
-                fail(f"pair {pair.number} of seed {self.seed} ({pair.file}.before.tc, .wanted.tc): {it}")
-            if wrong != ["no whole answer"]:
-                good, named, sent = good + (not wrong and not pair.named), named + bool(pair.named), sent + pair.sent
-                reasons.update(pair.named[:1])
-                ends.update(pair.ends)
-                steps.update(pair.steps)
-        said, seen = [", ".join(f"{count} {what}" for what, count in sorted(some.items())) for some in (ends, steps)]
-        for reason, count in sorted(reasons.items()):
-            print(f"{count} of the pairs can't be made: {reason}")
-        all_other = len(self.pairs) - named
-        return f"{good} of {all_other} pairs as wanted, {named} named as not to be made; {sent} requests, {said}; looked at after each of {seen}"
+        every = all_kinds()
+        missing = [" ".join(it) for it in sorted(every - self.kinds.keys())]
+        if missing and self.asks_for_all:
+            fail(f"no pair has {', '.join(missing)}")
+        elif missing:
+            print(f"no pair has {', '.join(missing)}")
+        return f"{self.good} of {self.count} pairs as wanted; {len(every) - len(missing)} of {len(every)} kinds; {self.said()}"

@@ -77,13 +77,9 @@ class Programs:
         """Applies a save. What was there before is kept in the folder `state`."""
         return self.command(f"timeout 100 $TCAPPLY --state {state} {file}")
 
-    def refused(self, file, part, bad):
-        """A save in which a qdisc or a filter is of a kind that no kernel has: the one at this part of those that no other refers to."""
-        return f"awk -v part={part} -f {HERE}/refused.awk {file} > {bad}"
-
-    def plan(self, file, now, stream):
-        """The requests of a plan that leads from what d7 has to a save, as a netlink stream."""
-        return self.command(f"$TCSAVE d7 > {now} && $TCMAKE --plan {now} --stream < {file} > {stream} 2> /dev/null")
+    def words(self, name, *options):
+        """The words that start a program, without a shell."""
+        return " ".join([self.paths[name], *options])
 
     def clear(self, dev="d7"):
         return self.command(f"$TCNL clear dev {dev}")
@@ -95,5 +91,5 @@ class Programs:
     def requests(self, file, *options):
         """The requests that tcmake makes of a save, as a netlink stream."""
         with open(file) as lines:
-            words = [self.paths["tcmake"], "--request", "--stream", *options]
+            words = [self.paths["tcmake"], *options, "--stream"]
             return subprocess.run(words, stdin=lines, capture_output=True).stdout

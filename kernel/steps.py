@@ -10,7 +10,8 @@ ROOT, SIDES = 0xFFFFFFFF, 0xFFFFFFF1  # the parents of a root qdisc, and of ingr
 MADE_BY_USER = ("htb", "hfsc", "drr", "qfq")  # the kernel makes the classes of other qdiscs
 GONE = (2, 22)  # ENOENT and EINVAL: what is to be deleted isn't there
 
-Dump = collections.namedtuple("Dump", "objects roots shared actions")  # of actions those that filters share or none holds, and all
+# Of actions those that filters share or none holds, and what each is.
+Dump = collections.namedtuple("Dump", "objects roots shared actions")
 
 
 def dump_of(messages):
@@ -21,7 +22,7 @@ def dump_of(messages):
     actions = actions_in(messages)
     shared = {(it.kind, it.number) for it in actions if (it.held, it.bound) != (1, 1)}
     own = {it.place(): it for it in objects if not is_by_kernel(it)}
-    return Dump(own, roots, shared, shared | {(it.kind, it.number) for it in actions})
+    return Dump(own, roots, shared, {(it.kind, it.number): unnumbered(it) for it in actions})
 
 
 def is_by_kernel(it):
@@ -33,14 +34,16 @@ def is_by_kernel(it):
     return not it.kind if it.type == CHAIN else not it.handle
 
 
-def config(it):
-    """What a request decides of an object: without the qdisc of a class, the level of one of htb, and the numbers of actions."""
+def config(it, shared):
+    """What a request decides of an object: without the qdisc of a class, the level of one of htb, and the numbers of actions; of one that is shared
+    it has only the number."""
     type_, index, handle, parent, info, others, options, _ = it.config()
     if it.type == CLASS:
         info = 0
         if it.kind == "htb":
             options = tuple((n, x[:32] + bytes(12) + x[44:]) if n == 1 else (n, x) for n, x in options)
-    return type_, index, handle, parent, info, others, options, tuple(map(unnumbered, it.actions))
+    actions = [(own.kind, own.number) if (own.kind, own.number) in shared else unnumbered(own) for own in it.actions]
+    return type_, index, handle, parent, info, others, options, actions
 
 
 def unnumbered(action):
@@ -52,9 +55,9 @@ class Model:
     """The objects that a plan leaves, each as it was before or as it is in the end."""
 
     def __init__(self, first, last):
-        self.last, self.now = last.objects, dict(first.objects)
+        self.last, self.now = last, dict(first.objects)
         # An action that only filters hold goes with the last of these, so those that stay are looked for.
-        self.actions, self.stay = set(first.shared), last.shared
+        self.actions, self.shared = {it: first.actions[it] for it in first.shared}, first.shared | last.shared
 
     def take(self, request, roots):
         """Takes a request. `roots` are the root tables of u32 before it. Returns what is wrong with it, "" for nothing."""
@@ -67,8 +70,8 @@ class Model:
         if is_deletion:
             gone = {place for place, other in self.now.items() if self.is_along(other, it)}
             self.now = {place: other for place, other in self.now.items() if place not in gone}
-        elif it.place() in self.last:
-            self.now[it.place()] = self.last[it.place()]
+        elif it.place() in self.last.objects:
+            self.now[it.place()] = self.last.objects[it.place()]
         elif not is_by_kernel(it):
             return f"{it.place()} is made, and isn't there in the end"
         return ""
@@ -78,7 +81,11 @@ class Model:
             kind = text(own[1])
             parms = [x for n, x in attributes(own.get(2, b"")) if n in PARMS_OF.get(kind, [2])]
             number = int.from_bytes((own[3] if 3 in own else parms[0])[:4], "little")
-            (self.actions.discard if is_deletion else self.actions.add)((kind, number))
+            self.actions.pop((kind, number), None)
+            if not is_deletion and (kind, number) not in self.last.actions:
+                return f"action {kind} {number} is made, and isn't there in the end"
+            if not is_deletion:
+                self.actions[kind, number] = self.last.actions[kind, number]
         return ""
 
     def rename(self, it, roots):
@@ -129,9 +136,13 @@ class Model:
                 vanished += 1
             elif not mine or not found:
                 out.append(f"{place}: {(mine or found).kind} is {'gone' if mine else 'new'}")
-            elif config(mine) != config(found):
+            elif config(mine, self.shared) != config(found, self.shared):
                 out.append(f"{place}: another configuration")
-        out += [f"action {kind} {number}: is gone" for kind, number in self.actions & self.stay - dump.actions]
+        for key, mine in self.actions.items():
+            if key not in dump.actions and key in self.last.shared:
+                out.append(f"action {key[0]} {key[1]}: is gone")
+            elif dump.actions.get(key, mine) != mine:
+                out.append(f"action {key[0]} {key[1]}: another configuration")
         return out, vanished
 
 

@@ -1,4 +1,4 @@
-"""What tcrestore sends: streams of requests, compared with what tcmake makes of the same files."""
+"""What tcrestore sends: streams of requests, compared with the plan that tcmake makes of the same files."""
 
 import collections
 import glob
@@ -8,6 +8,7 @@ import struct
 from states import ACTIONS_OF, CHAIN, CLASS, COUNTED_OF_ACTION, FILTER, QDISC, TIMES_OF, Object, attributes, text
 
 NEW = (QDISC, CLASS, FILTER, CHAIN, 48)  # 48 is RTM_NEWACTION
+ALL = (*NEW, *[it + 1 for it in NEW])  # those that delete too
 OF_BLOCK = -1  # TCM_IFINDEX_MAGIC_BLOCK
 
 # What the sender of a stream adds to flags: NLM_F_REQUEST, NLM_F_ACK, NLM_F_ECHO
@@ -40,12 +41,12 @@ def asked(data):
     return [it for (_, port), it in first.items() if port]
 
 
-def requests_in(some):
-    """Of messages, the requests that make or change something. What is sent again after a refusal counts once."""
+def requests_in(some, types=NEW):
+    """Of messages, the requests of these types: that make or change something. What is sent again after a refusal counts once."""
     out = []
     for type_, flags, _, payload in some:
         it = type_, flags & ~SENDERS, payload
-        if type_ in NEW and it not in out[-1:]:
+        if type_ in types and it not in out[-1:]:
             out.append(it)
     return out
 
@@ -108,19 +109,20 @@ def counts_in(value):
     return next((it for it in map(counts_in, inner) if it), None)
 
 
-def left_by_clearing(path, has_others):
-    """A save without the actions that only its filters hold, as when these are deleted; a block's filters stay if others have the block."""
+def actions_of(path, clears, has_others):
+    """The actions of a save, as if nothing held them, in a file of their own; if that `clears`, without those that only its filters hold, which go with
+    these. A block's filters stay if others have the block."""
     lines = [json.loads(it) for it in open(path) if it.startswith('{"type"')]
     filters = [it for it in lines if it["type"] == "RTM_NEWTFILTER" and not (has_others and it["message"]["header"]["index"] == OF_BLOCK)]
     held = collections.Counter((kind, number) for it in filters for kind, number, _ in named(it["message"]["attributes"]))
-    for it in lines:
-        if it["type"] in ("RTM_GETACTION", "RTM_NEWACTION"):
-            for attribute in it["message"]["attributes"]:
-                if "Actions" in attribute:
-                    attribute["Actions"] = [one for one in attribute["Actions"] if not goes(one, held)]
-    with open(f"{path}.left", "w") as file:
-        file.writelines(json.dumps(it) + "\n" for it in lines)
-    return f"{path}.left"
+    lists = [it for it in lines if it["type"] in ("RTM_GETACTION", "RTM_NEWACTION")]
+    for attribute in [attribute for it in lists for attribute in it["message"]["attributes"] if "Actions" in attribute]:
+        attribute["Actions"] = [one for one in attribute["Actions"] if not (clears and goes(one, held))]
+        for _, _, counts in named(attribute["Actions"]):
+            counts.update(refcnt=0, bindcnt=0)
+    with open(f"{path}.actions", "w") as file:
+        file.writelines(json.dumps(it) + "\n" for it in lists)
+    return f"{path}.actions"
 
 
 def goes(action, held):
@@ -133,8 +135,5 @@ def judged(programs, save, state, sent, options="", names="", has_others=False):
     wrong, words = leftovers(sent), options.split()
     if wrong or {"--map", "--partial"} & set(words):
         return wrong
-    now = glob.glob(f"{state}/*.json")[0]
-    if "--clear" in words:
-        now = left_by_clearing(now, has_others)
-    more = [it for it in words if it == "--replace-actions"] + (["--names", names] if names else [])
-    return as_made(sent, programs.requests(save, "--now", now, *more))
+    now = actions_of(glob.glob(f"{state}/*.json")[0], "--clear" in words, has_others)
+    return as_made(sent, programs.requests(save, "--plan", now, *(["--names", names] if names else [])))

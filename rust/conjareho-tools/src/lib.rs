@@ -25,8 +25,6 @@ pub mod netlink;
 #[cfg(target_os = "linux")]
 pub mod requests;
 #[cfg(target_os = "linux")]
-mod restore;
-#[cfg(target_os = "linux")]
 pub mod save;
 #[path = "../../erase/shims/events.rs"]
 mod serde;
@@ -54,7 +52,7 @@ use user::memchr;
 include!(concat!(env!("OUT_DIR"), "/programs.rs"));
 
 #[cfg(target_os = "linux")]
-pub use {apply::tcapply, restore::tcrestore, tcnl::tcnl, tcsave::tcsave};
+pub use {apply::tcapply, apply::tcrestore, tcnl::tcnl, tcsave::tcsave};
 
 use host::HostRuntime;
 use std::io::IsTerminal as _;

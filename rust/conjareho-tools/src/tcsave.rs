@@ -12,7 +12,7 @@ use std::process::ExitCode;
 const NOTES: &str = "\
 Examples:
   tcsave wan ifb0 > saved.json
-  tcrestore --clear saved.json
+  tcapply saved.json
 
 The save has all actions of the network namespace too, since these belong to no interface. Nothing
 is written before all of it was read. Whatever else changes meanwhile, it shows one state: if one

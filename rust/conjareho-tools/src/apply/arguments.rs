@@ -1,11 +1,15 @@
 //! The arguments of tcapply.
 
-use crate::restore::arguments::{Arguments as Restored, STATE, pair_of};
 use ::clap::builder::NonEmptyStringValueParser;
 use ::clap::error::ErrorKind;
 use ::clap::{Arg, ArgAction, ArgMatches, Command, Error, value_parser};
+use std::collections::BTreeMap;
 use std::ffi::OsString;
+use std::path::PathBuf;
 use std::time::Duration;
+
+/// Where the states before are kept.
+pub(crate) const STATE: &str = "/var/lib/conjareho";
 
 const ABOUT: &str = "\
 Brings interfaces from the traffic control configuration that they have to the one that FILE says,
@@ -38,48 +42,84 @@ Exit status:
   6  the same, or another program changed the interface meanwhile; what was there before isn't there
      again, and the message names the file that has it";
 
-/// What the arguments say.
+/// What becomes of what is there.
+#[derive(Clone, Copy, PartialEq, Eq, Default, Debug)]
+pub(crate) enum Way {
+    /// It becomes what is wanted, and what is the same in both isn't touched.
+    #[default]
+    Change,
+    /// It stays, and all that is wanted is made beside it.
+    Beside,
+    /// It goes, and all that is wanted is made.
+    Anew,
+}
+
+/// What the arguments say, of tcapply or of tcrestore.
 #[derive(Debug)]
 pub(crate) struct Arguments {
-    /// Those that are tcrestore's too.
-    pub(crate) restored: Restored,
+    /// The file of the save; none for standard input.
+    pub(crate) file: Option<PathBuf>,
     /// What makes the configuration that is wanted; none if a file has it.
     pub(crate) command: Option<Vec<OsString>>,
+    /// The interface instead of the file's.
+    pub(crate) dev: Option<String>,
+    /// The names of today by those of the file.
+    pub(crate) map: BTreeMap<String, String>,
+    pub(crate) way: Way,
+    /// What can't be made is left out.
+    pub(crate) partial: bool,
+    /// Actions that filters of other interfaces hold too aren't changed.
+    pub(crate) spares_actions: bool,
     pub(crate) dry_run: bool,
     pub(crate) check: bool,
     /// How long Enter is waited for.
     pub(crate) trial: Option<Duration>,
+    pub(crate) no_rollback: bool,
+    /// The folder of the states before.
+    pub(crate) state: PathBuf,
+}
+
+impl Arguments {
+    /// Those that both programs have.
+    pub(crate) fn shared(matches: &mut ArgMatches) -> Arguments {
+        let file = matches.remove_one::<OsString>("file").filter(|path| path != "-");
+        let map = matches.remove_many::<(String, String)>("map").into_iter().flatten().collect();
+        Arguments {
+            file: file.map(Into::into),
+            command: None,
+            dev: matches.remove_one("dev"),
+            map,
+            way: Way::Change,
+            partial: false,
+            spares_actions: false,
+            dry_run: false,
+            check: false,
+            trial: None,
+            no_rollback: matches.get_flag("no-rollback"),
+            state: matches.remove_one::<OsString>("state").unwrap_or_else(|| STATE.into()).into(),
+        }
+    }
+
+    /// The file's name for messages.
+    pub(crate) fn file_name(&self) -> String {
+        self.file.as_ref().map_or_else(|| "standard input".to_string(), |path| path.display().to_string())
+    }
 }
 
 /// What these words say, the program's name first. The error is a mistake in them, or the help or the version that they ask for.
 pub(crate) fn arguments_of(words: impl IntoIterator<Item = OsString>) -> Result<Arguments, Error> {
     let mut matches = command().try_get_matches_from(words)?;
     let arguments = Arguments {
-        restored: restored_in(&mut matches),
         command: matches.remove_many("command").map(Iterator::collect),
         dry_run: matches.get_flag("dry-run"),
         check: matches.get_flag("check"),
         trial: matches.get_one::<u64>("try").map(|seconds| Duration::from_secs(*seconds)),
+        ..Arguments::shared(&mut matches)
     };
-    if arguments.trial.is_some() && arguments.command.is_none() && arguments.restored.file.is_none() {
+    if arguments.trial.is_some() && arguments.command.is_none() && arguments.file.is_none() {
         return Err(command().error(ErrorKind::ArgumentConflict, "--try waits at standard input, which FILE can't be"));
     }
     Ok(arguments)
-}
-
-fn restored_in(matches: &mut ArgMatches) -> Restored {
-    let file = matches.remove_one::<OsString>("file").filter(|path| path != "-");
-    let map = matches.remove_many::<(String, String)>("map").into_iter().flatten().collect();
-    Restored {
-        file: file.map(Into::into),
-        dev: matches.remove_one("dev"),
-        map,
-        clear: false,
-        partial: false,
-        replace_actions: false,
-        no_rollback: matches.get_flag("no-rollback"),
-        state: matches.remove_one::<OsString>("state").unwrap_or_else(|| STATE.into()).into(),
-    }
 }
 
 fn command() -> Command {
@@ -110,7 +150,15 @@ fn command() -> Command {
         .args(ways_back())
 }
 
-fn flag(name: &'static str, help: &'static str) -> Arg {
+/// Two names with a sign of equality between them.
+pub(crate) fn pair_of(text: &str) -> Result<(String, String), String> {
+    match text.split_once('=') {
+        Some((left, right)) if !left.is_empty() && !right.is_empty() => Ok((left.to_string(), right.to_string())),
+        _ => Err("two names are wanted, such as ids=ids0".to_string()),
+    }
+}
+
+pub(crate) fn flag(name: &'static str, help: &'static str) -> Arg {
     Arg::new(name).long(name).action(ArgAction::SetTrue).help(help)
 }
 
@@ -157,19 +205,19 @@ mod tests {
     #[test]
     fn reads_words() {
         let all = of(&["--dev", "eth1", "--map", "ids=ids0", "--try", "30", "--state", "/tmp/x", "f"]).expect("read");
-        assert_eq!(all.restored.dev.as_deref(), Some("eth1"));
-        assert_eq!(all.restored.map["ids"], "ids0");
+        assert_eq!(all.dev.as_deref(), Some("eth1"));
+        assert_eq!(all.map["ids"], "ids0");
         assert_eq!(all.trial, Some(Duration::from_secs(30)));
-        assert_eq!((all.restored.file, all.command), (Some(PathBuf::from("f")), None));
-        assert_eq!(of(&["-"]).expect("read").restored.file, None);
-        assert_eq!(of(&["-n", "f"]).expect("read").restored.state, PathBuf::from(STATE));
+        assert_eq!((all.file, all.command), (Some(PathBuf::from("f")), None));
+        assert_eq!(of(&["-"]).expect("read").file, None);
+        assert_eq!(of(&["-n", "f"]).expect("read").state, PathBuf::from(STATE));
     }
 
     #[test]
     fn reads_a_command() {
         let all = of(&["--dev", "wan", "-n", "--", "./shaper.sh", "--fast", "-n"]).expect("read");
         assert_eq!(all.command, Some(["./shaper.sh", "--fast", "-n"].map(OsString::from).to_vec()));
-        assert!(all.dry_run && all.restored.file.is_none());
+        assert!(all.dry_run && all.file.is_none());
         assert!(of(&["--", "./shaper.sh"]).is_err(), "of which interface");
         assert!(of(&["--dev", "wan", "f", "--", "./shaper.sh"]).is_err());
     }

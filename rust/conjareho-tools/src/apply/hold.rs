@@ -1,6 +1,6 @@
 //! The time of a trial, in which somebody says that it is to stay.
 
-use crate::restore::world::Stop;
+use super::world::Stop;
 use nix::errno::Errno;
 use nix::poll::{PollFd, PollFlags, poll};
 use std::io::{ErrorKind, Read};

@@ -1,8 +1,9 @@
 //! A lock of a network namespace: one tcapply at a time.
 
+use super::arguments::Way;
 use super::scratch::OWN_NETWORK;
-use crate::restore::prepare::Ended;
-use crate::restore::status::Status;
+use super::status::Ended;
+use super::status::Status;
 use nix::errno::Errno;
 use nix::fcntl::{FlockArg, flock};
 use std::fs::File;
@@ -11,8 +12,9 @@ use std::os::fd::AsRawFd as _;
 use std::thread::sleep;
 use std::time::{Duration, Instant};
 
-/// How long it is waited for.
+/// How long it is waited for: by tcrestore longer, of which there may be one for each interface when a machine starts.
 const PATIENCE: Duration = Duration::from_secs(10);
+const PATIENCE_OF_RESTORES: Duration = Duration::from_secs(90);
 const PAUSE: Duration = Duration::from_millis(50);
 
 /// A lock, as long as it is there.
@@ -22,10 +24,11 @@ pub(crate) struct Lock {
 }
 
 /// The lock of this network namespace: of the file by which the kernel shows it. The error is that another has it, that a signal came, or what failed.
-pub(crate) fn lock(signal: &dyn Fn() -> Option<&'static str>) -> Result<Lock, Ended> {
+pub(crate) fn lock(way: Way, signal: &dyn Fn() -> Option<&'static str>) -> Result<Lock, Ended> {
+    let patience = if way == Way::Change { PATIENCE } else { PATIENCE_OF_RESTORES };
     let failed = |error: io::Error| Ended::because(Status::Failed, vec![format!("the lock of {OWN_NETWORK}: {error}")]);
     let file = File::open(OWN_NETWORK).map_err(failed)?;
-    let until = Instant::now() + PATIENCE;
+    let until = Instant::now() + patience;
     loop {
         match flock(file.as_raw_fd(), FlockArg::LockExclusiveNonblock) {
             Ok(()) => return Ok(Lock { _file: file }),
@@ -37,7 +40,7 @@ pub(crate) fn lock(signal: &dyn Fn() -> Option<&'static str>) -> Result<Lock, En
             return Err(ended(format!("{name} came")));
         }
         if Instant::now() >= until {
-            return Err(ended(format!("another tcapply has been at work for {} seconds", PATIENCE.as_secs())));
+            return Err(ended(format!("another tcapply has been at work for {} seconds", patience.as_secs())));
         }
         sleep(PAUSE);
     }
@@ -49,9 +52,9 @@ mod tests {
 
     #[test]
     fn one_has_it() {
-        let first = lock(&|| None).expect("locked");
-        assert_eq!(lock(&|| Some("SIGINT")).expect_err("held").said[0], "SIGINT came");
+        let first = lock(Way::Change, &|| None).expect("locked");
+        assert_eq!(lock(Way::Change, &|| Some("SIGINT")).expect_err("held").said[0], "SIGINT came");
         drop(first);
-        lock(&|| Some("SIGINT")).expect("free again");
+        lock(Way::Change, &|| Some("SIGINT")).expect("free again");
     }
 }

@@ -1,35 +1,53 @@
-//! The program tcapply: from what interfaces have to what a file says.
+//! The program tcapply: from what interfaces have to what a file says. tcrestore is a call of it.
 
+mod actions;
+mod after;
 mod arguments;
+mod back;
+mod blocks;
+mod compare;
+mod file;
+mod hardware;
 mod hold;
 mod lock;
+mod messages;
+mod named;
 mod outline;
-pub(crate) mod plan;
+mod plan;
 mod prepare;
+mod requests;
+mod restore;
 mod scratch;
+mod sending;
+mod signals;
+mod state;
+mod status;
+mod targets;
 #[cfg(test)]
 mod tests;
 mod trial;
 mod wanted;
 mod words;
+mod world;
 
-use arguments::{Arguments, arguments_of};
-use plan::{plan, plan_anew};
+use after::{check_after, same};
+use arguments::{Arguments, Way};
+use blocks::without;
+use compare::{Held, Key, by_place};
+use plan::plan_anew;
 use prepare::{Planned, Prepared, planned, prepare};
+use sending::Sending;
+use signals::Signals;
+use status::{Ended, Status};
 use wanted::{Wanted, wanted_of};
+use world::{Stop, World};
 
 use crate::netlink::fault::Printable;
-use crate::netlink::{Socket, Transport};
-use crate::restore::back::without;
-use crate::restore::compare::by_place;
-use crate::restore::prepare::Ended;
-use crate::restore::sending::Sending;
-use crate::restore::status::Status;
-use crate::restore::world::{Place, Stop, World};
-use crate::restore::{Signals, hardware, open_kernel, read, same, say_all};
+use crate::netlink::{Fault, Kernel, Listener, Socket, Transport};
 use crate::save::release;
 use crate::shown::lines_of;
-use std::io::{self, Write as _};
+use std::fs;
+use std::io::{self, Read as _, Write as _};
 use std::process::ExitCode;
 use std::thread;
 
@@ -41,8 +59,17 @@ type Hold<'h> = &'h mut dyn FnMut() -> Result<(), Stop>;
 
 /// The whole program.
 pub fn tcapply() -> ExitCode {
-    match arguments_of(std::env::args_os()) {
-        Ok(arguments) => obey(&arguments).into(),
+    program("tcapply", arguments::arguments_of(std::env::args_os()))
+}
+
+/// The whole program tcrestore.
+pub fn tcrestore() -> ExitCode {
+    program("tcrestore", restore::arguments_of(std::env::args_os()))
+}
+
+fn program(name: &'static str, arguments: Result<Arguments, ::clap::Error>) -> ExitCode {
+    match arguments {
+        Ok(arguments) => obey(name, &arguments).into(),
         Err(error) => {
             let _ = error.print();
             ExitCode::from(if error.use_stderr() { Status::Usage as u8 } else { 0 })
@@ -50,13 +77,13 @@ pub fn tcapply() -> ExitCode {
     }
 }
 
-fn obey(arguments: &Arguments) -> Status {
+fn obey(name: &'static str, arguments: &Arguments) -> Status {
     let mut said = Vec::new();
-    let status = opened(arguments, &mut said).unwrap_or_else(|ended| {
+    let status = opened(name, arguments, &mut said).unwrap_or_else(|ended| {
         said.extend(ended.said);
         ended.status
     });
-    say_all("tcapply", &said);
+    say_all(name, &said);
     status
 }
 
@@ -65,11 +92,10 @@ fn failed(why: String) -> Ended {
 }
 
 // Reads the file, or runs the command, and does what is asked for.
-fn opened(arguments: &Arguments, said: &mut Vec<String>) -> Result<Status, Ended> {
-    let restored = &arguments.restored;
-    let file = match (&arguments.command, &restored.dev) {
+fn opened(name: &'static str, arguments: &Arguments, said: &mut Vec<String>) -> Result<Status, Ended> {
+    let file = match (&arguments.command, &arguments.dev) {
         (Some(command), Some(dev)) => trial::made_by(command, dev)?,
-        _ => read(restored).map_err(|error| failed(format!("{}: {error}", restored.file_name())))?,
+        _ => read(arguments).map_err(|error| failed(format!("{}: {error}", arguments.file_name())))?,
     };
     // Until here nothing was asked for that a signal shouldn't end.
     let signals = Signals::catch().map_err(failed)?;
@@ -82,16 +108,40 @@ fn opened(arguments: &Arguments, said: &mut Vec<String>) -> Result<Status, Ended
     if arguments.check {
         return trial::check(arguments, file, &mut world, said);
     }
-    let _lock = lock::lock(&signal)?;
+    let _lock = lock::lock(arguments.way, &signal)?;
     let mut hold = || {
         let Some(time) = arguments.trial else { return Ok(()) };
         let seconds = time.as_secs();
         let asked = format!("the plan is applied; press Enter within {seconds} seconds, or it goes back");
         // A terminal that nobody reads mustn't hold up the way back.
-        thread::spawn(move || say_all("tcapply", &[asked]));
+        thread::spawn(move || say_all(name, &[asked]));
         hold::hold(&mut io::stdin().lock(), time, &signal)
     };
     Ok(apply(arguments, file, &mut world, &mut hold, said))
+}
+
+/// The kernel of this network namespace, and two that hear what changes in it.
+pub(crate) fn open_kernel() -> Result<(Kernel, [Listener; 2]), String> {
+    let said = |fault: Fault| fault.to_string();
+    Ok((Kernel::open().map_err(said)?, [Listener::open().map_err(said)?, Listener::open().map_err(said)?]))
+}
+
+// Reads the file that is named, or standard input.
+fn read(arguments: &Arguments) -> io::Result<Vec<u8>> {
+    match &arguments.file {
+        Some(path) => fs::read(path),
+        None => {
+            let mut bytes = Vec::new();
+            io::stdin().read_to_end(&mut bytes)?;
+            Ok(bytes)
+        }
+    }
+}
+
+/// Says what is to be said. A terminal that nobody reads would hold up what is sent, so nothing is written before the end.
+pub(crate) fn say_all(program: &str, said: &[String]) {
+    let text: String = said.iter().map(|line| format!("{program}: {}\n", Printable(line))).collect();
+    let _ = io::stderr().write_all(text.as_bytes());
 }
 
 // Prints the plan.
@@ -102,7 +152,7 @@ fn dry_run(
     said: &mut Vec<String>,
 ) -> Result<Status, Ended> {
     let mut wanted = wanted_of(arguments, file, world, said)?;
-    let Planned { dump, before, steps, .. } = planned(world, &mut wanted)?;
+    let Planned { dump, before, steps, .. } = planned(arguments, world, &mut wanted)?;
     let text: String = outline::lines(&steps, &before, &wanted.messages, &dump.devices)
         .iter()
         .map(|line| format!("{}\n", Printable(line)))
@@ -129,8 +179,9 @@ fn apply<T: Transport, L: Transport>(
             return ended.status;
         }
     };
-    let mut sending = Sending::new(world, &prepared.place);
-    match carried_out(&prepared, &mut sending, hold, said) {
+    let mut sending = Sending::new(world, &prepared.place, arguments.way != Way::Beside);
+    match carried_out(arguments.way, &prepared, &mut sending, hold, said) {
+        Ok(()) if prepared.wanted.is_partial => Status::Otherwise,
         Ok(()) => {
             let is_kept = arguments.trial.is_some() && !prepared.steps.is_empty();
             said.extend(is_kept.then(|| "Enter was pressed, so it stays".to_string()));
@@ -138,8 +189,7 @@ fn apply<T: Transport, L: Transport>(
         }
         Err(stop) => {
             said.push(stop.to_string());
-            let is_left = arguments.restored.no_rollback;
-            prepared.before.ended(&prepared.wanted.objects, is_left, &mut sending, &stop, said)
+            prepared.before.ended(&prepared.wanted.objects, arguments.no_rollback, &mut sending, &stop, said)
         }
     }
 }
@@ -168,6 +218,7 @@ fn begun<T: Transport, L: Transport>(
 
 // Sends all, compares, and waits.
 fn carried_out<T: Transport, L: Transport>(
+    way: Way,
     prepared: &Prepared,
     sending: &mut Sending<'_, '_, T, L>,
     hold: Hold<'_>,
@@ -175,10 +226,10 @@ fn carried_out<T: Transport, L: Transport>(
 ) -> Result<(), Stop> {
     let wanted = &prepared.wanted;
     sending.carry_out(&prepared.steps)?;
-    let after = match reached(prepared, sending) {
-        Err(stop @ Stop::Differs(_)) => {
+    let after = match reached(way, prepared, sending) {
+        Err(stop @ Stop::Differs(_)) if way != Way::Beside => {
             made_anew(prepared, sending, stop, said)?;
-            reached(prepared, sending)?
+            reached(way, prepared, sending)?
         }
         after => after?,
     };
@@ -188,14 +239,19 @@ fn carried_out<T: Transport, L: Transport>(
     if prepared.steps.is_empty() { Ok(()) } else { hold() }
 }
 
-// What is there, as it is dumped; an error if it isn't what is wanted.
+// What is there, as it is dumped; an error if it isn't what is wanted. Actions belong to no interface: others may be there.
 fn reached<T: Transport, L: Transport>(
+    way: Way,
     prepared: &Prepared,
     sending: &mut Sending<'_, '_, T, L>,
 ) -> Result<Vec<Vec<u8>>, Stop> {
-    // Actions belong to no interface.
-    let after = same(sending, &prepared.wanted.objects, by_place, |key, _| key.is_action())?;
-    check_after(&without(&after, &prepared.before.others), &prepared.wanted, sending.place)?;
+    let (wanted, before) = (&prepared.wanted, &prepared.before);
+    if way == Way::Beside {
+        let was_there = |key: &Key, held: &Held| before.objects.get(key).is_some_and(|it| it.is_same(held));
+        return same(sending, &wanted.objects, |all| all, |key, held| key.is_action() || was_there(key, held));
+    }
+    let after = same(sending, &wanted.objects, by_place, |key, _| key.is_action())?;
+    check_after(&without(&after, &before.others), wanted, sending.place)?;
     Ok(after)
 }
 
@@ -217,11 +273,4 @@ fn made_anew<T: Transport, L: Transport>(
     said.extend(unmade.into_iter().map(warning));
     let steps = plan_anew(&now, &wanted.messages).map_err(|faults| Stop::Unplanned(wanted.said_of(&faults)))?;
     sending.carry_out(&steps)
-}
-
-/// An error if there is still a plan to what is wanted.
-fn check_after(after: &[Vec<u8>], wanted: &Wanted, place: &Place) -> Result<(), Stop> {
-    let left = plan(after, &wanted.messages, |_| false).map_err(|faults| Stop::Unplanned(wanted.said_of(&faults)))?;
-    let what = || left.iter().map(|request| place.what_of(request)).collect();
-    if left.is_empty() { Ok(()) } else { Err(Stop::Differs(what())) }
 }

@@ -1,14 +1,14 @@
 //! A plan as lines for people: `-` deletes, `+` makes, `~` changes; then the object as `tcshow` prints it.
 
+use super::compare::{Held, Key, Objects, key_of, objects_of};
+use super::messages::{as_new, chain_of, deletes, has_own_actions, kind_of, payload_of, replaces, type_of};
+use super::requests::requests_of_dump;
 use super::words::differing_words;
 use crate::forms_kinds::{ACTION_MESSAGE, TC_MESSAGE, TcTables};
 use crate::netlink::Devices;
 use crate::netlink::message::{
     RTM_NEWACTION, RTM_NEWCHAIN, RTM_NEWQDISC, RTM_NEWTCLASS, RTM_NEWTFILTER, is_action, tcmsg_of,
 };
-use crate::restore::compare::{Held, Key, Objects, key_of, objects_of};
-use crate::restore::messages::{as_new, chain_of, deletes, has_own_actions, kind_of, payload_of, replaces, type_of};
-use crate::restore::plan::requests_of_dump;
 use crate::tc_brief::{self, Said, lines_of};
 use crate::tc_columns::{KindColumns, Root};
 use crate::tc_words::TcWords;

@@ -1,11 +1,11 @@
 //! Plans: the requests that bring what there is to what is wanted, by the proved plan.
 
+use super::compare::{Key, key_of};
+use super::messages::{actions_of, chain_of, deletes, kind_of, payload_of, replaces, type_of};
+use super::requests::{LINES_BEFORE, dumps_of, requests_of_dump};
 use crate::netlink::message::{HEADER, RTM_NEWCHAIN, RTM_NEWQDISC, RTM_NEWTCLASS, RTM_NEWTFILTER, is_action, tcmsg_of};
 use crate::nla_frames::ParseableBytes as _;
 use crate::program_io::Stop;
-use crate::restore::compare::Key;
-use crate::restore::messages::{actions_of, chain_of, kind_of, payload_of, type_of};
-use crate::restore::plan::{LINES_BEFORE, dumps_of, requests_of_dump};
 use crate::tc_action_messages::TcActionMessage;
 use crate::tc_changes::{self, Rules};
 use crate::tc_messages::TcMessage;
@@ -80,6 +80,20 @@ pub(crate) fn plan(now: &[Vec<u8>], wanted: &[Vec<u8>], may_go: impl Fn(&Key) ->
 /// The same without changes in place: what differs is deleted and made. No other action is deleted.
 pub(crate) fn plan_anew(now: &[Vec<u8>], wanted: &[Vec<u8>]) -> Plan {
     plan_by(&NoChanges, now, wanted, |_| false)
+}
+
+/// The plan that makes all that is wanted where nothing is but these actions, so that the kernel refuses what is there already. What isn't whole by
+/// itself is planned beside what else there is, of which nothing goes.
+pub(crate) fn plan_beside(now: &[Vec<u8>], actions: &[Vec<u8>], wanted: &[Vec<u8>]) -> Plan {
+    plan(actions, wanted, |_| false).or_else(|faults| {
+        let keys: Vec<Key> = wanted.iter().filter_map(|dump| key_of(dump)).collect();
+        let is_wanted = |own: &Key| keys.iter().any(|key| key.is_object_of(own));
+        let is_other = |dump: &&Vec<u8>| !is_action(type_of(dump)) && !key_of(dump).is_some_and(|own| is_wanted(&own));
+        let others: Vec<Vec<u8>> = now.iter().filter(is_other).cloned().collect();
+        let stays = |step: &Vec<u8>| !deletes(step) && (!replaces(step) || is_action(type_of(step)));
+        let steps = plan(&[&others[..], actions].concat(), &[&others[..], wanted].concat(), |_| false).ok();
+        steps.filter(|steps| steps.iter().all(stays)).ok_or(faults)
+    })
 }
 
 // Nothing is changed in place.

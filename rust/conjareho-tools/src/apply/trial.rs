@@ -2,19 +2,19 @@
 
 use super::arguments::Arguments;
 use super::check_after;
+use super::compare::by_place;
+use super::messages::blocks_of;
 use super::plan::plan;
 use super::prepare::{Planned, planned};
+use super::requests::requests_of_dump;
 use super::scratch::within;
+use super::sending::Sending;
+use super::status::Ended;
+use super::status::Status;
 use super::wanted::{Wanted, wanted_of};
+use super::world::{Place, Stop, World, text_of};
+use super::{hardware, open_kernel, same};
 use crate::netlink::{Device, Devices, Fault, Kernel, Transport, state_of};
-use crate::restore::compare::by_place;
-use crate::restore::messages::blocks_of;
-use crate::restore::plan::requests_of_dump;
-use crate::restore::prepare::Ended;
-use crate::restore::sending::Sending;
-use crate::restore::status::Status;
-use crate::restore::world::{Place, Stop, World, text_of};
-use crate::restore::{hardware, open_kernel, same};
 use std::ffi::OsString;
 use std::process::Command;
 
@@ -73,7 +73,7 @@ pub(crate) fn check<T: Transport, L: Transport>(
     said: &mut Vec<String>,
 ) -> Result<Status, Ended> {
     let mut wanted = wanted_of(arguments, file, world, said)?;
-    let Planned { dump, before, others, .. } = planned(world, &mut wanted)?;
+    let Planned { dump, before, others, .. } = planned(arguments, world, &mut wanted)?;
     wanted.objects.retain(|key, _| key.block().is_none_or(|block| !others.contains_key(&block)));
     let now = requests_of_dump(&before);
     if now.is_void || !now.complaints.is_empty() {
@@ -96,7 +96,7 @@ fn tried(now: &[Vec<u8>], wanted: &Wanted) -> Result<usize, String> {
     let mut world = World::new(kernel, dumps, watch, &|| None);
     let blocks = now.iter().chain(&wanted.messages).flat_map(|it| blocks_of(it)).collect();
     let place = Place { devices, blocks };
-    let mut sending = Sending::new(&mut world, &place);
+    let mut sending = Sending::new(&mut world, &place, true);
     sending
         .carry_out(now)
         .map_err(|stop| format!("what is there now can't be made in a new network namespace: {stop}"))?;

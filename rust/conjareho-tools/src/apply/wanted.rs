@@ -1,19 +1,19 @@
 //! What is wanted: the objects of a save, for the interfaces of today.
 
-use super::arguments::Arguments;
+use super::arguments::{Arguments, Way};
+use super::compare::{Key, Objects, key_of, objects_of};
+use super::file::{Save, read_save};
+use super::hardware;
+use super::messages::{actions_of, kind_of, type_of};
+use super::named::named;
 use super::plan::Fault;
+use super::requests::{Asked, requests};
+use super::status::{Ended, Status};
+use super::targets::{STRANGE, Targets, targets_of};
+use super::world::World;
 use crate::forms_kinds::{ACTION_MESSAGE, TC_MESSAGE, TcTables};
-use crate::netlink::message::{RTM_NEWQDISC, RTM_NEWTCLASS, Tcmsg, request, tcmsg_of};
+use crate::netlink::message::{RTM_NEWQDISC, RTM_NEWTCLASS, Tcmsg, is_action, request, tcmsg_of};
 use crate::netlink::{Devices, Transport};
-use crate::restore::compare::{Objects, key_of, objects_of};
-use crate::restore::hardware;
-use crate::restore::messages::{kind_of, type_of};
-use crate::restore::named::named;
-use crate::restore::plan::{Wanted as Asked, requests};
-use crate::restore::prepare::{Ended, names_of, save_in};
-use crate::restore::status::Status;
-use crate::restore::targets::{STRANGE, Targets, targets_of};
-use crate::restore::world::World;
 use crate::tc_texts::handle_text;
 use crate::tcmake_lib::lines::{Dumped, Reading, RemarkKind, Source, read_lines};
 use crate::tcmake_messages::Forms;
@@ -35,9 +35,22 @@ pub(crate) struct Wanted {
     pub(crate) objects: Objects,
     /// How many filters were in hardware.
     pub(crate) in_hardware: usize,
+    /// Something can't be made, was named and is left out.
+    pub(crate) is_partial: bool,
 }
 
 impl Wanted {
+    /// Why there is nothing to send, if others hold these actions.
+    pub(crate) fn said_of_held(&self, actions: &[Key]) -> Vec<String> {
+        let has = |message: &&Vec<u8>, key: &Key| is_action(type_of(message)) && key_in(message, key);
+        let fault = |key: &Key| Fault {
+            is_of_now: false,
+            place: self.messages.iter().position(|message| has(&message, key)),
+            text: format!("the {key} is there and differs, and others hold it"),
+        };
+        actions.iter().map(|key| self.said_of_one(&fault(key))).collect()
+    }
+
     /// Leaves out dumps, which aren't these interfaces' to change.
     pub(crate) fn leave_out(&mut self, is_left: impl Fn(&[u8]) -> bool) {
         let dumps = std::mem::take(&mut self.messages).into_iter().zip(std::mem::take(&mut self.numbers));
@@ -67,43 +80,79 @@ pub(crate) fn wanted_of<T: Transport, L: Transport>(
     world: &mut World<'_, T, L>,
     said: &mut Vec<String>,
 ) -> Result<Wanted, Ended> {
-    let restored = &arguments.restored;
-    let save = save_in(restored, file)?;
+    let save = save_in(arguments, file)?;
     let devices = Devices::of(&mut world.kernel)?;
     let nothing = |said: Vec<String>| Ended::because(Status::NothingSent, said);
-    let targets = targets_of(&save, restored, &devices).map_err(nothing)?;
+    let targets = targets_of(&save, arguments, &devices).map_err(nothing)?;
     said.extend(targets.warnings.iter().cloned());
     let names = names_of(&save, &targets);
-    let asked = Asked {
-        text: &save.text,
-        names: save.head.as_ref().map(|_| names.as_slice()),
-        index: targets.only,
-        ..Asked::default()
-    };
-    let in_file = |text: &String| format!("{}: {text}", restored.file_name());
+    let asked = Asked { text: &save.text, names: save.head.as_ref().map(|_| names.as_slice()), index: targets.only };
+    let in_file = |text: &String| format!("{}: {text}", arguments.file_name());
     let in_lines = |faults: Vec<String>| nothing(faults.iter().map(in_file).collect());
-    let dumps = messages_in(&asked).map_err(in_lines)?;
+    let made = requests(&asked);
+    said.extend(made.notices.iter().map(in_file));
+    // Whether there is a plan to what can't be made, the plan says; but where nothing is, all is to be made.
+    let is_partial = arguments.way != Way::Change && !made.complaints.is_empty();
+    if is_partial && (made.is_void || !arguments.partial) {
+        return Err(in_lines(made.complaints));
+    }
+    let mut dumps = messages_in(&asked, arguments.partial).map_err(in_lines)?;
+    let objects = objects_of(&made.requests);
+    if is_partial {
+        said.extend(made.complaints.iter().map(in_file));
+        let is_made = |number: &u64| !made.unmade.contains(number);
+        dumps = dumps
+            .into_iter()
+            .flat_map(|dump| if is_made(&dump.0) { vec![dump] } else { left_of(dump, &objects) })
+            .collect();
+    }
     let faults = faults_in(&dumps, &targets);
     if !faults.is_empty() {
         return Err(in_lines(faults));
     }
-    // Whether there is a plan to what can't be made, the plan says.
-    let made = requests(&asked);
-    said.extend(made.notices.iter().map(in_file));
     let (numbers, messages) = dumps.into_iter().unzip();
     Ok(Wanted {
         messages,
         numbers,
-        file: restored.file_name(),
-        objects: objects_of(&made.requests),
+        file: arguments.file_name(),
+        objects,
         requests: made.requests,
         in_hardware: hardware::count(save.lines()),
         targets,
+        is_partial,
     })
 }
 
-// The dumps of lines, by the numbers of these. The error is what is wrong with lines.
-fn messages_in(asked: &Asked<'_>) -> Result<BTreeMap<u64, Vec<u8>>, Vec<String>> {
+// What is left of the dump of a line with something that can't be made: the actions in it that are made.
+fn left_of((number, message): (u64, Vec<u8>), objects: &Objects) -> Vec<(u64, Vec<u8>)> {
+    let listed = if is_action(type_of(&message)) { actions_of(&message) } else { Vec::new() };
+    let made = listed.into_iter().filter(|action| objects.contains_key(&action.key()));
+    made.map(|action| (number, action.change())).collect()
+}
+
+// The save of a file.
+fn save_in(arguments: &Arguments, file: Vec<u8>) -> Result<Save, Ended> {
+    let refused = |why: String| Ended::because(Status::NothingSent, vec![format!("{}: {why}", arguments.file_name())]);
+    let save = read_save(file).map_err(|error| refused(error.to_string()))?;
+    if arguments.way == Way::Anew && save.head.is_none() {
+        return Err(refused("--clear requires a save with a head and an end".to_string()));
+    }
+    Ok(save)
+}
+
+// The names of the save, and the interfaces that have them today.
+fn names_of<'a>(save: &'a Save, targets: &Targets) -> Vec<(u32, &'a str)> {
+    let names = save.head.iter().flat_map(|head| &head.names);
+    names.filter_map(|(index, name)| Some((*targets.indices.get(index)?, name.as_str()))).collect()
+}
+
+// True for a message about this action.
+fn key_in(message: &[u8], key: &Key) -> bool {
+    actions_of(message).iter().any(|action| action.key() == *key)
+}
+
+// The dumps of lines, with the numbers of these. The error is what is wrong with lines, unless those are left out.
+fn messages_in(asked: &Asked<'_>, leaves_out: bool) -> Result<Vec<(u64, Vec<u8>)>, Vec<String>> {
     let forms = Forms { table: TcTables, tc: TC_MESSAGE, action: ACTION_MESSAGE };
     let index = asked.index.and_then(|index| i32::try_from(index).ok());
     let reading = Reading { source: Source::Wanted, index, names: asked.names };
@@ -111,7 +160,7 @@ fn messages_in(asked: &Asked<'_>) -> Result<BTreeMap<u64, Vec<u8>>, Vec<String>>
         read_lines(forms, reading, &mut asked.text.as_bytes()).map_err(|_| vec!["out of memory".to_string()])?;
     let complaints = lines.remarks.iter().filter(|remark| remark.kind == RemarkKind::Complaint);
     let faults: Vec<String> = complaints.map(|remark| format!("line {}: {}", remark.number, remark.text)).collect();
-    if lines.is_void || !faults.is_empty() {
+    if lines.is_void || !faults.is_empty() && !leaves_out {
         return Err(faults);
     }
     let message = |it: &Dumped| {
@@ -124,10 +173,10 @@ fn messages_in(asked: &Asked<'_>) -> Result<BTreeMap<u64, Vec<u8>>, Vec<String>>
 }
 
 // What the save has twice, what is of another interface than those that it is of, and what has a class as its parent that it doesn't have.
-fn faults_in(dumps: &BTreeMap<u64, Vec<u8>>, targets: &Targets) -> Vec<String> {
+fn faults_in(dumps: &[(u64, Vec<u8>)], targets: &Targets) -> Vec<String> {
     let mut faults = Vec::new();
     let mut seen = BTreeMap::new();
-    let classes = Classes::of(dumps.values());
+    let classes = Classes::of(dumps.iter().map(|(_, message)| message));
     for (number, message) in dumps {
         let Some(key) = key_of(message) else { continue };
         let name = named(&targets.devices, &key);

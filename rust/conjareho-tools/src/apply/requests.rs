@@ -1,39 +1,38 @@
-//! Requests, in the order in which they are sent: those that `tcmake --request --stream` makes of the same lines.
+//! The requests that make what lines or dumps show: those that `tcmake --request --stream` makes of the same lines.
 
-use super::messages::{payload_of, type_of};
+use super::messages::payload_of;
 use crate::forms_kinds::{ACTION_MESSAGE, TC_MESSAGE, TcTables};
-use crate::netlink::message::{Header, RTM_NEWACTION, RTM_NEWTFILTER, header_of, is_action};
+use crate::netlink::message::{Header, header_of, is_action};
 use crate::program_io::Stop;
 use crate::tc_capture::{MessageType, Time};
-use crate::tcmake_lib::lines::{RemarkKind, Source};
-use crate::tcmake_lib::order::{Asked, Restored, requests_of, requests_of_dumps};
+use crate::tcmake_lib::lines::RemarkKind;
+use crate::tcmake_lib::order::{Asked as Lines, Restored, requests_of, requests_of_dumps};
 use crate::tcmake_lines::{NetlinkHeader, packet_at};
 use crate::tcmake_messages::Forms;
+use std::collections::BTreeSet;
 
 /// The head of a save, a line before those that complaints number.
 pub(crate) const LINES_BEFORE: u64 = 1;
 
 /// What is to be made.
 #[derive(Clone, Copy, Default, Debug)]
-pub(crate) struct Wanted<'a> {
+pub(crate) struct Asked<'a> {
     /// A save, or lines of JSON without a head.
     pub(crate) text: &'a str,
-    /// The save of what there is, by whose actions it is decided which ones are made or changed.
-    pub(crate) now: Option<&'a str>,
     /// The interfaces of today by the names of the save's head.
     pub(crate) names: Option<&'a [(u32, &'a str)]>,
     /// The interface of all lines instead of theirs.
     pub(crate) index: Option<u32>,
-    /// Actions that others hold too are changed.
-    pub(crate) replaces_actions: bool,
 }
 
 /// Requests, and what is said of lines.
 #[derive(Clone, PartialEq, Eq, Default, Debug)]
-pub(crate) struct Plan {
+pub(crate) struct Made {
     pub(crate) requests: Vec<Vec<u8>>,
     /// What can't be made, with the numbers of the lines.
     pub(crate) complaints: Vec<String>,
+    /// The numbers of these lines.
+    pub(crate) unmade: BTreeSet<u64>,
     /// What is made, and what of it no dump shows.
     pub(crate) notices: Vec<String>,
     /// Nothing may be sent, not even what can be made.
@@ -41,13 +40,13 @@ pub(crate) struct Plan {
 }
 
 /// The requests that make what lines say.
-pub(crate) fn requests(wanted: &Wanted<'_>) -> Plan {
+pub(crate) fn requests(wanted: &Asked<'_>) -> Made {
     let forms = Forms { table: TcTables, tc: TC_MESSAGE, action: ACTION_MESSAGE };
-    let asked = Asked {
+    let asked = Lines {
         index: wanted.index.and_then(|index| i32::try_from(index).ok()),
-        now: wanted.now.map(str::as_bytes),
+        now: None,
         plans: false,
-        replaces_actions: wanted.replaces_actions,
+        replaces_actions: false,
         names: wanted.names,
     };
     let restored = requests_of(forms, &asked, &mut wanted.text.as_bytes());
@@ -55,7 +54,7 @@ pub(crate) fn requests(wanted: &Wanted<'_>) -> Plan {
 }
 
 /// The requests that make what was dumped: those of its lines in a save, whose numbers complaints have.
-pub(crate) fn requests_of_dump(messages: &[Vec<u8>]) -> Plan {
+pub(crate) fn requests_of_dump(messages: &[Vec<u8>]) -> Made {
     requests_of_dumps(dumps_of(messages))
         .and_then(|restored| planned(restored, LINES_BEFORE))
         .unwrap_or_else(|_| no_memory())
@@ -74,30 +73,22 @@ fn given_of(message: &[u8]) -> Option<NetlinkHeader> {
     Some(NetlinkHeader { holds, kind: Some(kind), flags, sequence, port, packet })
 }
 
-fn no_memory() -> Plan {
-    Plan { complaints: vec!["out of memory".to_string()], is_void: true, ..Plan::default() }
-}
-
-/// The requests beside what there is. `alone` are those of the same without it. If these have neither actions nor filters, which can hold some, and
-/// each line of now can be read, they are the same, and aren't made again.
-pub(crate) fn requests_beside(wanted: &Wanted<'_>, alone: &Plan, has_refused: bool) -> Plan {
-    let has_actions = alone.requests.iter().any(|it| matches!(type_of(it), RTM_NEWACTION | RTM_NEWTFILTER));
-    if has_actions || has_refused || alone.is_void { requests(wanted) } else { alone.clone() }
+fn no_memory() -> Made {
+    Made { complaints: vec!["out of memory".to_string()], is_void: true, ..Made::default() }
 }
 
 // The requests, and what is said of lines, of which there are some before the first.
-fn planned(restored: Restored, lines_before: u64) -> Result<Plan, Stop> {
-    let mut plan = Plan { is_void: restored.is_void, ..Plan::default() };
+fn planned(restored: Restored, lines_before: u64) -> Result<Made, Stop> {
+    let mut plan = Made { is_void: restored.is_void, ..Made::default() };
     for remark in &restored.remarks {
-        let place = match (&remark.source, remark.number) {
-            (Source::Wanted, 0) => String::new(),
-            (Source::Wanted, number) => format!("line {}: ", number + lines_before),
-            (Source::Now, 0) => "what is there now: ".to_string(),
-            (Source::Now, number) => format!("what is there now, line {number}: "),
-        };
+        let number = remark.number + lines_before;
+        let place = if remark.number == 0 { String::new() } else { format!("line {number}: ") };
         let said = format!("{place}{}", remark.text);
         match remark.kind {
-            RemarkKind::Complaint => plan.complaints.push(said),
+            RemarkKind::Complaint => {
+                plan.complaints.push(said);
+                plan.unmade.insert(number);
+            }
             RemarkKind::Notice => plan.notices.push(said),
             RemarkKind::Made => {}
         }

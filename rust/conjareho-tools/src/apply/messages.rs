@@ -9,7 +9,7 @@ use crate::nla_frames::{Emitable as _, ParseableBytes as _};
 use crate::tc_action_messages::{TcActionMessage, TcActionMessageAttribute};
 use crate::tc_actions::TcAction;
 use crate::tc_messages::TcMessage;
-use crate::tc_restore::{actions_of_filter, kind_of_action, standalone_index};
+use crate::tc_restore::{Use, actions_of_filter, kind_of_action, standalone_index, unheld, use_of_action};
 
 /// Flags of `linux/netlink.h`.
 pub(crate) const NLM_F_REPLACE: u16 = 0x100;
@@ -70,19 +70,39 @@ pub(crate) fn blocks_of(message: &[u8]) -> Vec<u32> {
     both.filter_map(|kind| number_of(tca(message, kind)?)).filter(|number| *number != 0).collect()
 }
 
-/// The standalone actions of a request.
+/// The standalone actions of a message.
 pub(crate) fn actions_of(message: &[u8]) -> Vec<Action> {
+    let mut actions = listed_in(message);
+    actions.retain(|action| standalone_index(&action.parts).is_some());
+    actions
+}
+
+/// All numbered actions of a message about actions; filters' own, too.
+pub(crate) fn listed_in(message: &[u8]) -> Vec<Action> {
+    listed(message).into_iter().filter_map(Action::of).collect()
+}
+
+// The actions of a message of actions.
+fn listed(message: &[u8]) -> Vec<TcAction> {
     let lists = TcActionMessage::parse(payload_of(message)).map_or_else(|_| Vec::new(), |read| read.attributes);
     let actions = lists.into_iter().filter_map(|it| match it {
         TcActionMessageAttribute::Actions(actions) => Some(actions),
         _ => None,
     });
-    actions
-        .flatten()
-        .filter_map(|parts| {
-            Some(Action { kind: kind_of_action(&parts).to_string(), index: standalone_index(&parts)?, parts })
-        })
-        .collect()
+    actions.flatten().collect()
+}
+
+/// True for a message with an action whose parameters have no number, such as one of iptables: it can't be found again.
+pub(crate) fn has_unnumbered_action(message: &[u8]) -> bool {
+    let actions = match type_of(message) {
+        RTM_NEWTFILTER => {
+            let read = TcMessage::parse(payload_of(message)).ok();
+            read.and_then(|filter| actions_of_filter(filter).ok()).unwrap_or_default()
+        }
+        kind if is_action(kind) => listed(message),
+        _ => Vec::new(),
+    };
+    actions.iter().any(|action| use_of_action(action).is_none())
 }
 
 /// True for a message that the codec reads.
@@ -101,15 +121,25 @@ pub(crate) fn has_own_actions(message: &[u8]) -> bool {
     read.is_some_and(|filter| actions_of_filter(filter).into_iter().flatten().any(|it| standalone_index(&it).is_none()))
 }
 
-/// A standalone action.
-#[derive(Debug)]
+/// An action with a number.
+#[derive(Clone, Debug)]
 pub(crate) struct Action {
     pub(crate) kind: String,
     pub(crate) index: u32,
+    /// How many hold it, filters and others.
+    pub(crate) references: u32,
+    /// How many filters hold it.
+    pub(crate) filters: u32,
     parts: TcAction,
 }
 
 impl Action {
+    /// An action of a list, if it has a number.
+    pub(crate) fn of(parts: TcAction) -> Option<Action> {
+        let Use { index, references, filters, .. } = use_of_action(&parts).filter(|found| found.index != 0)?;
+        Some(Action { kind: kind_of_action(&parts).to_string(), index, references, filters, parts })
+    }
+
     /// What it is.
     pub(crate) fn key(&self) -> Key {
         Key::Action(self.kind.clone(), self.index)
@@ -125,6 +155,12 @@ impl Action {
             message.emit(&mut body);
         }
         request(RTM_NEWACTION, NLM_F_ACK | NLM_F_CREATE | NLM_F_REPLACE, &body)
+    }
+
+    /// The same, as if nothing held it: a filter's own has its number then.
+    pub(crate) fn unheld(&self) -> Option<Vec<u8>> {
+        let parts = unheld(self.parts.clone()).ok()?;
+        Some(Action { parts, ..self.clone() }.change())
     }
 }
 

@@ -1,97 +1,18 @@
-//! Runs over a kernel that refuses and that notifies of changes by others, and with signals in the middle.
+//! Runs of tcrestore.
 
-pub(crate) mod fake;
-
-use super::arguments::{Arguments, arguments_of};
-use super::messages::type_of;
-use super::plan::{Wanted, requests};
-use super::restore;
-use super::status::Status;
-use super::world::{World, text_of};
+use super::fake::{EBUSY, EEXIST, ENOENT, Fake, Hook, OTHER, State, object};
+use super::{Ran, WAN, of, plain, run_by, saved, taking, tree, types};
+use crate::apply::messages::type_of;
+use crate::apply::plan::plan;
+use crate::apply::restore::arguments_of;
+use crate::apply::status::Status;
+use crate::netlink::attributes::put;
 use crate::netlink::message::*;
-use crate::netlink::state_of;
-use fake::{EBUSY, EEXIST, ENOENT, Fake, Hook, OTHER, State, object};
-use std::ffi::OsString;
 use std::io::Write as _;
 use std::process::{Command, Stdio};
-use std::sync::atomic::{AtomicUsize, Ordering};
 
-const WAN: i32 = 7;
-
-pub(crate) fn of(kind: u16, handle: u32, parent: u32, name: &str, options: &[(u16, u32)]) -> Vec<u8> {
-    object(
-        kind,
-        Tcmsg { index: WAN, handle, parent, info: if kind == RTM_NEWTFILTER { 0x0003_0008 } else { 0 } },
-        name,
-        options,
-    )
-}
-
-/// drr with two classes and a filter, and clsact with one.
-pub(crate) fn tree(quantum: u32) -> Vec<Vec<u8>> {
-    vec![
-        of(RTM_NEWQDISC, 0x1_0000, 0xFFFF_FFFF, "drr", &[]),
-        of(RTM_NEWTCLASS, 0x1_0010, 0x1_0000, "drr", &[(1, quantum)]),
-        of(RTM_NEWTCLASS, 0x1_0020, 0x1_0000, "drr", &[(1, quantum + 1)]),
-        of(RTM_NEWQDISC, 0xFFFF_0000, 0xFFFF_FFF1, "clsact", &[]),
-        of(RTM_NEWTFILTER, 1, 0x1_0000, "matchall", &[(1, 0x1_0010)]),
-        of(RTM_NEWTFILTER, 1, 0xFFFF_FFF2, "matchall", &[(1, 0x1_0020)]),
-    ]
-}
-
-pub(crate) fn taking() -> Hook {
-    Box::new(|_, _, _| None)
-}
-
-/// What tcsave writes of these objects.
-pub(crate) fn saved(objects: Vec<Vec<u8>>) -> String {
-    let fake = Fake::new(taking());
-    fake.state.borrow_mut().objects = objects;
-    let dump = state_of(&mut fake.kernel(), &mut fake.listener(1), &[7]).expect("dumped");
-    text_of(&dump, &[7]).expect("saved").0
-}
-
-fn arguments(words: &[&str]) -> Arguments {
-    static COUNT: AtomicUsize = AtomicUsize::new(0);
-    let number = COUNT.fetch_add(1, Ordering::Relaxed);
-    let folder = std::env::temp_dir().join(format!("conjareho-restore-{}-{number}", std::process::id()));
-    let words = ["tcrestore", "--state", &folder.display().to_string(), "-"]
-        .iter()
-        .chain(words)
-        .map(OsString::from)
-        .collect::<Vec<_>>();
-    arguments_of(words).expect("arguments")
-}
-
-struct Ran {
-    status: Status,
-    said: String,
-    objects: Vec<Vec<u8>>,
-    sent: Vec<Vec<u8>>,
-}
-
-// Restores a file where these objects are.
 fn run(words: &[&str], file: &str, objects: Vec<Vec<u8>>, fake: &Fake) -> Ran {
-    fake.state.borrow_mut().objects = objects;
-    let signal = || fake.state.borrow().signal;
-    let mut world = World::new(fake.kernel(), fake.listener(1), fake.listener(2), &signal);
-    let arguments = arguments(words);
-    let mut said = Vec::new();
-    let status = restore(&arguments, file.as_bytes().to_vec(), &mut world, &mut said);
-    let _ = std::fs::remove_dir_all(&arguments.state);
-    let state = fake.state.borrow();
-    Ran { status, said: said.join("\n"), objects: state.objects.clone(), sent: state.sent.clone() }
-}
-
-/// Objects without the flags, the numbers and the ports of their messages, in an order of their own.
-pub(crate) fn plain(objects: &[Vec<u8>]) -> Vec<Vec<u8>> {
-    let mut plain: Vec<Vec<u8>> = objects.iter().map(|it| [&it[4..6], &it[HEADER..]].concat()).collect();
-    plain.sort();
-    plain
-}
-
-pub(crate) fn types(sent: &[Vec<u8>]) -> Vec<u16> {
-    sent.iter().map(|it| type_of(it)).collect()
+    run_by(|words| arguments_of(words), words, file, objects, fake, || Ok(()))
 }
 
 #[test]
@@ -121,6 +42,35 @@ fn nothing_is_sent_of_a_save_that_was_cut() {
         let ran = run(&["--clear"], &lines[..count].join("\n"), tree(2), &Fake::new(taking()));
         assert_eq!((ran.status, ran.sent.len()), (Status::NothingSent, 0), "{count} lines: {}", ran.said);
     }
+}
+
+// A filter with an action of iptables, whose number isn't among its parameters.
+fn of_iptables() -> Vec<u8> {
+    let nest = |attributes: &[(u16, &[u8])]| {
+        let mut list = Vec::new();
+        attributes.iter().for_each(|(kind, value)| put(&mut list, *kind, value));
+        list
+    };
+    let options = nest(&[(3, &11u32.to_ne_bytes()), (6, &[0; 40])]);
+    let actions = nest(&[(1, &nest(&[(1, b"xt\0"), (2, &options)]))]);
+    let header = Tcmsg { index: WAN, handle: 2, parent: 0xFFFF_FFF2, info: 0x0003_0008 };
+    let mut body = tc_request(0, 0, header)[HEADER..].to_vec();
+    body.extend(nest(&[(1, b"matchall\0"), (2, &nest(&[(2, &actions)]))]));
+    let mut message = request(RTM_NEWTFILTER, 0, &body);
+    message[6..8].copy_from_slice(&2u16.to_ne_bytes());
+    message
+}
+
+#[test]
+fn nothing_is_sent_if_an_action_has_no_number() {
+    let (with, without) = ([tree(1), vec![of_iptables()]].concat(), tree(2));
+    for (wanted, now) in [(&with, &without), (&without, &with)] {
+        let ran = run(&["--clear"], &saved(wanted.clone()), now.clone(), &Fake::new(taking()));
+        assert_eq!((ran.status, ran.sent.len()), (Status::NothingSent, 0), "{}", ran.said);
+        assert!(ran.said.contains("an action without a number"), "{}", ran.said);
+    }
+    let ran = run(&["--clear", "--no-rollback"], &saved(without.clone()), with, &Fake::new(taking()));
+    assert_eq!((ran.status, plain(&ran.objects)), (Status::Restored, plain(&without)), "{}", ran.said);
 }
 
 // Each request refused in turn.
@@ -201,9 +151,9 @@ fn what_the_kernel_does_by_itself_is_no_reason_to_stop() {
 #[test]
 fn others_before_the_first_request() {
     let fake = Fake::new(taking());
-    // The last look at the interfaces before the first request.
+    // The last looks at the interfaces before the first request: it is planned anew three times.
     let hook = |state: &mut State, number: usize| {
-        if number == 4 {
+        if number >= 4 && number % 3 == 1 {
             state.tell(&of(RTM_NEWQDISC, 0x5_0000, 0xFFFF_FFFF, "drr", &[]), OTHER);
         }
     };
@@ -326,7 +276,25 @@ fn a_save_without_a_head() {
     assert_eq!((ran.status, ran.sent.len()), (Status::NothingSent, 0));
 }
 
-// What is sent is what tcmake makes of the same file; of the program at `TCMAKE`, if there is one.
+// Without --clear a file may lack what is there, such as the qdisc of a filter; it stays. What is nowhere is named.
+#[test]
+fn a_file_of_some_objects() {
+    let whole = saved(tree(1000));
+    let lines: Vec<&str> = whole.lines().collect();
+    let filter = lines.iter().find(|it| it.contains("RTM_NEWTFILTER")).expect("a filter");
+    let file = format!("{}\n{filter}\n{{\"end\":true}}\n", lines[0]);
+    let before: Vec<_> = tree(1000).into_iter().filter(|it| type_of(it) != RTM_NEWTFILTER).collect();
+    let ran = run(&[], &file, before.clone(), &Fake::new(taking()));
+    assert_eq!((ran.status, ran.said.as_str(), types(&ran.sent)), (Status::Restored, "", vec![44]));
+    assert_eq!(ran.objects.len(), before.len() + 1);
+    for (words, objects) in [(&[][..], Vec::new()), (&["--clear"], before)] {
+        let ran = run(words, &file, objects, &Fake::new(taking()));
+        assert_eq!((ran.status, ran.sent.len()), (Status::NothingSent, 0), "{}", ran.said);
+        assert!(ran.said.contains("line 2: ") && ran.said.contains("is missing"), "{}", ran.said);
+    }
+}
+
+// What is sent is what tcmake plans where nothing is; of the program at `TCMAKE`, if there is one.
 #[test]
 fn sends_what_tcmake_makes() {
     let file = saved(tree(1000));
@@ -341,10 +309,12 @@ fn sends_what_tcmake_makes() {
 
 fn made_by_tcmake(file: &str) -> Vec<u8> {
     let Some(program) = std::env::var_os("TCMAKE") else {
-        return requests(&Wanted { text: file, ..Wanted::default() }).requests.concat();
+        let mut dumps = tree(1000);
+        dumps.sort_by_key(|it| type_of(it));
+        return plan(&[], &dumps, |_| false).expect("a plan").concat();
     };
     let mut child = Command::new(program)
-        .args(["--request", "--stream"])
+        .args(["--plan", "/dev/null", "--stream"])
         .stdin(Stdio::piped())
         .stdout(Stdio::piped())
         .spawn()

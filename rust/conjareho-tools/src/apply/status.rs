@@ -1,5 +1,7 @@
 //! How a run ends.
 
+use crate::netlink::Fault;
+
 /// How a run ends: the exit status of the program.
 #[derive(Clone, Copy, PartialEq, Eq, Debug)]
 pub(crate) enum Status {
@@ -22,5 +24,30 @@ pub(crate) enum Status {
 impl From<Status> for std::process::ExitCode {
     fn from(status: Status) -> Self {
         Self::from(status as u8)
+    }
+}
+
+/// Why nothing is sent: how the program ends, and what it says.
+#[derive(Debug)]
+pub(crate) struct Ended {
+    pub(crate) status: Status,
+    pub(crate) said: Vec<String>,
+}
+
+impl Ended {
+    pub(crate) fn because(status: Status, said: Vec<String>) -> Ended {
+        Ended { status, said }
+    }
+}
+
+impl From<Fault> for Ended {
+    fn from(fault: Fault) -> Ended {
+        let status = match fault {
+            Fault::Refused(_) | Fault::Cut(_) | Fault::Interrupted | Fault::Changing(_) | Fault::NoInterface(_) => {
+                Status::NothingSent
+            }
+            Fault::Socket(..) | Fault::Silent | Fault::Broken(_) | Fault::Lost => Status::Failed,
+        };
+        Ended::because(status, vec![fault.to_string()])
     }
 }

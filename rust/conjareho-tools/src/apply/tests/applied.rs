@@ -1,38 +1,12 @@
-//! Runs over a kernel that refuses and that notifies of changes by others, with signals in the middle, and with nobody who presses Enter.
+//! Runs of tcapply.
 
-use super::apply;
-use super::arguments::{Arguments, arguments_of};
+use super::fake::{EBUSY, Fake, Hook, OTHER, State};
+use super::{Ran, of, plain, run_by, saved, taking, tree, types};
+use crate::apply::arguments::arguments_of;
+use crate::apply::messages::replaces;
+use crate::apply::status::Status;
 use crate::netlink::message::*;
-use crate::restore::messages::replaces;
-use crate::restore::status::Status;
-use crate::restore::tests::fake::{EBUSY, Fake, Hook, OTHER, State};
-use crate::restore::tests::{of, plain, saved, taking, tree, types};
-use crate::restore::world::{Stop, World};
-use std::ffi::OsString;
-use std::sync::atomic::{AtomicUsize, Ordering};
 
-struct Ran {
-    status: Status,
-    said: String,
-    objects: Vec<Vec<u8>>,
-    sent: Vec<Vec<u8>>,
-    /// How many states before were kept.
-    kept: usize,
-}
-
-fn arguments(words: &[&str]) -> Arguments {
-    static COUNT: AtomicUsize = AtomicUsize::new(0);
-    let number = COUNT.fetch_add(1, Ordering::Relaxed);
-    let folder = std::env::temp_dir().join(format!("conjareho-apply-{}-{number}", std::process::id()));
-    let words = ["tcapply", "--state", &folder.display().to_string(), "-"]
-        .iter()
-        .chain(words)
-        .map(OsString::from)
-        .collect::<Vec<_>>();
-    arguments_of(words).expect("arguments")
-}
-
-// Applies a file where these objects are; `held` says how the trial ends.
 fn run_held(
     words: &[&str],
     file: &str,
@@ -40,17 +14,7 @@ fn run_held(
     fake: &Fake,
     held: impl Fn() -> Result<(), &'static str>,
 ) -> Ran {
-    fake.state.borrow_mut().objects = objects;
-    let signal = || fake.state.borrow().signal;
-    let mut world = World::new(fake.kernel(), fake.listener(1), fake.listener(2), &signal);
-    let arguments = arguments(words);
-    let mut said = Vec::new();
-    let mut hold = || held().map_err(Stop::Signal);
-    let status = apply(&arguments, file.as_bytes().to_vec(), &mut world, &mut hold, &mut said);
-    let kept = std::fs::read_dir(&arguments.restored.state).map_or(0, Iterator::count);
-    let _ = std::fs::remove_dir_all(&arguments.restored.state);
-    let state = fake.state.borrow();
-    Ran { status, said: said.join("\n"), objects: state.objects.clone(), sent: state.sent.clone(), kept }
+    run_by(|words| arguments_of(words), words, file, objects, fake, held)
 }
 
 fn run(file: &str, objects: Vec<Vec<u8>>, fake: &Fake) -> Ran {

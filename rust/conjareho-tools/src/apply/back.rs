@@ -1,22 +1,18 @@
 //! The way back to what was there before: a plan from what is there.
 
+use super::after::same;
+use super::blocks::{Others, without};
 use super::compare::{Key, Objects, by_place};
 use super::messages::is_read;
 use super::named::named;
-use super::prepare::is_in_block;
-use super::same;
+use super::plan::{Fault, plan};
 use super::sending::Sending;
 use super::status::Status;
 use super::world::{Place, Stop};
-use crate::apply::plan::{Fault, plan};
 use crate::netlink::Transport;
-use std::collections::BTreeMap;
 
 /// How often it is planned, where the kernel refuses something.
 const MOST_PLANS: u32 = 3;
-
-/// The blocks of other interfaces too, each with one of these.
-pub(crate) type Others = BTreeMap<u32, u32>;
 
 /// What was there before.
 #[derive(Debug)]
@@ -29,11 +25,6 @@ pub(crate) struct Before {
     pub(crate) others: Others,
     /// The file that has the save of it; none if nothing is to be sent.
     pub(crate) kept: Option<String>,
-}
-
-/// Dumps without what is in these blocks.
-pub(crate) fn without(dumps: &[Vec<u8>], others: &Others) -> Vec<Vec<u8>> {
-    dumps.iter().filter(|dump| !is_in_block(dump, others)).cloned().collect()
 }
 
 impl Before {

@@ -2,7 +2,6 @@
 
 use super::messages::{deletes, is_plain_chain};
 use super::world::{Place, Stop, World};
-use crate::netlink::clear::clear;
 use crate::netlink::{Fault, Refusal, Transport};
 use nix::errno::Errno;
 use std::thread::sleep;
@@ -16,8 +15,8 @@ pub(crate) const PAUSE: Duration = Duration::from_millis(10);
 pub(crate) struct Sending<'w, 's, T, L> {
     pub(crate) world: &'w mut World<'s, T, L>,
     pub(crate) place: &'w Place,
-    // Something may have been deleted shortly before.
-    has_deleted: bool,
+    // Something may have been deleted shortly before, so that what it held up passes.
+    waits: bool,
     // A request was sent.
     has_sent: bool,
     // The way back goes on whatever signals come.
@@ -25,40 +24,24 @@ pub(crate) struct Sending<'w, 's, T, L> {
 }
 
 impl<'w, 's, T: Transport, L: Transport> Sending<'w, 's, T, L> {
-    pub(crate) fn new(world: &'w mut World<'s, T, L>, place: &'w Place) -> Self {
-        Sending { world, place, has_deleted: false, has_sent: false, minds_signals: true }
-    }
-
-    /// Deletes the root, ingress and clsact qdiscs of the interfaces.
-    pub(crate) fn clear(&mut self) -> Result<(), Stop> {
-        for device in &self.place.devices {
-            self.look()?;
-            (self.has_deleted, self.has_sent) = (true, true);
-            clear(&mut self.world.kernel, device.index)
-                .map_err(|fault| refused(&format!("delete the qdiscs of {}", device.name), fault))?;
-        }
-        self.look()?;
-        self.world.check_devices(self.place)
-    }
-
-    /// Sends requests. After each it looks for signals and for changes by others, as was done before the first.
-    pub(crate) fn send_all(&mut self, requests: &[Vec<u8>]) -> Result<(), Stop> {
-        for request in requests {
-            self.send(request)?;
-            self.look()?;
-        }
-        Ok(())
+    /// Nothing is sent yet. If it `waits`, what is refused since something else was deleted shortly before is tried again.
+    pub(crate) fn new(world: &'w mut World<'s, T, L>, place: &'w Place, waits: bool) -> Self {
+        Sending { world, place, waits, has_sent: false, minds_signals: true }
     }
 
     /// Sends the requests of a plan. What is to be deleted and isn't there is deleted; the kernel makes chains by itself.
     pub(crate) fn carry_out(&mut self, steps: &[Vec<u8>]) -> Result<(), Stop> {
-        self.has_deleted = true;
         // While somebody was asked whether it is to stay, others may have changed something.
         self.look()?;
+        let mut has_deleted = false;
         for step in steps {
             if deletes(step) {
                 self.delete(step)?;
+                has_deleted = true;
             } else {
+                if std::mem::take(&mut has_deleted) {
+                    self.world.check_devices(self.place)?;
+                }
                 self.make(step)?;
             }
         }
@@ -70,9 +53,9 @@ impl<'w, 's, T: Transport, L: Transport> Sending<'w, 's, T, L> {
         self.has_sent
     }
 
-    /// From here on no signal ends it.
+    /// From here on no signal ends it, and what was deleted is waited for.
     pub(crate) fn turn_back(&mut self) {
-        self.minds_signals = false;
+        (self.minds_signals, self.waits) = (false, true);
     }
 
     // Signals, and what others do.
@@ -103,7 +86,7 @@ impl<'w, 's, T: Transport, L: Transport> Sending<'w, 's, T, L> {
                 Err(fault) => return Err(Stop::Fault(fault)),
             };
             let passes = [Errno::EEXIST, Errno::EPERM, Errno::EBUSY].iter().any(|errno| refusal.is(*errno));
-            if !(passes && self.has_deleted && Instant::now() < until) {
+            if !(passes && self.waits && Instant::now() < until) {
                 return Err(Stop::Refused { what: self.place.asked_by(request), refusal });
             }
             sleep(PAUSE);
@@ -118,14 +101,6 @@ impl<'w, 's, T: Transport, L: Transport> Sending<'w, 's, T, L> {
             answer => answer?,
         }
         self.look()
-    }
-}
-
-// What a failed request means.
-fn refused(what: &str, fault: Fault) -> Stop {
-    match fault {
-        Fault::Refused(refusal) => Stop::Refused { what: what.to_string(), refusal },
-        fault => Stop::Fault(fault),
     }
 }
 

@@ -1,6 +1,6 @@
 //! A kernel for tests: it keeps what requests make as they make it, dumps it, and notifies listeners of it.
 
-use super::super::messages::{NLM_F_REPLACE, type_of};
+use crate::apply::messages::{NLM_F_REPLACE, type_of};
 use crate::netlink::attributes::put;
 use crate::netlink::message::*;
 use crate::netlink::{Kernel, Listener, Transport};
