@@ -56,6 +56,23 @@ impl<'t> Walk<'t> {
         self.put(path, line.value)
     }
 
+    // The words of a header are names and values in turns: `handle 1: parent root`. Words in brackets say a value again.
+    fn put_header(&mut self, header: &'t str) -> Result<(), AllocError> {
+        let mut name = None;
+        for word in header.split_whitespace() {
+            if !word.starts_with('(') {
+                name = match name {
+                    Some(name) => {
+                        self.put(String::from_str(self.alloc, name)?, word)?;
+                        None
+                    }
+                    None => Some(word),
+                };
+            }
+        }
+        Ok(())
+    }
+
     fn put(&mut self, path: String, value: &'t str) -> Result<(), AllocError> {
         let path = self.numbered(path)?;
         self.leaves.push(Leaf { path, value })?;
@@ -119,7 +136,7 @@ fn line_of(line: &str) -> Line<'_> {
     }
 }
 
-// The values of an outline. Its first line has the words of the header.
+// The values of an outline, whose first line has the header.
 fn leaves_of(alloc: Global, outline: &str) -> Result<Vec<Leaf<'_>>, AllocError> {
     let (header, rest) = match outline.split_once('\n') {
         Some((header, rest)) => (header, rest),
@@ -130,7 +147,7 @@ fn leaves_of(alloc: Global, outline: &str) -> Result<Vec<Leaf<'_>>, AllocError> 
         lines.push(line_of(line))?;
     }
     let mut walk = Walk::new(alloc);
-    walk.put(String::from_str(alloc, "header")?, header.trim_start())?;
+    walk.put_header(header)?;
     for (index, line) in lines.iter().enumerate() {
         walk.enter(*line, lines.get(index.saturating_add(1)))?;
     }
