@@ -1,10 +1,10 @@
 //! Differences as lines: `-` for what only the first state has, `+` for what only the second one has, `~` for what both have with other
-//! configurations, and after it the values that differ.
+//! configurations, and below it the values that differ, as outlines have them.
 //!
 //! ```text
 //! - class htb 1:30 dev eth0 parent 1:1 rate 5Mbit ceil 5Mbit
 //! ~ class htb 1:10 dev eth0 parent 1:1 rate 50Mbit ceil 50Mbit
-//!     Options/Htb/Parms/rate/rate 1250000 -> 6250000
+//!     options/parms/rate/rate 1250000 B/s (10Mbit) -> 6250000 B/s (50Mbit)
 //! ```
 
 ghost use Rattle.std.specs.Prelude.{◌≡◌, ◌↔◌, false, IfOk};
@@ -17,13 +17,14 @@ use crate::states::differences;
 use crate::values::put_values;
 use forms_json::Form;
 use forms_kinds::{ACTION_MESSAGE, TC_MESSAGE, TcTables};
-use forms_text::shown_json;
 use program_io::Stop;
-use std::alloc::Global;
+use std::alloc::{AllocError, Global};
+use std::str;
 use tc_brief::{Object as Words, Said, lines_of};
 use tc_changes::{Key, Object};
 use tc_columns::{KindColumns, Root};
 use tc_objects::message_of;
+use tc_outline::{Layout, Page, outline};
 use tc_select::kind_of;
 use tc_words::TcWords;
 
@@ -35,55 +36,50 @@ pub struct DifferenceLines {
     pub differ: bool,
 }
 
-/// The lines of the differences between two states, with these names of interfaces. A priority has no line, since its filters have.
+/// A state, and names of interfaces, by index. The first of an index counts.
+#[derive(Clone, Copy)]
+pub struct Side<'a> {
+    pub objects: &'a [Object<Global>],
+    pub names: &'a [(u32, &'a str)],
+}
+
+/// The lines of the differences between two states. A priority has no line, since its filters have.
 pub fn difference_lines(
     alloc: Global,
-    names: &[(u32, &str)],
-    before: &[Object<Global>],
-    after: &[Object<Global>],
+    before: Side<'_>,
+    after: Side<'_>,
 ) -> Result<DifferenceLines, Stop>
-    ensures { IfOk result (λ lines. (lines.differ ≡ false) ↔ IsSame (things before.now) (things after.now)) }
+    ensures { IfOk result (λ lines. (lines.differ ≡ false) ↔ IsSame (things before.objects.now) (things after.objects.now)) }
 {
-    let found = differences(alloc, before, after)?;
-    let text = text_of(alloc, names, before, after, &found)?;
+    let found = differences(alloc, before.objects, after.objects)?;
+    let text = difference_text(alloc, before, after, &found)?;
     let differ = !found.is_empty();
     Ok(DifferenceLines { text, differ })
 }
 
-fn text_of(
+fn difference_text(
     alloc: Global,
-    names: &[(u32, &str)],
-    before: &[Object<Global>],
-    after: &[Object<Global>],
+    before: Side<'_>,
+    after: Side<'_>,
     found: &[Difference],
 ) -> Result<Vec<u8>, Stop> {
-    let was = index_of(alloc, before)?;
-    let is = index_of(alloc, after)?;
+    let was = index_of(alloc, before.objects)?;
+    let is = index_of(alloc, after.objects)?;
     let mut text = Vec::new(alloc);
     for difference in found {
-        let old = look_up(before, &was, difference.key);
-        let new = look_up(after, &is, difference.key);
-        put_difference(alloc, names, old, new, &mut text)?;
+        let old = look_up(before.objects, &was, difference.key);
+        let new = look_up(after.objects, &is, difference.key);
+        match (old, new) {
+            (Some(old), Some(new)) => {
+                put_object(alloc, after.names, b"~", new, &mut text)?;
+                put_changes(alloc, after.names, old, new, &mut text)?;
+            }
+            (Some(old), None) => put_object(alloc, before.names, b"-", old, &mut text)?,
+            (None, Some(new)) => put_object(alloc, after.names, b"+", new, &mut text)?,
+            (None, None) => {}
+        }
     }
     Ok(text)
-}
-
-fn put_difference(
-    alloc: Global,
-    names: &[(u32, &str)],
-    old: Option<&Object<Global>>,
-    new: Option<&Object<Global>>,
-    text: &mut Vec<u8>,
-) -> Result<(), Stop> {
-    match (old, new) {
-        (Some(old), Some(new)) => {
-            put_object(alloc, names, b"~", new, text)?;
-            put_changes(alloc, old, new, text)
-        }
-        (Some(old), None) => put_object(alloc, names, b"-", old, text),
-        (None, Some(new)) => put_object(alloc, names, b"+", new, text),
-        (None, None) => Ok(()),
-    }
 }
 
 // Appends the line of an object after a sign.
@@ -98,12 +94,6 @@ fn put_object(
     let Some((root, words)) = root_of(object.key, message) else {
         return Ok(());
     };
-    let columns = KindColumns {
-        root,
-        interfaces: names,
-        links: None,
-        all: false,
-    };
     let said = Said {
         begin: sign,
         object: words,
@@ -115,7 +105,7 @@ fn put_object(
         alloc,
         TcTables,
         form_of(root),
-        columns,
+        columns_of(root, names),
         TcWords,
         &said,
         message,
@@ -125,9 +115,19 @@ fn put_object(
     }
 }
 
+fn columns_of<'a>(root: Root, names: &'a [(u32, &'a str)]) -> KindColumns<'a> {
+    KindColumns {
+        root,
+        interfaces: names,
+        links: None,
+        all: false,
+    }
+}
+
 // Appends the values in which the messages of two objects differ.
 fn put_changes(
     alloc: Global,
+    names: &[(u32, &str)],
     old: &Object<Global>,
     new: &Object<Global>,
     text: &mut Vec<u8>,
@@ -136,10 +136,24 @@ fn put_changes(
     let Some((root, _)) = root_of(new.key, message) else {
         return Ok(());
     };
-    let form = form_of(root);
-    let was = shown_json(alloc, TcTables, form, message_of(&old.config))?;
-    let is = shown_json(alloc, TcTables, form, message)?;
-    put_values(alloc, &was, &is, text)
+    let was = outline_of(alloc, names, root, message_of(&old.config))?;
+    let is = outline_of(alloc, names, root, message)?;
+    put_values(alloc, text_of(&was), text_of(&is), text)
+}
+
+fn outline_of(
+    alloc: Global,
+    names: &[(u32, &str)],
+    root: Root,
+    message: &[u8],
+) -> Result<Page<Global>, AllocError> {
+    let mut page = Page::new(alloc, Layout::Lines);
+    outline(alloc, &mut page, message, columns_of(root, names))?;
+    Ok(page)
+}
+
+fn text_of(page: &Page<Global>) -> &str {
+    str::from_utf8(page.bytes()).unwrap_or("")
 }
 
 // How an object with this message is shown. `None` for a priority and for a block, which have no message.

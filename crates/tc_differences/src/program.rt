@@ -1,9 +1,9 @@
 //! What `tcshow --diff` does: it reads two dumps or saves, and prints their differences.
 
-use crate::lines::{DifferenceLines, difference_lines};
+use crate::lines::{DifferenceLines, Side, difference_lines};
 use forms_kinds::{ACTION_MESSAGE, TC_MESSAGE, TcTables};
 use program_io::{Reader, Writer, cause_of, write_all, write_text};
-use std::alloc::Global;
+use std::alloc::{AllocError, Global};
 use std::fs;
 use std::io::{self, BufReader, Input, Print, Read, Write};
 use std::rt::Files;
@@ -77,16 +77,47 @@ fn diff_with<R: AllocGlobal + Files + Input + Print, E: Write>(
     let [first, second] = arguments.files.as_slice() else {
         return Err(Stop::Usage);
     };
+    let alloc = rt.alloc();
     let before = state_of_file(rt, arguments, *first, None, errors)?;
-    let after = state_of_file(rt, arguments, *second, Some(&before), errors)?;
+    let after = state_of_file(rt, arguments, *second, Some(&before.state), errors)?;
+    let was = names_of(alloc, names, &before)?;
+    let is = names_of(alloc, names, &after)?;
     let DifferenceLines { text, differ } = difference_lines(
-        rt.alloc(),
-        names,
-        &before.objects,
-        &after.objects,
+        alloc,
+        Side {
+            objects: &before.state.objects,
+            names: &was,
+        },
+        Side {
+            objects: &after.state.objects,
+            names: &is,
+        },
     )?;
     print(rt, &text, errors)?;
     Ok(differ)
+}
+
+// The state that a file shows, and the names of interfaces that it has.
+#[derive(Drop)]
+struct Shown {
+    state: State<Global>,
+    names: Vec<(u32, String)>,
+}
+
+// These names, then those of a file.
+fn names_of<'a>(
+    alloc: Global,
+    names: &[(u32, &'a str)],
+    shown: &'a Shown,
+) -> Result<Vec<(u32, &'a str)>, AllocError> {
+    let mut all = Vec::new(alloc);
+    for (index, name) in names {
+        all.push((*index, *name))?;
+    }
+    for (index, name) in &shown.names {
+        all.push((*index, name.as_str()))?;
+    }
+    Ok(all)
 }
 
 // Writes a text on standard output.
@@ -120,7 +151,7 @@ fn state_of_file<R: AllocGlobal + Files + Input, E: Write>(
     name: &str,
     there: Option<&State<Global>>,
     errors: &mut E,
-) -> Result<State<Global>, Stop> {
+) -> Result<Shown, Stop> {
     let alloc = rt.alloc();
     if name == "-" {
         return state_of_reader(
@@ -145,7 +176,7 @@ fn state_of_reader<I: Read + Drop, E: Write>(
     reader: I,
     there: Option<&State<Global>>,
     errors: &mut E,
-) -> Result<State<Global>, Stop> {
+) -> Result<Shown, Stop> {
     let mut reader = Reader::new(reader);
     match Begun::begin(alloc, &mut reader) {
         Ok(input) => {
@@ -168,7 +199,7 @@ fn state_of_json<I: Read + Drop, E: Write>(
     reader: I,
     there: Option<&State<Global>>,
     errors: &mut E,
-) -> Result<State<Global>, Stop> {
+) -> Result<Shown, Stop> {
     let mut reader = match BufReader::new(alloc, Reader::new(reader)) {
         Ok(reader) => reader,
         Err(_) => return Err(Stop::NoMemory),
@@ -193,7 +224,7 @@ fn state_of_capture<I: Read + Drop, E: Write>(
     reader: I,
     there: Option<&State<Global>>,
     errors: &mut E,
-) -> Result<State<Global>, Stop> {
+) -> Result<Shown, Stop> {
     let options = options_of(arguments, Filter::ALL, &[]);
     let mut lines = Vec::new(alloc);
     let ended = put_json(alloc, &options, name, reader, &mut lines, errors);
@@ -215,8 +246,12 @@ fn state_found<E: Write>(
     name: &str,
     found: LineState,
     errors: &mut E,
-) -> Result<State<Global>, Stop> {
-    let LineState { state, remarks } = found;
+) -> Result<Shown, Stop> {
+    let LineState {
+        state,
+        names,
+        remarks,
+    } = found;
     for remark in &remarks {
         if remark.kind == RemarkKind::Complaint {
             let (number, text) = (remark.number, remark.text.as_str());
@@ -225,7 +260,7 @@ fn state_found<E: Write>(
         }
     }
     match state {
-        Some(state) => Ok(state),
+        Some(state) => Ok(Shown { state, names }),
         None => Err(Stop::Read),
     }
 }

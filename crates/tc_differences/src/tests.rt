@@ -1,6 +1,6 @@
 //! Differences between small dumps. Their numbers are those of `tc`'s words: 10mbit is 1,250,000 bytes a second.
 
-use crate::lines::{DifferenceLines, difference_lines};
+use crate::lines::{DifferenceLines, Side, difference_lines};
 use forms_kinds::{ACTION_MESSAGE, TC_MESSAGE, TcTables};
 use std::alloc::Global;
 use std::str;
@@ -64,7 +64,16 @@ fn between(alloc: Global, before: &str, after: &str) -> Result<Option<Difference
     let Some(after) = state(alloc, after, Some(&before))? else {
         return Ok(None);
     };
-    match difference_lines(alloc, &[(1, "lo")], &before.objects, &after.objects) {
+    let names = [(1, "lo")];
+    let before = Side {
+        objects: &before.objects,
+        names: &names,
+    };
+    let after = Side {
+        objects: &after.objects,
+        names: &names,
+    };
+    match difference_lines(alloc, before, after) {
         Ok(lines) => Ok(Some(lines)),
         Err(_) => Err(Fail::from(std::alloc::AllocError)),
     }
@@ -89,9 +98,9 @@ fn differences_of_dumps(rt: HostRuntime) -> Result<(), Fail> {
     assert!(rt; differ(alloc, HTB, with_class.as_str(), new.as_str())?);
     let changed = "\
 ~ qdisc cake 1: dev lo root bandwidth 20Mbit memlimit 4KiB
-    Options/Cake/BaseRate64 1250000 -> 2500000
-    Options/Cake/Autorate 0 -> none
-    Options/Cake/Memory none -> 4096
+    options/base_rate64 1250000 B/s (10Mbit) -> 2500000 B/s (20Mbit)
+    options/autorate 0 -> none
+    options/memory none -> 4096B
 ";
     assert!(rt; differ(alloc, CAKE_10, CAKE_20, changed)?);
     Ok(())

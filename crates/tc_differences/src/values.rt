@@ -1,40 +1,41 @@
-//! Differences between two values of JSON, each with the names that lead to it.
+//! The values in which two outlines differ, each with the names that lead to it.
 
-use forms_text::{brief, is_same};
 use program_io::{Stop, write_text};
-use serde_json::{Map, Value};
 use std::alloc::{AllocError, Global};
 use std::collections::HashMap;
 use std::hash::{BuildHasherDefault, FoldHasher};
 
-// A name or a number that leads to a value.
+// A line of an outline: `    rate 125000 B/s (1Mbit)`.
 #[derive(Clone, Copy)]
-enum Step<'v> {
-    Name(&'v str),
-    Number(usize),
+struct Line<'t> {
+    // The blanks before it, two for each level.
+    margin: usize,
+    name: &'t str,
+    // Empty if lines below it have the values.
+    value: &'t str,
 }
 
-// A value that holds no other, and the names that lead to it: `Options/Htb/Parms/rate/rate`.
+// A value, and the names that lead to it: `options/parms/rate/rate`.
 #[derive(Drop)]
-struct Leaf<'v> {
+struct Leaf<'t> {
     path: String,
-    value: &'v Value,
+    value: &'t str,
 }
 
 // A number for each path.
 type Numbers = HashMap<String, usize, BuildHasherDefault<FoldHasher>, Global>;
 
-// The leaves so far, and the place of the walk.
+// The values so far, and the lines that lead to the next one.
 #[derive(Drop)]
-struct Walk<'v> {
+struct Walk<'t> {
     alloc: Global,
-    place: Vec<Step<'v>>,
+    place: Vec<Line<'t>>,
     counts: Numbers,
-    leaves: Vec<Leaf<'v>>,
+    leaves: Vec<Leaf<'t>>,
 }
 
-impl<'v> Walk<'v> {
-    fn new(alloc: Global) -> Walk<'v> {
+impl<'t> Walk<'t> {
+    fn new(alloc: Global) -> Walk<'t> {
         Walk {
             alloc,
             place: Vec::new(alloc),
@@ -43,52 +44,36 @@ impl<'v> Walk<'v> {
         }
     }
 
-    #[cycle(walk)]
-    fn walk(&mut self, value: &'v Value) -> Result<(), AllocError> {
-        match value {
-            Value::Array(items) => {
-                if items.is_empty() {
-                    return self.put(value);
-                }
-                self.walk_items(items)
-            }
-            Value::Object(members) => {
-                if members.is_empty() {
-                    return self.put(value);
-                }
-                self.walk_members(members)
-            }
-            _ => self.put(value),
+    // Enters a line. The line after it tells whether it leads to others.
+    fn enter(&mut self, line: Line<'t>, next: Option<&Line<'t>>) -> Result<(), AllocError> {
+        let depth = depth_of(&self.place, line.margin);
+        self.place.truncate(depth);
+        self.place.push(line)?;
+        if line.value.is_empty() && is_below(next, line.margin) {
+            return Ok(());
         }
-    }
-
-    // An attribute leads on by its name, any other item by its number.
-    #[cycle(walk)]
-    fn walk_items(&mut self, items: &'v Vec<Value>) -> Result<(), AllocError> {
-        for (index, item) in items.iter().enumerate() {
-            if is_attribute(item) {
-                self.walk(item)?;
-            } else {
-                self.place.push(Step::Number(index))?;
-                self.walk(item)?;
-                self.place.pop();
-            }
-        }
-        Ok(())
-    }
-
-    #[cycle(walk)]
-    fn walk_members(&mut self, members: &'v Map<String, Value>) -> Result<(), AllocError> {
-        for (name, member) in members {
-            self.place.push(Step::Name(name.as_str()))?;
-            self.walk(member)?;
-            self.place.pop();
-        }
-        Ok(())
-    }
-
-    fn put(&mut self, value: &'v Value) -> Result<(), AllocError> {
         let path = path_of(self.alloc, &self.place)?;
+        self.put(path, line.value)
+    }
+
+    // The words of a header are names and values in turns: `handle 1: parent root`. Words in brackets say a value again.
+    fn put_header(&mut self, header: &'t str) -> Result<(), AllocError> {
+        let mut name = None;
+        for word in header.split_whitespace() {
+            if !word.starts_with('(') {
+                name = match name {
+                    Some(name) => {
+                        self.put(String::from_str(self.alloc, name)?, word)?;
+                        None
+                    }
+                    None => Some(word),
+                };
+            }
+        }
+        Ok(())
+    }
+
+    fn put(&mut self, path: String, value: &'t str) -> Result<(), AllocError> {
         let path = self.numbered(path)?;
         self.leaves.push(Leaf { path, value })?;
         Ok(())
@@ -108,42 +93,64 @@ impl<'v> Walk<'v> {
     }
 }
 
-// True for an attribute in a list: an object of its name, perhaps with its `nla_type` and its padding.
-fn is_attribute(item: &Value) -> bool {
-    match item.as_object() {
-        Some(members) => members
-            .iter()
-            .filter(|member| !matches!(member.0.as_str(), "word" | "pad" | "bare"))
-            .count()
-            == 1,
+// How many of these lines a line with this margin is below.
+fn depth_of(place: &[Line<'_>], margin: usize) -> usize {
+    for (depth, line) in place.iter().enumerate() {
+        if line.margin >= margin {
+            return depth;
+        }
+    }
+    place.len()
+}
+
+fn is_below(line: Option<&Line<'_>>, margin: usize) -> bool {
+    match line {
+        Some(line) => line.margin > margin,
         None => false,
     }
 }
 
-// The names and numbers of steps, without the name of a list that has no other name.
-fn path_of(alloc: Global, place: &[Step<'_>]) -> Result<String, AllocError> {
+fn path_of(alloc: Global, place: &[Line<'_>]) -> Result<String, AllocError> {
     let mut path = String::new(alloc);
-    for step in place {
-        match step {
-            Step::Name("attributes") => {}
-            Step::Name(name) => push_name(&mut path, *name)?,
-            Step::Number(number) => push_name(&mut path, format!(in alloc; "{number}")?.as_str())?,
+    for line in place {
+        if !path.is_empty() {
+            path.push('/')?;
         }
+        path.push_str(line.name)?;
     }
     Ok(path)
 }
 
-fn push_name(path: &mut String, name: &str) -> Result<(), AllocError> {
-    if !path.is_empty() {
-        path.push('/')?;
+// A line without its margin.
+fn line_of(line: &str) -> Line<'_> {
+    let text = line.trim_start();
+    let margin = line.len().saturating_sub(text.len());
+    let (name, value) = match text.split_once(' ') {
+        Some((name, value)) => (name, value),
+        None => (text, ""),
+    };
+    Line {
+        margin,
+        name,
+        value,
     }
-    path.push_str(name)?;
-    Ok(())
 }
 
-fn leaves_of<'v>(alloc: Global, value: &'v Value) -> Result<Vec<Leaf<'v>>, AllocError> {
+// The values of an outline, whose first line has the header.
+fn leaves_of(alloc: Global, outline: &str) -> Result<Vec<Leaf<'_>>, AllocError> {
+    let (header, rest) = match outline.split_once('\n') {
+        Some((header, rest)) => (header, rest),
+        None => (outline, ""),
+    };
+    let mut lines = Vec::new(alloc);
+    for line in rest.lines() {
+        lines.push(line_of(line))?;
+    }
     let mut walk = Walk::new(alloc);
-    walk.walk(value)?;
+    walk.put_header(header)?;
+    for (index, line) in lines.iter().enumerate() {
+        walk.enter(*line, lines.get(index.saturating_add(1)))?;
+    }
     Ok(walk.leaves)
 }
 
@@ -156,11 +163,11 @@ fn places_of(alloc: Global, leaves: &[Leaf<'_>]) -> Result<Numbers, AllocError> 
     Ok(places)
 }
 
-/// Appends a line for each difference between two values of JSON: its names, the old value and the new one.
+/// Appends a line for each difference between two outlines: its names, the old value and the new one.
 pub(crate) fn put_values(
     alloc: Global,
-    old: &Value,
-    new: &Value,
+    old: &str,
+    new: &str,
     out: &mut Vec<u8>,
 ) -> Result<(), Stop> {
     let old = leaves_of(alloc, old)?;
@@ -169,19 +176,22 @@ pub(crate) fn put_values(
     let is = places_of(alloc, &new)?;
     for leaf in &old {
         let other = value_at(&new, &is, &leaf.path);
-        if !is_unchanged(leaf.value, other) {
-            put_value(alloc, &leaf.path, Some(leaf.value), other, out)?;
+        if other != Some(leaf.value) {
+            put_value(alloc, &leaf.path, leaf.value, other.unwrap_or(NONE), out)?;
         }
     }
     for leaf in &new {
         if was.get(&leaf.path).is_none() {
-            put_value(alloc, &leaf.path, None, Some(leaf.value), out)?;
+            put_value(alloc, &leaf.path, NONE, leaf.value, out)?;
         }
     }
     Ok(())
 }
 
-fn value_at<'v>(leaves: &[Leaf<'v>], places: &Numbers, path: &String) -> Option<&'v Value> {
+// What stands for a value that isn't there.
+const NONE: &str = "none";
+
+fn value_at<'t>(leaves: &[Leaf<'t>], places: &Numbers, path: &String) -> Option<&'t str> {
     match places.get(path) {
         Some(place) => match leaves.get(*place) {
             Some(leaf) => Some(leaf.value),
@@ -191,30 +201,14 @@ fn value_at<'v>(leaves: &[Leaf<'v>], places: &Numbers, path: &String) -> Option<
     }
 }
 
-fn is_unchanged(old: &Value, new: Option<&Value>) -> bool {
-    match new {
-        Some(new) => is_same(old, new),
-        None => false,
-    }
-}
-
 // Appends a line, as a terminal gets it.
 fn put_value(
     alloc: Global,
     path: &str,
-    old: Option<&Value>,
-    new: Option<&Value>,
+    old: &str,
+    new: &str,
     out: &mut Vec<u8>,
 ) -> Result<(), Stop> {
-    let old = text_of(alloc, old)?;
-    let new = text_of(alloc, new)?;
     let line = format!(in alloc; "    {path} {old} -> {new}\n")?;
     write_text(alloc, out, line.as_str())
-}
-
-fn text_of(alloc: Global, value: Option<&Value>) -> Result<String, AllocError> {
-    match value {
-        Some(value) => brief(alloc, value),
-        None => String::from_str(alloc, "none"),
-    }
 }

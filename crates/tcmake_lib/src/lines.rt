@@ -58,6 +58,8 @@ pub(crate) struct Lines {
     pub(crate) remarks: Vec<Remark>,
     /// True if something is wrong with all of them.
     pub(crate) is_void: bool,
+    /// The names of interfaces, if the first line of a save has them.
+    pub(crate) names: Option<Names>,
     /// The interfaces that they are of, if the first line of a save has them.
     pub(crate) devices: Option<Vec<i32>>,
 }
@@ -79,6 +81,7 @@ impl Lines {
             dumps: Vec::new(alloc),
             remarks: Vec::new(alloc),
             is_void: false,
+            names: None,
             devices: None,
         }
     }
@@ -132,7 +135,9 @@ pub(crate) fn read_lines<T: Tables, R: BufRead>(
         }
     }
     end(alloc, reading, &save, &mut lines)?;
-    lines.devices = save.into_devices();
+    let (names, devices) = save.into_interfaces();
+    lines.names = names;
+    lines.devices = devices;
     Ok(lines)
 }
 

@@ -157,6 +157,8 @@ pub(crate) fn plan_by<R: Rules<Global>>(
 pub struct LineState {
     /// `None` if something is wrong with a line.
     pub state: Option<State<Global>>,
+    /// The names of interfaces that a save has, by index.
+    pub names: Vec<(u32, String)>,
     /// Remarks on the lines.
     pub remarks: Vec<Remark>,
 }
@@ -174,7 +176,11 @@ pub fn state_of_lines<T: Tables, R: BufRead>(
         index: None,
         names: None,
     };
-    let lines = read_lines(alloc, forms, reading, reader)?;
+    let mut lines = read_lines(alloc, forms, reading, reader)?;
+    let names = match lines.names.take() {
+        Some(names) => names,
+        None => Vec::new(alloc),
+    };
     let mut remarks = Lines::new(alloc);
     let found = state_in(alloc, Source::Wanted, there, lines, &mut remarks)?;
     let Lines {
@@ -183,7 +189,11 @@ pub fn state_of_lines<T: Tables, R: BufRead>(
         ..
     } = remarks;
     let state = if is_void { None } else { state_alone(found) };
-    Ok(LineState { state, remarks })
+    Ok(LineState {
+        state,
+        names,
+        remarks,
+    })
 }
 
 // The state without the numbers of lines.

@@ -77,9 +77,9 @@ impl Save {
         self.names.as_ref()
     }
 
-    /// The indices of the interfaces that the save is of, if its first line has them.
-    pub(crate) fn into_devices(self) -> Option<Vec<i32>> {
-        self.devices
+    /// The names of interfaces in the first line of a save, and the indices of those that it is of, if it has them.
+    pub(crate) fn into_interfaces(self) -> (Option<Names>, Option<Vec<i32>>) {
+        (self.names, self.devices)
     }
 
     /// Takes a line that isn't blank, and that isn't read as JSON. Fails after the last line of a save.
