@@ -1,5 +1,8 @@
 //! Answers of the kernel.
 //!
+//! The kernel says why it refuses a request, and at which byte, to sockets with the option `NETLINK_EXT_ACK`:
+//! `setsockopt(fd, SOL_NETLINK, 11, &1)`. [`AnswerError::Refused`] has the answer, with text, offset and path.
+//!
 //! ```
 //! use conjareho::answers::Answers;
 //! use conjareho::constants::{NLM_F_DUMP, NLM_F_REQUEST, RTM_GETQDISC};

@@ -127,5 +127,5 @@ pub mod forms {
         Choice, Field, Form, KindRows, MakeError, Name, Number, Part, Row, Shown, Tables, Wanted, made, send_shown,
     };
     pub use crate::forms_kinds::{ACTION_LIST, ACTION_MESSAGE, PLACES, TC_LIST, TC_MESSAGE, TcTables};
-    pub use crate::forms_text::{ReadError, TextError, bytes_of_text, read_json};
+    pub use crate::forms_text::{ReadError, StrictError, TextError, bytes_of_text, made_strictly, read_json};
 }

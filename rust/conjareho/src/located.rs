@@ -41,7 +41,7 @@ fn locate(bytes: &[u8], what: What) -> Option<Located> {
 }
 
 /// The first fault of a message without its netlink header: why [`TcMessage::parse`](crate::ParseableBytes::parse) refuses it, and where.
-/// `None` if it can be read.
+/// `None` if it can be read, such as a message whose options are of a kind without types in [`tc`](crate::tc).
 #[must_use]
 pub fn locate_tc(bytes: &[u8]) -> Option<Located> {
     locate(bytes, What::Qdisc)

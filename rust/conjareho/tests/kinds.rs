@@ -381,6 +381,10 @@ fn an_option_that_was_read_is_replaced() {
     let Some(Options::FqCodel(list)) = typed.options_mut() else { panic!("another kind") };
     list.set(FqCodelAttr::Flows(64));
     assert_eq!((list.len(), list.flows()), (3, Some(&64)));
+    let other = |word: u16, value: u8| FqCodelAttr::Other(Nla { word, value: vec![value] });
+    let mut list: Attrs<FqCodelAttr> = [other(98, 1), other(99, 2)].into();
+    list.set(other(98, 3));
+    assert_eq!(list, vec![other(98, 3), other(99, 2)].into());
     assert!(Message::on(2).options_mut().is_none());
 }
 
@@ -393,6 +397,11 @@ fn json_is_that_of_the_forms() {
     let json = serde_json::to_string(&typed).expect("memory");
     assert_eq!(json, serde_json::to_string(&shown).expect("memory"));
     assert_eq!(serde_json::from_str::<Message>(&json).expect("a message"), typed);
+    // Two attributes in one object, and a misspelt member.
+    for wrong in [r#"{"Limit":1000,"Target":5000}"#, r#"{"Limit":1000,"wrod":32770}"#] {
+        let json = json.replace(r#"{"Limit":10240,"word":32770}"#, wrong);
+        assert!(json.contains(wrong) && serde_json::from_str::<Message>(&json).is_err(), "{json}");
+    }
     let fault =
         serde_json::from_str::<Message>(r#"{"header":{"family":"Unspec","index":0.5}}"#).expect_err("no message");
     assert!(fault.to_string().starts_with("/header/index: found 0.5, wanted a number"), "{fault}");

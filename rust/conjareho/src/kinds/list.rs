@@ -1,6 +1,6 @@
 //! Lists of attributes.
 
-use super::wire::Aside;
+use super::wire::{Aside, Attr, Out};
 use alloc::boxed::Box;
 use alloc::vec::Vec;
 use core::fmt;
@@ -135,15 +135,20 @@ macro_rules! list {
     };
 }
 
-impl<A> Attrs<A> {
-    /// Replaces the last attribute of the same type, or appends this one if there is none.
+impl<A: Attr> Attrs<A> {
+    /// Replaces the last attribute of the same type, or appends this one as [`push`](Self::push) does if there is none.
     pub fn set(&mut self, item: A) {
-        let kind = mem::discriminant(&item);
-        match self.items.iter_mut().rev().find(|it| mem::discriminant(*it) == kind) {
+        // Types that the table lacks are one variant.
+        let is_same = |it: &A| mem::discriminant(it) == mem::discriminant(&item) && type_of(it) == type_of(&item);
+        match self.items.iter_mut().rev().find(|it| is_same(it)) {
             Some(last) => *last = item,
             None => self.push(item),
         }
     }
+}
+
+fn type_of<A: Attr>(item: &A) -> u16 {
+    item.write(&mut Out::default())
 }
 
 list! { Attrs, A, A }

@@ -1,7 +1,7 @@
 //! Messages as JSON, by the forms: the same as [`forms::Shown`](crate::forms::Shown) of their bytes.
 
 use super::{ActionMessage, Message};
-use crate::forms::{ACTION_MESSAGE, Form, Shown, TC_MESSAGE, TcTables, made};
+use crate::forms::{ACTION_MESSAGE, Form, Shown, TC_MESSAGE, TcTables, made_strictly};
 use ::serde::de::Error as _;
 use ::serde::ser::Error as _;
 use ::serde::{Deserialize, Deserializer, Serialize, Serializer};
@@ -9,7 +9,7 @@ use alloc::vec::Vec;
 
 fn bytes_from<'de, D: Deserializer<'de>>(form: Form, from: D) -> Result<Vec<u8>, D::Error> {
     let json = serde_json::Value::deserialize(from)?;
-    made(TcTables, form, &json).map_err(D::Error::custom)
+    made_strictly(TcTables, form, &json).map_err(D::Error::custom)
 }
 
 macro_rules! json {
@@ -22,7 +22,7 @@ macro_rules! json {
         }
 
         impl<'de> Deserialize<'de> for $name {
-            /// If an object has a name twice, the last of its values counts.
+            /// The JSON has to be that of a message, up to the order of members. If an object has a name twice, the last of its values counts.
             fn deserialize<D: Deserializer<'de>>(from: D) -> Result<Self, D::Error> {
                 $name::parse(&bytes_from($form, from)?).map_err(D::Error::custom)
             }
