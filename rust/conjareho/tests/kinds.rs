@@ -381,7 +381,7 @@ fn an_option_that_was_read_is_replaced() {
     let Some(Options::FqCodel(list)) = typed.options_mut() else { panic!("another kind") };
     list.set(FqCodelAttr::Flows(64));
     assert_eq!((list.len(), list.flows()), (3, Some(&64)));
-    let other = |word: u16, value: u8| FqCodelAttr::Other(Nla { word, value: vec![value] });
+    let other = |word: u16, value: u8| FqCodelAttr::Other(conjareho::kinds::Nla { word, value: vec![value].into() });
     let mut list: Attrs<FqCodelAttr> = [other(98, 1), other(99, 2)].into();
     list.set(other(98, 3));
     assert_eq!(list, vec![other(98, 3), other(99, 2)].into());
