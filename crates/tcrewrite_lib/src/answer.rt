@@ -4,12 +4,15 @@ ghost use Rattle.std.specs.Prelude.{◌≡◌, ◌≢◌, IfOk, IsTrue, codes, s
 ghost use Rattle.hex.specs.declared.error.FromHexError.TheVariants.{OutOfMemory};
 ghost use Rattle.tcrewrite_lib.specs.Answer.{report_of};
 ghost use Rattle.tcrewrite_lib.specs.Report.{one_line, yes_or_no, bytes_line, accepted, ReportsAs, ReportsBytes, IsReport};
+ghost use Rattle.tcrewrite_lib.specs.Text.{is_space, without_spaces};
 
-use crate::text::{MOST_TEXT, drop_spaces};
 use hex::FromHexError;
 use std::alloc::{AllocError, Allocator};
 use tc_capture::MessageType;
 use tc_wire::{DecodeError, TcActionMessage, TcMessage, WholeMessage};
+
+/// The maximum length of a text in bytes.
+pub(crate) const MOST_TEXT: usize = 1_048_576;
 
 /// A report in memory, ready to be written.
 #[derive(Drop)]
@@ -119,6 +122,20 @@ fn answer_bytes<A: Allocator + Copy>(
         MessageType::Tc => answer_as::<A, TcMessage<A>>(alloc, bytes),
         MessageType::Action => answer_as::<A, TcActionMessage<A>>(alloc, bytes),
     }
+}
+
+// Tab, line feed, form feed, carriage return and space.
+fn is_space(byte: u8) -> bool
+    ensures { result ≡ is_space byte }
+{
+    matches!(byte, b'\t' | b'\n' | 12 | b'\r' | b' ')
+}
+
+// Removes the spaces of a text.
+fn drop_spaces<A: Allocator>(text: &mut Vec<u8, A>)
+    ensures { text.new.items ≡ without_spaces text.old.items }
+{
+    text.retain(|byte| !is_space(*byte))
 }
 
 /// The report on a text.

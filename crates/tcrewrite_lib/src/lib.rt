@@ -7,4 +7,3 @@ pub mod laws;
 pub mod mode;
 pub mod program;
 pub mod run;
-mod text;

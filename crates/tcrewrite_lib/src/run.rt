@@ -1,18 +1,23 @@
 //! A run: reads a text and writes the report on it.
 
-ghost use Rattle.std.specs.Prelude.{◌≡◌, Err, IfOk, IfErr, IfSome};
-ghost use Rattle.std.specs.Io.KnownBytes.{Consumes};
+ghost use Rattle.std.specs.Prelude.{◌≡◌, ◌+◌, ◌<◌, ◌≤◌, length, Err, IfOk, IfErr, IfSome, OnOk, true, false};
+ghost use Rattle.std.specs.Io.{appended_bytes, StartsWith};
+ghost use Rattle.std.specs.Io.KnownBytes.{Consumes, IsAtEnd};
+ghost use Rattle.program_io.specs.Retries.{retries_left};
 ghost use Rattle.tcrewrite_lib.specs.Answer.{report_of};
-ghost use Rattle.tcrewrite_lib.specs.Text.{looked_at};
+ghost use Rattle.tcrewrite_lib.specs.Text.{looked_at, most_text};
 ghost use Rattle.tcrewrite_lib.specs.Report.{IsReport, no_memory};
-ghost use Rattle.tcrewrite_lib.specs.Run.{Reports, RunReports};
+ghost use Rattle.tcrewrite_lib.specs.Run.{IsTextOf, Reports, RunReports};
+ghost use Rattle.tcrewrite_lib.specs.declared.run.TextError.TheVariants.{OutOfMemory};
 
-use crate::answer::{Answer, answer_text};
-use crate::text::{TextError, read_text};
+use crate::answer::{Answer, MOST_TEXT, answer_text};
 use program_io::{Retries, write_all};
-use std::alloc::Allocator;
+use std::alloc::{AllocError, Allocator};
 use std::io::{Read, Write};
 use tc_capture::MessageType;
+
+// The maximum number of bytes of one read.
+const MOST_PART: usize = 4096;
 
 /// The reason why a run ended early.
 #[derive(Drop, PartialEq, Eq, Debug)]
@@ -22,6 +27,77 @@ pub enum RunError {
 
     /// The writer failed.
     Write,
+}
+
+// The reason why there is no text.
+#[derive(Drop)]
+enum TextError {
+    // The reader failed.
+    Fault,
+
+    // Memory ran out.
+    OutOfMemory,
+}
+
+impl From<AllocError> for TextError {
+    ghost from_gives = { λ _ e. e ≡ OutOfMemory };
+
+    fn from(_e: AllocError) -> TextError {
+        TextError::OutOfMemory
+    }
+}
+
+// Appends the bytes of one read. Returns whether there may be more.
+fn read_part<A: Allocator, R: Read>(
+    reader: &mut R,
+    text: &mut Vec<u8, A>,
+    retries: &mut Retries,
+) -> Result<bool, TextError>
+    requires { length text.old.items ≤ most_text }
+    ensures starts { StartsWith text.new.items text.old.items }
+    ensures bytes { OnOk result (Consumes (R.remaining reader.old) (R.remaining reader.new)
+        (appended_bytes text.old.items text.new.items)) }
+    ensures bound { length text.new.items ≤ most_text + 1 }
+    ensures end { IfOk result (λ more. more ≡ false → IsAtEnd (R.remaining reader.new)) }
+    ensures falls { IfOk result (λ more.
+        more ≡ true
+        → length text.old.items + retries_left retries.new
+        < length text.new.items + retries_left retries.old) }
+{
+    let mut part = [0u8; MOST_PART];
+    let room = MOST_PART.min(MOST_TEXT + 1 - text.len());
+    match reader.read(&mut part[..room]) {
+        Ok(0) => Ok(false),
+        Ok(count) => {
+            text.extend_from_slice(&part[..count])?;
+            Ok(true)
+        }
+        Err(fault) => {
+            if retries.tries_again(&fault) {
+                Ok(true)
+            } else {
+                Err(TextError::Fault)
+            }
+        }
+    }
+}
+
+// Reads a text to its end, or up to the byte that makes it too long.
+fn read_text<A: Allocator, R: Read>(
+    alloc: A,
+    reader: &mut R,
+    retries: &mut Retries,
+) -> Result<Vec<u8, A>, TextError>
+    ensures { IfOk result (λ text.
+        IsTextOf (R.remaining reader.old) (R.remaining reader.new) text.items) }
+{
+    let mut text = Vec::new(alloc);
+    'parts: while text.len() <= MOST_TEXT {
+        if !read_part(reader, &mut text, retries)? {
+            break;
+        }
+    }
+    Ok(text)
 }
 
 // The report on the bytes of the reader.

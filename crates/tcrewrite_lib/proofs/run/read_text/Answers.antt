@@ -1,7 +1,7 @@
 use Rattle.std.proofs.Common.{arith, inl, inr}
 use Rattle.tcrewrite_lib.proofs.Streams.{Consumes-next, IsTextOf-taken}
-use Rattle.tcrewrite_lib.proofs.text.read_text.Goals as goal
-use Rattle.tcrewrite_lib.proofs.text.read_text.Goals.{else-parts-test, then-parts-test+in_ok-read_part+then-not-branch}
+use Rattle.tcrewrite_lib.proofs.run.read_text.Goals as goal
+use Rattle.tcrewrite_lib.proofs.run.read_text.Goals.{else-parts-test, then-parts-test+in_ok-read_part+then-not-branch}
 
 pub parts-preserved : goal.parts-preserved
 parts-preserved g c = record {

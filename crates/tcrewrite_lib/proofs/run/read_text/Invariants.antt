@@ -1,7 +1,7 @@
 use Rattle.std.proofs.Common.{◌+◌, ◌-◌, ◌≤◌, length}
 use Rattle.std.specs.Io.KnownBytes.{Consumes}
 use Rattle.program_io.specs.Retries.{retries_left}
-use Rattle.tcrewrite_lib.proofs.text.read_text.Given as goal
+use Rattle.tcrewrite_lib.proofs.run.read_text.Given as goal
 
 -- what was read so far is the text, which isn't over the limit by more than one byte
 abbrev pub invariant-parts : goal.invariant-parts
