@@ -4,6 +4,7 @@ ghost use Rattle.nla_frames.specs.Value.{IsBytes};
 ghost use Rattle.tc_wire.specs.Facade.{action_words};
 ghost use Rattle.tc_wire.specs.Rewriting.{SettlesAct};
 ghost use Rattle.forms_kinds.specs.Table.{action_message};
+ghost use Rattle.tc_outline.specs.declared.what.What.TheVariants.{Action};
 ghost use Rattle.tc_message_json.specs.Made.{IsGiven, IsMadeOf};
 ghost use Rattle.tc_ffi.specs.Calls.{IsRewritten, IsSettled, IsShown};
 ghost use Rattle.tc_ffi.specs.Checks.{IsChecked};
@@ -23,7 +24,7 @@ pub extern "C" fn vtc_action_check(
     verdict: &mut VtcVerdict,
     fault: &mut VtcFault,
 ) -> u32
-    ensures { IsChecked action_words bytes.now verdict.old verdict.new fault.old fault.new result }
+    ensures { IsChecked action_words Action bytes.now verdict.old verdict.new fault.old fault.new result }
 {
     calls::check::<TcActionMessage>(alloc, bytes, verdict, fault)
 }

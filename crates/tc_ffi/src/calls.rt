@@ -21,7 +21,7 @@ pub fn check<M: WholeMessage<Global> + HasForm + Drop>(
     verdict: &mut VtcVerdict,
     fault: &mut VtcFault,
 ) -> u32
-    ensures checks { Checks M.words bytes.now verdict.new fault.new result }
+    ensures checks { Checks M.words M.what bytes.now verdict.new fault.new result }
     ensures verdict_kept { Keeps verdict.old verdict.new result }
     ensures fault_kept { result ≡ 0 → fault.new ≡ fault.old }
 {

@@ -4,6 +4,7 @@ ghost use Rattle.nla_frames.specs.Value.{IsBytes};
 ghost use Rattle.tc_wire.specs.Facade.{tc_words};
 ghost use Rattle.tc_wire.specs.Rewriting.{SettlesTc};
 ghost use Rattle.forms_kinds.specs.Table.{tc_message};
+ghost use Rattle.tc_outline.specs.declared.what.What.TheVariants.{Qdisc};
 ghost use Rattle.tc_message_json.specs.Made.{IsGiven, IsMadeOf};
 ghost use Rattle.tc_ffi.specs.Calls.{IsRewritten, IsSettled, IsShown};
 ghost use Rattle.tc_ffi.specs.Checks.{IsChecked};
@@ -23,7 +24,7 @@ pub extern "C" fn vtc_check(
     verdict: &mut VtcVerdict,
     fault: &mut VtcFault,
 ) -> u32
-    ensures { IsChecked tc_words bytes.now verdict.old verdict.new fault.old fault.new result }
+    ensures { IsChecked tc_words Qdisc bytes.now verdict.old verdict.new fault.old fault.new result }
 {
     calls::check::<TcMessage>(alloc, bytes, verdict, fault)
 }

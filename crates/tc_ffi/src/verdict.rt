@@ -2,7 +2,7 @@
 
 ghost use Rattle.std.specs.Prelude.{◌≡◌, ◌≤◌, length};
 ghost use Rattle.tc_status.specs.Status.{numbers_of};
-ghost use Rattle.tc_ffi.specs.Checks.{IsJudged, IsCounted, Numbers, Says};
+ghost use Rattle.tc_ffi.specs.Checks.{IsJudged, IsCounted, Numbers, Says, fault_offset};
 
 use std::alloc::Global;
 use tc_message_json::HasForm;
@@ -62,7 +62,8 @@ fn fits_in<M: WholeMessage<Global>>(message: &M) -> (u8, usize)
 /// The first fault of bytes, for C.
 pub fn fault_of<M: HasForm>(fault: &DecodeError, bytes: &[u8]) -> VtcFault
     ensures numbers { (result.first, result.second) ≡ numbers_of fault.now }
-    ensures place { result.offset ≤ length bytes.now }
+    ensures place { result.offset ≡ fault_offset M.what bytes.now }
+    ensures inside { result.offset ≤ length bytes.now }
 {
     let (first, second) = numbers_of(fault);
     VtcFault {
@@ -74,7 +75,8 @@ pub fn fault_of<M: HasForm>(fault: &DecodeError, bytes: &[u8]) -> VtcFault
 
 // The offset of the first fault.
 fn place_of(bytes: &[u8], what: What) -> usize
-    ensures { result ≤ length bytes.now }
+    ensures place { result ≡ fault_offset what bytes.now }
+    ensures inside { result ≤ length bytes.now }
 {
     match locate(bytes, what) {
         Some(fault) => fault.offset,

@@ -3,6 +3,8 @@
 ghost use Rattle.std.specs.Prelude.{◌≡◌};
 ghost use Rattle.forms_values.specs.declared.form.Form.{Form};
 ghost use Rattle.forms_kinds.specs.Table.{tc_message, action_message};
+ghost use Rattle.tc_outline.specs.declared.what.What.{What as WhatType};
+ghost use Rattle.tc_outline.specs.declared.what.What.TheVariants.{Action, Qdisc};
 
 use forms_json::Form;
 use forms_kinds::{ACTION_MESSAGE, TC_MESSAGE};
@@ -18,12 +20,17 @@ pub trait HasForm: Emitable {
     fn form() -> Form
         ensures { result ≡ form };
 
+    ghost what: { WhatType };
+
     /// The object that these messages describe, for the place of a fault.
-    fn what() -> What;
+    fn what() -> What
+        ensures { result ≡ what };
 }
 
 impl<A: Allocator> HasForm for TcMessage<A> {
     ghost form = { tc_message };
+
+    ghost what = { Qdisc };
 
     fn form() -> Form {
         TC_MESSAGE
@@ -36,6 +43,8 @@ impl<A: Allocator> HasForm for TcMessage<A> {
 
 impl<A: Allocator> HasForm for TcActionMessage<A> {
     ghost form = { action_message };
+
+    ghost what = { Action };
 
     fn form() -> Form {
         ACTION_MESSAGE

@@ -3,4 +3,5 @@ pub mod Text
 pub mod Fault
 pub mod Check
 pub mod Located
+pub mod Places
 pub mod Outline

@@ -1,8 +1,12 @@
--- The first fault of a message, in the order of parsing: each attribute before those nested in it.
-use Rattle.std.specs.Prelude.{ℕ, List, [], ◌∷◌, Option, Some, None, Ok, Err}
+-- The first fault of a message, and its offset, in the order of parsing: each attribute before those nested in it.
+use Rattle.std.specs.Prelude.{ℕ, ◌+◌, ◌==◌, ◌&&◌, not, Bool, List, [], ◌∷◌, Option, Some, None, Ok, Err, is_some, if◌then◌else◌}
+use Rattle.std.specs.Str.{is_utf8}
 use Rattle.nla_frames.specs.declared.error.DecodeError.{DecodeError}
 use Rattle.nla_frames.specs.Fault.{Outcome}
-use Rattle.nla_frames.specs.Frame.{type_of}
+use Rattle.nla_frames.specs.Frame.{Frame, type_of, frame_length}
+use Rattle.nla_frames.specs.Value.{strip}
+use Rattle.nla_frames.specs.Cutting.{cut, items_of}
+use Rattle.tc_canon.specs.Descriptor.{Class, own_list}
 use Rattle.tc_index.specs.Nesting.{class_in}
 use Rattle.tc_index.specs.Attributes.{Placed, Item, tc_items, action_items, after_header}
 use Rattle.tc_outline.specs.declared.what.What.{What}
@@ -33,3 +37,35 @@ items_of_message what bytes = after_header 20 tc_items bytes
 abbrev pub message_fault : Outcome (List Item) → Option DecodeError
 message_fault (Ok items) = first_fault items
 message_fault (Err e) = Some e
+
+-- ---- its offset
+
+-- a frame of an action with a kind that isn't UTF-8
+abbrev pub is_wrong_kind : Frame → Bool
+is_wrong_kind f = (type_of f.word == 1) && not (is_utf8 (strip f.value))
+
+-- the offset of the fault of an action, whose frames from here on begin at an offset: of the first frame that is malformed, or the value of a kind that isn't
+-- UTF-8; if there is none, it has no kind or several, and the fault is at its own value
+abbrev pub offset_in_frames : ℕ → ℕ → List (Outcome Frame) → ℕ
+offset_in_frames action at [] = action
+offset_in_frames action at (Err e ∷ frames) = at
+offset_in_frames action at (Ok f ∷ frames) = if is_wrong_kind f then at + 4 else offset_in_frames action (at + frame_length f) frames
+
+-- the offset of the fault of a value of this class at an offset: the value's, except for an action
+abbrev pub offset_in : Class → ℕ → List ℕ → ℕ
+offset_in (own_list rows) at value = offset_in_frames at at (items_of (cut value))
+offset_in class at value = at
+
+abbrev pub own_offset : Placed → ℕ
+own_offset p = offset_in (class_in p.table (type_of p.frame.word) p.kind) p.offset p.frame.value
+
+-- the offset of the first fault of attributes: of a malformed frame its own
+abbrev pub first_offset : List Item → Option ℕ
+first_offset [] = None
+first_offset (Ok p ∷ items) = if is_some (own_fault p) then Some (own_offset p) else first_offset items
+first_offset (Err broken ∷ items) = Some broken.offset
+
+-- the offset of the first fault of a message: 0 for a short header
+abbrev pub message_offset : Outcome (List Item) → Option ℕ
+message_offset (Ok items) = first_offset items
+message_offset (Err e) = Some 0

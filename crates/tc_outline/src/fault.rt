@@ -1,8 +1,8 @@
 //! The first fault of a message, with its offset and path.
 
-ghost use Rattle.std.specs.Prelude.{◌≡◌};
+ghost use Rattle.std.specs.Prelude.{◌≡◌, ◌-◌, ◌^◌, min};
 ghost use Rattle.tc_index.specs.Views.{placed_of};
-ghost use Rattle.tc_outline.specs.Located.{own_fault};
+ghost use Rattle.tc_outline.specs.Located.{own_fault, own_offset};
 
 mod action;
 mod value;
@@ -91,7 +91,8 @@ pub(crate) fn error_in(attribute: &Attribute<'_>) -> Option<DecodeError>
 
 // The fault of an attribute at a path; within an action the path goes on to the frame.
 pub(crate) fn fault_at(attribute: &Attribute<'_>, path: &Path, error: DecodeError) -> Fault
-    ensures { result.error ≡ error }
+    ensures error { result.error ≡ error }
+    ensures offset { result.offset ≡ min (own_offset (placed_of attribute.now)) (2 ^ 64 - 1) }
 {
     let (offset, path) = match attribute.table {
         Table::Actions => place_in(attribute, path),

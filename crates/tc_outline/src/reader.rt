@@ -1,9 +1,10 @@
 //! Finding the first fault of a message.
 
-ghost use Rattle.std.specs.Prelude.{◌≡◌, ◌≤◌, length, IfSome, option_map};
+ghost use Rattle.std.specs.Prelude.{◌≡◌, ◌≤◌, ◌-◌, ◌^◌, length, IfSome, min, option_map};
 ghost use Rattle.nla_frames.specs.Fault.{seen};
 ghost use Rattle.tc_index.specs.Views.{items_left};
-ghost use Rattle.tc_outline.specs.Located.{first_fault, items_of_message, message_fault};
+ghost use Rattle.tc_outline.specs.Located.{first_fault, first_offset, items_of_message, message_fault, message_offset};
+ghost use Rattle.tc_outline.specs.Places.{offset_of};
 
 use crate::fault::{Fault, error_in, fault_at};
 use crate::path::Path;
@@ -32,6 +33,7 @@ enum At<'a> {
 /// The first fault of a message, in the order of parsing. `None` if the message can be parsed.
 pub fn locate(bytes: &[u8], what: What) -> Option<Fault>
     ensures error { option_map (λ fault. fault.error) result ≡ message_fault (items_of_message what bytes.now) }
+    ensures offset { option_map (λ fault. fault.offset) result ≡ message_offset (items_of_message what bytes.now) }
     ensures place { IfSome result (λ fault. fault.offset ≤ length bytes.now) }
 {
     match attributes_of(bytes, what) {
@@ -45,7 +47,8 @@ pub fn locate(bytes: &[u8], what: What) -> Option<Fault>
 }
 
 fn first_fault(attributes: Attributes<'_>) -> Option<Refused<'_>>
-    ensures { option_map (λ refused. refused.error) result ≡ first_fault (items_left attributes.entry) }
+    ensures error { option_map (λ refused. refused.error) result ≡ first_fault (items_left attributes.entry) }
+    ensures offset { option_map (λ refused. offset_of refused.at) result ≡ first_offset (items_left attributes.entry) }
 {
     let mut count = 0usize;
     for attribute in attributes {
@@ -68,7 +71,8 @@ fn first_fault(attributes: Attributes<'_>) -> Option<Refused<'_>>
 
 // The fault of a malformed frame after `count` attributes.
 fn broken_after<'a>(count: usize, broken: BrokenFrame) -> Refused<'a>
-    ensures { result.error ≡ broken.fault }
+    ensures error { result.error ≡ broken.fault }
+    ensures offset { offset_of result.at ≡ broken.offset }
 {
     Refused {
         error: broken.fault,
@@ -101,7 +105,8 @@ fn path_of(bytes: &[u8], what: What, count: usize) -> Path {
 
 // The fault, with its path.
 fn fault_of(refused: Refused<'_>, path: &Path) -> Fault
-    ensures { result.error ≡ refused.entry.error }
+    ensures error { result.error ≡ refused.entry.error }
+    ensures offset { result.offset ≡ min (offset_of refused.entry.at) (2 ^ 64 - 1) }
 {
     let Refused {
         error,
@@ -116,7 +121,7 @@ fn fault_of(refused: Refused<'_>, path: &Path) -> Fault
 
 // The fault, with an offset within a message of this length.
 fn within(fault: Fault, len: usize) -> Fault
-    ensures place { result.offset ≤ len }
+    ensures offset { result.offset ≡ min fault.offset len }
     ensures error { result.error ≡ fault.error }
 {
     Fault {
@@ -138,7 +143,8 @@ fn attributes_of(bytes: &[u8], what: What) -> Res<Attributes<'_>>
 
 // The fault of a malformed frame at this offset, after the attribute at a path.
 fn broken_at(before: &Path, offset: usize, error: DecodeError) -> Fault
-    ensures { result.error ≡ error }
+    ensures error { result.error ≡ error }
+    ensures offset { result.offset ≡ offset }
 {
     let mut path = *before;
     path.enter_at(offset);

@@ -1,6 +1,6 @@
 -- Steps on the way to a byte of a message.
 use Rattle.std.proofs.Common.{◌≡◌, ◌∙◌, ℕ, suc, ap, sym}
-use Rattle.std.specs.Prelude.{None, Option, Some}
+use Rattle.std.specs.Prelude.{None, Some}
 use Rattle.tc_paths.specs.Paths.{Path, Way, along, here, nowhere, on, step, then_along}
 
 module _ (left less : ℕ) (w : Way) (one : left ≡ suc less) where

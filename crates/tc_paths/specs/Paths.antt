@@ -1,6 +1,7 @@
 -- The path of an attribute in bytes of a form: the attributes that contain it, from the outside in, and itself.
 use Rattle.forms_attributes.specs.Frames.{PaddedFrame, after_first, front}
 use Rattle.forms_attributes.specs.Kinds.{kind_in, own_kind}
+use Rattle.nla_frames.specs.Frame.{type_of}
 use Rattle.forms_attributes.specs.Rows.{shown_row}
 use Rattle.forms_kinds.specs.Table.{tc_tables}
 use Rattle.forms_values.specs.Places.{fields_of, form_of, layer_of, part_at, rows_under}
@@ -8,7 +9,7 @@ use Rattle.forms_values.specs.Tables.{Field, Row}
 use Rattle.forms_values.specs.declared.form.Form.{Form}
 use Rattle.forms_values.specs.declared.form.Form.TheVariants as form
 use Rattle.std.specs.Prelude.{Bool, List, None, Option, Some, [], bytes_eq, codes, decimal, drop, false, if◌then◌else◌, length, nat_lt, suc, true, unwrap_or, zero, ℕ}
-use Rattle.std.specs.Prelude.{◌+◌, ◌++◌, ◌-◌, ◌==◌, ◌∷◌}
+use Rattle.std.specs.Prelude.{◌+◌, ◌++◌, ◌-◌, ◌==◌, ◌&&◌, ◌∷◌}
 
 -- ---- texts
 
@@ -88,7 +89,7 @@ kind_within f kind bytes = kind
 -- ---- the way to a byte
 
 -- the path, the form and the kind of the innermost list that contains the byte, and how many attributes of it come before the byte; the rest of the list, and
--- how many bytes of the rest come before the byte
+-- how many bytes of the rest come before the byte; and whether the frame at the byte is at fault: malformed, or with a wrong value
 pub record Way : Type 0 where
   pub path : Path
   pub list : Form
@@ -96,6 +97,7 @@ pub record Way : Type 0 where
   pub passed : ℕ
   pub left : List ℕ
   pub before : ℕ
+  pub to_fault : Bool
 
 -- an attribute begins at the byte, and has this path; or none does; or the way goes on
 pub data Step : Type 0 where
@@ -103,25 +105,43 @@ pub data Step : Type 0 where
   nowhere : Step
   on : Way → Step
 
--- into the value of an attribute with this path and form in a list of this form, under this kind
-abbrev pub into : Form → Path × Form → List ℕ → List ℕ → ℕ → Step
-into list found kind value n =
+-- into the value of an attribute with this path and form
+abbrev pub into : Way → Path × Form → List ℕ → ℕ → Step
+into w found value n =
     if is_list found.1
-    then on (record { path = list_path list found.0; list = found.1; kind = kind_within found.1 kind value; passed = 0; left = value; before = n })
+    then on (record w {
+      path = list_path w.list found.0;
+      list = found.1;
+      kind = kind_within found.1 w.kind value;
+      passed = 0;
+      left = value;
+      before = n;
+    })
     else nowhere
+
+-- a kind keeps its name if it isn't UTF-8
+abbrev pub is_kind : Form → PaddedFrame → Bool
+is_kind (form.InForce i) c = type_of c.word == 1
+is_kind (form.Own i) c = type_of c.word == 1
+is_kind f c = false
+
+-- the path of the attribute at the front of the rest
+abbrev pub own_path : Way → PaddedFrame → Path
+own_path w c =
+    if w.to_fault && is_kind w.list c then called (numbered w.path w.passed) (codes "Kind") else (placed w.path w.kind w.passed c w.list).0
 
 -- at the attribute at the front of the rest, under its kind: the byte is its first; or in its header of four bytes; in its value; in its padding; or after it
 abbrev pub step_by : Way → PaddedFrame → Step
 step_by w c =
-    if w.before == 0 then here (placed w.path w.kind w.passed c w.list).0
+    if w.before == 0 then here (own_path w c)
     else if nat_lt w.before 4 then nowhere
-    else if nat_lt (w.before - 4) (length c.value) then into w.list (placed w.path w.kind w.passed c w.list) w.kind c.value (w.before - 4)
+    else if nat_lt (w.before - 4) (length c.value) then into w (placed w.path w.kind w.passed c w.list) c.value (w.before - 4)
     else if nat_lt (w.before - 4 - length c.value) (length c.pad) then nowhere
     else on (record w { passed = w.passed + 1; left = after_first w.left; before = w.before - 4 - length c.value - length c.pad })
 
--- without an attribute at the front, none begins at the byte
+-- without an attribute at the front, none begins at the byte; a malformed frame that does has its number
 abbrev pub step_at : Way → Option PaddedFrame → Step
-step_at w None = nowhere
+step_at w None = if w.to_fault && (w.before == 0) then here (counted w.path w.passed) else nowhere
 step_at w (Some c) = step_by (record w { kind = kind_after w.list w.kind c }) c
 
 abbrev pub step : Way → Step
@@ -149,8 +169,8 @@ list_of (form.Record i) = attributes_in (fields_of (part_at tc_tables i))
 list_of f = form.Hex
 
 -- where the way to a byte of a message begins: its attributes come after a header
-abbrev pub way_in : Form → ℕ → List ℕ → ℕ → Way
-way_in f header bytes n =
+abbrev pub way_in : Bool → Form → ℕ → List ℕ → ℕ → Way
+way_in to_fault f header bytes n =
     record {
       path = record { names = []; pointer = codes "/attributes" };
       list = list_of f;
@@ -158,8 +178,13 @@ way_in f header bytes n =
       passed = 0;
       left = drop header bytes;
       before = n - header;
+      to_fault = to_fault;
     }
 
 -- the path of the attribute that begins at this byte of a message of this form, with a header of this length. `None` if no attribute begins there
 unfoldable pub path_in : Form → ℕ → List ℕ → ℕ → Option Path
-path_in f header bytes n = if nat_lt n header then None else along (length bytes) (way_in f header bytes n)
+path_in f header bytes n = if nat_lt n header then None else along (length bytes) (way_in false f header bytes n)
+
+-- the path of the frame at fault that begins at this byte: of a malformed frame its number in its list. `None` if none begins there
+unfoldable pub fault_path_in : Form → ℕ → List ℕ → ℕ → Option Path
+fault_path_in f header bytes n = if nat_lt n header then None else along (length bytes) (way_in true f header bytes n)

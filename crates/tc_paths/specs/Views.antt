@@ -11,7 +11,15 @@ path_view p = record { names = string_bytes p.names; pointer = string_bytes p.po
 
 abbrev pub way_view : CodeWay → Way
 way_view w =
-    record { path = path_view w.path; list = w.list; kind = w.kind.now; passed = w.passed; left = w.left.now; before = w.before }
+    record {
+      path = path_view w.path;
+      list = w.list;
+      kind = w.kind.now;
+      passed = w.passed;
+      left = w.left.now;
+      before = w.before;
+      to_fault = w.to_fault;
+    }
 
 -- a step that leads to a way
 abbrev pub step_of : Next → Way → Step

@@ -51,13 +51,13 @@ impl Path {
     ghost use Rattle.tc_paths.specs.Paths.{called, counted, in_layer, numbered};
     ghost use Rattle.tc_paths.specs.Views.{path_view};
 
-    fn number(&mut self, n: u64) -> Result<(), AllocError>
+    pub(crate) fn number(&mut self, n: u64) -> Result<(), AllocError>
         ensures { OnOk result (path_view self.new ≡ numbered (path_view self.old) n) }
     {
         put_slash(&mut self.pointer, Buffer::new().format(n))
     }
 
-    fn call(&mut self, name: &str) -> Result<(), AllocError>
+    pub(crate) fn call(&mut self, name: &str) -> Result<(), AllocError>
         ensures { OnOk result (path_view self.new ≡ called (path_view self.old) name.now) }
     {
         put_slashed(&mut self.names, name)?;
@@ -73,7 +73,7 @@ impl Path {
         self.call(layer)
     }
 
-    fn count(&mut self, n: u64) -> Result<(), AllocError>
+    pub(crate) fn count(&mut self, n: u64) -> Result<(), AllocError>
         ensures { OnOk result (path_view self.new ≡ counted (path_view self.old) n) }
     {
         let mut buffer = Buffer::new();

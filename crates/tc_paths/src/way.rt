@@ -1,9 +1,9 @@
 //! The way to a byte of a message, through the attributes that contain it.
 
-ghost use Rattle.std.specs.Prelude.{◌≡◌, [], IfOk, OnOk, codes, drop, option_map, string_bytes};
+ghost use Rattle.std.specs.Prelude.{◌≡◌, ◌≤◌, [], IfOk, OnOk, codes, drop, option_map, string_bytes};
 ghost use Rattle.forms_attributes.specs.Frames.{frame_view};
 ghost use Rattle.forms_values.specs.Tables.{fields_view};
-ghost use Rattle.tc_paths.specs.Paths.{along, attributes_in, is_list, kind_after, kind_within, list_of, list_path, path_in};
+ghost use Rattle.tc_paths.specs.Paths.{along, attributes_in, is_kind, is_list, kind_after, kind_within, list_of, list_path, fault_path_in, path_in, way_in};
 ghost use Rattle.tc_paths.specs.Views.{path_view, way_view};
 
 use crate::path::{Path, put_place};
@@ -24,6 +24,8 @@ pub(crate) struct Way<'a> {
     // The rest of the list, and how many bytes of it come before the byte.
     left: &'a [u8],
     before: usize,
+    // True if the frame at the byte is at fault: malformed, or with a wrong value.
+    to_fault: bool,
 }
 
 // A step on the way.
@@ -57,6 +59,13 @@ fn kind_within<'a>(list: Form, kind: &'a str, bytes: &'a [u8]) -> &'a str
     }
 }
 
+// True for a kind, also if it isn't UTF-8.
+fn is_kind(list: Form, frame: &Frame<'_>) -> bool
+    ensures { result ≡ is_kind list (frame_view frame.now) }
+{
+    matches!(list, Form::InForce(_) | Form::Own(_)) && frame.word % 0x4000 == 1
+}
+
 fn is_list(form: Form) -> bool
     ensures { result ≡ is_list form }
 {
@@ -77,9 +86,9 @@ fn enter_list(path: &mut Path, list: Form) -> Result<(), AllocError>
 }
 
 impl<'a> Way<'a> {
-    ghost use Rattle.std.specs.Prelude.{◌≡◌, ◌<◌, ◌≤◌, ◌+◌, ◌^◌, ◌-◌, IfOk};
+    ghost use Rattle.std.specs.Prelude.{◌≡◌, ◌<◌, ◌≤◌, ◌+◌, ◌^◌, ◌-◌, IfOk, OnOk};
     ghost use Rattle.forms_attributes.specs.Frames.{after_first, frame_view};
-    ghost use Rattle.tc_paths.specs.Paths.{into, step, step_by};
+    ghost use Rattle.tc_paths.specs.Paths.{into, own_path, step, step_at, step_by};
     ghost use Rattle.tc_paths.specs.Views.{path_view, step_of, way_view};
 
     // One step: into the attribute at the front of the rest, or past it.
@@ -93,8 +102,20 @@ impl<'a> Way<'a> {
                 self.kind = kind_after(self.list, self.kind, &frame);
                 self.pass(&frame, after)
             }
-            None => Ok(Next::Nowhere),
+            None => self.stop(),
         }
+    }
+
+    // Without an attribute at the front of the rest.
+    fn stop(&mut self) -> Result<Next, AllocError>
+        ensures step { IfOk result (λ next. step_at (way_view self.old) None ≡ step_of next (way_view self.new)) }
+        ensures few { IfOk result (λ next. self.new.passed ≤ self.old.passed) }
+    {
+        if self.to_fault && self.before == 0 {
+            self.path.count(self.passed)?;
+            return Ok(Next::Here);
+        }
+        Ok(Next::Nowhere)
     }
 
     fn pass(&mut self, frame: &Frame<'a>, after: &'a [u8]) -> Result<Next, AllocError>
@@ -104,7 +125,7 @@ impl<'a> Way<'a> {
         ensures few { IfOk result (λ next. self.new.passed ≤ self.old.passed + 1) }
     {
         if self.before == 0 {
-            put_place(&mut self.path, self.kind, self.passed, frame, self.list)?;
+            self.end_at(frame)?;
             return Ok(Next::Here);
         }
         if self.before < 4 {
@@ -125,9 +146,22 @@ impl<'a> Way<'a> {
         Ok(Next::On)
     }
 
+    // At the attribute at the front of the rest.
+    fn end_at(&mut self, frame: &Frame<'a>) -> Result<(), AllocError>
+        ensures path { OnOk result (path_view self.new.path ≡ own_path (way_view self.old) (frame_view frame.now)) }
+        ensures few { OnOk result (self.new.passed ≡ self.old.passed) }
+    {
+        if self.to_fault && is_kind(self.list, frame) {
+            self.path.number(self.passed)?;
+            return self.path.call("Kind");
+        }
+        put_place(&mut self.path, self.kind, self.passed, frame, self.list)?;
+        Ok(())
+    }
+
     // Into a value of this form, with the path of its attribute.
     fn enter(&mut self, form: Form, value: &'a [u8], before: usize) -> Result<Next, AllocError>
-        ensures step { IfOk result (λ next. into self.old.list (path_view self.old.path, form) self.old.kind.now value.now before
+        ensures step { IfOk result (λ next. into (way_view self.old) (path_view self.old.path, form) value.now before
             ≡ step_of next (way_view self.new)) }
         ensures few { IfOk result (λ next. self.new.passed ≤ self.old.passed) }
     {
@@ -210,6 +244,30 @@ fn path_to_list(alloc: Global) -> Result<Path, AllocError>
     })
 }
 
+// The way to a byte of a message, after its header.
+fn way_in(
+    alloc: Global,
+    to_fault: bool,
+    form: Form,
+    header: usize,
+    bytes: &[u8],
+    offset: usize,
+) -> Result<Way<'_>, AllocError>
+    requires { header ≤ offset }
+    ensures way { IfOk result (λ way. way_view way ≡ way_in to_fault form header bytes.now offset) }
+    ensures first { IfOk result (λ way. way.passed ≡ 0) }
+{
+    Ok(Way {
+        path: path_to_list(alloc)?,
+        list: list_of(form),
+        kind: "",
+        passed: 0,
+        left: after_header(bytes, header),
+        before: offset - header,
+        to_fault,
+    })
+}
+
 /// The path of the attribute that begins at an offset in a message of this form (`TC_MESSAGE` or `ACTION_MESSAGE` of `forms_kinds`), after a header of this
 /// length. `None` if no attribute begins there. It takes time in proportion to the attributes before it.
 #[tactic(auto, unfolding(crate::specs::Paths::path_in))]
@@ -225,13 +283,24 @@ pub fn path_in(
     if offset < header {
         return Ok(None);
     }
-    let way = Way {
-        path: path_to_list(alloc)?,
-        list: list_of(form),
-        kind: "",
-        passed: 0,
-        left: after_header(bytes, header),
-        before: offset - header,
-    };
+    let way = way_in(alloc, false, form, header, bytes, offset)?;
+    along(way, bytes.len())
+}
+
+/// The path of the frame at fault that begins at an offset, like [`path_in`]: a malformed frame has its number in its list.
+#[tactic(auto, unfolding(crate::specs::Paths::fault_path_in))]
+pub fn fault_path_in(
+    alloc: Global,
+    form: Form,
+    header: usize,
+    bytes: &[u8],
+    offset: usize,
+) -> Result<Option<Path>, AllocError>
+    ensures path { IfOk result (λ path. option_map path_view path ≡ fault_path_in form header bytes.now offset) }
+{
+    if offset < header {
+        return Ok(None);
+    }
+    let way = way_in(alloc, true, form, header, bytes, offset)?;
     along(way, bytes.len())
 }

@@ -159,13 +159,13 @@ module _ (m : Message) (h : Header) (found : IsFound m h) (laws : Correspond (wo
       (at (codes "fits")) (at (codes "settled")) (at (codes "canonical")))
 
   refused : (e : DecodeError) → AreSmall e → (words_of m.holds).Fault m.payload e → IsRefused m e line → IsTaken text m.payload
-  refused e small faulty (offset, within, path, is_text) =
+  refused e small faulty (offset, place, within, path, pointer, is_text) =
       let verdict = fault_slots e offset path in
       let all = line_slots m h verdict (shown_of tc_tables (form_of m.holds) m.payload) in
       let at : (name : List ℕ) → get name (ordered (object (members_of all))) ≡ option_map ordered (value_at name all) = λ name. found_in_order name all refl in
       let n = numbers_of e in
-      let place : Slots = (codes "offset", Some (a_number offset)) ∷ (codes "path", Some (string path)) ∷ [] in
-      let after : AreReadable place 49 = (within, (tt, tt)) in
+      let slots : Slots = (codes "offset", Some (a_number offset)) ∷ (codes "path", Some (string path)) ∷ [] in
+      let after : AreReadable slots 49 = (within, (tt, tt)) in
       let told : AreTold (ordered (object (members_of all))) e = record {
         len = at (codes "len") ∙ kept_number n.len;
         needed = at (codes "needed") ∙ kept_number n.needed;
@@ -174,7 +174,7 @@ module _ (m : Message) (h : Header) (found : IsFound m h) (laws : Correspond (wo
         expected = at (codes "expected") ∙ kept_number n.expected;
         got = at (codes "got") ∙ kept_number n.got;
       } in
-      taken m h found verdict refl (tt, both_readable (number_slots n) place 49 (numbers_readable e 49 small) after) (fault_events e offset path)
+      taken m h found verdict refl (tt, both_readable (number_slots n) slots 49 (numbers_readable e 49 small) after) (fault_events e offset path)
       (fault_sent e offset path) line text is_text same_tokens utf8 refl refl
       (λ name some. elim (either name members fault_members (named name all (members ++ fault_members) refl (subst (λ o. IsTrue (is_some o)) (at name) some))) [
         | inl one ↦ inl one

@@ -28,7 +28,7 @@ use Rattle.tcshow_json.specs.Line as show
 use Rattle.tcmake_laws.specs.Shown.{IsFound}
 use Rattle.tcmake_laws.proofs.Slots.{Slots, members_of, value_at, are_distinct}
 use Rattle.tcmake_laws.proofs.Told.{line_slots}
-use Rattle.tcmake_messages.specs.Line.{IsGiven, IsTyped, IsOneOf, HasUnknown, IsUnknown, IsRemark, IsOfKernel, IsOfSave, members, fault_members}
+use Rattle.tcmake_messages.specs.Line.{IsGiven, IsTyped, IsOneOf, HasUnknown, IsUnknown, IsRemark, IsOfKernel, IsHead, IsEnd, members, fault_members}
 use Rattle.tcmake_messages.specs.Line.{is_of_refused, message_in, beside}
 use Rattle.tcmake_messages.specs.Verdict.{words_of, IsVerdictOn, Says, Agrees}
 use Rattle.tcmake_messages.specs.Made.{form_of, StandsFor, IsMade, IsUnmade, IsDenied}
@@ -159,13 +159,14 @@ module _ (m : Message) (h : Header) (verdict : Slots) (found : IsFound m h) wher
       refused_not (inl other) = other utf8
       refused_not (inr (inl unread)) = none_not_some json (sym unread ∙ reads)
       refused_not (inr (inr (inl twice))) = twice once
-      refused_not (inr (inr (inr (d, is, wrong)))) = wrong_not (subst (IsWrong tc_tables tc_message action_message Checked) (same_json d is) wrong)
+      refused_not (inr (inr (inr (d, is, passed, wrong)))) = wrong_not (subst (IsWrong tc_tables tc_message action_message Checked) (same_json d is) wrong)
 
       pub answer_not : IsAnswer text → ⊥
       answer_not (d, is, inl kernel) =
           let told : IsOfKernel json = subst IsOfKernel (same_json d is) kernel in
           no_answer h.kind _ found.rtm (some_is h.name (codes "NLMSG_ERROR") (sym (ap (option_and_then as_str) type) ∙ told))
-      answer_not (d, is, inr save) = no_message (subst IsOfSave (same_json d is) save).1
+      answer_not (d, is, inr (inl head)) = no_message (subst IsHead (same_json d is) head).1
+      answer_not (d, is, inr (inr end)) = no_message (subst IsEnd (same_json d is) end).1
 
       pub made_so : (g : NetlinkHeader) (bytes : List ℕ) → IsMessage tc_tables tc_message action_message Checked text g bytes → bytes ≡ m.payload
       made_so g bytes is =

@@ -10,9 +10,12 @@ use Rattle.tcmake_messages.specs.Line.{HasUnknown, IsGiven, IsOfKernel, IsOfSave
 use Rattle.tcmake_messages.specs.Made.{IsMade, IsUnmade, form_of}
 use Rattle.tcmake_lines.specs.declared.netlink.NetlinkHeader.{NetlinkHeader}
 
--- an answer of the kernel, or the first or the last line of a save
+-- an answer of the kernel, or the first or the last line of a save: neither a message nor a complaint
+abbrev pub IsPassed : Data → Type 0
+IsPassed json = IsOfKernel json ⊎ IsOfSave json
+
 abbrev pub IsAnswer : List ℕ → Type 0
-IsAnswer line = (json : Data) × (read line ≡ Some json) × (IsOfKernel json ⊎ IsOfSave json)
+IsAnswer line = (json : Data) × (read line ≡ Some json) × IsPassed json
 
 -- the line isn't JSON in UTF-8 that has each name of an object once
 abbrev pub HasNoJson : List ℕ → Type 0
@@ -34,7 +37,7 @@ module _ (table : Table) (tc action : Form) where
       ⊎ ((given : NetlinkHeader) → ¬ IsGiven json given)
       ⊎ ((given : NetlinkHeader) × IsGiven json given × IsUnmade table (form_of tc action given.holds) making given.holds json (message_in json))
 
-  -- a complaint: the line isn't JSON in UTF-8 that has each name of an object once, or no message is made of it
+  -- a complaint: the line isn't JSON in UTF-8 that has each name of an object once, or no message is made of it, and it isn't passed
   abbrev pub IsRefused : Making → List ℕ → Type 0
   IsRefused making line =
-      (¬ IsUtf8 line) ⊎ (read line ≡ None) ⊎ (¬ HasNamesOnce line) ⊎ ((json : Data) × (read line ≡ Some json) × IsWrong making json)
+      (¬ IsUtf8 line) ⊎ (read line ≡ None) ⊎ (¬ HasNamesOnce line) ⊎ ((json : Data) × (read line ≡ Some json) × (¬ IsPassed json) × IsWrong making json)

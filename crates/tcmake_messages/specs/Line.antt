@@ -100,10 +100,15 @@ pub record IsBeside (line message : Data) (g : NetlinkHeader) : Type 0 where
 abbrev pub IsOfKernel : Data → Type 0
 IsOfKernel json = text_in (codes "type") json ≡ Some (codes "NLMSG_ERROR")
 
--- the first line of a save, or its last, which hold no message
+-- the first line of a save, and its last, which hold no message
+abbrev pub IsHead : Data → Type 0
+IsHead json = IsTrue (is_some (get (codes "save") json)) × (get (codes "message") json ≡ None)
+
+abbrev pub IsEnd : Data → Type 0
+IsEnd json = IsTrue (is_some (get (codes "end") json)) × (get (codes "message") json ≡ None)
+
 abbrev pub IsOfSave : Data → Type 0
-IsOfSave json =
-    (IsTrue (is_some (get (codes "save") json)) ⊎ IsTrue (is_some (get (codes "end") json))) × (get (codes "message") json ≡ None)
+IsOfSave json = IsHead json ⊎ IsEnd json
 
 abbrev pub IsGiven : Data → NetlinkHeader → Type 0
 IsGiven json g = IsBeside (beside json) (message_in json) g

@@ -1,6 +1,6 @@
 //! The facts that a line states about its message.
 
-ghost use Rattle.std.specs.Prelude.{◌≡◌, ◌≢◌, ◌⊎◌, ◌≤◌, ◌<◌, ◌^◌, ℕ, false, Option, Some, None, IfErr, IfNone, IfOk, IfSome, IsTrue, OnErr, OnSome, codes};
+ghost use Rattle.std.specs.Prelude.{◌≡◌, ◌≢◌, ◌⊎◌, ◌≤◌, ◌<◌, ◌^◌, ◌↔◌, ℕ, false, Option, Some, None, IfErr, IfNone, IfOk, IfSome, IsTrue, OnErr, OnSome, codes};
 ghost use Rattle.std.specs.List.{after_first, before_first};
 ghost use Rattle.serde_json.specs.Data.{object, no_members};
 ghost use Rattle.serde_json.specs.Find.{get};
@@ -77,7 +77,7 @@ fn in_message(json: &Value) -> Result<NetlinkHeader, LineError>
 
 /// True if the line is an answer of the kernel.
 pub fn is_answer(json: &Value) -> bool
-    ensures { IsTrue result → IsOfKernel (view json.now) }
+    ensures { IsTrue result ↔ IsOfKernel (view json.now) }
 {
     match json.get("type") {
         Some(held) => match held.as_str() {

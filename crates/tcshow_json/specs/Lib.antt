@@ -1,5 +1,6 @@
 pub mod Messages
 pub mod Objects
+pub mod Faults
 pub mod Safe
 pub mod Line
 pub mod Grammars

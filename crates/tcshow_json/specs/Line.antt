@@ -1,6 +1,6 @@
 -- The JSON lines of messages and of the kernel's answers, as events sent to serde.
 use Rattle.std.specs.Fmt.{decimal}
-use Rattle.std.specs.Prelude.{◌⊎◌, ◌↔◌, ℕ, zero, suc, ◌+◌, ◌<◌, ◌^◌, ◌/◌, ◌%◌, Bool, true, false, IsTrue, List, [], ◌∷◌, ◌++◌, ◌-◌, Option, Some, None}
+use Rattle.std.specs.Prelude.{◌≡◌, ◌⊎◌, ◌↔◌, ℕ, zero, suc, ◌+◌, ◌<◌, ◌^◌, ◌/◌, ◌%◌, Bool, true, false, IsTrue, List, [], ◌∷◌, ◌++◌, ◌-◌, Option, Some, None}
 use Rattle.std.specs.Prelude.{codes, ◌==◌, if◌then◌else◌}
 use Rattle.std.specs.Prelude.{flat_map, option_and_then, option_map, unwrap_or}
 use Rattle.serde.specs.Event.{Event, boolean, unsigned, text, map_begins, map_ends, field_key}
@@ -12,19 +12,19 @@ use Rattle.nla_frames.specs.declared.error.DecodeError.{DecodeError}
 use Rattle.nla_frames.specs.declared.error.DecodeError.TheVariants as fault
 use Rattle.tc_capture.specs.Errno.{errno_name}
 use Rattle.tc_capture.specs.declared.kind.MessageType.{MessageType}
-use Rattle.tc_capture.specs.declared.kind.MessageType.TheVariants.{Tc, Action}
 use Rattle.tc_capture.specs.declared.time.Time.{Time}
 use Rattle.tc_texts.specs.Escape.{escaped_byte}
-use Rattle.forms_values.specs.declared.form.Form.{Form}
 use Rattle.forms_values.specs.Sent.{events}
 use Rattle.forms_json.specs.Shown.{shown_of}
 use Rattle.tc_meaning.specs.Message.{Message as Meaning}
 use Rattle.tc_meaning.specs.Whole.{Words}
-use Rattle.forms_kinds.specs.Table.{tc_tables, tc_message, action_message}
+use Rattle.forms_kinds.specs.Table.{tc_tables}
 use Rattle.tc_paths.specs.Paths.{Path, path_in}
 use Rattle.tcshow_json.specs.declared.message.Origin.{Origin}
 use Rattle.tcshow_json.specs.declared.serialized.Verdict.{Verdict}
 use Rattle.tcshow_json.specs.declared.serialized.Verdict.TheVariants.{Read, Refused}
+use Rattle.tcshow_json.specs.Faults.{fault_offset, fault_pointer}
+pub use Rattle.tcshow_json.specs.Faults.{form_of, header_length}
 use Rattle.tcshow_json.specs.Messages.{Header, Message, Reason}
 
 -- ---- members of an object
@@ -104,11 +104,6 @@ origin_events time origin header = place_in_capture time origin.packet origin.pa
 
 -- ---- the message
 
--- the form of each of the two messages
-abbrev pub form_of : MessageType → Form
-form_of Tc = tc_message
-form_of Action = action_message
-
 -- the tree of a message, or its bytes in hex
 abbrev pub shown_events : MessageType → List ℕ → List Event
 shown_events holds payload = events (shown_of tc_tables (form_of holds) payload)
@@ -168,10 +163,11 @@ module _ (words : Words Meaning) (m : Message) where
       × (IsTrue fits ↔ words.Fits x) × (IsTrue settled ↔ words.Settled x) × (IsTrue canonical ↔ words.Canonical m.payload)
       × IsTextOf (Some (line_events (time_of m) m (read_events fits settled canonical))) line
 
--- the line of a message that is refused for this fault, with an offset of 64 bits
+-- the line of a message that is refused for this fault, with its offset, of 64 bits, and its path
 abbrev pub IsRefused : Message → DecodeError → List ℕ → Type 0
 IsRefused m e line =
-    (offset : ℕ) × (offset < 2 ^ 64) × (path : List ℕ) × IsTextOf (Some (line_events (time_of m) m (fault_events e offset path))) line
+    (offset : ℕ) × (offset ≡ fault_offset m) × (offset < 2 ^ 64)
+    × (path : List ℕ) × (path ≡ fault_pointer m) × IsTextOf (Some (line_events (time_of m) m (fault_events e offset path))) line
 
 module _ (words : Words Meaning) (m : Message) where
   -- the line of a message: accepted with the value that its payload reads as, or refused for its first fault
@@ -226,11 +222,6 @@ some_text (c ∷ cs) = Some (c ∷ cs)
 -- an offset from the end of the netlink header, instead of from its beginning
 abbrev pub offset_in_message : Option ℕ → Option ℕ
 offset_in_message offset = option_map (λ n. n - 16) offset
-
--- the length of a message's header: `struct tcmsg`, or `struct tcamsg`
-abbrev pub header_length : MessageType → ℕ
-header_length Tc = 20
-header_length Action = 4
 
 -- the path of the attribute that begins at this byte of a message; `None` if none begins there
 abbrev pub path_at : Message → ℕ → Option Path

@@ -4,6 +4,7 @@
 //! Calls that take an allocator fail with `AllocError` if it fails.
 #![tactic(auto)]
 
+mod fault;
 pub mod laws;
 mod line;
 mod links;

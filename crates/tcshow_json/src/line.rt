@@ -7,15 +7,14 @@ ghost use Rattle.tcshow_json.specs.Grammars.{IsLineOf, is_refused, is_fault};
 ghost use Rattle.tcshow_json.specs.Messages.{message_view};
 ghost use Rattle.tcshow_json.specs.Line.{IsAccepted, IsRefused, IsLine, line_events, read_events, time_of, verdict_events};
 
+use crate::fault::place_of_fault;
 use crate::message::Message;
-use crate::pages::{show_place, text_of};
 use crate::serialized::{MessageLine, Verdict};
 use crate::time::{borrowed_text, some_time_text};
 use nla_frames::DecodeError;
 use serde::Serialize;
 use std::alloc::{AllocError, Allocator, Global};
 use tc_capture::MessageType;
-use tc_outline::{Layout, Page};
 use tc_wire::{TcActionMessage, TcMessage, WholeMessage};
 
 /// The JSON of a message, and the name of its fault if the codec refuses it.
@@ -86,7 +85,7 @@ fn parsed_line<A: Allocator + Copy, M: WholeMessage<A> + Drop>(
     match M::read(alloc, found.payload) {
         Ok(message) => accepted_line(json, found, &message),
         Err(DecodeError::OutOfMemory) => Err(AllocError),
-        Err(error) => refused_line(alloc, json, found, &error),
+        Err(error) => refused_line(json, found, &error),
     }
 }
 
@@ -124,36 +123,29 @@ fn accepted_json<A: Allocator + Copy, M: WholeMessage<A>>(
 }
 
 // The line of a message that the codec refuses.
-fn refused_line<A: Allocator + Copy>(
-    alloc: A,
-    json: Global,
-    found: &Message<'_>,
-    error: &DecodeError,
-) -> Result<Line, AllocError>
+fn refused_line(json: Global, found: &Message<'_>, error: &DecodeError) -> Result<Line, AllocError>
     ensures fault { IfOk result (λ line. is_some line.fault ≡ true) }
     ensures line { IfOk result (λ line. IsRefused (message_view found.now) error.now (string_bytes line.json)) }
 {
-    let json = refused_json(alloc, json, found, error)?;
+    let json = refused_json(json, found, error)?;
     Ok(Line {
         json,
         fault: Some(error.name()),
     })
 }
 
-fn refused_json<A: Allocator + Copy>(
-    alloc: A,
+fn refused_json(
     json: Global,
     found: &Message<'_>,
     error: &DecodeError,
 ) -> Result<String, AllocError>
     ensures { IfOk result (λ line. IsRefused (message_view found.now) error.now (string_bytes line)) }
 {
-    let mut path = Page::new(alloc, Layout::OneLine);
-    let offset = show_place(&mut path, found)? as u64;
+    let place = place_of_fault(json, found)?;
     let verdict = Verdict::Refused {
         error,
-        offset,
-        path: text_of(&path),
+        offset: place.offset as u64,
+        path: place.pointer.as_str(),
     };
     json_with(json, found, verdict)
 }

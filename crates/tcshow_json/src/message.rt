@@ -1,20 +1,21 @@
 //! Traffic control messages, with the packet and the netlink header they came in.
 
-ghost use Rattle.std.specs.Prelude.{◌≡◌, is_some, if◌then◌else◌};
+ghost use Rattle.std.specs.Prelude.{◌≡◌, IfOk, is_some, if◌then◌else◌};
 ghost use Rattle.tc_capture.specs.Message.{message_of};
 ghost use Rattle.tc_columns.specs.declared.root.Root.TheVariants.{Qdisc};
 ghost use Rattle.tc_select.specs.Kinds.{actions_type};
-ghost use Rattle.tcshow_json.specs.Line.{header_length};
+ghost use Rattle.tc_paths.specs.Views.{path_view};
+ghost use Rattle.tcshow_json.specs.Faults.{frame_at, header_length, header_path};
 ghost use Rattle.tcshow_json.specs.Messages.{header_view, header_with};
 ghost use Rattle.tcshow_json.specs.Objects.{action_root, filter_root, root_by_kind, root_by_type};
 
 use crate::serialized::form_of;
-use nla_frames::{NlasIterator, strip_nul};
+use nla_frames::{DecodeError, NLA_HEADER_SIZE, NlasIterator, strip_nul};
 use std::alloc::{AllocError, Global};
 use tc_capture::{MessageType, NetlinkMessage, Time, rtm_of};
 use tc_columns::Root;
-use tc_outline::What;
-use tc_paths::{Path, path_in};
+use tc_outline::{Fault, What, locate};
+use tc_paths::{Path, fault_path_in, path_in};
 use tc_select::{is_filter_kind, kind_of};
 
 /// A netlink header (`struct nlmsghdr`) without its length.
@@ -67,6 +68,7 @@ impl<'a> Message<'a> {
     ghost use Rattle.tc_outline.specs.Outline.{what_of};
     ghost use Rattle.tcshow_json.specs.Messages.{header_view, message_view, message_in, no_origin};
     ghost use Rattle.tc_paths.specs.Views.{path_view};
+    ghost use Rattle.tcshow_json.specs.Faults.{fault_of, offset_of, path_to};
     ghost use Rattle.tcshow_json.specs.Line.{path_at};
     ghost use Rattle.tcshow_json.specs.Objects.{root_of};
 
@@ -125,6 +127,35 @@ impl<'a> Message<'a> {
         )
     }
 
+    /// Its first fault. `None` if the codec reads it.
+    pub fn first_fault(&self) -> Option<Fault>
+        ensures error { option_map (λ fault. fault.error) result ≡ fault_of (message_view self.now) }
+        ensures offset { option_map (λ fault. fault.offset) result ≡ offset_of (message_view self.now) }
+    {
+        locate(self.payload, self.what())
+    }
+
+    /// The path of a fault at an offset in its bytes: that of its frame. `None` if no frame begins there.
+    pub fn path_to(
+        &self,
+        alloc: Global,
+        error: &DecodeError,
+        offset: usize,
+    ) -> Result<Option<Path>, AllocError>
+        ensures { IfOk result (λ path. option_map path_view path ≡ path_to (message_view self.now) error.now offset) }
+    {
+        if offset < header_length(self.holds) {
+            return Ok(Some(header_path(alloc)?));
+        }
+        fault_path_in(
+            alloc,
+            form_of(self.holds),
+            header_length(self.holds),
+            self.payload,
+            frame_at(error, offset),
+        )
+    }
+
     /// Name of the message type. Empty without a netlink header.
     pub fn name(&self) -> &'static str {
         match &self.header {
@@ -160,6 +191,28 @@ fn header_length(holds: MessageType) -> usize
     match holds {
         MessageType::Tc => 20,
         MessageType::Action => 4,
+    }
+}
+
+// The path of a short header.
+fn header_path(alloc: Global) -> Result<Path, AllocError>
+    ensures { IfOk result (λ path. path_view path ≡ header_path) }
+{
+    Ok(Path {
+        names: String::from_str(alloc, "header")?,
+        pointer: String::from_str(alloc, "/header")?,
+    })
+}
+
+// The offset of the frame of a fault: a malformed frame's own, or that of the attribute with the value.
+fn frame_at(error: &DecodeError, offset: usize) -> usize
+    ensures { result ≡ frame_at error.now offset }
+{
+    match error {
+        DecodeError::FrameHeaderShort { .. }
+        | DecodeError::FrameTooLong { .. }
+        | DecodeError::FrameTooShort { .. } => offset,
+        _ => offset.saturating_sub(NLA_HEADER_SIZE),
     }
 }
 

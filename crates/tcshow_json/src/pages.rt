@@ -1,4 +1,4 @@
-//! The parts of an outline that aren't attributes: time, netlink header, path of a fault.
+//! The parts of an outline that aren't attributes: time, netlink header.
 
 ghost use Rattle.std.specs.Prelude.{OnOk};
 ghost use Rattle.tc_outline.specs.Text.{Continues};
@@ -8,7 +8,7 @@ use crate::time::time_text;
 use std::alloc::{AllocError, Allocator};
 use std::str;
 use tc_capture::MessageType;
-use tc_outline::{Page, locate};
+use tc_outline::Page;
 
 /// The text on a page.
 pub fn text_of<A: Allocator>(page: &Page<A>) -> &str {
@@ -150,18 +150,4 @@ pub fn show_time_of<A: Allocator>(page: &mut Page<A>, origin: &Origin) -> Result
         page.blank()?;
     }
     Ok(())
-}
-
-/// Writes the path of a message's first fault, and returns its offset in bytes.
-pub fn show_place<A: Allocator>(
-    path: &mut Page<A>,
-    found: &Message<'_>,
-) -> Result<usize, AllocError> {
-    match locate(found.payload, found.what()) {
-        Some(fault) => {
-            fault.path.show(path)?;
-            Ok(fault.offset)
-        }
-        None => Ok(0),
-    }
 }

@@ -1,6 +1,7 @@
 -- Lines are printable, and end with a line feed.
 use Rattle.std.proofs.Common.{◌≡◌, ◌∙◌, ◌++◌, ◌∷◌, [], List, ℕ, Bool, true, false, refl, sym, ap, subst, append_assoc, append-nil, arith, true≢false}
 use Rattle.nla_frames.specs.Value.{strip}
+use Rattle.nla_frames.specs.declared.error.DecodeError.{DecodeError}
 use Rattle.std.specs.Prelude.{IsTrue, Option, Some, None, if◌then◌else◌, not, option_map, ◌&&◌, ◌==◌, ◌||◌}
 use Rattle.std.proofs.lemmas.List.Elements.{All-append, All-cons, All-nil, All-push, All-same, All-weaker}
 use Rattle.tc_brief.specs.Leaves.{Leaf}
@@ -11,6 +12,7 @@ use Rattle.tc_outline.specs.Page.{IsShown, is_shown}
 use Rattle.tc_brief.specs.declared.line.Object.{Object}
 use Rattle.tc_columns.specs.declared.root.Root.{Root}
 use Rattle.tc_capture.specs.Message.{Message as Netlink}
+use Rattle.tcshow_json.specs.Faults.{fault_of, offset_of}
 use Rattle.tcshow_json.specs.Messages.{Message, Reason}
 use Rattle.tcshow_json.specs.Objects.{root_of}
 use Rattle.tcshow_json.specs.declared.message.Origin.{Origin}
@@ -18,7 +20,7 @@ use Rattle.tcshow_json.specs.Line.{offset_in_message}
 use Rattle.tcshow_lines.specs.Answers.{IsAsked, end_sentence, end_text, end_words, place_in, request_begin, sentence, sentence_byte, sentence_bytes, told_text}
 use Rattle.tcshow_lines.specs.Answers.{told_words}
 use Rattle.tcshow_lines.specs.Begins.{time_in, timed, words_text}
-use Rattle.tcshow_lines.specs.Lines.{IsEnded, IsFault, IsSaid, fault_of, leaves_at, leaves_with, options_with, said_as}
+use Rattle.tcshow_lines.specs.Lines.{IsEnded, IsSaid, fault_words, leaves_at, leaves_with, options_with, said_as, words_of}
 use Rattle.tcshow_lines.specs.Past.{Past}
 use Rattle.tcshow_lines.specs.Verbs.{asked_verb, object_in, verb_words}
 use Rattle.tcshow_lines.specs.declared.times.TimeFormat.{TimeFormat}
@@ -101,21 +103,27 @@ module _ (said : Said) (begin : IsShown true said.begin) (end : IsShown true sai
 pub said_ended : (names : List (ℕ × List ℕ)) (begin : List ℕ) (stats : Bool) (port : ℕ) (m : Message) (text : List ℕ) → IsShown true begin
     → IsSaid names begin stats port m text → IsEnded text
 said_ended names begin stats port m text b h =
-    found_ended (said_as begin stats port (written h.fault) m) b (written_shown h.fault) (leaves_with names m) text h.line
+    found_ended (said_as begin stats port (written (fault_words m)) m) b (written_shown (fault_words m)) (leaves_with names m) text h
+
+-- the words of a message's fault
+pub said_words : (m : Message) (e : Option DecodeError) (n : Option ℕ) → e ≡ fault_of m → n ≡ offset_of m
+    → written (words_of m e n) ≡ written (fault_words m)
+said_words m e n fault offset =
+    ap (λ (x : Option DecodeError). written (words_of m x n)) fault ∙ ap (λ (x : Option ℕ). written (words_of m (fault_of m) x)) offset
 
 -- what the code knows of a message's lines
 pub is_said : (names : List (ℕ × List ℕ)) (begin : List ℕ) (stats : Bool) (port : ℕ) (m : Message) (object : Object) (about : Root)
-    → (fault : List (List ℕ)) (end text : List ℕ) → object ≡ object_in about → about ≡ root_of m → IsFault (fault_of m) fault → end ≡ written fault
+    → (end text : List ℕ) → object ≡ object_in about → about ≡ root_of m → end ≡ written (fault_words m)
     → option_map (message_lines (record { begin = begin; object = object; statistics = stats; port = port; end = end }))
     (leaves_at (options_with names about) about m.payload) ≡ Some text → IsSaid names begin stats port m text
-is_said names begin stats port m object about fault end text o r f e h =
+is_said names begin stats port m object about end text o r e h =
     let with : Object → Root → List ℕ → Option (List ℕ) = λ y t z.
     option_map (message_lines (record { begin = begin; object = y; statistics = stats; port = port; end = z }))
     (leaves_at (options_with names t) t m.payload) in
-    let same : with object about end ≡ with (object_in (root_of m)) (root_of m) (written fault) =
+    let same : with object about end ≡ with (object_in (root_of m)) (root_of m) (written (fault_words m)) =
     ap (λ (y : Object). with y about end) (o ∙ ap object_in r) ∙ ap (λ (t : Root). with (object_in (root_of m)) t end) r
     ∙ ap (λ (z : List ℕ). with (object_in (root_of m)) (root_of m) z) e in
-    record { fault = fault; is_fault = f; line = sym same ∙ h }
+    sym same ∙ h
 
 pub said_equal : (names : List (ℕ × List ℕ)) (b c : List ℕ) (stats : Bool) (p q : ℕ) (m : Message) (text : List ℕ) → b ≡ c → p ≡ q
     → IsSaid names b stats p m text → IsSaid names c stats q m text

@@ -15,10 +15,12 @@ use Rattle.tc_columns.specs.Kinds.{kind_table, root_place}
 use Rattle.tc_columns.specs.Names.{names_in}
 use Rattle.tc_columns.specs.declared.root.Root.{Root}
 use Rattle.tc_lines.specs.Columns.{Options}
-use Rattle.tc_outline.specs.Located.{items_of_message, message_fault}
-use Rattle.tc_outline.specs.Outline.{form_of, what_of}
+use Rattle.tc_outline.specs.Outline.{form_of}
 use Rattle.tc_outline.specs.Page.{IsShown}
 use Rattle.tc_words.specs.Tables.{all_rows}
+use Rattle.tc_paths.specs.Paths.{Path}
+pub use Rattle.tcshow_json.specs.Faults.{fault_of}
+use Rattle.tcshow_json.specs.Faults.{offset_of, path_to}
 use Rattle.tcshow_json.specs.Messages.{Message}
 use Rattle.tcshow_json.specs.Objects.{root_of}
 use Rattle.tcshow_lines.specs.Begins.{time_in, timed, words_text}
@@ -70,24 +72,23 @@ place_words None n = codes "at" ∷ codes "byte" ∷ decimal n ∷ []
 place_words (Some names) n = codes "at" ∷ names ∷ codes "(byte" ∷ (decimal n ++ codes ")") ∷ []
 
 -- what a line of a malformed message ends with: `malformed: 3 bytes, 4 expected, at Options/FqCodel/Limit (byte 44)`
-abbrev pub malformed_words : DecodeError → List ℕ → ℕ → List (List ℕ)
-malformed_words e names n = codes "malformed:" ∷ (error_words e ++ place_words (Some names) n)
+abbrev pub malformed_words : DecodeError → Option (List ℕ) → ℕ → List (List ℕ)
+malformed_words e names n = codes "malformed:" ∷ (error_words e ++ place_words names n)
 
-abbrev pub IsFault : Option DecodeError → List (List ℕ) → Type 0
-IsFault None words = words ≡ []
-IsFault (Some e) words = (names : List ℕ) × (n : ℕ) × (words ≡ malformed_words e names n)
+-- of a message with this fault at this offset; none without a fault
+abbrev pub words_of : Message → Option DecodeError → Option ℕ → List (List ℕ)
+words_of m (Some e) (Some n) = malformed_words e (option_map (λ (p : Path). p.names) (path_to m e n)) n
+words_of m e n = []
 
--- the first fault of a message
-abbrev pub fault_of : Message → Option DecodeError
-fault_of m = message_fault (items_of_message (what_of (root_of m)) m.payload)
+abbrev pub fault_words : Message → List (List ℕ)
+fault_words m = words_of m (fault_of m) (offset_of m)
 
 -- ---- lines
 
 -- the lines of a message that begin with a text, with these names of interfaces: its words, and its fault, if it has one
-pub record IsSaid (names : List (ℕ × List ℕ)) (begin : List ℕ) (stats : Bool) (port : ℕ) (m : Message) (text : List ℕ) : Type 0 where
-  pub fault : List (List ℕ)
-  pub is_fault : IsFault (fault_of m) fault
-  pub line : option_map (message_lines (said_as begin stats port (written fault) m)) (leaves_with names m) ≡ Some text
+abbrev pub IsSaid : List (ℕ × List ℕ) → List ℕ → Bool → ℕ → Message → List ℕ → Type 0
+IsSaid names begin stats port m text =
+    option_map (message_lines (said_as begin stats port (written (fault_words m)) m)) (leaves_with names m) ≡ Some text
 
 -- what a message's lines begin with, after these messages: its time, if it has one, and what it does
 abbrev pub begin_of : Past → TimeFormat → Message → List ℕ

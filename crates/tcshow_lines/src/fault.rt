@@ -1,47 +1,61 @@
 //! What is malformed in a message, at the end of its lines, and places in a message.
 
-ghost use Rattle.std.specs.Prelude.{◌≡◌, ◌∷◌, ◌++◌, ◌==◌, [], IfOk, OnOk, List, ℕ, Some, codes, decimal, if◌then◌else◌, option_map};
+ghost use Rattle.std.specs.Prelude.{◌≡◌, ◌∷◌, ◌++◌, ◌==◌, [], IfOk, OnOk, Some, codes, decimal, if◌then◌else◌, option_map};
 ghost use Rattle.tc_brief.specs.Words.{written};
-ghost use Rattle.tcshow_lines.specs.Lines.{IsFault, error_words, lengths_words, malformed_words, place_words};
+ghost use Rattle.tcshow_json.specs.Messages.{message_view};
+ghost use Rattle.tcshow_lines.specs.Lines.{error_words, lengths_words, malformed_words, place_words, words_of};
 
 use nla_frames::DecodeError;
 use std::alloc::{AllocError, Global};
 use tc_brief::put_word;
-use tc_outline::{Fault, Layout, Page, Path};
+use tc_outline::Fault;
 use tc_units::put_decimal;
-use tcshow_json::text_of;
+use tcshow_json::Message;
 
 /// The text that the lines of a message with this fault end with; empty without one.
-pub(crate) fn end_of(alloc: Global, fault: &Option<Fault>) -> Result<Vec<u8>, AllocError>
-    ensures { IfOk result (λ text. (words : List (List ℕ)) × IsFault (option_map (λ fault. fault.error) fault.now) words × (text.items ≡ written words)) }
+pub(crate) fn end_of(
+    alloc: Global,
+    found: &Message<'_>,
+    fault: &Option<Fault>,
+) -> Result<Vec<u8>, AllocError>
+    ensures { IfOk result (λ text. text.items ≡ written (words_of (message_view found.now) (option_map (λ fault. fault.error) fault.now)
+        (option_map (λ fault. fault.offset) fault.now))) }
 {
     match fault {
-        Some(fault) => malformed(alloc, fault),
+        Some(fault) => malformed(alloc, found, fault),
         None => Ok(Vec::new(alloc)),
     }
 }
 
 // What is malformed, and where.
-fn malformed(alloc: Global, fault: &Fault) -> Result<Vec<u8>, AllocError>
-    ensures { IfOk result (λ text. (words : List (List ℕ)) × IsFault (Some fault.now.error) words × (text.items ≡ written words)) }
+fn malformed(alloc: Global, found: &Message<'_>, fault: &Fault) -> Result<Vec<u8>, AllocError>
+    ensures { IfOk result (λ text. text.items ≡ written (words_of (message_view found.now) (Some fault.now.error) (Some fault.now.offset))) }
 {
-    let names = names_of(alloc, &fault.path)?;
-    malformed_at(alloc, &fault.error, names.as_str(), fault.offset as u64)
+    let path = found.path_to(alloc, &fault.error, fault.offset)?;
+    match path {
+        Some(path) => malformed_at(
+            alloc,
+            &fault.error,
+            Some(path.names.as_bytes()),
+            fault.offset as u64,
+        ),
+        None => malformed_at(alloc, &fault.error, None, fault.offset as u64),
+    }
 }
 
 #[tactic(auto, using(tc_brief::proofs::Written::written_append))]
 fn malformed_at(
     alloc: Global,
     error: &DecodeError,
-    names: &str,
+    names: Option<&[u8]>,
     offset: u64,
 ) -> Result<Vec<u8>, AllocError>
-    ensures { IfOk result (λ text. text.items ≡ written (malformed_words error.now names.now offset)) }
+    ensures { IfOk result (λ text. text.items ≡ written (malformed_words error.now (option_map (λ names. names.now) names.entry) offset)) }
 {
     let mut text = Vec::with_capacity(alloc, 64)?;
     put_word(&mut text, b"malformed:")?;
     put_error(alloc, &mut text, error)?;
-    put_place(alloc, &mut text, Some(names.as_bytes()), offset)?;
+    put_place(alloc, &mut text, names, offset)?;
     Ok(text)
 }
 
@@ -143,54 +157,4 @@ fn bytes_word(len: usize) -> &'static [u8]
         return b"byte,";
     }
     b"bytes,"
-}
-
-// The names of the attributes on a path: `Options/FqCodel/Limit`.
-fn names_of(alloc: Global, path: &Path) -> Result<String, AllocError> {
-    let mut page = Page::new(alloc, Layout::OneLine);
-    path.show(&mut page)?;
-    names_in(alloc, text_of(&page))
-}
-
-// True for the digits of a number.
-fn is_number(part: &str) -> bool {
-    for byte in part.as_bytes() {
-        if !matches!(byte, b'0'..=b'9') {
-            return false;
-        }
-    }
-    !part.is_empty()
-}
-
-fn put_part(names: &mut String, part: &str) -> Result<(), AllocError> {
-    if part.is_empty() {
-        return Ok(());
-    }
-    if !names.as_str().is_empty() {
-        names.push('/')?;
-    }
-    names.push_str(part)?;
-    Ok(())
-}
-
-// The names in a JSON pointer, and the numbers of actions: `Options/FqCodel/Limit` for `/attributes/1/Options/0/FqCodel/Limit`.
-fn names_in(alloc: Global, pointer: &str) -> Result<String, AllocError> {
-    let mut names = String::new(alloc);
-    let mut number = "";
-    for part in pointer.split('/') {
-        if part == "attributes" {
-            put_part(&mut names, number)?;
-            number = "";
-        } else if is_number(part) {
-            number = part;
-        } else {
-            put_part(&mut names, part)?;
-            number = "";
-        }
-    }
-    put_part(&mut names, number)?;
-    if names.as_str().is_empty() {
-        names.push_str("header")?;
-    }
-    Ok(names)
 }

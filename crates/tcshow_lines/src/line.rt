@@ -17,7 +17,7 @@ use forms_kinds::{ACTION_MESSAGE, TC_MESSAGE, TcTables};
 use std::alloc::{AllocError, Global};
 use tc_brief::{Said, lines_of, lines_of_nothing};
 use tc_columns::{KindColumns, LinkNames, Root};
-use tc_outline::{Fault, locate};
+use tc_outline::Fault;
 use tc_words::TcWords;
 use tcshow_json::Message;
 
@@ -92,8 +92,8 @@ pub(crate) fn lines_said(
     ensures lines { IfOk result (λ lines. IsSaid (names_after interfaces.now links.now) begin.now statistics port (message_view found.now) lines.text.items) }
     ensures fault { IfOk result (λ lines. is_some lines.fault ≡ is_some (fault_of (message_view found.now))) }
 {
-    let fault = locate(found.payload, found.what());
-    let end = end_of(alloc, &fault)?;
+    let fault = found.first_fault();
+    let end = end_of(alloc, found, &fault)?;
     let about = found.root();
     let said = Said {
         begin,

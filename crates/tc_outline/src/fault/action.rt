@@ -1,11 +1,15 @@
 //! The faults of an action itself: a malformed frame, a kind that isn't UTF-8, no kind or several.
 
-ghost use Rattle.std.specs.Prelude.{◌≡◌};
+ghost use Rattle.std.specs.Prelude.{◌≡◌, ◌-◌, ◌^◌, min};
+ghost use Rattle.nla_frames.specs.Buffer.{frame_of};
+ghost use Rattle.nla_frames.specs.Cutting.{cut, items_of};
+ghost use Rattle.nla_frames.specs.Frame.{frame_length};
 ghost use Rattle.tc_outline.specs.Fault.{action_fault, one_more, count_error};
+ghost use Rattle.tc_outline.specs.Located.{is_wrong_kind, offset_in_frames};
 
 use super::value::is_text;
 use crate::path::Path;
-use nla_frames::{DecodeError, NLA_HEADER_SIZE, NlasIterator};
+use nla_frames::{DecodeError, NLA_HEADER_SIZE, NlaBuffer, NlasIterator};
 use tc_index::Attribute;
 
 // The fault of an action's frames.
@@ -32,7 +36,10 @@ pub(super) fn own_error(value: &[u8]) -> Option<DecodeError>
 
 // Offset and path of the first frame of an action that is malformed or a kind that isn't UTF-8; of the action itself if
 // there is none.
-pub(super) fn place_in(action: &Attribute<'_>, path: &Path) -> (usize, Path) {
+#[tactic(auto, using(crate::proofs::Offsets::next_capped))]
+pub(super) fn place_in(action: &Attribute<'_>, path: &Path) -> (usize, Path)
+    ensures { result.0 ≡ min (offset_in_frames action.now.offset action.now.offset (items_of (cut action.now.value.now))) (2 ^ 64 - 1) }
+{
     let mut inside = *path;
     let mut at = action.offset;
     for frame in NlasIterator::new(action.value) {
@@ -43,15 +50,29 @@ pub(super) fn place_in(action: &Attribute<'_>, path: &Path) -> (usize, Path) {
             }
             Ok(frame) => {
                 inside.enter_in_action(action, Some(frame.kind()));
-                let value = at.saturating_add(NLA_HEADER_SIZE);
-                if frame.kind() == 1 && !is_text(frame.value()) {
-                    return (value, inside);
+                if is_wrong_kind(&frame) {
+                    return (at.saturating_add(NLA_HEADER_SIZE), inside);
                 }
-                at = value.saturating_add((frame.value().len() + 3) / 4 * 4);
+                at = at.saturating_add(frame_length(&frame));
             }
         }
     }
     (action.offset, *path)
+}
+
+// True for a kind that isn't UTF-8.
+fn is_wrong_kind(frame: &NlaBuffer<'_>) -> bool
+    ensures { result ≡ is_wrong_kind (frame_of frame.now) }
+{
+    frame.kind() == 1 && !is_text(frame.value())
+}
+
+// The length of a frame, with its padding.
+fn frame_length(frame: &NlaBuffer<'_>) -> usize
+    ensures { result ≡ frame_length (frame_of frame.now) }
+{
+    let len = frame.value().len();
+    NLA_HEADER_SIZE + len + (4 - len % 4) % 4
 }
 
 // Counts kinds: none, one, or several.

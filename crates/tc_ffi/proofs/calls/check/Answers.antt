@@ -7,4 +7,5 @@ returns-in-Err-clause-checks g c =
       refuses = record { fault = c.in-Err.e; first = c.in-Err.ensures.refused; number = c.status_of.ensures.number };
       numbers = c.fault_of.ensures.numbers;
       place = c.fault_of.ensures.place;
+      inside = c.fault_of.ensures.inside;
     })
