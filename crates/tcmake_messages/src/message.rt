@@ -110,6 +110,7 @@ fn unchanged(alloc: Global, bytes: Vec<u8>) -> Result<Message, LineError>
 }
 
 // The bytes that JSON stands for, if they aren't too many.
+#[tactic(auto, using(crate::proofs::Bytes::none_shown))]
 fn bytes_of<T: Tables>(
     alloc: Global,
     table: T,
