@@ -1,5 +1,5 @@
 -- JSON that is shown for bytes is turned into these bytes, unless memory runs out.
-use Rattle.std.proofs.Common.{◌≡◌, ℕ, Bool, true, false, List, [], Some, refl, sym, ◌∙◌, subst}
+use Rattle.std.proofs.Common.{◌≡◌, ◌⊎◌, ℕ, List, [], Some, inl, inr, refl, sym, ◌∙◌, subst}
 use Rattle.nla_frames.specs.Value.{IsBytes}
 use Rattle.serde_json.specs.Data.{Data}
 use Rattle.forms_values.specs.declared.error.MakeError.{MakeError}
@@ -29,6 +29,6 @@ module _ (table : Table) (f : Form) (bytes : List ℕ) (h : IsBytes bytes) (json
   only_memory OutOfMemory fails = refl
   only_memory (Wrong path found wanted) fails = absurd (none_not_some bytes (sym (fails (λ e. cc)) ∙ stands))
 
-pub not_both : (b : Bool) → b ≡ true → b ≡ false → ⊥
-not_both true e f = cc
-not_both false e f = cc
+pub unless_other : {A B : Type 0} → A ⊎ (B → ⊥) → B → A
+unless_other (inl one) is = one
+unless_other (inr other) is = absurd (other is)

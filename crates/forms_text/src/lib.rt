@@ -34,4 +34,4 @@ pub use laws::shown_text_is_made;
 pub use make::bytes_of_text;
 pub use read::read_json;
 pub use same::is_same;
-pub use strict::{made_strictly, shown_json};
+pub use strict::{check_shown, made_strictly, shown_json};

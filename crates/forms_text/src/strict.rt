@@ -1,6 +1,6 @@
 //! The bytes of JSON, strictly.
 
-ghost use Rattle.std.specs.Prelude.{◌≡◌, ℕ, List, Some, IfOk, MatchResult};
+ghost use Rattle.std.specs.Prelude.{◌≡◌, ◌≢◌, ◌⊎◌, ℕ, List, Some, IfErr, IfOk, MatchResult, OnOk};
 ghost use Rattle.nla_frames.specs.Value.{IsBytes};
 ghost use Rattle.serde_json.specs.View.{view};
 ghost use Rattle.forms_json.specs.Made.{made_of};
@@ -31,12 +31,29 @@ pub fn made_strictly<T: Tables>(
         Ok(bytes) => bytes,
         Err(e) => return Err(StrictError::Make(e)),
     };
-    let shown = match shown_json(alloc, table, form, &bytes) {
+    match check_shown(alloc, table, form, json, &bytes) {
+        Ok(()) => Ok(bytes),
+        Err(e) => Err(e),
+    }
+}
+
+/// Fails unless the JSON of bytes is this JSON.
+pub fn check_shown<T: Tables>(
+    alloc: Global,
+    table: T,
+    form: Form,
+    json: &Value,
+    bytes: &[u8],
+) -> Result<(), StrictError>
+    ensures shown { OnOk result (json_of (T.parts_of table) form bytes.now ≡ view json.now) }
+    ensures other { IfErr result (λ e. IsMemory e ⊎ (json_of (T.parts_of table) form bytes.now ≢ view json.now)) }
+{
+    let shown = match shown_json(alloc, table, form, bytes) {
         Ok(shown) => shown,
         Err(e) => return Err(StrictError::from(e)),
     };
     if is_same(&shown, json) {
-        Ok(bytes)
+        Ok(())
     } else {
         Err(differs(alloc, json, &shown))
     }

@@ -1,6 +1,6 @@
 -- No line of a message is refused.
 use Rattle.std.proofs.Common.{◌≡◌, ◌≢◌, ℕ, suc, Bool, true, false, List, [], ◌∷◌, ◌++◌, Option, Some, None, refl, sym, ap, ◌∙◌, subst, inl, inr, ◌⊎◌, arith}
-use Rattle.std.proofs.Common.{◌<◌}
+use Rattle.std.proofs.Common.{◌<◌, length}
 use Rattle.std.specs.Prelude.{codes, bytes_eq, option_map, option_and_then, unwrap_or, is_some, IsTrue, IfSome, IsUtf8, ◌&&◌, ◌||◌, if◌then◌else◌}
 use Rattle.std.proofs.lemmas.Bool.{and_parts, or_cases, cases_Bool, true≢false}
 use Rattle.std.proofs.lemmas.Slice.Eq.{bytes_eq-Decides}
@@ -31,7 +31,7 @@ use Rattle.tcmake_laws.proofs.Told.{line_slots}
 use Rattle.tcmake_messages.specs.Line.{IsGiven, IsTyped, IsOneOf, HasUnknown, IsUnknown, IsRemark, IsOfKernel, IsHead, IsEnd, members, fault_members}
 use Rattle.tcmake_messages.specs.Line.{is_of_refused, message_in, beside}
 use Rattle.tcmake_messages.specs.Verdict.{words_of, IsVerdictOn, Says, Agrees}
-use Rattle.tcmake_messages.specs.Made.{form_of, StandsFor, IsMade, IsUnmade, IsDenied}
+use Rattle.tcmake_messages.specs.Made.{form_of, StandsFor, StandsForMany, IsMade, IsUnmade, IsDenied}
 use Rattle.tcmake_messages.specs.Answer.{IsAnswer, IsMessage, IsWrong, IsRefused}
 use Rattle.tcmake_laws.proofs.SlotsFound.{found_in_order}
 use Rattle.tcmake_laws.proofs.Found.{given, got, line_given, same_holds, no_answer}
@@ -122,11 +122,11 @@ module _ (m : Message) (h : Header) (verdict : Slots) (found : IsFound m h) wher
 
     -- of the bytes that its message stands for
     one_made : (g : NetlinkHeader) (bytes : List ℕ) → g.holds ≡ m.holds
-        → StandsFor tc_tables (form_of tc_message action_message g.holds) (message_in json) bytes → bytes ≡ m.payload
+        → made_of tc_tables (form_of tc_message action_message g.holds) (message_in json) ≡ Some bytes → bytes ≡ m.payload
     one_made g bytes same stands =
         let form : form_of tc_message action_message g.holds ≡ show.form_of m.holds = ap (form_of tc_message action_message) same ∙ same_form m.holds in
         let these : made_of tc_tables (show.form_of m.holds) (ordered shown) ≡ Some bytes =
-        sym (λ i. made_of tc_tables (form i) (inside i)) ∙ stands.0 in
+        sym (λ i. made_of tc_tables (form i) (inside i)) ∙ stands in
         some_is bytes m.payload (sym these ∙ made)
 
     stands_so : (g : NetlinkHeader) → g.holds ≡ m.holds → StandsFor tc_tables (form_of tc_message action_message g.holds) (message_in json) m.payload
@@ -142,14 +142,19 @@ module _ (m : Message) (h : Header) (verdict : Slots) (found : IsFound m h) wher
         not (agrees x told v (subst (λ (b : List ℕ). IsVerdictOn (words_of m.holds) b v) these
         (subst (λ (t : MessageType). IsVerdictOn (words_of t) bytes v) same on)))
 
+    many_not : (g : NetlinkHeader) → g.holds ≡ m.holds
+        → StandsForMany tc_tables (form_of tc_message action_message g.holds) (message_in json) → ⊥
+    many_not g same (bytes, made, many) = omega (arith, ap length (one_made g bytes same made), many, found.short)
+
     wrong_not : IsWrong tc_tables tc_message action_message Checked json → ⊥
     wrong_not (inl remark) = no_message remark.0
     wrong_not (inr (inl (name, unknown))) = elim (known name unknown.held)
         [ inl member ↦ unknown.not_member member | inr fault ↦ unknown.not_of_fault fault.0 fault.1 ]
     wrong_not (inr (inr (inl ungiven))) = ungiven (given m h) (line_given m h verdict shown found distinct message)
-    wrong_not (inr (inr (inr (g, is, inl none)))) = none m.payload found.payload (stands_so g (holds_so g is))
+    wrong_not (inr (inr (inr (g, is, inl (inl none))))) = none m.payload found.payload (stands_so g (holds_so g is))
+    wrong_not (inr (inr (inr (g, is, inl (inr many))))) = many_not g (holds_so g is) many
     wrong_not (inr (inr (inr (g, is, inr (bytes, stands, denied))))) =
-        denied_not g.holds bytes (holds_so g is) (one_made g bytes (holds_so g is) stands) denied
+        denied_not g.holds bytes (holds_so g is) (one_made g bytes (holds_so g is) stands.0) denied
 
     module _ (text : List ℕ) (reads : read text ≡ Some json) (utf8 : IsUtf8 text) (once : HasNamesOnce text) where
       same_json : (d : Data) → read text ≡ Some d → d ≡ json
@@ -173,4 +178,4 @@ module _ (m : Message) (h : Header) (verdict : Slots) (found : IsFound m h) wher
           let same = same_json is.json is.reads in
           let told : IsGiven json g = subst (λ (d : Data). IsGiven d g) same is.says in
           one_made g bytes (holds_so g told)
-          (subst (λ (d : Data). StandsFor tc_tables (form_of tc_message action_message g.holds) (message_in d) bytes) same is.made.0)
+          (subst (λ (d : Data). StandsFor tc_tables (form_of tc_message action_message g.holds) (message_in d) bytes) same is.made.0).0

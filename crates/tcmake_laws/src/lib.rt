@@ -12,8 +12,8 @@ use forms_kinds::{ACTION_MESSAGE, TC_MESSAGE, TcTables};
 use tc_meaning::laws::{action_message, tc_message};
 use tcshow_json::laws::safe_lines;
 
-/// For every message of a netlink message, and every line that tcshow prints of it: tcmake doesn't refuse the line, and makes these bytes
-/// of it. Lines over tcmake's limit are left out.
+/// For every message of a netlink message, of at most 256 KiB, and every line that tcshow prints of it: tcmake doesn't refuse the line, and
+/// makes these bytes of it. Lines over tcmake's limit are left out.
 #[tactic(auto, using(crate::proofs::Lines::taken_by))]
 pub fn shown_lines_are_made(payload: &[u8], line: &str)
     ensures { (m : Message) (h : Header) → m.payload ≡ payload.now → IsFound m h → IsLineOf m line.now → IsTaken (safe_text line.now) payload.now }

@@ -51,7 +51,8 @@ const NOTES: &str = "Examples:
 Checks:
   By default the bytes must match what the line says about them (fits, settled and canonical, or
   refused); a line that says nothing must describe a canonical message. Unknown or misspelt
-  members are errors, with a JSON pointer to the place. A line may be up to 4 MiB long.
+  members are errors, with a JSON pointer to the place. A line may be up to 4 MiB long, and its
+  message 256 KiB.
   --request reads all lines before it writes anything, and holds them in memory. What can't be
   restored, and whatever depends on it, is reported and left out. A save, which begins with
   {\"save\":1, must be whole: its last line, {\"end\":N}, says how many lines are between them

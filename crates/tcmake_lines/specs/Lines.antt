@@ -1,5 +1,5 @@
 -- The lines of an input.
-use Rattle.std.specs.Prelude.{◌≡◌, ◌≢◌, ◌⊎◌, ◌<◌, ◌≤◌, ◌==◌, ⊤, ℕ, ◌+◌, ◌*◌, Bool, true, false, List, [], ◌∷◌, ◌++◌, length, slice_index, Option, Some, None}
+use Rattle.std.specs.Prelude.{◌≡◌, ◌≢◌, ◌⊎◌, ◌<◌, ◌≤◌, ◌==◌, ⊤, ℕ, ◌+◌, Bool, true, false, List, [], ◌∷◌, ◌++◌, length, slice_index, Option, Some, None}
 use Rattle.std.specs.Prelude.{if◌then◌else◌}
 use Rattle.std.specs.List.{filter}
 use Rattle.std.specs.Io.KnownBytes.{IsAtEnd}
@@ -11,6 +11,8 @@ use Rattle.std.specs.Char.{is_ascii_whitespace}
 use Rattle.tcmake_lines.specs.declared.input.LineContent.{LineContent}
 use Rattle.tcmake_lines.specs.declared.input.LineContent.TheVariants.{ManyValues, Blank, Text}
 use Rattle.tcmake_lines.specs.declared.input.LineStatus.{LineStatus}
+use Rattle.tcmake_lines.specs.declared.input.Place.{Place}
+use Rattle.tcmake_lines.specs.declared.input.Place.TheVariants.{Outside, Inside, Escaped}
 use Rattle.tcmake_lines.specs.declared.input.LineStatus.TheVariants.{Whole, TooLong, End}
 
 -- a byte at the front of the first line
@@ -47,9 +49,26 @@ most_line = 4194304
 abbrev pub count : ℕ → List ℕ → ℕ
 count byte line = length (filter (λ c. c == byte) line)
 
--- the values of a line, by the memory that they take: 17 for each object and each list that it opens, and two for each comma
+-- the place of the byte after one: a quote begins or ends a text, and a backslash in a text escapes a byte
+abbrev pub after : Place → ℕ → Place
+after Outside c = if c == 34 then Inside else Outside
+after Inside c = if c == 34 then Outside else (if c == 92 then Escaped else Inside)
+after Escaped c = Inside
+
+-- what a byte counts, by the memory that it makes a line take: 17 if it opens an object or a list, two if it is a comma, none in a text
+abbrev pub value : Place → ℕ → ℕ
+value Outside c = if c == 123 then 17 else (if c == 91 then 17 else (if c == 44 then 2 else 0))
+value Inside c = 0
+value Escaped c = 0
+
+-- the values of bytes, of which the first is at this place
+abbrev pub values_from : Place → List ℕ → ℕ
+values_from place [] = 0
+values_from place (c ∷ cs) = value place c + values_from (after place c) cs
+
+-- the values of a line
 abbrev pub values : List ℕ → ℕ
-values line = 17 * (count 123 line + count 91 line) + 2 * count 44 line
+values line = values_from Outside line
 
 -- the most values of a line, and the most quotes
 abbrev pub most_values : ℕ

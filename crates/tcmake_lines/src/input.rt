@@ -3,7 +3,7 @@
 ghost use Rattle.std.specs.Prelude.{◌≡◌, ◌≢◌, ◌≤◌, ◌↔◌, ◌||◌, ℕ, nat_lt, IsTrue, List, ◌++◌, All, length, take, IfErr, IfOk};
 ghost use Rattle.program_io.specs.declared.stop.Stop.TheVariants.{Closed};
 ghost use Rattle.tcmake_lines.specs.Ends.{IsEmptyAtEnd, TakesPart, with_end};
-ghost use Rattle.tcmake_lines.specs.Lines.{EndsLine, HasContent, IsBlank, IsFound, IsNext, count, values};
+ghost use Rattle.tcmake_lines.specs.Lines.{EndsLine, HasContent, IsBlank, IsFound, IsNext, after, count, value, values};
 
 use memchr::memchr;
 use program_io::Stop;
@@ -14,8 +14,8 @@ use std::io::BufRead;
 /// for each attribute without a payload, which takes four: `{"Taprio":{"SchedCycleTimeExtension":{"raw":""},"word":49161}},`.
 pub const MOST_LINE: usize = 4 * 1024 * 1024;
 
-/// The most values in a line, by the memory that they take: 17 for each object or list, and two for each comma. Four bytes of such a message have
-/// 55 at most, as an attribute with three objects and two commas, and 320 are around them.
+/// The most values in a line, by the memory that they take: 17 for each object or list, and two for each comma, outside of texts. Four bytes of such
+/// a message have 55 at most, as an attribute with three objects and two commas, and 320 are around them.
 pub const MOST_VALUES: u128 = 55 * 65_536 + 320;
 
 /// The most quotes in a line, two for each name or text: ten for four bytes of such a message, and 160 around them. Both bound the memory that a
@@ -42,6 +42,17 @@ pub enum LineContent {
     Blank,
     /// A text that is to be read.
     Text,
+}
+
+// Where a byte of a line is.
+#[derive(Clone, Copy, PartialEq, Eq)]
+pub(crate) enum Place {
+    // Outside of texts.
+    Outside,
+    // In a text.
+    Inside,
+    // In a text, after a backslash.
+    Escaped,
 }
 
 // How a part of a line ends.
@@ -160,7 +171,7 @@ fn append(part: &[u8], line: &mut Vec<u8>, found: LineStatus) -> Result<LineStat
     Ok(LineStatus::Whole)
 }
 
-/// What is in a line. Braces, brackets, commas and quotes in texts count, too.
+/// What is in a line. Braces, brackets and commas in texts don't count, quotes in them do.
 #[tactic(auto, using(crate::proofs::Lines::many_by, crate::proofs::Lines::few_by, crate::proofs::Lines::not_blank))]
 pub fn content_of(line: &[u8]) -> LineContent
     ensures { HasContent result line.now }
@@ -178,10 +189,44 @@ pub fn content_of(line: &[u8]) -> LineContent
 fn has_many_values(line: &[u8]) -> bool
     ensures { result ≡ (nat_lt 3604800 (values line.now) || nat_lt 655520 (count 34 line.now)) }
 {
-    let objects = count_of(b'{', line) as u128;
-    let lists = count_of(b'[', line) as u128;
-    let commas = count_of(b',', line) as u128;
-    17 * (objects + lists) + 2 * commas > MOST_VALUES || count_of(b'"', line) > MOST_QUOTES
+    values_of(line) > MOST_VALUES || count_of(b'"', line) > MOST_QUOTES
+}
+
+// The values of a line.
+fn values_of(line: &[u8]) -> u128
+    ensures { result ≡ values line.now }
+{
+    let mut found = 0u128;
+    let mut place = Place::Outside;
+    for byte in line {
+        found += value(place, *byte);
+        place = after(place, *byte);
+    }
+    found
+}
+
+// What a byte at a place counts.
+fn value(place: Place, byte: u8) -> u128
+    ensures { result ≡ value place byte }
+{
+    match (place, byte) {
+        (Place::Outside, b'{' | b'[') => 17,
+        (Place::Outside, b',') => 2,
+        _ => 0,
+    }
+}
+
+// The place of the byte after one.
+fn after(place: Place, byte: u8) -> Place
+    ensures { result ≡ after place byte }
+{
+    match (place, byte) {
+        (Place::Outside, b'"') => Place::Inside,
+        (Place::Outside, _) => Place::Outside,
+        (Place::Inside, b'"') => Place::Outside,
+        (Place::Inside, b'\\') => Place::Escaped,
+        (Place::Inside | Place::Escaped, _) => Place::Inside,
+    }
 }
 
 // How often a byte is in a line.

@@ -1,4 +1,5 @@
 pub mod Beside
+pub mod Bytes
 pub mod Names
 pub mod Refused
 pub mod Says

@@ -1,5 +1,5 @@
 -- The message that is made of a line.
-use Rattle.std.specs.Prelude.{◌≡◌, ◌⊎◌, ℕ, List, Some, None, IsTrue, codes}
+use Rattle.std.specs.Prelude.{◌≡◌, ◌⊎◌, ◌<◌, ℕ, List, Some, None, IsTrue, codes, length}
 use Rattle.nla_frames.specs.Value.{IsBytes}
 use Rattle.nla_frames.specs.declared.error.DecodeError.{DecodeError}
 use Rattle.serde_json.specs.Data.{Data}
@@ -27,6 +27,10 @@ form_of tc action Action = action
 -- the bytes that JSON stands for, of which it is shown
 abbrev pub StandsFor : Table → Form → Data → List ℕ → Type 0
 StandsFor table form json bytes = (made_of table form json ≡ Some bytes) × (json_of table form bytes ≡ json)
+
+-- the longest message that is made, in bytes
+abbrev pub most_message : ℕ
+most_message = 262144
 
 -- rewriting these bytes leads to those, which are canonical
 abbrev pub Settles : MessageType → List ℕ → List ℕ → ℕ → Type 0
@@ -64,13 +68,21 @@ module _ (table : Table) (form : Form) where
   abbrev pub StandsForNone : Data → Type 0
   StandsForNone message = (bytes : List ℕ) → IsBytes bytes → ¬ StandsFor table form message bytes
 
-  -- no bytes are made of a message: it stands for none; the line says of its bytes what isn't so; what is to be settled was refused, or can't be
+  -- a message stands for more bytes than a message may have
+  abbrev pub StandsForMany : Data → Type 0
+  StandsForMany message = (bytes : List ℕ) × (made_of table form message ≡ Some bytes) × (most_message < length bytes)
+
+  -- a message stands for no bytes, or for too many
+  abbrev pub HasNoBytes : Data → Type 0
+  HasNoBytes message = StandsForNone message ⊎ StandsForMany message
+
+  -- no bytes are made of a message: it stands for none, or for too many; the line says of its bytes what isn't so; what is to be settled was refused, or can't be
   -- read or written; what is to be restored can't be read
   abbrev pub IsUnmade : Making → MessageType → Data → Data → Type 0
-  IsUnmade AsGiven holds line message = StandsForNone message
+  IsUnmade AsGiven holds line message = HasNoBytes message
   IsUnmade Checked holds line message =
-      StandsForNone message ⊎ ((bytes : List ℕ) × StandsFor table form message bytes × IsDenied holds line bytes)
+      HasNoBytes message ⊎ ((bytes : List ℕ) × StandsFor table form message bytes × IsDenied holds line bytes)
   IsUnmade Settled holds line message =
-      IsTrue (is_of_refused line) ⊎ StandsForNone message ⊎ ((bytes : List ℕ) × StandsFor table form message bytes × IsUnsettled holds bytes)
+      IsTrue (is_of_refused line) ⊎ HasNoBytes message ⊎ ((bytes : List ℕ) × StandsFor table form message bytes × IsUnsettled holds bytes)
   IsUnmade Restored holds line message =
-      StandsForNone message ⊎ ((bytes : List ℕ) × StandsFor table form message bytes × IsUnread holds bytes)
+      HasNoBytes message ⊎ ((bytes : List ℕ) × StandsFor table form message bytes × IsUnread holds bytes)

@@ -66,6 +66,8 @@ pub enum LineError {
     },
     /// The bytes aren't canonical: what is there, and what would be in its place.
     NotCanonical(Difference),
+    /// Its message is longer than [`MOST_MESSAGE`](crate::MOST_MESSAGE).
+    LongMessage,
     /// The message can't be written: a payload would have more than 65531 bytes.
     DoesNotFit,
     /// Memory ran out.
@@ -212,6 +214,7 @@ impl LineError {
             LineError::Refused => "this line reports a refused message; there is nothing to make",
             LineError::Summary => "this line is a summary; there is nothing to make",
             LineError::Note => "this line is a note on a capture; there is nothing to make",
+            LineError::LongMessage => "found a message of more than 262144 bytes",
             LineError::DoesNotFit =>
                 "found a message that doesn't fit: a payload would have more than 65531 bytes",
             LineError::NoMemory => "out of memory",

@@ -23,6 +23,6 @@ pub use made::{Made, json_in, made_of, made_of_json};
 pub use maker::{MessageMaker, notices_of};
 pub use making::Making;
 pub use members::{Numbered, number_of, wrong};
-pub use message::Forms;
+pub use message::{Forms, MOST_MESSAGE};
 pub use save::{is_end, is_head, is_of_save};
 pub use verdict::{Said, Verdict};

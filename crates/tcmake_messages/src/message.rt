@@ -3,7 +3,7 @@
 ghost use Rattle.std.specs.Prelude.{◌≡◌, ◌⊎◌, ℕ, List, None, IfErr, IfOk, IsOk, OnOk, codes};
 ghost use Rattle.serde_json.specs.Find.{get};
 ghost use Rattle.serde_json.specs.View.{view};
-ghost use Rattle.tcmake_messages.specs.Made.{IsAsSaid, IsDenied, IsMade, IsUnmade, IsUnread, IsUnsettled, Settles, StandsFor, StandsForNone, form_of};
+ghost use Rattle.tcmake_messages.specs.Made.{HasNoBytes, IsAsSaid, IsDenied, IsMade, IsUnmade, IsUnread, IsUnsettled, Settles, StandsFor, form_of};
 ghost use Rattle.tcmake_messages.specs.Verdict.{words_of};
 ghost use Rattle.tc_wire.specs.Rewriting.{Refused};
 ghost use Rattle.tcmake_messages.specs.declared.error.LineError.TheVariants.{NoMemory};
@@ -12,8 +12,8 @@ use crate::error::{Found, LineError};
 use crate::making::Making;
 use crate::unknown::with_kind;
 use crate::verdict::{Disagreement, Said, Verdict, agree, said_in, verdict_on};
-use forms_json::{Form, Tables};
-use forms_text::{Difference, differences, made_strictly, shown_json};
+use forms_json::{Form, Tables, made};
+use forms_text::{Difference, StrictError, check_shown, differences, shown_json};
 use nla_frames::DecodeError;
 use serde_json::Value;
 use std::alloc::{AllocError, Global};
@@ -21,6 +21,9 @@ use std::str;
 use tc_capture::MessageType;
 use tc_outline::{Layout, Page, What, locate};
 use tc_wire::{RewriteError, settle_action, settle_tc};
+
+/// The longest message that is made, in bytes: 256 KiB. The JSON that is shown of it takes no more memory than that of a line.
+pub const MOST_MESSAGE: usize = 256 * 1024;
 
 /// A table, and the forms of both messages in it.
 #[derive(Clone, Copy)]
@@ -106,7 +109,8 @@ fn unchanged(alloc: Global, bytes: Vec<u8>) -> Result<Message, LineError>
     })
 }
 
-// The bytes that JSON stands for.
+// The bytes that JSON stands for, if they aren't too many.
+#[tactic(auto, using(crate::proofs::Bytes::none_shown))]
 fn bytes_of<T: Tables>(
     alloc: Global,
     table: T,
@@ -114,11 +118,18 @@ fn bytes_of<T: Tables>(
     json: &Value,
 ) -> Result<Vec<u8>, LineError>
     ensures stands { IfOk result (λ bytes. StandsFor (T.parts_of table) form (view json.now) bytes.items) }
-    ensures none { IfErr result (λ e. (e ≡ NoMemory) ⊎ StandsForNone (T.parts_of table) form (view json.now)) }
+    ensures none { IfErr result (λ e. (e ≡ NoMemory) ⊎ HasNoBytes (T.parts_of table) form (view json.now)) }
 {
-    match made_strictly(alloc, table, form, json) {
-        Ok(bytes) => Ok(bytes),
-        Err(error) => Err(with_kind(alloc, json, LineError::from(error))),
+    let bytes = match made(alloc, table, form, json) {
+        Ok(bytes) => bytes,
+        Err(e) => return Err(with_kind(alloc, json, LineError::from(StrictError::Make(e)))),
+    };
+    if bytes.len() > MOST_MESSAGE {
+        return Err(LineError::LongMessage);
+    }
+    match check_shown(alloc, table, form, json, &bytes) {
+        Ok(()) => Ok(bytes),
+        Err(e) => Err(with_kind(alloc, json, LineError::from(e))),
     }
 }
 

@@ -45,6 +45,7 @@ mod tcsave;
 mod user;
 
 use ::itoa;
+use serde::json as serde_json;
 use small::arrayvec;
 use user::memchr;
 

@@ -42,6 +42,8 @@ mod located;
 mod netlink;
 mod verb;
 
+#[cfg(feature = "serde")]
+use serde::json as serde_json;
 use small::{arrayvec, itoa};
 
 // The erased crates, each a private module.

@@ -1,9 +1,10 @@
 //! The serializer that the sources send events to, and the same events as a value of the real `serde`.
 
-use crate::fallible::{AllocError, Fallible as _};
+use crate::fallible::{self, AllocError, Fallible as _};
 use ::serde::ser::{Error as _, SerializeMap as _, SerializeSeq as _};
 use alloc::{string::String, vec::Vec};
 use core::{cell::Cell, ops::Range};
+use serde_json::{Map, Value};
 
 /// What events are sent to.
 pub trait Serializer: Sized {
@@ -48,49 +49,44 @@ enum Event {
     End,
 }
 
-/// Events, with their texts one after the other.
-#[derive(Default)]
-struct Events {
-    all: Vec<Event>,
-    texts: String,
+/// What takes each event by one call, with its text.
+trait Taker {
+    fn take(&mut self, event: Event, text: &str) -> Result<(), AllocError>;
 }
 
-impl Serializer for Events {
+impl<T: Taker> Serializer for T {
     type Error = AllocError;
 
     fn bool(&mut self, v: bool) -> Result<(), AllocError> {
-        self.all.try_push(Event::Bool(v))
+        self.take(Event::Bool(v), "")
     }
 
     fn i64(&mut self, v: i64) -> Result<(), AllocError> {
-        self.all.try_push(Event::I64(v))
+        self.take(Event::I64(v), "")
     }
 
     fn u64(&mut self, v: u64) -> Result<(), AllocError> {
-        self.all.try_push(Event::U64(v))
+        self.take(Event::U64(v), "")
     }
 
     fn str(&mut self, v: &str) -> Result<(), AllocError> {
-        let begin = self.texts.len();
-        self.texts.try_reserve(v.len()).map_err(|_| AllocError)?;
-        self.texts.push_str(v);
-        self.all.try_push(Event::Text(begin..self.texts.len()))
+        self.take(Event::Text(0..v.len()), v)
     }
 
     fn begin_seq(&mut self, _len: Option<usize>) -> Result<(), AllocError> {
-        self.all.try_push(Event::List)
+        self.take(Event::List, "")
     }
 
     fn end_seq(&mut self) -> Result<(), AllocError> {
-        self.all.try_push(Event::End)
+        self.take(Event::End, "")
     }
 
     fn begin_map(&mut self, _len: Option<usize>) -> Result<(), AllocError> {
-        self.all.try_push(Event::Object)
+        self.take(Event::Object, "")
     }
 
     fn end_map(&mut self) -> Result<(), AllocError> {
-        self.all.try_push(Event::End)
+        self.take(Event::End, "")
     }
 
     fn key(&mut self, name: &str) -> Result<(), AllocError> {
@@ -100,6 +96,78 @@ impl Serializer for Events {
     fn custom(&self, _message: &str) -> AllocError {
         AllocError
     }
+}
+
+/// Events, with their texts one after the other.
+#[derive(Default)]
+struct Events {
+    all: Vec<Event>,
+    texts: String,
+}
+
+impl Taker for Events {
+    fn take(&mut self, event: Event, text: &str) -> Result<(), AllocError> {
+        let begin = self.texts.len();
+        self.texts.try_reserve(text.len()).map_err(|_| AllocError)?;
+        self.texts.push_str(text);
+        let is_text = matches!(event, Event::Text(_));
+        self.all.try_push(if is_text { Event::Text(begin..self.texts.len()) } else { event })
+    }
+}
+
+/// JSON as it is built, without its events: the lists and objects that go on, each after its name in the one around it, and the name of
+/// what comes next.
+#[derive(Default)]
+struct Tree {
+    open: Vec<(Option<String>, Value)>,
+    name: Option<String>,
+    whole: Value,
+}
+
+impl Tree {
+    fn put(&mut self, value: Value) -> Result<(), AllocError> {
+        match self.open.last_mut() {
+            Some((_, Value::Array(items))) => items.try_push(value)?,
+            Some((_, Value::Object(members))) => _ = members.insert(self.name.take().unwrap_or_default(), value),
+            _ => self.whole = value,
+        }
+        Ok(())
+    }
+}
+
+impl Taker for Tree {
+    fn take(&mut self, event: Event, text: &str) -> Result<(), AllocError> {
+        match event {
+            Event::Bool(v) => self.put(v.into()),
+            Event::I64(v) => self.put(v.into()),
+            Event::U64(v) => self.put(v.into()),
+            Event::Text(_) if self.name.is_none() && matches!(self.open.last(), Some((_, Value::Object(_)))) => {
+                self.name = Some(fallible::text(text)?);
+                Ok(())
+            }
+            Event::Text(_) => self.put(fallible::text(text)?.into()),
+            Event::List => self.open.try_push((self.name.take(), Value::Array(Vec::new()))),
+            Event::Object => self.open.try_push((self.name.take(), Value::Object(Map::new()))),
+            Event::End => {
+                let (name, value) = self.open.pop().unwrap_or_default();
+                self.name = name;
+                self.put(value)
+            }
+        }
+    }
+}
+
+/// `serde_json`, but for its `to_value`.
+pub mod json {
+    pub use super::to_value;
+    pub use ::serde_json::*;
+}
+
+/// What is sent, as JSON.
+pub fn to_value<T: Serialize>(value: &T) -> Result<Value, AllocError> {
+    let mut tree = Tree::default();
+    value.serialize(&mut tree)?;
+    Ok(tree.whole)
 }
 
 /// The value that comes next, and the texts.

@@ -272,7 +272,7 @@ pub(crate) const STD: &[&str] = &["collections", "hash", "process"];
 
 /// Modules of the shims, beside those crates that one stands for.
 pub(crate) const MODULES: &[&str] = &["fallible", "host", "jsontext", "serde", "strict", "user"];
-pub(crate) const SHIMS: &[&str] = &["arrayvec", "bitflags", "clap", "hex", "itoa", "memchr", "serde"];
+pub(crate) const SHIMS: &[&str] = &["arrayvec", "bitflags", "clap", "hex", "itoa", "memchr", "serde", "serde_json"];
 
 /// Words that would be left of a form that no rule knows.
 pub(crate) const UNKNOWN: &[&str] =

@@ -1,7 +1,7 @@
 //! Complaints about lines.
 
 use crate::make::runs::{HEX, bare, made, makes, makes_line};
-use std::alloc::AllocError;
+use std::alloc::{AllocError, Global};
 use std::test::Fail;
 use tcmake_lines::MOST_LINE;
 use tcmake_messages::Making;
@@ -156,6 +156,40 @@ fn the_longest_line(rt: HostRuntime) -> Result<(), Fail> {
     assert!(rt; line.len() > MOST_LINE * 3 / 4 && line.len() < MOST_LINE);
     let run = made(alloc, &bare(Making::Checked), &line);
     assert!(rt; run.status == 0 && run.written.len() == 2 * 262_144 + 1);
+    Ok(())
+}
+
+// A line of attributes whose texts begin with a quote, and have 60,000 braces.
+fn with_braces(alloc: Global, count: usize) -> Result<Vec<u8>, AllocError> {
+    let mut line = Vec::new(alloc);
+    line.extend_from_slice(FRONT.as_bytes())?;
+    for _ in 0..count {
+        let braces = vec![in alloc; b'{'; 60_000]?;
+        line.extend_from_slice(b",{\"ExtWarnMsg\":\"\\\"")?;
+        line.extend_from_slice(&braces)?;
+        line.extend_from_slice(b"\"}")?;
+    }
+    line.extend_from_slice(b"]}}")?;
+    Ok(line)
+}
+
+// Braces in texts are no values.
+#[test]
+fn braces_in_texts(rt: HostRuntime) -> Result<(), Fail> {
+    let alloc = rt.alloc();
+    let line = with_braces(alloc, 4)?;
+    let run = made(alloc, &bare(Making::Checked), &line);
+    assert!(rt; run.status == 0 && run.written.len() == 2 * 240_064 + 1);
+    Ok(())
+}
+
+// A message of more than 256 KiB.
+#[test]
+fn a_long_message(rt: HostRuntime) -> Result<(), Fail> {
+    let alloc = rt.alloc();
+    let line = with_braces(alloc, 5)?;
+    let said = "tcmake: line 1: found a message of more than 262144 bytes\n";
+    assert!(rt; makes(alloc, &bare(Making::AsGiven), &line, 1, b"", said));
     Ok(())
 }
 

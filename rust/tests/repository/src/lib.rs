@@ -28,6 +28,7 @@ mod strict;
 mod user;
 
 use ::itoa;
+use serde::json as serde_json;
 use small::arrayvec;
 
 include!(concat!(env!("OUT_DIR"), "/tests.rs"));
