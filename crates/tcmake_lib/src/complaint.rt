@@ -1,5 +1,9 @@
 //! Why no request is made of a line.
 
+ghost use Rattle.std.specs.Prelude.{◌≡◌};
+ghost use Rattle.tcmake_lib.specs.Complaints.{IsNoMemory, IsOfRestoring};
+ghost use Rattle.tcmake_lib.specs.declared.complaint.Complaint.TheVariants.{Line};
+
 use crate::save::SaveFault;
 use nla_frames::DecodeError;
 use std::alloc::{AllocError, AllocFailed};
@@ -52,24 +56,32 @@ impl Complaint {
 }
 
 impl From<AllocError> for Complaint {
+    ghost from_gives = { λ _ complaint. IsNoMemory complaint };
+
     fn from(_e: AllocError) -> Complaint {
         Complaint::Line(LineError::NoMemory)
     }
 }
 
 impl<T: Drop> From<AllocFailed<T>> for Complaint {
+    ghost from_gives = { λ _ complaint. IsNoMemory complaint };
+
     fn from(_e: AllocFailed<T>) -> Complaint {
         Complaint::Line(LineError::NoMemory)
     }
 }
 
 impl From<LineError> for Complaint {
+    ghost from_gives = { λ error complaint. complaint ≡ Line error };
+
     fn from(e: LineError) -> Complaint {
         Complaint::Line(e)
     }
 }
 
 impl From<RestoreError> for Complaint {
+    ghost from_gives = { λ error complaint. IsOfRestoring error complaint };
+
     fn from(e: RestoreError) -> Complaint {
         match e {
             RestoreError::OutOfMemory => Complaint::Line(LineError::NoMemory),
@@ -86,6 +98,8 @@ impl From<SaveFault> for Complaint {
 
 // Of bytes that the codec reads: reading them again fails only if memory runs out.
 impl From<DecodeError> for Complaint {
+    ghost from_gives = { λ _ complaint. IsNoMemory complaint };
+
     fn from(_e: DecodeError) -> Complaint {
         Complaint::Line(LineError::NoMemory)
     }
