@@ -49,16 +49,18 @@ new_flags = 0x605
 
 -- the request that restores a dump among dumps that show these root tables: its message type, these flags, the dump's sequence number, a packet of its
 -- own at the dump's time, and canonical bytes
-pub record IsRequestFor (flags : ℕ) (roots : List RootTable) (dumped : NetlinkHeader) (shown : List ℕ) (given : NetlinkHeader) (bytes : List ℕ)
+pub record IsRequestFor (request_flags : ℕ) (roots : List RootTable) (dumped : NetlinkHeader) (shown : List ℕ) (given : NetlinkHeader) (bytes : List ℕ)
     : Type 0 where
   pub dump : Dump
   pub dumps : IsDumpOf dumped.kind dump
   pub holds : given.holds ≡ held_by dump
   pub kind : given.kind ≡ Some (request_type dump)
-  pub flags : given.flags ≡ flags
+  pub flags : given.flags ≡ request_flags
   pub sequence : given.sequence ≡ dumped.sequence
   pub port : given.port ≡ 0
-  pub packet : given.packet ≡ record { number = None; time = dumped.packet.time; packet_type = 4 }
+  pub number : given.packet.number ≡ None
+  pub time : given.packet.time ≡ dumped.packet.time
+  pub packet_type : given.packet.packet_type ≡ 4
   pub canonical : IsCanonical given.holds bytes
   pub restores : Restores roots dump shown bytes
 
