@@ -276,21 +276,21 @@ pub fn serve_asked<T: Tables, R: Read, W: Write, E: Write>(
     // At the end of the input each line became a message, nothing or a complaint, and the messages are written in their order. So do requests that keep
     // the order of the lines.
     ensures ran { IsLineByLine request.now → OnOk result.outcome (Ran
-        (Makes (T.parts_of forms.table) forms.tc forms.action asked.now.index request.now.making)
-        (Passes (T.parts_of forms.table) forms.tc forms.action asked.now.index request.now.making)
-        (Refuses (T.parts_of forms.table) forms.tc forms.action asked.now.index request.now.making) request.now.form result.has_refused
+        (Makes (T.parts_of forms.table) forms.tc forms.action asked.entry.now.index request.now.making)
+        (Passes (T.parts_of forms.table) forms.tc forms.action asked.entry.now.index request.now.making)
+        (Refuses (T.parts_of forms.table) forms.tc forms.action asked.entry.now.index request.now.making) request.now.form result.has_refused
         (left_in R.remaining reader.old) (W.contents (writer_inside writer.old)) (W.contents (writer_inside writer.new))) }
     // When the output is closed, the lines that were read are those that became parts.
     ensures closed { IsLineByLine request.now → result.outcome ≡ Err Closed → RanOn
-        (Makes (T.parts_of forms.table) forms.tc forms.action asked.now.index request.now.making)
-        (Passes (T.parts_of forms.table) forms.tc forms.action asked.now.index request.now.making)
-        (Refuses (T.parts_of forms.table) forms.tc forms.action asked.now.index request.now.making) request.now.form result.has_refused
+        (Makes (T.parts_of forms.table) forms.tc forms.action asked.entry.now.index request.now.making)
+        (Passes (T.parts_of forms.table) forms.tc forms.action asked.entry.now.index request.now.making)
+        (Refuses (T.parts_of forms.table) forms.tc forms.action asked.entry.now.index request.now.making) request.now.form result.has_refused
         (left_in R.remaining reader.old) (left_in R.remaining reader.new) }
     // A run that ends early has written a front of the output for the first lines.
     ensures partly { IsLineByLine request.now → IfErr result.outcome (λ stop. stop ≢ NoMemory → RanPartly
-        (Makes (T.parts_of forms.table) forms.tc forms.action asked.now.index request.now.making)
-        (Passes (T.parts_of forms.table) forms.tc forms.action asked.now.index request.now.making)
-        (Refuses (T.parts_of forms.table) forms.tc forms.action asked.now.index request.now.making) request.now.form result.has_refused
+        (Makes (T.parts_of forms.table) forms.tc forms.action asked.entry.now.index request.now.making)
+        (Passes (T.parts_of forms.table) forms.tc forms.action asked.entry.now.index request.now.making)
+        (Refuses (T.parts_of forms.table) forms.tc forms.action asked.entry.now.index request.now.making) request.now.form result.has_refused
         (left_in R.remaining reader.old) (W.contents (writer_inside writer.old)) (W.contents (writer_inside writer.new))) }
     // A stream that failed shows why the run ends early; otherwise memory ran out.
     ensures stopped { IfErr result.outcome (Shows (read_failure (reader_inner reader.new)) (write_failure writer.new)) }

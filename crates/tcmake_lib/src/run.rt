@@ -34,19 +34,19 @@ pub fn run<T: Tables, R: Read, W: Write, E: Write>(
     errors: &mut E,
 ) -> Ended
     ensures ran { IsLineByLine request.now → OnOk result.outcome (Ran
-        (Makes (T.parts_of forms.table) forms.tc forms.action asked.now.index request.now.making)
-        (Passes (T.parts_of forms.table) forms.tc forms.action asked.now.index request.now.making)
-        (Refuses (T.parts_of forms.table) forms.tc forms.action asked.now.index request.now.making) request.now.form result.has_refused
+        (Makes (T.parts_of forms.table) forms.tc forms.action asked.entry.now.index request.now.making)
+        (Passes (T.parts_of forms.table) forms.tc forms.action asked.entry.now.index request.now.making)
+        (Refuses (T.parts_of forms.table) forms.tc forms.action asked.entry.now.index request.now.making) request.now.form result.has_refused
         (left_in R.remaining reader.old) (W.contents (writer_inside writer.old)) (W.contents (writer_inside writer.new))) }
     ensures closed { IsLineByLine request.now → result.outcome ≡ Err Closed → RanOn
-        (Makes (T.parts_of forms.table) forms.tc forms.action asked.now.index request.now.making)
-        (Passes (T.parts_of forms.table) forms.tc forms.action asked.now.index request.now.making)
-        (Refuses (T.parts_of forms.table) forms.tc forms.action asked.now.index request.now.making) request.now.form result.has_refused
+        (Makes (T.parts_of forms.table) forms.tc forms.action asked.entry.now.index request.now.making)
+        (Passes (T.parts_of forms.table) forms.tc forms.action asked.entry.now.index request.now.making)
+        (Refuses (T.parts_of forms.table) forms.tc forms.action asked.entry.now.index request.now.making) request.now.form result.has_refused
         (left_in R.remaining reader.old) (left_in R.remaining reader.new) }
     ensures partly { IsLineByLine request.now → IfErr result.outcome (λ stop. stop ≢ NoMemory → RanPartly
-        (Makes (T.parts_of forms.table) forms.tc forms.action asked.now.index request.now.making)
-        (Passes (T.parts_of forms.table) forms.tc forms.action asked.now.index request.now.making)
-        (Refuses (T.parts_of forms.table) forms.tc forms.action asked.now.index request.now.making) request.now.form result.has_refused
+        (Makes (T.parts_of forms.table) forms.tc forms.action asked.entry.now.index request.now.making)
+        (Passes (T.parts_of forms.table) forms.tc forms.action asked.entry.now.index request.now.making)
+        (Refuses (T.parts_of forms.table) forms.tc forms.action asked.entry.now.index request.now.making) request.now.form result.has_refused
         (left_in R.remaining reader.old) (W.contents (writer_inside writer.old)) (W.contents (writer_inside writer.new))) }
     ensures stopped { IfErr result.outcome (Shows (read_failure (reader_inner reader.new)) (write_failure writer.new)) }
 {
