@@ -4,6 +4,8 @@ use Rattle.tc_restore.specs.declared.restore_error.RestoreError.{RestoreError}
 use Rattle.tc_restore.specs.declared.restore_error.RestoreError.TheVariants.{MadeByKernel, OutOfMemory}
 use Rattle.tcmake_lib.specs.declared.complaint.Complaint.{Complaint}
 use Rattle.tcmake_lib.specs.declared.complaint.Complaint.TheVariants.{Line, Restore}
+use Rattle.tcmake_lines.specs.declared.maker.Answer.{Answer}
+use Rattle.tcmake_lines.specs.declared.maker.Answer.TheVariants as answered
 use Rattle.tcmake_messages.specs.declared.error.LineError.TheVariants.{NoMemory}
 
 -- memory ran out
@@ -18,3 +20,9 @@ IsOfRestoring reason complaint = ((reason ≡ OutOfMemory) × IsNoMemory complai
 abbrev pub Says : (made wrong : Type 0) → Complaint → Type 0
 Says made wrong complaint =
     IsNoMemory complaint ⊎ ((complaint ≡ Restore MadeByKernel) × made) ⊎ ((complaint ≢ Restore MadeByKernel) × wrong)
+
+-- the answer for a line with a complaint: nothing if another request makes what it shows, else the complaint, unless memory ran out
+abbrev pub IsAnswerFor : Complaint → Answer → Type 0
+IsAnswerFor complaint (answered.Message given bytes notices) = ⊥
+IsAnswerFor complaint (answered.Nothing notice) = complaint ≡ Restore MadeByKernel
+IsAnswerFor complaint (answered.Complaint text) = (¬ IsNoMemory complaint) × (complaint ≢ Restore MadeByKernel)

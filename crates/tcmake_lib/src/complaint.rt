@@ -1,8 +1,10 @@
 //! Why no request is made of a line.
 
-ghost use Rattle.std.specs.Prelude.{◌≡◌};
+ghost use Rattle.std.specs.Prelude.{◌≡◌, ◌≢◌, IsTrue, false};
+ghost use Rattle.tc_restore.specs.declared.restore_error.RestoreError.TheVariants.{MadeByKernel};
 ghost use Rattle.tcmake_lib.specs.Complaints.{IsNoMemory, IsOfRestoring};
-ghost use Rattle.tcmake_lib.specs.declared.complaint.Complaint.TheVariants.{Line};
+ghost use Rattle.tcmake_lib.specs.declared.complaint.Complaint.TheVariants.{Line, Restore};
+ghost use Rattle.tcmake_messages.specs.declared.error.LineError.TheVariants.{NoMemory};
 
 use crate::save::SaveFault;
 use nla_frames::DecodeError;
@@ -42,6 +44,27 @@ pub(crate) enum Complaint {
 }
 
 impl Complaint {
+    /// True if memory ran out.
+    pub(crate) fn is_no_memory(&self) -> bool
+        ensures { result ≡ false → ¬ IsNoMemory self.now }
+    {
+        match self {
+            Complaint::Line(error) => is_no_memory(error),
+            _ => false,
+        }
+    }
+
+    /// True if another request makes what is dumped.
+    pub(crate) fn is_made_by_another(&self) -> bool
+        ensures made { IsTrue result → self.now ≡ Restore MadeByKernel }
+        ensures other { result ≡ false → self.now ≢ Restore MadeByKernel }
+    {
+        match self {
+            Complaint::Restore(error) => is_made_by_kernel(error),
+            _ => false,
+        }
+    }
+
     /// True if no request at all is made because of it.
     pub(crate) fn is_of_all(&self) -> bool {
         matches!(
@@ -53,6 +76,19 @@ impl Complaint {
                 | Complaint::OtherInterface(_)
         )
     }
+}
+
+fn is_no_memory(error: &LineError) -> bool
+    ensures { result ≡ false → error.now ≢ NoMemory }
+{
+    matches!(error, LineError::NoMemory)
+}
+
+fn is_made_by_kernel(error: &RestoreError) -> bool
+    ensures made { IsTrue result → error.now ≡ MadeByKernel }
+    ensures other { result ≡ false → error.now ≢ MadeByKernel }
+{
+    matches!(error, RestoreError::MadeByKernel)
 }
 
 impl From<AllocError> for Complaint {

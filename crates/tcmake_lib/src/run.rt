@@ -4,7 +4,7 @@ ghost use Rattle.std.specs.Prelude.{◌≡◌, ◌≢◌, Err, IfErr, IfOk, Matc
 ghost use Rattle.std.specs.Io.Buffered.{reader_inner};
 ghost use Rattle.program_io.specs.Streams.{Shows, read_failure, write_failure, writer_inside};
 ghost use Rattle.program_io.specs.declared.stop.Stop.TheVariants.{Closed, NoMemory};
-ghost use Rattle.tcmake_lib.specs.Complaints.{Says};
+ghost use Rattle.tcmake_lib.specs.Complaints.{IsAnswerFor, Says};
 ghost use Rattle.tcmake_lib.specs.Requests.{IsLineByLine, IsNothing, IsRequest, IsUnmade, Makes, Passes, Refuses};
 ghost use Rattle.tcmake_lines.specs.Lines.{left_in};
 ghost use Rattle.tcmake_lines.specs.Parts.{Ran, RanOn, RanPartly};
@@ -18,10 +18,9 @@ use forms_json::Tables;
 use program_io::{Ended, Reader, Writer, shown_reason};
 use std::alloc::{AllocError, Global};
 use std::io::{BufReader, Read, Write};
-use tc_restore::RestoreError;
 use tcmake_lines::run::run as run_lines;
 use tcmake_lines::{Answer, Maker};
-use tcmake_messages::{Forms, LineError, Made, Making, MessageMaker, notices_of};
+use tcmake_messages::{Forms, Made, Making, MessageMaker, notices_of};
 
 /// Makes messages of all lines of an input. Complaints, and what was settled, are written to `errors`.
 pub fn run<T: Tables, R: Read, W: Write, E: Write>(
@@ -135,14 +134,25 @@ impl<T: Tables> Maker for RequestMaker<T> {
                 notices: notices_of(self.alloc, &settled)?,
             }),
             Ok(None) => Ok(Answer::Nothing { notice: None }),
-            Err(Complaint::Line(LineError::NoMemory)) => Err(AllocError),
-            Err(Complaint::Restore(RestoreError::MadeByKernel)) => {
-                Ok(Answer::Nothing {
-                    notice: made_by_another(self.alloc, self.verbose)?,
-                })
-            }
-            Err(complaint) => Ok(Answer::Complaint(text_of(self.alloc, &complaint)?)),
+            Err(complaint) => self.answer_for(&complaint),
         }
+    }
+}
+
+impl<T> RequestMaker<T> {
+    // The answer for a line of which no request is made.
+    fn answer_for(&self, complaint: &Complaint) -> Result<Answer, AllocError>
+        ensures { IfOk result (IsAnswerFor complaint.now) }
+    {
+        if complaint.is_no_memory() {
+            return Err(AllocError);
+        }
+        if complaint.is_made_by_another() {
+            return Ok(Answer::Nothing {
+                notice: made_by_another(self.alloc, self.verbose)?,
+            });
+        }
+        Ok(Answer::Complaint(text_of(self.alloc, complaint)?))
     }
 }
 
