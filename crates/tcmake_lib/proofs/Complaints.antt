@@ -35,9 +35,9 @@ restoring_says Left Long reason e (inr (known, is)) left = by_case (made_or_not 
 -- the answer for a line that has a complaint
 pub answers_line : (Makes : List ℕ → NetlinkHeader → List ℕ → Type 0) (Passes Refuses : List ℕ → Type 0) (line : List ℕ) (e : Complaint)
     → Says (Passes line) (Refuses line) e → (answer : Answer) → IsAnswerFor e answer → IsAnswer Makes Passes Refuses line answer
-answers_line Makes Passes Refuses line e says (answered.Message given bytes notices) no = absurd no
+answers_line Makes Passes Refuses line e says (answered.Message given bytes notices) none = absurd none
 answers_line Makes Passes Refuses line e (inl memory) (answered.Nothing notice) is =
-    absurd (let no : Line NoMemory ≡ Restore MadeByKernel = sym memory ∙ is in cc)
+    absurd (let both : Line NoMemory ≡ Restore MadeByKernel = sym memory ∙ is in cc)
 answers_line Makes Passes Refuses line e (inr (inl (made, passes))) (answered.Nothing notice) is = passes
 answers_line Makes Passes Refuses line e (inr (inr (other, refuses))) (answered.Nothing notice) is = absurd (other is)
 answers_line Makes Passes Refuses line e (inl memory) (answered.Complaint text) (not, other) = absurd (not memory)

@@ -1,11 +1,12 @@
 //! A whole run.
 
-ghost use Rattle.std.specs.Prelude.{◌≡◌, ◌≢◌, Err, IfErr, IfOk, MatchOption, OnOk};
+ghost use Rattle.std.specs.Prelude.{◌≡◌, ◌≢◌, Err, IfErr, IfOk, IsTrue, MatchOption, OnOk, false};
 ghost use Rattle.std.specs.Io.Buffered.{reader_inner};
 ghost use Rattle.program_io.specs.Streams.{Shows, read_failure, write_failure, writer_inside};
 ghost use Rattle.program_io.specs.declared.stop.Stop.TheVariants.{Closed, NoMemory};
 ghost use Rattle.tcmake_lib.specs.Complaints.{IsAnswerFor, Says};
 ghost use Rattle.tcmake_lib.specs.Requests.{IsLineByLine, IsNothing, IsRequest, IsUnmade, Makes, Passes, Refuses};
+ghost use Rattle.tcmake_messages.specs.declared.making.Making.TheVariants.{Restored};
 ghost use Rattle.tcmake_lines.specs.Lines.{left_in};
 ghost use Rattle.tcmake_lines.specs.Parts.{Ran, RanOn, RanPartly};
 
@@ -49,7 +50,7 @@ pub fn run<T: Tables, R: Read, W: Write, E: Write>(
         (left_in R.remaining reader.old) (W.contents (writer_inside writer.old)) (W.contents (writer_inside writer.new))) }
     ensures stopped { IfErr result.outcome (Shows (read_failure (reader_inner reader.new)) (write_failure writer.new)) }
 {
-    if request.making != Making::Restored {
+    if !is_restoring(request.making) {
         let maker = MessageMaker {
             alloc,
             forms,
@@ -67,6 +68,14 @@ pub fn run<T: Tables, R: Read, W: Write, E: Write>(
         return run_lines(alloc, &maker, request.form, reader, writer, errors);
     }
     restore(alloc, forms, request, asked, reader, writer, errors)
+}
+
+// True if requests are made.
+fn is_restoring(making: Making) -> bool
+    ensures restoring { IsTrue result → making ≡ Restored }
+    ensures other { result ≡ false → making ≢ Restored }
+{
+    matches!(making, Making::Restored)
 }
 
 // Makes requests of all lines, in an order in which each finds what it needs.
