@@ -1,5 +1,5 @@
 -- What lines become, by what is made.
-use Rattle.std.proofs.Common.{◌≡◌, ◌≢◌, List, ℕ, refl, subst, sym}
+use Rattle.std.proofs.Common.{◌≡◌, ◌≢◌, List, ℕ, refl}
 use Rattle.std.specs.Prelude.{Option, ℤ}
 use Rattle.forms_values.specs.declared.form.Form.{Form}
 use Rattle.forms_values.specs.Tables.{Table}

@@ -1,4 +1,4 @@
-use Rattle.std.proofs.Common.{ap, inr, refl, rules, Some}
+use Rattle.std.proofs.Common.{ap, inr, refl, Some}
 use Rattle.std.proofs.lemmas.Result.{err_from_is_err_and}
 use Rattle.tc_restore.specs.declared.restore_error.RestoreError.TheVariants.{MadeByKernel}
 use Rattle.tcmake_lib.specs.Restored.{HasNoRequest, IsLeftOut, IsMadeByAnother, IsUnrestored}
