@@ -333,12 +333,15 @@ static void ask_for_roots(void) {
     }
 }
 
-// A qdisc without classes refuses to be asked for them, and what can't have filters for those.
+// A qdisc without classes refuses to be asked for them, and what can't have filters for those. Default qdiscs are dumped too.
 static void dump_tc(int type, __u32 parent) {
-    struct tcmsg header = {.tcm_ifindex = asked_link, .tcm_parent = parent};
+    struct {
+        struct tcmsg header;
+        struct nlattr defaults;
+    } m = {.header = {.tcm_ifindex = asked_link, .tcm_parent = parent}, .defaults = {NLA_HDRLEN, TCA_DUMP_INVISIBLE}};
 
     asked_parent = parent;
-    ask(type, NLM_F_REQUEST | NLM_F_DUMP, &header, sizeof header, write_of_link);
+    ask(type, NLM_F_REQUEST | NLM_F_DUMP, &m, type == RTM_GETQDISC ? sizeof m : sizeof m.header, write_of_link);
 }
 
 static void dump_actions(void) {
@@ -362,13 +365,13 @@ static void dump_actions(void) {
     }
 }
 
-static int is_clsact(struct nlmsghdr *h) {
+static int is_of_kind(struct nlmsghdr *h, const char *kind) {
     unsigned char *p = (unsigned char *)NLMSG_DATA(h) + sizeof(struct tcmsg);
     int left = h->nlmsg_len - NLMSG_LENGTH(sizeof(struct tcmsg));
 
     FOR_EACH(a, p, left)
         if (TYPE(a) == TCA_KIND)
-            return !strncmp((char *)PAYLOAD(a), "clsact", LENGTH(a));
+            return !strncmp((char *)PAYLOAD(a), kind, LENGTH(a));
     return 0;
 }
 
@@ -397,7 +400,7 @@ static void dump_link(int number) {
         __u32 handle = ((struct tcmsg *)NLMSG_DATA(h))->tcm_handle;
         if (h->nlmsg_type == RTM_NEWTCLASS && !TC_H_MIN(handle))
             continue; // a root class, whose filters are the qdisc's
-        if (h->nlmsg_type == RTM_NEWQDISC && is_clsact(h)) {
+        if (h->nlmsg_type == RTM_NEWQDISC && is_of_kind(h, "clsact")) {
             dump_block(TC_H_MAKE(TC_H_CLSACT, TC_H_MIN_INGRESS));
             dump_block(TC_H_MAKE(TC_H_CLSACT, TC_H_MIN_EGRESS));
         } else if (handle)
@@ -421,6 +424,19 @@ static int is_tried_again(struct nlmsghdr *last) {
     return error == EBUSY || error == EEXIST || error == EPERM;
 }
 
+// True for the request of a qdisc in a class of taprio, by the qdiscs that were dumped last. To Linux that class has taprio itself.
+static int is_below_taprio(struct nlmsghdr *request) {
+    struct tcmsg *made = NLMSG_DATA(request), *own;
+    struct nlmsghdr *h;
+
+    for (size_t at = 0; request->nlmsg_type == RTM_NEWQDISC && at < tree_length; at += NLMSG_ALIGN(h->nlmsg_len)) {
+        h = (struct nlmsghdr *)(tree + at), own = NLMSG_DATA(h);
+        if (h->nlmsg_type == RTM_NEWQDISC && own->tcm_ifindex == made->tcm_ifindex && own->tcm_handle == TC_H_MAJ(made->tcm_parent))
+            return is_of_kind(h, "taprio");
+    }
+    return 0;
+}
+
 // Sends each request of a stream, for up to a second if what was deleted before lives on. After each it writes how that ended, and all that
 // some links have.
 static void send_steps(const char *numbers, const char *path) {
@@ -429,13 +445,20 @@ static void send_steps(const char *numbers, const char *path) {
     int left = file ? (int)fread(stream, 1, sizeof stream, file) : 0;
 
     for (struct nlmsghdr *h = (struct nlmsghdr *)stream, *last; NLMSG_OK(h, left); h = NLMSG_NEXT(h, left)) {
+        int is_placed = 0;
         for (int tries = 0; tries < 100; tries++) {
             last = ask(h->nlmsg_type, h->nlmsg_flags | NLM_F_REQUEST | NLM_F_ACK, NLMSG_DATA(h), h->nlmsg_len - NLMSG_HDRLEN, ignore);
             if (!is_tried_again(last))
                 break;
+            if (is_below_taprio(h)) {
+                is_placed = 1;
+                h->nlmsg_flags = (h->nlmsg_flags & ~NLM_F_EXCL) | NLM_F_REPLACE;
+            }
             usleep(10000);
         }
-        if (last && last->nlmsg_type == NLMSG_ERROR)
+        if (is_placed && last && last->nlmsg_type == NLMSG_ERROR && !((struct nlmsgerr *)NLMSG_DATA(last))->error)
+            fputs("ack 0 - in a class of taprio\n", answers);
+        else if (last && last->nlmsg_type == NLMSG_ERROR)
             write_ack(last);
         else
             fprintf(answers, "ack %d - no answer\n", errno);
