@@ -147,10 +147,11 @@ type Way = (i32, Vec<u32>);
 fn marked(now: &[Vec<u8>], wanted: &[Vec<u8>]) -> Vec<Vec<u8>> {
     let (old, new) = (ways(now), ways(wanted));
     let above = |way: &Way| Some((way.0, way.1.split_last().filter(|(_, rest)| !rest.is_empty())?.1.to_vec()));
-    let emptied: BTreeSet<Way> = old.keys().filter(|way| !new.contains_key(way)).filter_map(above).collect();
+    let emptied: BTreeSet<Way> = old.keys().filter(|way| !new.contains_key(*way)).filter_map(above).collect();
     let stays = |way: &Way| Some((now.get(*old.get(way)?)?, wanted.get(*new.get(way)?)?));
     let is_marked = |way: &&Way| {
-        stays(way).is_some_and(|(was, is)| kind_of(was) == kind_of(is) && LEAVES_NOTHING.contains(&kind_of(was).unwrap_or_default()))
+        let is_emptied = |kind: &[u8]| LEAVES_NOTHING.contains(&kind);
+        stays(*way).is_some_and(|(was, is)| kind_of(was) == kind_of(is) && kind_of(was).is_some_and(is_emptied))
     };
     let mut marked = now.to_vec();
     for place in emptied.iter().filter(is_marked).filter_map(|way| old.get(way)) {
@@ -234,13 +235,14 @@ mod tests {
         };
         for kind in ["tbf", "sfb", "multiq", "mq", "mqprio", "taprio"] {
             assert_eq!(sent(&of(kind, Some("sfq")), &of(kind, None)), [(37, ROOT), (36, ROOT)], "{kind}");
-            assert_eq!(sent(&of(kind, Some("sfq")), &of(kind, Some("sfq"))), [], "{kind}");
+            assert!(sent(&of(kind, Some("sfq")), &of(kind, Some("sfq"))).is_empty(), "{kind}");
             assert_eq!(sent(&of(kind, Some("sfq")), &of(kind, Some("drr"))), [(37, 0x1_0001), (36, 0x1_0001)], "{kind}");
         }
         assert_eq!(sent(&of("prio", Some("sfq")), &of("prio", None)), [(37, 0x1_0001)]);
         // The handles that the kernel chose differ.
         let (now, wanted) = (qdisc(0x8001_0000, ROOT, "tbf"), qdisc(0x8005_0000, ROOT, "tbf"));
-        assert_eq!(sent(&[now.clone(), qdisc(0x2_0000, 0x8001_0001, "sfq")], &[wanted.clone(), qdisc(0x2_0000, 0x8005_0001, "sfq")]), []);
-        assert_eq!(sent(&[now, qdisc(0x2_0000, 0x8001_0001, "sfq")], &[wanted]), [(37, ROOT), (36, ROOT)]);
+        let below = |handle: u32| qdisc(0x2_0000, handle | 1, "sfq");
+        assert!(sent(&[now.clone(), below(0x8001_0000)], &[wanted.clone(), below(0x8005_0000)]).is_empty());
+        assert_eq!(sent(&[now, below(0x8001_0000)], &[wanted]), [(37, ROOT), (36, ROOT)]);
     }
 }
