@@ -1,7 +1,6 @@
 """The steps of a plan: what the guest has after each request, compared with what the model of a kernel has then (crates/tc_changes, Requests.antt)."""
 
 import collections
-import errno
 
 from guests import error_name
 from states import CHAIN, CLASS, FILTER, PARMS_OF, QDISC, ROOT_TABLE, TABLE, Object, actions_in, as_used, attributes, objects_in, renumbered, roots_asked
@@ -9,7 +8,7 @@ from states import text
 
 ROOT, SIDES = 0xFFFFFFFF, 0xFFFFFFF1  # the parents of a root qdisc, and of ingress and clsact
 MADE_BY_USER = ("htb", "hfsc", "drr", "qfq")  # the kernel makes the classes of other qdiscs
-OF_TAPRIO = "in a class of taprio"  # what the guest says of such a request, which Linux takes only over what is there
+SENT = ("of cgroup, with its priority", "in a class of taprio, over it")  # how requests are sent that Linux doesn't take otherwise, as tcapply does
 GONE = (2, 22)  # ENOENT and EINVAL: what is to be deleted isn't there
 
 # Of actions those that filters share or none holds, and what each is.
@@ -90,11 +89,6 @@ class Model:
                 self.actions[kind, number] = self.last.actions[kind, number]
         return ""
 
-    def is_held_by_cgroup(self, actions):
-        """True if a filter of cgroup that couldn't be deleted has one of these actions."""
-        held = {(own.kind, own.number) for it in self.now.values() if it.kind == "cgroup" for own in it.actions}
-        return bool(actions & held)
-
     def rename(self, it, roots):
         """Gives an object of a request the names that it has in a dump."""
         has_ingress = any(other.type == QDISC and other.kind == "ingress" and other.index == it.index for other in self.now.values())
@@ -162,18 +156,11 @@ def judge(requests, answers):
         return f"{len(requests)} requests, and {len(dumps) - 1} dumps after them", counts
     model = Model(dumps[0], dumps[-1])
     for number, (request, ended, before, after) in enumerate(zip(requests, answers[1::2], dumps, dumps[1:]), 1):
-        there, actions = dict(model.now), dict(model.actions)
         wrong = model.take(request, before.roots)
-        if ended.sentence == OF_TAPRIO:
-            counts[OF_TAPRIO] += 1
-        if ended.error == errno.EPERM and request[0] == 49 and model.is_held_by_cgroup(actions.keys() - model.actions.keys()):
-            model.actions = actions
-            counts["held by cgroup"] += 1
-        elif ended.error in GONE and request[0] % 4 == 1:
-            # A filter of cgroup can't be deleted but with its priority.
-            stays = {place: it for place, it in there.items() if place not in model.now and it.kind == "cgroup"}
-            model.now.update(stays)
-            counts["for cgroup" if stays else "gone before"] += 1
+        if ended.sentence in SENT:
+            counts[ended.sentence] += 1
+        if ended.error in GONE and request[0] % 4 == 1:
+            counts["gone before"] += 1
         elif ended.error:
             wrong = wrong or f"{error_name(ended.error)} {ended.sentence}"
         found, vanished = model.differences(after)
