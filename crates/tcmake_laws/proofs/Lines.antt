@@ -46,4 +46,4 @@ text_of m line is = go is
   where
     go : IsLine (grammar_of m.holds) m line → (log : Log) × IsTextOf log line
     go (inl (x, reads, (fits, settled, canonical, a, b, c, text))) = (Some (line_events (time_of m) m (read_events fits settled canonical)), text)
-    go (inr (e, faulty, (offset, small, path, text))) = (Some (line_events (time_of m) m (fault_events e offset path)), text)
+    go (inr (e, faulty, (offset, place, small, path, pointer, text))) = (Some (line_events (time_of m) m (fault_events e offset path)), text)
