@@ -9,6 +9,7 @@ use Rattle.tcmake_lines.specs.Parts.{IsAnswer}
 use Rattle.tcmake_lines.specs.declared.maker.Answer.{Answer}
 use Rattle.tcmake_lines.specs.declared.maker.Answer.TheVariants as answered
 use Rattle.tcmake_lines.specs.declared.netlink.NetlinkHeader.{NetlinkHeader}
+use Rattle.tcmake_messages.specs.declared.error.LineError.{LineError}
 use Rattle.tcmake_messages.specs.declared.error.LineError.TheVariants.{NoMemory}
 
 made_or_not : (reason : RestoreError) → (reason ≡ MadeByKernel) ⊎ (reason ≢ MadeByKernel)
@@ -20,6 +21,11 @@ pub says_more : (made made' wrong wrong' : Type 0) (e : Complaint) → (made →
 says_more made made' wrong wrong' e f k (inl memory) = inl memory
 says_more made made' wrong wrong' e f k (inr (inl (is, m))) = inr (inl (is, f m))
 says_more made made' wrong wrong' e f k (inr (inr (other, w))) = inr (inr (other, k w))
+
+-- the complaint about a line of which no message is made
+pub line_says : (Wrong wrong : Type 0) (e : LineError) → (Wrong → wrong) → (e ≡ NoMemory) ⊎ Wrong → Says ⊥ wrong (Line e)
+line_says Wrong wrong e f (inl memory) = inl (ap Line memory)
+line_says Wrong wrong e f (inr is) = inr (inr ((λ (same : Line e ≡ Restore MadeByKernel). cc), f is))
 
 -- the complaint about a dump that isn't restored
 pub restoring_says : (Left : RestoreError → Type 0) (Long : Type 0) (reason : RestoreError) (e : Complaint) → IsOfRestoring reason e → Left reason
