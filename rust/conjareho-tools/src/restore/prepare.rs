@@ -211,12 +211,7 @@ fn check_back(arguments: &Arguments, back: &Plan) -> Result<(), Ended> {
 }
 
 // An error if an action can't be found again, so that there is no plan for a way back.
-fn check_numbers(
-    arguments: &Arguments,
-    wanted: &[Vec<u8>],
-    now: &[Vec<u8>],
-    targets: &Targets,
-) -> Result<(), Ended> {
+fn check_numbers(arguments: &Arguments, wanted: &[Vec<u8>], now: &[Vec<u8>], targets: &Targets) -> Result<(), Ended> {
     let what = |message: &Vec<u8>| match key_of(message) {
         Some(key) => format!("{}: an action without a number", named(&targets.devices, key)),
         None => "an action without a number".to_string(),
