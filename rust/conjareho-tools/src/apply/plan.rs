@@ -245,12 +245,17 @@ mod tests {
     fn what_would_be_left_without_a_qdisc_is_made_anew() {
         const ROOT: u32 = 0xFFFF_FFFF;
         let of = |kind, child: Option<&str>| {
-            [vec![qdisc(0x1_0000, ROOT, kind)], child.map(|name| qdisc(0x2_0000, 0x1_0001, name)).into_iter().collect()].concat()
+            [vec![qdisc(0x1_0000, ROOT, kind)], child.map(|name| qdisc(0x2_0000, 0x1_0001, name)).into_iter().collect()]
+                .concat()
         };
         for kind in ["tbf", "sfb", "multiq", "mq", "mqprio", "taprio"] {
             assert_eq!(sent(&of(kind, Some("sfq")), &of(kind, None)), [(37, ROOT), (36, ROOT)], "{kind}");
             assert!(sent(&of(kind, Some("sfq")), &of(kind, Some("sfq"))).is_empty(), "{kind}");
-            assert_eq!(sent(&of(kind, Some("sfq")), &of(kind, Some("drr"))), [(37, 0x1_0001), (36, 0x1_0001)], "{kind}");
+            assert_eq!(
+                sent(&of(kind, Some("sfq")), &of(kind, Some("drr"))),
+                [(37, 0x1_0001), (36, 0x1_0001)],
+                "{kind}"
+            );
         }
         assert_eq!(sent(&of("prio", Some("sfq")), &of("prio", None)), [(37, 0x1_0001)]);
         // The handles that the kernel chose differ.

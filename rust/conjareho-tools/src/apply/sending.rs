@@ -82,7 +82,9 @@ impl<'w, 's, T: Transport, L: Transport> Sending<'w, 's, T, L> {
         self.has_sent = true;
         loop {
             let mut answer = self.world.kernel.request(request);
-            if matches!(&answer, Err(Fault::Refused(refusal)) if refusal.is(Errno::EEXIST)) && self.is_below_taprio(request)? {
+            if matches!(&answer, Err(Fault::Refused(refusal)) if refusal.is(Errno::EEXIST))
+                && self.is_below_taprio(request)?
+            {
                 answer = self.world.kernel.request(&over(request));
             }
             let refusal = match answer {

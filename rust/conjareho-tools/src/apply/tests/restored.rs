@@ -51,7 +51,8 @@ fn a_qdisc_in_a_class_of_taprio_takes_the_place_of_taprio_itself() {
         of(RTM_NEWQDISC, 0x2_0000, 0x1_0001, "pfifo", &[]),
     ];
     let is_refused = |message: &[u8]| {
-        tcmsg_of(message).is_some_and(|it| it.parent == 0x1_0001) && u16_at(message, 6).is_some_and(|it| it & 0x100 == 0)
+        tcmsg_of(message).is_some_and(|it| it.parent == 0x1_0001)
+            && u16_at(message, 6).is_some_and(|it| it & 0x100 == 0)
     };
     let refusing: Hook = Box::new(move |_, _, message| is_refused(message).then_some(EEXIST));
     let ran = run(&[], &saved(all.clone()), Vec::new(), &Fake::new(refusing));
