@@ -46,10 +46,10 @@ use crate::netlink::fault::Printable;
 use crate::netlink::{Fault, Kernel, Listener, Socket, Transport};
 use crate::save::release;
 use crate::shown::lines_of;
-use std::fs;
+use std::fs::{self, File};
 use std::io::{self, Read as _, Write as _};
+use std::os::fd::AsFd as _;
 use std::process::ExitCode;
-use std::thread;
 
 /// How often it is planned anew, if another program changes something before the first request.
 const MOST_PLANS: u32 = 3;
@@ -111,11 +111,10 @@ fn opened(name: &'static str, arguments: &Arguments, said: &mut Vec<String>) -> 
     let _lock = lock::lock(arguments.way, &signal)?;
     let mut hold = || {
         let Some(time) = arguments.trial else { return Ok(()) };
-        let seconds = time.as_secs();
-        let asked = format!("the plan is applied; press Enter within {seconds} seconds, or it goes back");
-        // A terminal that nobody reads mustn't hold up the way back.
-        thread::spawn(move || say_all(name, &[asked]));
-        hold::hold(&mut io::stdin().lock(), time, &signal)
+        // Not through a buffer, which would keep what isn't asked for yet.
+        let input = io::stdin().as_fd().try_clone_to_owned();
+        let mut input = File::from(input.map_err(|error| Stop::Unconfirmed(format!("standard input: {error}")))?);
+        hold::hold(&mut input, time, &signal, move |question| say_all(name, &[question]))
     };
     Ok(apply(arguments, file, &mut world, &mut hold, said))
 }
