@@ -5,6 +5,7 @@ mod after;
 mod arguments;
 mod back;
 mod blocks;
+mod command;
 mod compare;
 mod file;
 mod hardware;
@@ -94,7 +95,7 @@ fn failed(why: String) -> Ended {
 // Reads the file, or runs the command, and does what is asked for.
 fn opened(name: &'static str, arguments: &Arguments, said: &mut Vec<String>) -> Result<Status, Ended> {
     let file = match (&arguments.command, &arguments.dev) {
-        (Some(command), Some(dev)) => trial::made_by(command, dev)?,
+        (Some(command), Some(dev)) => trial::made_by(command, dev, said)?,
         _ => read(arguments).map_err(|error| failed(format!("{}: {error}", arguments.file_name())))?,
     };
     // Until here nothing was asked for that a signal shouldn't end.
@@ -182,6 +183,7 @@ fn apply<T: Transport, L: Transport>(
     match carried_out(arguments.way, &prepared, &mut sending, hold, said) {
         Ok(()) if prepared.wanted.is_partial => Status::Otherwise,
         Ok(()) => {
+            said.extend(prepared.summary.clone());
             let is_kept = arguments.trial.is_some() && !prepared.steps.is_empty();
             said.extend(is_kept.then(|| "Enter was pressed, so it stays".to_string()));
             Status::Restored
