@@ -328,6 +328,31 @@ mod tests {
         assert_eq!(differing_values(&json!({"a": 1}), &json!({"b": "x"})), ["a 1 -> none", "b none -> x"]);
     }
 
+    // The request of a change lacks the number of flows, which only making it takes.
+    #[test]
+    fn a_change_says_nothing_of_what_it_leaves_out() {
+        use crate::apply::plan::plan;
+        use crate::netlink::attributes::put;
+        use crate::netlink::message::{Tcmsg, tc_request};
+        let fq_codel = |limit: u32| {
+            let header = Tcmsg { index: 7, handle: 0x1_0000, parent: 0xffff_ffff, info: 2 };
+            let mut message = tc_request(RTM_NEWQDISC, 2, header);
+            put(&mut message, 1, b"fq_codel\0");
+            let mut options = Vec::new();
+            put(&mut options, 2, &limit.to_ne_bytes());
+            put(&mut options, 5, &1024u32.to_ne_bytes());
+            put(&mut message, 2, &options);
+            let len = message.len() as u32;
+            message[..4].copy_from_slice(&len.to_ne_bytes());
+            message
+        };
+        let (now, wanted) = ([fq_codel(10)], [fq_codel(20)]);
+        let steps = plan(&now, &wanted, |_| false).expect("a plan");
+        let said = lines(&steps, &now, &wanted, &Devices::default());
+        assert_eq!(said[0], "1 request: 0 deleted, 1 changed, 0 made; 0 objects stay");
+        assert_eq!(said[1], "  ~ qdisc fq_codel 1: dev 7 root limit 20p; limit 10p -> 20p");
+    }
+
     #[test]
     fn shows_requests_as_tcshow_does() {
         use crate::netlink::attributes::put;
