@@ -6,7 +6,8 @@ use nix::poll::{PollFd, PollFlags, poll};
 use nix::sys::termios::{FlushArg, tcflush};
 use nix::unistd::{getpgrp, isatty, tcgetpgrp};
 use std::io::{ErrorKind, Read};
-use std::os::fd::AsRawFd;
+use std::os::fd::{AsFd, AsRawFd as _, OwnedFd};
+use std::sync::Arc;
 use std::thread::{self, JoinHandle, sleep};
 use std::time::{Duration, Instant};
 
@@ -16,7 +17,7 @@ const PAUSE: i32 = 100;
 const SHORT_PAUSE: Duration = Duration::from_millis(10);
 
 /// Prints a question, and waits for an empty line of an input. The error is why what was there before is to be made again.
-pub(crate) fn hold<I: Read + AsRawFd>(
+pub(crate) fn hold<I: Read + AsFd>(
     input: &mut I,
     time: Duration,
     signal: &dyn Fn() -> Option<&'static str>,
@@ -59,7 +60,7 @@ enum Answer {
 // Somebody who is asked.
 struct Asked<P> {
     // The terminal of the input, if it is one.
-    terminal: Option<i32>,
+    terminal: Option<Arc<OwnedFd>>,
     print: P,
     // The question that is being printed. A terminal that nobody reads mustn't hold up the way back.
     printing: Option<JoinHandle<()>>,
@@ -71,11 +72,11 @@ struct Asked<P> {
 
 impl<P: Fn(String) + Clone + Send + 'static> Asked<P> {
     fn ask(&mut self, question: String) {
-        let (print, terminal) = (self.print.clone(), self.terminal);
+        let (print, terminal) = (self.print.clone(), self.terminal.clone());
         self.printing = Some(thread::spawn(move || {
             print(question);
             // What was typed before is no answer.
-            terminal.filter(|it| is_ours(*it)).iter().for_each(forget);
+            terminal.iter().filter(|it| is_ours(it)).for_each(|it| forget(it));
         }));
         self.is_blank = true;
     }
@@ -87,14 +88,14 @@ impl<P: Fn(String) + Clone + Send + 'static> Asked<P> {
 
     // True if the question can be answered. Reading or emptying the terminal of another job would stop this one.
     fn listens(&mut self) -> bool {
-        let Some(terminal) = self.terminal else { return true };
+        let Some(terminal) = &self.terminal else { return true };
         if !is_ours(terminal) {
             self.is_stale = true;
             return false;
         }
         let is_asked = self.printing.as_ref().is_none_or(JoinHandle::is_finished);
         if is_asked && std::mem::take(&mut self.is_stale) {
-            forget(&terminal);
+            forget(terminal);
         }
         is_asked
     }
@@ -124,21 +125,22 @@ impl<P: Fn(String) + Clone + Send + 'static> Asked<P> {
     }
 }
 
-fn terminal_of(input: &impl AsRawFd) -> Option<i32> {
-    Some(input.as_raw_fd()).filter(|it| isatty(*it).unwrap_or(false))
+fn terminal_of(input: &impl AsFd) -> Option<Arc<OwnedFd>> {
+    let own = input.as_fd().try_clone_to_owned().ok()?;
+    isatty(own.as_raw_fd()).unwrap_or(false).then(|| Arc::new(own))
 }
 
 // True unless another job has the terminal now. One that isn't this session's has no jobs.
-fn is_ours(terminal: i32) -> bool {
-    tcgetpgrp(terminal).map_or(true, |job| job == getpgrp())
+fn is_ours(terminal: &OwnedFd) -> bool {
+    tcgetpgrp(terminal.as_raw_fd()).map_or(true, |job| job == getpgrp())
 }
 
-fn forget(terminal: &i32) {
-    let _ = tcflush(*terminal, FlushArg::TCIFLUSH);
+fn forget(terminal: &OwnedFd) {
+    let _ = tcflush(terminal.as_raw_fd(), FlushArg::TCIFLUSH);
 }
 
-fn is_ready<I: AsRawFd>(input: &I) -> Result<bool, Stop> {
-    match poll(&mut [PollFd::new(input.as_raw_fd(), PollFlags::POLLIN)], PAUSE) {
+fn is_ready(input: &impl AsFd) -> Result<bool, Stop> {
+    match poll(&mut [PollFd::new(input.as_fd().as_raw_fd(), PollFlags::POLLIN)], PAUSE) {
         Ok(count) => Ok(count > 0),
         Err(Errno::EINTR) => Ok(false),
         Err(error) => Err(failed(error)),
