@@ -6,7 +6,7 @@
 //           link NUMBER [QUEUES]        makes the dummy link dNUMBER, which stays down, so that no packet is counted
 //           send TYPE FLAGS PAYLOAD     a request: message type and flags in decimal, the payload after nlmsghdr in hex
 //           dump NUMBER,NUMBER..        asks for all that the links dNUMBER have, and for all actions (see `dump_link`)
-//           steps NUMBER,.. FILE        sends each request of a netlink stream, and after each asks for the same
+//           steps NUMBER,.. FILE        sends each request of a netlink stream, as tcapply does, and after each asks for the same
 //           into FILE                   what comes back from here on is written to FILE too, as a netlink stream
 //           run COMMAND                 runs a command by the shell
 //           watch FILE                  writes all messages of route netlink, in both directions, that processes of the try exchange with
@@ -271,20 +271,29 @@ static struct {
     __u32 chain;
 } priorities[1024]; // of u32, that were dumped last
 static size_t priority_count;
+static struct tcmsg of_cgroup[256]; // the filters of cgroup that were dumped last; a priority has only one
+static size_t of_cgroup_count;
+
+static int is_of_kind(struct nlmsghdr *h, const char *kind) {
+    unsigned char *p = (unsigned char *)NLMSG_DATA(h) + sizeof(struct tcmsg);
+    int left = h->nlmsg_len - NLMSG_LENGTH(sizeof(struct tcmsg));
+
+    FOR_EACH(a, p, left)
+        if (TYPE(a) == TCA_KIND)
+            return !strncmp((char *)PAYLOAD(a), kind, LENGTH(a));
+    return 0;
+}
 
 // Keeps a priority of u32, which is dumped without a handle before its filters.
 static void keep_priority(struct nlmsghdr *h) {
     unsigned char *p = (unsigned char *)NLMSG_DATA(h) + sizeof(struct tcmsg);
-    int left = h->nlmsg_len - NLMSG_LENGTH(sizeof(struct tcmsg)), is_u32 = 0;
+    int left = h->nlmsg_len - NLMSG_LENGTH(sizeof(struct tcmsg));
     __u32 chain = 0;
 
-    FOR_EACH(a, p, left) {
-        if (TYPE(a) == TCA_KIND)
-            is_u32 = !strncmp((char *)PAYLOAD(a), "u32", LENGTH(a));
+    FOR_EACH(a, p, left)
         if (TYPE(a) == TCA_CHAIN)
             memcpy(&chain, PAYLOAD(a), sizeof chain);
-    }
-    if (is_u32 && priority_count < sizeof priorities / sizeof *priorities) {
+    if (is_of_kind(h, "u32") && priority_count < sizeof priorities / sizeof *priorities) {
         priorities[priority_count].header = *(struct tcmsg *)NLMSG_DATA(h);
         priorities[priority_count++].chain = chain;
     }
@@ -305,6 +314,8 @@ static void write_of_link(struct nlmsghdr *h) {
     }
     if (h->nlmsg_type == RTM_NEWTFILTER && !header->tcm_handle)
         keep_priority(h);
+    if (h->nlmsg_type == RTM_NEWTFILTER && header->tcm_handle && is_of_kind(h, "cgroup") && of_cgroup_count < sizeof of_cgroup / sizeof *of_cgroup)
+        of_cgroup[of_cgroup_count++] = *header;
     write_got(h);
 }
 
@@ -333,12 +344,15 @@ static void ask_for_roots(void) {
     }
 }
 
-// A qdisc without classes refuses to be asked for them, and what can't have filters for those.
+// A qdisc without classes refuses to be asked for them, and what can't have filters for those. Default qdiscs are dumped too.
 static void dump_tc(int type, __u32 parent) {
-    struct tcmsg header = {.tcm_ifindex = asked_link, .tcm_parent = parent};
+    struct {
+        struct tcmsg header;
+        struct nlattr defaults;
+    } m = {.header = {.tcm_ifindex = asked_link, .tcm_parent = parent}, .defaults = {NLA_HDRLEN, TCA_DUMP_INVISIBLE}};
 
     asked_parent = parent;
-    ask(type, NLM_F_REQUEST | NLM_F_DUMP, &header, sizeof header, write_of_link);
+    ask(type, NLM_F_REQUEST | NLM_F_DUMP, &m, type == RTM_GETQDISC ? sizeof m : sizeof m.header, write_of_link);
 }
 
 static void dump_actions(void) {
@@ -360,16 +374,6 @@ static void dump_actions(void) {
         snprintf(m.text, sizeof m.text, "%s", kinds[i]);
         ask(RTM_GETACTION, NLM_F_REQUEST | NLM_F_DUMP, &m, sizeof m, write_got);
     }
-}
-
-static int is_clsact(struct nlmsghdr *h) {
-    unsigned char *p = (unsigned char *)NLMSG_DATA(h) + sizeof(struct tcmsg);
-    int left = h->nlmsg_len - NLMSG_LENGTH(sizeof(struct tcmsg));
-
-    FOR_EACH(a, p, left)
-        if (TYPE(a) == TCA_KIND)
-            return !strncmp((char *)PAYLOAD(a), "clsact", LENGTH(a));
-    return 0;
 }
 
 static void dump_block(__u32 parent) {
@@ -397,7 +401,7 @@ static void dump_link(int number) {
         __u32 handle = ((struct tcmsg *)NLMSG_DATA(h))->tcm_handle;
         if (h->nlmsg_type == RTM_NEWTCLASS && !TC_H_MIN(handle))
             continue; // a root class, whose filters are the qdisc's
-        if (h->nlmsg_type == RTM_NEWQDISC && is_clsact(h)) {
+        if (h->nlmsg_type == RTM_NEWQDISC && is_of_kind(h, "clsact")) {
             dump_block(TC_H_MAKE(TC_H_CLSACT, TC_H_MIN_INGRESS));
             dump_block(TC_H_MAKE(TC_H_CLSACT, TC_H_MIN_EGRESS));
         } else if (handle)
@@ -407,6 +411,7 @@ static void dump_link(int number) {
 
 // Writes all actions of the namespace, and what some links have. They are numbers, with a comma between two.
 static void dump_links(const char *numbers) {
+    of_cgroup_count = 0;
     dump_actions();
     for (const char *it = numbers; it; it = strchr(it, ',') ? strchr(it, ',') + 1 : NULL)
         dump_link(atoi(it));
@@ -421,6 +426,29 @@ static int is_tried_again(struct nlmsghdr *last) {
     return error == EBUSY || error == EEXIST || error == EPERM;
 }
 
+// True for the request of a qdisc in a class of taprio, by the qdiscs that were dumped last. To Linux that class has taprio itself.
+static int is_below_taprio(struct nlmsghdr *request) {
+    struct tcmsg *made = NLMSG_DATA(request), *own;
+    struct nlmsghdr *h;
+
+    for (size_t at = 0; request->nlmsg_type == RTM_NEWQDISC && at < tree_length; at += NLMSG_ALIGN(h->nlmsg_len)) {
+        h = (struct nlmsghdr *)(tree + at), own = NLMSG_DATA(h);
+        if (h->nlmsg_type == RTM_NEWQDISC && own->tcm_ifindex == made->tcm_ifindex && own->tcm_handle == TC_H_MAJ(made->tcm_parent))
+            return is_of_kind(h, "taprio");
+    }
+    return 0;
+}
+
+// True for the request that deletes a filter of cgroup, which Linux does only with its priority.
+static int is_of_cgroup(struct nlmsghdr *request) {
+    struct tcmsg *own = NLMSG_DATA(request), *it;
+
+    for (it = of_cgroup; request->nlmsg_type == RTM_DELTFILTER && it < of_cgroup + of_cgroup_count; it++)
+        if (it->tcm_ifindex == own->tcm_ifindex && it->tcm_parent == own->tcm_parent && it->tcm_info >> 16 == own->tcm_info >> 16 && it->tcm_handle == own->tcm_handle)
+            return 1;
+    return 0;
+}
+
 // Sends each request of a stream, for up to a second if what was deleted before lives on. After each it writes how that ended, and all that
 // some links have.
 static void send_steps(const char *numbers, const char *path) {
@@ -429,13 +457,24 @@ static void send_steps(const char *numbers, const char *path) {
     int left = file ? (int)fread(stream, 1, sizeof stream, file) : 0;
 
     for (struct nlmsghdr *h = (struct nlmsghdr *)stream, *last; NLMSG_OK(h, left); h = NLMSG_NEXT(h, left)) {
+        const char *how = "";
+        if (is_of_cgroup(h)) {
+            how = "of cgroup, with its priority";
+            ((struct tcmsg *)NLMSG_DATA(h))->tcm_handle = 0;
+        }
         for (int tries = 0; tries < 100; tries++) {
             last = ask(h->nlmsg_type, h->nlmsg_flags | NLM_F_REQUEST | NLM_F_ACK, NLMSG_DATA(h), h->nlmsg_len - NLMSG_HDRLEN, ignore);
             if (!is_tried_again(last))
                 break;
+            if (is_below_taprio(h)) {
+                how = "in a class of taprio, over it";
+                h->nlmsg_flags = (h->nlmsg_flags & ~NLM_F_EXCL) | NLM_F_REPLACE;
+            }
             usleep(10000);
         }
-        if (last && last->nlmsg_type == NLMSG_ERROR)
+        if (*how && last && last->nlmsg_type == NLMSG_ERROR && !((struct nlmsgerr *)NLMSG_DATA(last))->error)
+            fprintf(answers, "ack 0 - %s\n", how);
+        else if (last && last->nlmsg_type == NLMSG_ERROR)
             write_ack(last);
         else
             fprintf(answers, "ack %d - no answer\n", errno);

@@ -12,7 +12,7 @@ import time
 from generate import all_kinds, endless
 from guests import HERE, Guest, Said, fail
 from messages import Names
-from states import State, as_used
+from states import LEAVES_NOTHING, State, as_used
 from steps import judge as judge_steps
 from streams import ALL, asked, requests_in, stream_of
 
@@ -89,17 +89,17 @@ class Pair:
         tries = list(self.answers())
         if None in tries:
             return None
-        self.sent, self.steps, self.ends, self.wanted = 0, collections.Counter(), [], self.state(tries[0]["wanted"])
-        self.kinds = self.wanted.kinds() | self.state(tries[1]["before"]).kinds()
+        self.sent, self.steps, self.ends, self.wanted = 0, collections.Counter(), [], tries[0]["wanted"]
+        self.kinds = self.state(self.wanted).kinds() | self.state(tries[1]["before"]).kinds()
         ways = (self.judge_saved, self.judge_whole, self.judge_killed, self.judge_refused, self.judge_stepped)
         return [f"{way.__name__[6:]}: {wrong}" for way, it in zip(ways, tries) for wrong in [way(it)] if wrong]
 
-    def state(self, answer):
-        return State(self.names, list(map(as_used, answer.got)))
+    def state(self, answer, defaults_in=LEAVES_NOTHING):
+        return State(self.names, list(map(as_used, answer.got)), defaults_in)
 
     def unlike(self, wanted, after, counts_filters=True):
         """How a state differs from another, but for actions that nobody wants and that no filter holds."""
-        found = wanted.differences(self.state(after), counts_filters)
+        found = wanted.differences(after, counts_filters)
         return "; ".join([it for it in found if not (it.startswith("action ") and it.endswith("is new"))][:4])
 
     def judge_saved(self, answers):
@@ -114,7 +114,7 @@ class Pair:
         """tcapply ended with 0, what there is is what is wanted, and a second plan is empty."""
         if answers["apply"].status:
             return f"{answers['apply']}"
-        wrong, plan = self.unlike(self.wanted, answers["after"]), answers["plan"]
+        wrong, plan = self.unlike(self.state(self.wanted), self.state(answers["after"])), answers["plan"]
         if not wrong and (plan.status or plan.lines[:1] != [THERE]):
             wrong = f"a second plan: {plan}"
         return wrong
@@ -131,7 +131,7 @@ class Pair:
         if answers["cut"].status != CAME_BACK:
             return f"{answers['cut']}"
         self.ends.append("came back")
-        return self.unlike(self.state(answers["before"]), answers["after"])
+        return self.unlike(self.state(answers["before"]), self.state(answers["after"]))
 
     def judge_stepped(self, answers):
         if answers["save"] != Said(0, []) or answers["plan"] != Said(0, []):
@@ -140,8 +140,9 @@ class Pair:
             requests = stream_of(file.read())
         wrong, counts = judge_steps(requests, [answers["before"], *answers["steps"]])
         self.steps += counts
-        # Filters that were deleted last hold their actions for a grace period.
-        return wrong or self.unlike(self.wanted, [answers["before"], *answers["steps"]][-1], counts_filters=False)
+        # Filters that were deleted last hold their actions for a grace period. It is tcapply that brings back default qdiscs.
+        wanted, after = [self.state(it, ()) for it in (self.wanted, [answers["before"], *answers["steps"]][-1])]
+        return wrong or self.unlike(wanted, after, counts_filters=False)
 
 
 class Pairs:

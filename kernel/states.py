@@ -240,13 +240,23 @@ def actions_in(messages):
     return [action_of(it) for some in lists for _, it in attributes(some)]
 
 
+# Kinds whose classes have nothing after the qdisc there is deleted, so that packets are dropped: for these it counts whether there is a default qdisc.
+LEAVES_NOTHING = ("tbf", "sfb", "red", "multiq", "mq", "mqprio", "taprio")
+
+
+def without_defaults(objects, but_in=LEAVES_NOTHING):
+    """Leaves out qdiscs that the kernel made itself, of which it shows some, but in qdiscs of these kinds."""
+    kinds = {(it.index, it.handle >> 16): it.kind for it in objects if it.type == QDISC}
+    return [it for it in objects if it.type != QDISC or it.handle or kinds.get((it.index, it.parent >> 16)) in but_in]
+
+
 class State:
     """What dumps show: objects by their places, in the order in which that counts; and actions that more than one filter
     holds, or none."""
 
-    def __init__(self, names, messages):
+    def __init__(self, names, messages, defaults_in=LEAVES_NOTHING):
         self.names = names
-        self.objects = renumbered(objects_in(messages), roots_asked(messages))
+        self.objects = without_defaults(renumbered(objects_in(messages), roots_asked(messages)), defaults_in)
         self.actions = actions_in(messages)
         self.places = collections.OrderedDict((it.place(), it) for it in self.objects)
         self.shared = {(it.kind, it.number): it for it in self.actions if (it.held, it.bound) != (1, 1)}

@@ -8,6 +8,7 @@ from states import text
 
 ROOT, SIDES = 0xFFFFFFFF, 0xFFFFFFF1  # the parents of a root qdisc, and of ingress and clsact
 MADE_BY_USER = ("htb", "hfsc", "drr", "qfq")  # the kernel makes the classes of other qdiscs
+SENT = ("of cgroup, with its priority", "in a class of taprio, over it")  # how requests are sent that Linux doesn't take otherwise, as tcapply does
 GONE = (2, 22)  # ENOENT and EINVAL: what is to be deleted isn't there
 
 # Of actions those that filters share or none holds, and what each is.
@@ -155,13 +156,11 @@ def judge(requests, answers):
         return f"{len(requests)} requests, and {len(dumps) - 1} dumps after them", counts
     model = Model(dumps[0], dumps[-1])
     for number, (request, ended, before, after) in enumerate(zip(requests, answers[1::2], dumps, dumps[1:]), 1):
-        there = dict(model.now)
         wrong = model.take(request, before.roots)
+        if ended.sentence in SENT:
+            counts[ended.sentence] += 1
         if ended.error in GONE and request[0] % 4 == 1:
-            # A filter of cgroup can't be deleted but with its priority.
-            stays = {place: it for place, it in there.items() if place not in model.now and it.kind == "cgroup"}
-            model.now.update(stays)
-            counts["for cgroup" if stays else "gone before"] += 1
+            counts["gone before"] += 1
         elif ended.error:
             wrong = wrong or f"{error_name(ended.error)} {ended.sentence}"
         found, vanished = model.differences(after)

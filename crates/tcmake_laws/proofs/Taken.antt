@@ -144,7 +144,7 @@ module _ (m : Message) (h : Header) (verdict : Slots) (found : IsFound m h) wher
 
     many_not : (g : NetlinkHeader) → g.holds ≡ m.holds
         → StandsForMany tc_tables (form_of tc_message action_message g.holds) (message_in json) → ⊥
-    many_not g same (bytes, made, many) = omega (arith, ap length (one_made g bytes same made), many, found.short)
+    many_not g same (bytes, these, many) = omega (arith, ap length (one_made g bytes same these), many, found.short)
 
     wrong_not : IsWrong tc_tables tc_message action_message Checked json → ⊥
     wrong_not (inl remark) = no_message remark.0

@@ -1,0 +1,2 @@
+mod Complaints
+mod Runs

@@ -1,2 +1,4 @@
+pub mod Complaints
 pub mod Written
 pub mod Restored
+pub mod Requests

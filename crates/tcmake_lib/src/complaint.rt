@@ -1,5 +1,11 @@
 //! Why no request is made of a line.
 
+ghost use Rattle.std.specs.Prelude.{◌≡◌, ◌≢◌, IsTrue, false};
+ghost use Rattle.tc_restore.specs.declared.restore_error.RestoreError.TheVariants.{MadeByKernel};
+ghost use Rattle.tcmake_lib.specs.Complaints.{IsNoMemory, IsOfRestoring};
+ghost use Rattle.tcmake_lib.specs.declared.complaint.Complaint.TheVariants.{Line, Restore};
+ghost use Rattle.tcmake_messages.specs.declared.error.LineError.TheVariants.{NoMemory};
+
 use crate::save::SaveFault;
 use nla_frames::DecodeError;
 use std::alloc::{AllocError, AllocFailed};
@@ -38,6 +44,27 @@ pub(crate) enum Complaint {
 }
 
 impl Complaint {
+    /// True if memory ran out.
+    pub(crate) fn is_no_memory(&self) -> bool
+        ensures { result ≡ false → ¬ IsNoMemory self.now }
+    {
+        match self {
+            Complaint::Line(error) => is_no_memory(error),
+            _ => false,
+        }
+    }
+
+    /// True if another request makes what is dumped.
+    pub(crate) fn is_made_by_another(&self) -> bool
+        ensures made { IsTrue result → self.now ≡ Restore MadeByKernel }
+        ensures other { result ≡ false → self.now ≢ Restore MadeByKernel }
+    {
+        match self {
+            Complaint::Restore(error) => is_made_by_kernel(error),
+            _ => false,
+        }
+    }
+
     /// True if no request at all is made because of it.
     pub(crate) fn is_of_all(&self) -> bool {
         matches!(
@@ -51,25 +78,46 @@ impl Complaint {
     }
 }
 
+fn is_no_memory(error: &LineError) -> bool
+    ensures { result ≡ false → error.now ≢ NoMemory }
+{
+    matches!(error, LineError::NoMemory)
+}
+
+fn is_made_by_kernel(error: &RestoreError) -> bool
+    ensures made { IsTrue result → error.now ≡ MadeByKernel }
+    ensures other { result ≡ false → error.now ≢ MadeByKernel }
+{
+    matches!(error, RestoreError::MadeByKernel)
+}
+
 impl From<AllocError> for Complaint {
+    ghost from_gives = { λ _ complaint. IsNoMemory complaint };
+
     fn from(_e: AllocError) -> Complaint {
         Complaint::Line(LineError::NoMemory)
     }
 }
 
 impl<T: Drop> From<AllocFailed<T>> for Complaint {
+    ghost from_gives = { λ _ complaint. IsNoMemory complaint };
+
     fn from(_e: AllocFailed<T>) -> Complaint {
         Complaint::Line(LineError::NoMemory)
     }
 }
 
 impl From<LineError> for Complaint {
+    ghost from_gives = { λ error complaint. complaint ≡ Line error };
+
     fn from(e: LineError) -> Complaint {
         Complaint::Line(e)
     }
 }
 
 impl From<RestoreError> for Complaint {
+    ghost from_gives = { λ error complaint. IsOfRestoring error complaint };
+
     fn from(e: RestoreError) -> Complaint {
         match e {
             RestoreError::OutOfMemory => Complaint::Line(LineError::NoMemory),
@@ -86,6 +134,8 @@ impl From<SaveFault> for Complaint {
 
 // Of bytes that the codec reads: reading them again fails only if memory runs out.
 impl From<DecodeError> for Complaint {
+    ghost from_gives = { λ _ complaint. IsNoMemory complaint };
+
     fn from(_e: DecodeError) -> Complaint {
         Complaint::Line(LineError::NoMemory)
     }

@@ -1,9 +1,26 @@
 //! Lines of an input, and the dumps in them.
 
+ghost use Rattle.std.specs.Prelude.{◌≡◌, ◌%◌, IfErr, IfOk, IsTrue, MatchOption, false, ◌⊎◌, ◌↔◌};
+ghost use Rattle.tcmake_lib.specs.Complaints.{Says};
+ghost use Rattle.tcmake_lib.specs.Requests.{
+  AsksForDump,
+  IsAsked,
+  IsDump,
+  IsGet,
+  IsOfAnswer,
+  IsOtherRequest,
+  ShowsDump,
+  ShowsNone,
+  at_interface,
+  has_interface,
+  with_interface,
+};
+
 use crate::complaint::Complaint;
 use crate::names::{Interfaces, mapped};
 use crate::save::{Names, Save};
 use forms_json::Tables;
+use nla_frames::i32_bytes;
 use program_io::Stop;
 use serde_json::Value;
 use std::alloc::{AllocError, Global};
@@ -242,7 +259,12 @@ pub(crate) fn dump_in_line<T: Tables>(
     forms: Forms<T>,
     index: Option<i32>,
     line: Vec<u8>,
-) -> Result<Option<Made>, Complaint> {
+) -> Result<Option<Made>, Complaint>
+    ensures shown { IfOk result (λ found. MatchOption found
+        (IsOfAnswer line.items ⊎ IsAsked (T.parts_of forms.table) forms.tc forms.action line.items)
+        (λ dump. ShowsDump (T.parts_of forms.table) forms.tc forms.action index line.items dump.given dump.bytes.items)) }
+    ensures refused { IfErr result (Says ⊥ (ShowsNone (T.parts_of forms.table) forms.tc forms.action line.items)) }
+{
     let json = json_in(alloc, line)?;
     if is_of_save(&json) {
         return Err(Complaint::LineByLine);
@@ -253,7 +275,11 @@ pub(crate) fn dump_in_line<T: Tables>(
     as_dump(made_of_json(alloc, forms, &json, Making::Restored)?, index)
 }
 
-fn as_dump(made: Made, index: Option<i32>) -> Result<Option<Made>, Complaint> {
+fn as_dump(made: Made, index: Option<i32>) -> Result<Option<Made>, Complaint>
+    ensures dump { IfOk result (λ found. MatchOption found (AsksForDump made.given) (λ dump. IsDump made.given
+        × (dump.given ≡ made.given) × (dump.bytes.items ≡ at_interface index made.given.holds made.bytes.items))) }
+    ensures refused { IfErr result (Says ⊥ (IsOtherRequest made.given)) }
+{
     if is_dump(&made.given)? {
         Ok(Some(with_index(made, index)))
     } else {
@@ -268,7 +294,9 @@ const NLM_F_REQUEST: u16 = 1;
 const NLM_F_DUMP: u16 = 0x300;
 
 // True of the type of a GET: the types of rtnetlink go in fours, NEW, DEL, GET and SET.
-fn is_get(kind: Option<u16>) -> bool {
+fn is_get(kind: Option<u16>) -> bool
+    ensures { IsTrue result ↔ IsGet kind }
+{
     match kind {
         Some(kind) => kind % 4 == 2,
         None => false,
@@ -276,7 +304,11 @@ fn is_get(kind: Option<u16>) -> bool {
 }
 
 // True of a dump, false of the request of one.
-fn is_dump(given: &NetlinkHeader) -> Result<bool, Complaint> {
+fn is_dump(given: &NetlinkHeader) -> Result<bool, Complaint>
+    ensures dump { IfOk result (λ is. IsTrue is → IsDump given.now) }
+    ensures asks { IfOk result (λ is. is ≡ false → AsksForDump given.now) }
+    ensures refused { IfErr result (Says ⊥ (IsOtherRequest given.now)) }
+{
     let flags = given.flags;
     if flags & NLM_F_REQUEST == 0 {
         return Ok(true);
@@ -292,17 +324,27 @@ fn is_dump(given: &NetlinkHeader) -> Result<bool, Complaint> {
 }
 
 // A message of this interface, if one is given; what is in a block that interfaces share has none (its index is -1).
-fn with_index(mut made: Made, index: Option<i32>) -> Made {
+fn with_index(mut made: Made, index: Option<i32>) -> Made
+    ensures given { result.given ≡ made.given }
+    ensures bytes { result.bytes.items ≡ at_interface index made.given.holds made.bytes.items }
+{
     if let (MessageType::Tc, Some(index)) = (made.given.holds, index) {
         set_index(&mut made.bytes, index);
     }
     made
 }
 
-fn set_index(bytes: &mut Vec<u8>, index: i32) {
-    if let [_, _, _, _, a, b, c, d, ..] = bytes.as_mut_slice() {
-        if i32::from_le_bytes([*a, *b, *c, *d]) != -1 {
-            [*a, *b, *c, *d] = index.to_le_bytes();
-        }
+fn set_index(bytes: &mut Vec<u8>, index: i32)
+    ensures { bytes.new.items ≡ with_interface index bytes.old.items }
+{
+    if has_interface(bytes) {
+        bytes[4..8].copy_from_slice(&i32_bytes(index));
     }
+}
+
+// True of a message with an interface.
+fn has_interface(bytes: &[u8]) -> bool
+    ensures { result ≡ has_interface bytes.now }
+{
+    bytes.len() >= 8 && bytes[4..8] != [0xFF; 4]
 }

@@ -4,8 +4,7 @@ ghost use Rattle.std.specs.Prelude.{◌≡◌, ◌≢◌, Err, IfErr, OnOk};
 ghost use Rattle.std.specs.Io.Buffered.{reader_inner};
 ghost use Rattle.program_io.specs.Streams.{Shows, read_failure, write_failure, writer_inside};
 ghost use Rattle.program_io.specs.declared.stop.Stop.TheVariants.{Closed, NoMemory};
-ghost use Rattle.tcmake_messages.specs.Answer.{IsAnswer, IsMessage, IsRefused};
-ghost use Rattle.tcmake_messages.specs.declared.making.Making.TheVariants.{Restored};
+ghost use Rattle.tcmake_lib.specs.Requests.{IsLineByLine, Makes, Passes, Refuses};
 ghost use Rattle.tcmake_lines.specs.Lines.{left_in};
 ghost use Rattle.tcmake_lines.specs.Parts.{Ran, RanOn, RanPartly};
 
@@ -232,21 +231,24 @@ pub fn serve<T: Tables, R: Read, W: Write, E: Write>(
     writer: &mut Writer<W>,
     errors: &mut E,
 ) -> Ended
-    // At the end of the input each line became a message, nothing or a complaint, and the messages are written in their order. Requests have an
-    // order of their own.
-    ensures ran { request.now.making ≢ Restored → OnOk result.outcome (Ran
-        (IsMessage (T.parts_of forms.table) forms.tc forms.action request.now.making) IsAnswer
-        (IsRefused (T.parts_of forms.table) forms.tc forms.action request.now.making) request.now.form result.has_refused
+    // At the end of the input each line became a message, nothing or a complaint, and the messages are written in their order. So do requests that keep
+    // the order of the lines.
+    ensures ran { IsLineByLine request.now → OnOk result.outcome (Ran
+        (Makes (T.parts_of forms.table) forms.tc forms.action request.now.index request.now.making)
+        (Passes (T.parts_of forms.table) forms.tc forms.action request.now.index request.now.making)
+        (Refuses (T.parts_of forms.table) forms.tc forms.action request.now.index request.now.making) request.now.form result.has_refused
         (left_in R.remaining reader.old) (W.contents (writer_inside writer.old)) (W.contents (writer_inside writer.new))) }
     // When the output is closed, the lines that were read are those that became parts.
-    ensures closed { request.now.making ≢ Restored → result.outcome ≡ Err Closed → RanOn
-        (IsMessage (T.parts_of forms.table) forms.tc forms.action request.now.making) IsAnswer
-        (IsRefused (T.parts_of forms.table) forms.tc forms.action request.now.making) request.now.form result.has_refused
+    ensures closed { IsLineByLine request.now → result.outcome ≡ Err Closed → RanOn
+        (Makes (T.parts_of forms.table) forms.tc forms.action request.now.index request.now.making)
+        (Passes (T.parts_of forms.table) forms.tc forms.action request.now.index request.now.making)
+        (Refuses (T.parts_of forms.table) forms.tc forms.action request.now.index request.now.making) request.now.form result.has_refused
         (left_in R.remaining reader.old) (left_in R.remaining reader.new) }
     // A run that ends early has written a front of the output for the first lines.
-    ensures partly { request.now.making ≢ Restored → IfErr result.outcome (λ stop. stop ≢ NoMemory → RanPartly
-        (IsMessage (T.parts_of forms.table) forms.tc forms.action request.now.making) IsAnswer
-        (IsRefused (T.parts_of forms.table) forms.tc forms.action request.now.making) request.now.form result.has_refused
+    ensures partly { IsLineByLine request.now → IfErr result.outcome (λ stop. stop ≢ NoMemory → RanPartly
+        (Makes (T.parts_of forms.table) forms.tc forms.action request.now.index request.now.making)
+        (Passes (T.parts_of forms.table) forms.tc forms.action request.now.index request.now.making)
+        (Refuses (T.parts_of forms.table) forms.tc forms.action request.now.index request.now.making) request.now.form result.has_refused
         (left_in R.remaining reader.old) (W.contents (writer_inside writer.old)) (W.contents (writer_inside writer.new))) }
     // A stream that failed shows why the run ends early; otherwise memory ran out.
     ensures stopped { IfErr result.outcome (Shows (read_failure (reader_inner reader.new)) (write_failure writer.new)) }
@@ -271,21 +273,24 @@ pub fn serve_asked<T: Tables, R: Read, W: Write, E: Write>(
     writer: &mut Writer<W>,
     errors: &mut E,
 ) -> Ended
-    // At the end of the input each line became a message, nothing or a complaint, and the messages are written in their order. Requests have an
-    // order of their own.
-    ensures ran { request.now.making ≢ Restored → OnOk result.outcome (Ran
-        (IsMessage (T.parts_of forms.table) forms.tc forms.action request.now.making) IsAnswer
-        (IsRefused (T.parts_of forms.table) forms.tc forms.action request.now.making) request.now.form result.has_refused
+    // At the end of the input each line became a message, nothing or a complaint, and the messages are written in their order. So do requests that keep
+    // the order of the lines.
+    ensures ran { IsLineByLine request.now → OnOk result.outcome (Ran
+        (Makes (T.parts_of forms.table) forms.tc forms.action asked.entry.now.index request.now.making)
+        (Passes (T.parts_of forms.table) forms.tc forms.action asked.entry.now.index request.now.making)
+        (Refuses (T.parts_of forms.table) forms.tc forms.action asked.entry.now.index request.now.making) request.now.form result.has_refused
         (left_in R.remaining reader.old) (W.contents (writer_inside writer.old)) (W.contents (writer_inside writer.new))) }
     // When the output is closed, the lines that were read are those that became parts.
-    ensures closed { request.now.making ≢ Restored → result.outcome ≡ Err Closed → RanOn
-        (IsMessage (T.parts_of forms.table) forms.tc forms.action request.now.making) IsAnswer
-        (IsRefused (T.parts_of forms.table) forms.tc forms.action request.now.making) request.now.form result.has_refused
+    ensures closed { IsLineByLine request.now → result.outcome ≡ Err Closed → RanOn
+        (Makes (T.parts_of forms.table) forms.tc forms.action asked.entry.now.index request.now.making)
+        (Passes (T.parts_of forms.table) forms.tc forms.action asked.entry.now.index request.now.making)
+        (Refuses (T.parts_of forms.table) forms.tc forms.action asked.entry.now.index request.now.making) request.now.form result.has_refused
         (left_in R.remaining reader.old) (left_in R.remaining reader.new) }
     // A run that ends early has written a front of the output for the first lines.
-    ensures partly { request.now.making ≢ Restored → IfErr result.outcome (λ stop. stop ≢ NoMemory → RanPartly
-        (IsMessage (T.parts_of forms.table) forms.tc forms.action request.now.making) IsAnswer
-        (IsRefused (T.parts_of forms.table) forms.tc forms.action request.now.making) request.now.form result.has_refused
+    ensures partly { IsLineByLine request.now → IfErr result.outcome (λ stop. stop ≢ NoMemory → RanPartly
+        (Makes (T.parts_of forms.table) forms.tc forms.action asked.entry.now.index request.now.making)
+        (Passes (T.parts_of forms.table) forms.tc forms.action asked.entry.now.index request.now.making)
+        (Refuses (T.parts_of forms.table) forms.tc forms.action asked.entry.now.index request.now.making) request.now.form result.has_refused
         (left_in R.remaining reader.old) (W.contents (writer_inside writer.old)) (W.contents (writer_inside writer.new))) }
     // A stream that failed shows why the run ends early; otherwise memory ran out.
     ensures stopped { IfErr result.outcome (Shows (read_failure (reader_inner reader.new)) (write_failure writer.new)) }

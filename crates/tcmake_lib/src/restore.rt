@@ -1,12 +1,26 @@
 //! The request that restores what a line shows of a dump.
 
-ghost use Rattle.std.specs.Prelude.{◌≡◌, [], Some, IfOk};
+ghost use Rattle.std.specs.Prelude.{◌≡◌, ◌≢◌, [], Some, IfErr, IfNone, IfOk, IfSome};
 ghost use Rattle.tc_canon.specs.Canonical.{CanonTc, CanonAct};
-ghost use Rattle.tcmake_lib.specs.Restored.{IsDumpOf, held_by, request_type, Restores};
+ghost use Rattle.tcmake_lib.specs.Complaints.{Says};
+ghost use Rattle.tcmake_lib.specs.Restored.{
+  HasNoRequest,
+  IsDumpOf,
+  IsLeftOut,
+  IsMadeByAnother,
+  IsNoDump,
+  IsRequestFor,
+  IsUnrestored,
+  Restores,
+  held_by,
+  new_flags,
+  request_type,
+};
 ghost use Rattle.tcmake_lib.specs.Written.{IsCanonical};
-ghost use Rattle.tcmake_lib.specs.declared.restore.Dump.{Dump as DumpType};
+ghost use Rattle.tcmake_lib.specs.declared.complaint.Complaint.TheVariants.{Restore};
 ghost use Rattle.tcmake_lib.specs.declared.restore.Dump.TheVariants.{Of, Actions};
 ghost use Rattle.tc_restore.specs.RequestOf.{new_type};
+ghost use Rattle.tc_restore.specs.declared.restore_error.RestoreError.TheVariants.{MadeByKernel};
 
 use crate::complaint::Complaint;
 use nla_frames::{Emitable, ParseableBytes};
@@ -27,21 +41,24 @@ pub(crate) enum Dump {
     Actions,
 }
 
-// `RTM_GETACTION`: actions are dumped under the type of the request for them.
+// Message types of `linux/rtnetlink.h`. Actions are dumped under the type of the request for them.
+const RTM_NEWQDISC: u16 = 36;
+
+const RTM_NEWTCLASS: u16 = 40;
+
+const RTM_NEWTFILTER: u16 = 44;
+
 const RTM_GETACTION: u16 = 50;
 
-const OBJECTS: [Object; 4] = [Object::Qdisc, Object::Class, Object::Filter, Object::Chain];
+const RTM_NEWCHAIN: u16 = 100;
 
 /// Makes of the message of a dump the request that restores it, with the dump's sequence number and time. `roots` are the root
 /// tables of u32 that all dumps show.
 pub(crate) fn restored(alloc: Global, roots: &[RootTable], made: &Made) -> Result<Made, Complaint>
-    ensures canonical { IfOk result (λ r. IsCanonical r.given.holds r.bytes.items) }
-    ensures restores { IfOk result (λ r. (dump : DumpType) × IsDumpOf made.now.given.kind dump
-        × (r.given.kind ≡ Some (request_type dump))
-        × Restores roots.now dump made.now.bytes.items r.bytes.items) }
-    ensures flags { IfOk result (λ r. r.given.flags ≡ 0x605) }
-    ensures sequence { IfOk result (λ r. r.given.sequence ≡ made.now.given.sequence) }
-    ensures time { IfOk result (λ r. r.given.packet.time ≡ made.now.given.packet.time) }
+    ensures restores { IfOk result (λ r.
+        IsRequestFor new_flags roots.now made.now.given made.now.bytes.items r.given r.bytes.items) }
+    ensures refused { IfErr result (Says (IsMadeByAnother roots.now made.now.given.kind made.now.bytes.items)
+        (IsUnrestored roots.now made.now.given.kind made.now.bytes.items)) }
 {
     let dump = dump_of(made.given.kind)?;
     let request = request_for(alloc, roots, dump, &made.bytes)?;
@@ -79,6 +96,7 @@ fn request_for(
     ensures restores { IfOk result (λ r. Restores roots.now dump bytes.now r.message.items) }
     ensures message_type { IfOk result (λ r. r.message_type ≡ request_type dump) }
     ensures flags { IfOk result (λ r. r.flags ≡ 0x605) }
+    ensures refused { IfErr result (Says (IsLeftOut roots.now dump bytes.now MadeByKernel) (HasNoRequest roots.now dump bytes.now)) }
 {
     match dump {
         Dump::Of(object) => restored_tc(alloc, roots, object, bytes),
@@ -88,26 +106,42 @@ fn request_for(
 
 /// The type of the object that a message type dumps.
 pub(crate) fn dump_of(kind: Option<u16>) -> Result<Dump, Complaint>
-    ensures { IfOk result (IsDumpOf kind) }
+    ensures dump { IfOk result (IsDumpOf kind) }
+    ensures refused { IfErr result (Says ⊥ (IsNoDump kind)) }
 {
-    if let Some(kind) = kind {
-        for object in OBJECTS {
-            if object.new_type() == kind {
-                return Ok(Dump::Of(object));
-            }
-        }
-        if kind == RTM_NEWACTION || kind == RTM_GETACTION {
-            return Ok(Dump::Actions);
-        }
-    }
-    Err(Complaint::Line(LineError::Member {
-        name: "type",
-        found: match kind {
-            Some(kind) => Found::Type(kind),
-            None => Found::Nothing,
+    match kind {
+        Some(number) => match dumped_as(number) {
+            Some(dump) => Ok(dump),
+            None => Err(no_dump(Found::Type(number))),
         },
+        None => Err(no_dump(Found::Nothing)),
+    }
+}
+
+// The type of the object that this message type dumps.
+fn dumped_as(kind: u16) -> Option<Dump>
+    ensures dump { IfSome result (IsDumpOf (Some kind)) }
+    ensures none { IfNone result (IsNoDump (Some kind)) }
+{
+    match kind {
+        RTM_NEWQDISC => Some(Dump::Of(Object::Qdisc)),
+        RTM_NEWTCLASS => Some(Dump::Of(Object::Class)),
+        RTM_NEWTFILTER => Some(Dump::Of(Object::Filter)),
+        RTM_NEWCHAIN => Some(Dump::Of(Object::Chain)),
+        RTM_NEWACTION | RTM_GETACTION => Some(Dump::Actions),
+        _ => None,
+    }
+}
+
+// The complaint about a message that is no dump, with the type that was found.
+fn no_dump(found: Found) -> Complaint
+    ensures { result ≢ Restore MadeByKernel }
+{
+    Complaint::Line(LineError::Member {
+        name: "type",
+        found,
         wanted: "RTM_NEWQDISC, RTM_NEWTCLASS, RTM_NEWTFILTER, RTM_NEWCHAIN, RTM_NEWACTION or RTM_GETACTION",
-    }))
+    })
 }
 
 // The request that restores a qdisc, a class, a filter or a chain.
@@ -121,6 +155,7 @@ fn restored_tc(
     ensures restores { IfOk result (λ r. Restores roots.now (Of object) bytes.now r.message.items) }
     ensures message_type { IfOk result (λ r. r.message_type ≡ new_type object) }
     ensures flags { IfOk result (λ r. r.flags ≡ 0x605) }
+    ensures refused { IfErr result (Says (IsLeftOut roots.now (Of object) bytes.now MadeByKernel) (HasNoRequest roots.now (Of object) bytes.now)) }
 {
     let dump = TcMessage::parse(alloc, bytes)?;
     let request = request_of(alloc, roots, object, dump)?;
@@ -137,6 +172,7 @@ fn restored_actions(alloc: Global, bytes: &[u8]) -> Result<Request<Vec<u8>>, Com
     ensures restores { IfOk result (λ r. Restores [] Actions bytes.now r.message.items) }
     ensures message_type { IfOk result (λ r. r.message_type ≡ 48) }
     ensures flags { IfOk result (λ r. r.flags ≡ 0x605) }
+    ensures refused { IfErr result (Says (IsLeftOut [] Actions bytes.now MadeByKernel) (HasNoRequest [] Actions bytes.now)) }
 {
     let dump = TcActionMessage::parse(alloc, bytes)?;
     let request = request_of_actions(alloc, dump)?;
@@ -151,6 +187,7 @@ fn restored_actions(alloc: Global, bytes: &[u8]) -> Result<Request<Vec<u8>>, Com
 pub(crate) fn emitted<M: Emitable>(alloc: Global, message: &M) -> Result<Vec<u8>, Complaint>
     ensures fits { IfOk result (λ _. M.codec.Fits (M.see message.now)) }
     ensures written { IfOk result (λ bytes. bytes.items ≡ M.codec.write (M.see message.now)) }
+    ensures refused { IfErr result (Says ⊥ (¬ M.codec.Fits (M.see message.now))) }
 {
     match message.checked_len() {
         Some(len) => {

@@ -1,10 +1,11 @@
 //! A whole run.
 
-ghost use Rattle.std.specs.Prelude.{⊤, ◌≡◌, ◌≢◌, Err, IfErr, OnOk};
+ghost use Rattle.std.specs.Prelude.{◌≡◌, ◌≢◌, Err, IfErr, IfOk, IsTrue, MatchOption, OnOk, false};
 ghost use Rattle.std.specs.Io.Buffered.{reader_inner};
 ghost use Rattle.program_io.specs.Streams.{Shows, read_failure, write_failure, writer_inside};
 ghost use Rattle.program_io.specs.declared.stop.Stop.TheVariants.{Closed, NoMemory};
-ghost use Rattle.tcmake_messages.specs.Answer.{IsAnswer, IsMessage, IsRefused};
+ghost use Rattle.tcmake_lib.specs.Complaints.{IsAnswerFor, Says};
+ghost use Rattle.tcmake_lib.specs.Requests.{IsLineByLine, IsNothing, IsRequest, IsUnmade, Makes, Passes, Refuses};
 ghost use Rattle.tcmake_messages.specs.declared.making.Making.TheVariants.{Restored};
 ghost use Rattle.tcmake_lines.specs.Lines.{left_in};
 ghost use Rattle.tcmake_lines.specs.Parts.{Ran, RanOn, RanPartly};
@@ -18,10 +19,9 @@ use forms_json::Tables;
 use program_io::{Ended, Reader, Writer, shown_reason};
 use std::alloc::{AllocError, Global};
 use std::io::{BufReader, Read, Write};
-use tc_restore::RestoreError;
 use tcmake_lines::run::run as run_lines;
 use tcmake_lines::{Answer, Maker};
-use tcmake_messages::{Forms, LineError, Made, Making, MessageMaker, notices_of};
+use tcmake_messages::{Forms, Made, Making, MessageMaker, notices_of};
 
 /// Makes messages of all lines of an input. Complaints, and what was settled, are written to `errors`.
 pub fn run<T: Tables, R: Read, W: Write, E: Write>(
@@ -33,32 +33,52 @@ pub fn run<T: Tables, R: Read, W: Write, E: Write>(
     writer: &mut Writer<W>,
     errors: &mut E,
 ) -> Ended
-    ensures ran { request.now.making ≢ Restored → OnOk result.outcome (Ran
-        (IsMessage (T.parts_of forms.table) forms.tc forms.action request.now.making) IsAnswer
-        (IsRefused (T.parts_of forms.table) forms.tc forms.action request.now.making) request.now.form result.has_refused
+    ensures ran { IsLineByLine request.now → OnOk result.outcome (Ran
+        (Makes (T.parts_of forms.table) forms.tc forms.action asked.entry.now.index request.now.making)
+        (Passes (T.parts_of forms.table) forms.tc forms.action asked.entry.now.index request.now.making)
+        (Refuses (T.parts_of forms.table) forms.tc forms.action asked.entry.now.index request.now.making) request.now.form result.has_refused
         (left_in R.remaining reader.old) (W.contents (writer_inside writer.old)) (W.contents (writer_inside writer.new))) }
-    ensures closed { request.now.making ≢ Restored → result.outcome ≡ Err Closed → RanOn
-        (IsMessage (T.parts_of forms.table) forms.tc forms.action request.now.making) IsAnswer
-        (IsRefused (T.parts_of forms.table) forms.tc forms.action request.now.making) request.now.form result.has_refused
+    ensures closed { IsLineByLine request.now → result.outcome ≡ Err Closed → RanOn
+        (Makes (T.parts_of forms.table) forms.tc forms.action asked.entry.now.index request.now.making)
+        (Passes (T.parts_of forms.table) forms.tc forms.action asked.entry.now.index request.now.making)
+        (Refuses (T.parts_of forms.table) forms.tc forms.action asked.entry.now.index request.now.making) request.now.form result.has_refused
         (left_in R.remaining reader.old) (left_in R.remaining reader.new) }
-    ensures partly { request.now.making ≢ Restored → IfErr result.outcome (λ stop. stop ≢ NoMemory → RanPartly
-        (IsMessage (T.parts_of forms.table) forms.tc forms.action request.now.making) IsAnswer
-        (IsRefused (T.parts_of forms.table) forms.tc forms.action request.now.making) request.now.form result.has_refused
+    ensures partly { IsLineByLine request.now → IfErr result.outcome (λ stop. stop ≢ NoMemory → RanPartly
+        (Makes (T.parts_of forms.table) forms.tc forms.action asked.entry.now.index request.now.making)
+        (Passes (T.parts_of forms.table) forms.tc forms.action asked.entry.now.index request.now.making)
+        (Refuses (T.parts_of forms.table) forms.tc forms.action asked.entry.now.index request.now.making) request.now.form result.has_refused
         (left_in R.remaining reader.old) (W.contents (writer_inside writer.old)) (W.contents (writer_inside writer.new))) }
     ensures stopped { IfErr result.outcome (Shows (read_failure (reader_inner reader.new)) (write_failure writer.new)) }
 {
-    if request.making == Making::Restored {
-        return restore(alloc, forms, request, asked, reader, writer, errors);
+    if !is_restoring(request.making) {
+        let maker = MessageMaker {
+            alloc,
+            forms,
+            making: request.making,
+        };
+        return run_lines(alloc, &maker, request.form, reader, writer, errors);
     }
-    let maker = MessageMaker {
-        alloc,
-        forms,
-        making: request.making,
-    };
-    run_lines(alloc, &maker, request.form, reader, writer, errors)
+    if request.in_order {
+        let maker = RequestMaker {
+            alloc,
+            forms,
+            index: asked.index,
+            verbose: request.verbose,
+        };
+        return run_lines(alloc, &maker, request.form, reader, writer, errors);
+    }
+    restore(alloc, forms, request, asked, reader, writer, errors)
 }
 
-// Makes requests of all lines, in their order or in one in which each finds what it needs.
+// True if requests are made.
+fn is_restoring(making: Making) -> bool
+    ensures restoring { IsTrue result → making ≡ Restored }
+    ensures other { result ≡ false → making ≢ Restored }
+{
+    matches!(making, Making::Restored)
+}
+
+// Makes requests of all lines, in an order in which each finds what it needs.
 fn restore<T: Tables, R: Read, W: Write, E: Write>(
     alloc: Global,
     forms: Forms<T>,
@@ -70,15 +90,6 @@ fn restore<T: Tables, R: Read, W: Write, E: Write>(
 ) -> Ended
     ensures { IfErr result.outcome (Shows (read_failure (reader_inner reader.new)) (write_failure writer.new)) }
 {
-    if request.in_order {
-        let maker = RequestMaker {
-            alloc,
-            forms,
-            index: asked.index,
-            verbose: request.verbose,
-        };
-        return run_lines(alloc, &maker, request.form, reader, writer, errors);
-    }
     let mut has_refused = false;
     let restored = restore_in_order(
         alloc,
@@ -110,12 +121,11 @@ struct RequestMaker<T> {
 }
 
 impl<T: Tables> Maker for RequestMaker<T> {
-    // What a request restores is said at `restored`.
-    ghost Makes = { λ _ _ _ _. ⊤ };
+    ghost Makes = { λ m line given bytes. IsRequest (T.parts_of m.forms.table) m.forms.tc m.forms.action m.index line given bytes };
 
-    ghost Passes = { λ _ _. ⊤ };
+    ghost Passes = { λ m line. IsNothing (T.parts_of m.forms.table) m.forms.tc m.forms.action m.index line };
 
-    ghost Refuses = { λ _ _. ⊤ };
+    ghost Refuses = { λ m line. IsUnmade (T.parts_of m.forms.table) m.forms.tc m.forms.action m.index line };
 
     fn make(&self, line: Vec<u8>) -> Result<Answer, AllocError> {
         match request_in(self.alloc, self.forms, self.index, line) {
@@ -133,14 +143,25 @@ impl<T: Tables> Maker for RequestMaker<T> {
                 notices: notices_of(self.alloc, &settled)?,
             }),
             Ok(None) => Ok(Answer::Nothing { notice: None }),
-            Err(Complaint::Line(LineError::NoMemory)) => Err(AllocError),
-            Err(Complaint::Restore(RestoreError::MadeByKernel)) => {
-                Ok(Answer::Nothing {
-                    notice: made_by_another(self.alloc, self.verbose)?,
-                })
-            }
-            Err(complaint) => Ok(Answer::Complaint(text_of(self.alloc, &complaint)?)),
+            Err(complaint) => self.answer_for(&complaint),
         }
+    }
+}
+
+impl<T> RequestMaker<T> {
+    // The answer for a line of which no request is made.
+    fn answer_for(&self, complaint: &Complaint) -> Result<Answer, AllocError>
+        ensures { IfOk result (IsAnswerFor complaint.now) }
+    {
+        if complaint.is_no_memory() {
+            return Err(AllocError);
+        }
+        if complaint.is_made_by_another() {
+            return Ok(Answer::Nothing {
+                notice: made_by_another(self.alloc, self.verbose)?,
+            });
+        }
+        Ok(Answer::Complaint(text_of(self.alloc, complaint)?))
     }
 }
 
@@ -150,15 +171,17 @@ fn request_in<T: Tables>(
     forms: Forms<T>,
     index: Option<i32>,
     line: Vec<u8>,
-) -> Result<Option<Made>, Complaint> {
+) -> Result<Option<Made>, Complaint>
+    ensures made { IfOk result (λ found. MatchOption found
+        (IsNothing (T.parts_of forms.table) forms.tc forms.action index line.items)
+        (λ made. IsRequest (T.parts_of forms.table) forms.tc forms.action index line.items made.given made.bytes.items)) }
+    ensures refused { IfErr result (Says (IsNothing (T.parts_of forms.table) forms.tc forms.action index line.items)
+        (IsUnmade (T.parts_of forms.table) forms.tc forms.action index line.items)) }
+{
     match dump_in_line(alloc, forms, index, line)? {
-        Some(dump) => request_for(alloc, &dump),
+        Some(dump) => Ok(Some(restored(alloc, &[], &dump)?)),
         None => Ok(None),
     }
-}
-
-fn request_for(alloc: Global, dump: &Made) -> Result<Option<Made>, Complaint> {
-    Ok(Some(restored(alloc, &[], dump)?))
 }
 
 // The notice on a dump that another request makes, if notices are asked for.

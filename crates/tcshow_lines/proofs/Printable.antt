@@ -103,7 +103,7 @@ module _ (said : Said) (begin : IsShown true said.begin) (end : IsShown true sai
 pub said_ended : (names : List (ℕ × List ℕ)) (begin : List ℕ) (stats : Bool) (port : ℕ) (m : Message) (text : List ℕ) → IsShown true begin
     → IsSaid names begin stats port m text → IsEnded text
 said_ended names begin stats port m text b h =
-    found_ended (said_as begin stats port (written (fault_words m)) m) b (written_shown (fault_words m)) (leaves_with names m) text h
+    found_ended (said_as begin stats port (written (fault_words m)) m) b (written_shown (fault_words m)) (leaves_with names m) text h.line
 
 -- the words of a message's fault
 pub said_words : (m : Message) (e : Option DecodeError) (n : Option ℕ) → e ≡ fault_of m → n ≡ offset_of m
@@ -123,7 +123,7 @@ is_said names begin stats port m object about end text o r e h =
     let same : with object about end ≡ with (object_in (root_of m)) (root_of m) (written (fault_words m)) =
     ap (λ (y : Object). with y about end) (o ∙ ap object_in r) ∙ ap (λ (t : Root). with (object_in (root_of m)) t end) r
     ∙ ap (λ (z : List ℕ). with (object_in (root_of m)) (root_of m) z) e in
-    sym same ∙ h
+    record { line = sym same ∙ h }
 
 pub said_equal : (names : List (ℕ × List ℕ)) (b c : List ℕ) (stats : Bool) (p q : ℕ) (m : Message) (text : List ℕ) → b ≡ c → p ≡ q
     → IsSaid names b stats p m text → IsSaid names c stats q m text

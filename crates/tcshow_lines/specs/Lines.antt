@@ -86,9 +86,8 @@ fault_words m = words_of m (fault_of m) (offset_of m)
 -- ---- lines
 
 -- the lines of a message that begin with a text, with these names of interfaces: its words, and its fault, if it has one
-abbrev pub IsSaid : List (ℕ × List ℕ) → List ℕ → Bool → ℕ → Message → List ℕ → Type 0
-IsSaid names begin stats port m text =
-    option_map (message_lines (said_as begin stats port (written (fault_words m)) m)) (leaves_with names m) ≡ Some text
+pub record IsSaid (names : List (ℕ × List ℕ)) (begin : List ℕ) (stats : Bool) (port : ℕ) (m : Message) (text : List ℕ) : Type 0 where
+  pub line : option_map (message_lines (said_as begin stats port (written (fault_words m)) m)) (leaves_with names m) ≡ Some text
 
 -- what a message's lines begin with, after these messages: its time, if it has one, and what it does
 abbrev pub begin_of : Past → TimeFormat → Message → List ℕ

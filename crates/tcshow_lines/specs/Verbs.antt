@@ -132,11 +132,18 @@ abbrev pub is_request : Past → Origin → Header → Bool
 is_request past origin h =
     has_flag h.flags 1 && (not (is_of_kernel past origin) && (h.port == 0 || (is_some origin.packet && not (was_asked past.requests h))))
 
+-- a request to get the message's object, and no dump of all such objects
+abbrev pub is_get : Header → Request → Bool
+is_get h r = is_before (get_of h.kind) h r && not (modifiers r.header.flags == 3)
+
+abbrev pub was_got : List Request → Header → Bool
+was_got [] h = false
+was_got (r ∷ rs) h = is_get h r || was_got rs h
+
 -- the kernel answers a dump with NLM_F_MULTI, and actions with the type of the request
 abbrev pub kernels_verb : List Request → Header → Verb
 kernels_verb before h =
-    if is_del h.kind then verb.Gone
-    else if is_new h.kind && not (has_flag h.flags 2 || was_sent before (get_of h.kind) h) then verb.New else verb.Is
+    if is_del h.kind then verb.Gone else if is_new h.kind && not (has_flag h.flags 2 || was_got before h) then verb.New else verb.Is
 
 -- a notification has the port id of who caused it
 abbrev pub port_of : Verb → ℕ → ℕ

@@ -3,9 +3,9 @@
 ghost use Rattle.std.specs.Prelude.{◌≡◌, option_map};
 ghost use Rattle.tcshow_json.specs.Messages.{header_view, message_view};
 ghost use Rattle.tcshow_lines.specs.Past.{past_of, request_view, requests_view};
-ghost use Rattle.tcshow_lines.specs.Verbs.{asked_verb, changes, del_verb, flushes, get_of, get_verb, is_before, is_del, is_new, is_of_kernel, is_request};
-ghost use Rattle.tcshow_lines.specs.Verbs.{kernels_verb, modifiers, new_verb, object_in, port_of, replaces, request_verb, speech_by};
-ghost use Rattle.tcshow_lines.specs.Verbs.{speech_of, was_asked, was_sent};
+ghost use Rattle.tcshow_lines.specs.Verbs.{asked_verb, changes, del_verb, flushes, get_of, get_verb, is_before, is_del, is_get, is_new, is_of_kernel};
+ghost use Rattle.tcshow_lines.specs.Verbs.{is_request, kernels_verb, modifiers, new_verb, object_in, port_of, replaces, request_verb, speech_by};
+ghost use Rattle.tcshow_lines.specs.Verbs.{speech_of, was_asked, was_got, was_sent};
 
 use crate::past::{Request, Requests, has_flag};
 use tc_brief::Object;
@@ -210,15 +210,35 @@ fn is_request(past: &Requests, origin: &Origin, header: &NetlinkHeader) -> bool
                 || (origin.packet.is_some() && !was_asked(past.requests.as_slice(), header))))
 }
 
+// True for a request to get the message's object. The answer to a dump has `NLM_F_MULTI`, and `tc` takes its sequence numbers from the clock, so that
+// the notification of a change within the same second can have that of a dump.
+fn is_get(header: &NetlinkHeader, request: &Request) -> bool
+    ensures { result ≡ is_get (header_view header.now) (request_view request.now) }
+{
+    is_before(get_of(header.kind), header, request) && modifiers(request.header.flags) != 3
+}
+
+// True if one of the requests was to get the message's object.
+fn was_got(before: &[Request], header: &NetlinkHeader) -> bool
+    ensures { result ≡ was_got (requests_view before.now) (header_view header.now) }
+{
+    let mut left = before;
+    'each: while let [request, rest @ ..] = left {
+        if is_get(header, request) {
+            return true;
+        }
+        left = rest;
+    }
+    false
+}
+
 fn kernels_verb(before: &[Request], header: &NetlinkHeader) -> Verb
     ensures { result ≡ kernels_verb (requests_view before.now) (header_view header.now) }
 {
     if is_del(header.kind) {
         return Verb::Gone;
     }
-    if is_new(header.kind)
-        && !(has_flag(header.flags, NLM_F_MULTI) || was_sent(before, get_of(header.kind), header))
-    {
+    if is_new(header.kind) && !(has_flag(header.flags, NLM_F_MULTI) || was_got(before, header)) {
         Verb::New
     } else {
         Verb::Is

@@ -13,6 +13,7 @@ use crate::tc_restore::{Use, actions_of_filter, kind_of_action, standalone_index
 
 /// Flags of `linux/netlink.h`.
 pub(crate) const NLM_F_REPLACE: u16 = 0x100;
+const NLM_F_EXCL: u16 = 0x200;
 const NLM_F_CREATE: u16 = 0x400;
 
 const TCA_KIND: u16 = 1;
@@ -28,6 +29,15 @@ pub(crate) fn type_of(message: &[u8]) -> u16 {
 /// True for the request of an action that is there with other parameters.
 pub(crate) fn replaces(message: &[u8]) -> bool {
     header_of(message).is_some_and(|header| header.flags & NLM_F_REPLACE != 0)
+}
+
+/// A request that makes an object, even if something is in its place.
+pub(crate) fn over(message: &[u8]) -> Vec<u8> {
+    let mut over = message.to_vec();
+    if let (Some(header), Some(place)) = (header_of(message), over.get_mut(6..8)) {
+        place.copy_from_slice(&(header.flags & !NLM_F_EXCL | NLM_F_REPLACE).to_ne_bytes());
+    }
+    over
 }
 
 /// True for the request that deletes something. Types go in fours: NEW, DEL, GET and SET.

@@ -1,7 +1,8 @@
 //! Requests as they are sent, one after the other.
 
-use super::messages::{deletes, is_plain_chain};
+use super::messages::{deletes, is_plain_chain, kind_of, over, replaces, type_of};
 use super::world::{Place, Stop, World};
+use crate::netlink::message::{RTM_NEWQDISC, tcmsg_of};
 use crate::netlink::{Fault, Refusal, Transport};
 use nix::errno::Errno;
 use std::thread::sleep;
@@ -75,12 +76,16 @@ impl<'w, 's, T: Transport, L: Transport> Sending<'w, 's, T, L> {
         self.look()
     }
 
-    // Sends a request; again for a time, if what was deleted lives on.
+    // Sends a request; again for a time, if what was deleted lives on. To Linux a class of taprio has taprio itself.
     fn send(&mut self, request: &[u8]) -> Result<(), Stop> {
         let until = Instant::now() + PATIENCE;
         self.has_sent = true;
         loop {
-            let refusal = match self.world.kernel.request(request) {
+            let mut answer = self.world.kernel.request(request);
+            if matches!(&answer, Err(Fault::Refused(refusal)) if refusal.is(Errno::EEXIST)) && self.is_below_taprio(request)? {
+                answer = self.world.kernel.request(&over(request));
+            }
+            let refusal = match answer {
                 Ok(_) => return Ok(()),
                 Err(Fault::Refused(refusal)) => refusal,
                 Err(fault) => return Err(Stop::Fault(fault)),
@@ -92,6 +97,17 @@ impl<'w, 's, T: Transport, L: Transport> Sending<'w, 's, T, L> {
             sleep(PAUSE);
             self.look()?;
         }
+    }
+
+    // True for the request of a qdisc in a class of taprio.
+    fn is_below_taprio(&mut self, request: &[u8]) -> Result<bool, Stop> {
+        let made = tcmsg_of(request).filter(|_| type_of(request) == RTM_NEWQDISC && !replaces(request));
+        let Some(made) = made else { return Ok(false) };
+        let is_above = |dump: &Vec<u8>| {
+            let own = tcmsg_of(dump).filter(|own| own.index == made.index && own.handle == made.parent & 0xFFFF_0000);
+            own.is_some() && kind_of(dump) == Some(b"taprio")
+        };
+        Ok(self.world.qdiscs()?.iter().any(is_above))
     }
 
     // What isn't there can't be deleted, and is no error.

@@ -44,6 +44,21 @@ fn nothing_is_sent_of_a_save_that_was_cut() {
     }
 }
 
+#[test]
+fn a_qdisc_in_a_class_of_taprio_takes_the_place_of_taprio_itself() {
+    let all = vec![
+        of(RTM_NEWQDISC, 0x1_0000, 0xFFFF_FFFF, "taprio", &[]),
+        of(RTM_NEWQDISC, 0x2_0000, 0x1_0001, "pfifo", &[]),
+    ];
+    let is_refused = |message: &[u8]| {
+        tcmsg_of(message).is_some_and(|it| it.parent == 0x1_0001) && u16_at(message, 6).is_some_and(|it| it & 0x100 == 0)
+    };
+    let refusing: Hook = Box::new(move |_, _, message| is_refused(message).then_some(EEXIST));
+    let ran = run(&[], &saved(all.clone()), Vec::new(), &Fake::new(refusing));
+    assert_eq!((ran.status, plain(&ran.objects)), (Status::Restored, plain(&all)), "{}", ran.said);
+    assert_eq!(ran.sent.len(), 3);
+}
+
 // A filter with an action of iptables, whose number isn't among its parameters.
 fn of_iptables() -> Vec<u8> {
     let nest = |attributes: &[(u16, &[u8])]| {
