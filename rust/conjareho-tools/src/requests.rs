@@ -4,6 +4,18 @@ use crate::netlink::message::{Header, Messages, NLM_F_REQUEST, NLMSG_MIN_TYPE, R
 use crate::netlink::{Fault, Kernel, Transport};
 use crate::status::{Ending, Status};
 
+/// What pcap, with times in microseconds and in nanoseconds, and pcapng begin with, in both orders of bytes.
+const CAPTURES: [[u8; 4]; 5] = [
+    [0xD4, 0xC3, 0xB2, 0xA1],
+    [0xA1, 0xB2, 0xC3, 0xD4],
+    [0x4D, 0x3C, 0xB2, 0xA1],
+    [0xA1, 0xB2, 0x3C, 0x4D],
+    [0x0A, 0x0D, 0x0D, 0x0A],
+];
+
+/// What makes requests of what isn't one.
+const MAKES_REQUESTS: &str = "tcshow --json | tcmake --request --stream makes requests of dumps";
+
 /// The requests of a stream, checked.
 pub struct Stream<'a> {
     // With the number of the message in the stream, from 1.
@@ -12,7 +24,8 @@ pub struct Stream<'a> {
 
 impl<'a> Stream<'a> {
     /// The requests of a stream, each at most `most` bytes long. What netlink itself says (`NLMSG_DONE`) and interfaces that a dump has
-    /// (`RTM_NEWLINK` that is no request) aren't among them. Another type than those of traffic control is an error unless `any`.
+    /// (`RTM_NEWLINK` that is no request) aren't among them. Another type than those of traffic control is an error unless `any`, and so is a message
+    /// that is no request.
     pub fn of(bytes: &'a [u8], most: usize, any: bool) -> Result<Stream<'a>, Ending> {
         let mut requests = Vec::new();
         let mut messages = Messages::of(bytes);
@@ -22,7 +35,7 @@ impl<'a> Stream<'a> {
             number += 1;
             let wrong =
                 |what: String| Ending::new(Status::Stream, format!("byte {at} of the stream: {what}; nothing is sent"));
-            let (header, message) = message.map_err(|_| wrong("no whole message".into()))?;
+            let (header, message) = message.map_err(|_| wrong(format!("no whole message{}", advice(bytes, at))))?;
             let is_link = header.kind == RTM_NEWLINK && header.flags & NLM_F_REQUEST == 0;
             if header.kind >= NLMSG_MIN_TYPE && !is_link {
                 if !(any || matches!(header.kind, 36..=50 | 100..=102)) {
@@ -31,12 +44,21 @@ impl<'a> Stream<'a> {
                 if message.len() > most {
                     return Err(wrong(format!("a message of {} bytes; {most} can be sent", message.len())));
                 }
+                if header.flags & NLM_F_REQUEST == 0 {
+                    return Err(wrong(format!("message {number} is from a dump, not a request: {MAKES_REQUESTS}")));
+                }
                 requests.push((number, header, message));
             }
             at = bytes.len() - messages.rest().len();
         }
         Ok(Stream { requests })
     }
+}
+
+// How a capture becomes a stream, if the bytes begin one.
+fn advice(bytes: &[u8], at: usize) -> &'static str {
+    let is_capture = at == 0 && CAPTURES.iter().any(|magic| bytes.starts_with(magic));
+    if is_capture { "; of a capture, tcshow --json | tcmake --stream makes a stream" } else { "" }
 }
 
 /// Sends all requests, each once, and calls `hear` with the reason for each that the kernel refuses. Returns how many it refused. Ends at the first whose answer
@@ -79,4 +101,32 @@ fn place_of(number: usize, header: Header, message: &[u8]) -> String {
         ));
     }
     text
+}
+
+#[cfg(test)]
+mod tests {
+    use super::*;
+    use crate::netlink::message::{RTM_NEWQDISC, Tcmsg, tc_request};
+
+    fn refused(bytes: &[u8]) -> String {
+        Stream::of(bytes, 1 << 16, false).err().map(|ending| ending.text).unwrap_or_default()
+    }
+
+    #[test]
+    fn says_what_is_no_request() {
+        let qdisc = tc_request(RTM_NEWQDISC, 0, Tcmsg::default());
+        let mut dumped = qdisc.clone();
+        dumped[6..8].copy_from_slice(&2u16.to_ne_bytes());
+        assert_eq!(refused(&qdisc), "");
+        assert_eq!(
+            refused(&[qdisc.clone(), dumped].concat()),
+            "byte 36 of the stream: message 2 is from a dump, not a request: tcshow --json | tcmake --request --stream makes requests of dumps; \
+             nothing is sent"
+        );
+        assert_eq!(
+            refused(&[&CAPTURES[0][..], &[0; 20]].concat()),
+            "byte 0 of the stream: no whole message; of a capture, tcshow --json | tcmake --stream makes a stream; nothing is sent"
+        );
+        assert_eq!(refused(b"some text that is no stream"), "byte 0 of the stream: no whole message; nothing is sent");
+    }
 }

@@ -16,6 +16,7 @@ Examples:
   tcnl dump --links dev wan | tcshow
   tcnl monitor --links | tcshow
   tcnl dump dev wan | tcshow --json | tcmake --request --stream | tcnl send
+  tcshow --json f.pcap | sed -n 3s/10240/500/p | tcmake --stream | tcnl send
 
 DEV is the name of an interface, one of its altnames, or its index. send and clear take
 CAP_NET_ADMIN.

@@ -307,9 +307,15 @@ fn dumped(kind: u16, request: &[u8]) -> Vec<Vec<u8>> {
     }
 }
 
+fn request_of(handle: u32) -> Vec<u8> {
+    let mut request = object(RTM_NEWQDISC, 2, handle, u32::MAX, "pfifo");
+    request[6..8].copy_from_slice(&(NLM_F_REQUEST | NLM_F_ACK).to_ne_bytes());
+    request
+}
+
 // The stream of some requests that differ.
 fn requests(random: &mut Random) -> Vec<Vec<u8>> {
-    (0..1 + random.below(6) as u32).map(|number| object(RTM_NEWQDISC, 2, number << 16, u32::MAX, "pfifo")).collect()
+    (0..1 + random.below(6) as u32).map(|number| request_of(number << 16)).collect()
 }
 
 fn runs() -> (u64, u64) {
@@ -531,7 +537,7 @@ fn streams() {
 
 #[test]
 fn nothing_of_a_stream_with_something_else_is_sent() {
-    let whole = object(RTM_NEWQDISC, 2, 1 << 16, u32::MAX, "pfifo");
+    let whole = request_of(1 << 16);
     let is_taken = |messages: &[Vec<u8>], any| Stream::of(&stream_of(messages), 4096, any).is_ok();
     assert!(is_taken(std::slice::from_ref(&whole), false));
     assert!(

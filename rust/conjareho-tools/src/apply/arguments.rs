@@ -27,6 +27,9 @@ was there before is made again, by a plan from what is there then. If another pr
 interface meanwhile, tcapply stops. At the end it compares what there is with FILE. It takes
 CAP_NET_ADMIN.
 
+A script of commands needs set -e (#!/bin/sh -e), since only its last status counts. It runs where
+nothing is, and of what it makes only DEV is applied: what it makes of others is named, and dropped.
+
 It is no transaction: packets pass between its requests. eBPF programs can't be made again, and what
 is attached by tcx isn't seen.
 
@@ -72,6 +75,8 @@ pub(crate) struct Arguments {
     pub(crate) spares_actions: bool,
     pub(crate) dry_run: bool,
     pub(crate) check: bool,
+    /// Nothing is said if it worked.
+    pub(crate) quiet: bool,
     /// How long Enter is waited for.
     pub(crate) trial: Option<Duration>,
     pub(crate) no_rollback: bool,
@@ -94,6 +99,7 @@ impl Arguments {
             spares_actions: false,
             dry_run: false,
             check: false,
+            quiet: true,
             trial: None,
             no_rollback: matches.get_flag("no-rollback"),
             state: matches.remove_one::<OsString>("state").unwrap_or_else(|| STATE.into()).into(),
@@ -102,7 +108,17 @@ impl Arguments {
 
     /// The file's name for messages.
     pub(crate) fn file_name(&self) -> String {
-        self.file.as_ref().map_or_else(|| "standard input".to_string(), |path| path.display().to_string())
+        match (&self.file, self.command.iter().flatten().next()) {
+            (Some(path), _) => path.display().to_string(),
+            (None, Some(program)) => program.to_string_lossy().into_owned(),
+            (None, None) => "standard input".to_string(),
+        }
+    }
+
+    /// What is said if nothing is to be done.
+    pub(crate) fn nothing_to_do(&self) -> String {
+        let verb = if self.command.is_some() { "makes" } else { "says" };
+        format!("nothing to do: what is there is what {} {verb}", self.file_name())
     }
 }
 
@@ -113,6 +129,7 @@ pub(crate) fn arguments_of(words: impl IntoIterator<Item = OsString>) -> Result<
         command: matches.remove_many("command").map(Iterator::collect),
         dry_run: matches.get_flag("dry-run"),
         check: matches.get_flag("check"),
+        quiet: matches.get_flag("quiet"),
         trial: matches.get_one::<u64>("try").map(|seconds| Duration::from_secs(*seconds)),
         ..Arguments::shared(&mut matches)
     };
@@ -143,7 +160,7 @@ fn command() -> Command {
                 .conflicts_with("file")
                 .requires("dev")
                 .value_parser(value_parser!(OsString))
-                .help("Program that makes what is wanted of DEV, in a network namespace of its own"),
+                .help("Program that makes what is wanted of DEV alone, in a network namespace of its own"),
         )
         .args(plans())
         .args(interfaces())
@@ -162,10 +179,11 @@ pub(crate) fn flag(name: &'static str, help: &'static str) -> Arg {
     Arg::new(name).long(name).action(ArgAction::SetTrue).help(help)
 }
 
-fn plans() -> [Arg; 2] {
+fn plans() -> [Arg; 3] {
     [
-        flag("dry-run", "Print the plan, and send nothing").short('n').conflicts_with_all(["check", "try"]),
+        flag("dry-run", "Print the plan, and send nothing").short('n').conflicts_with_all(["check", "try", "quiet"]),
         flag("check", "Carry the plan out in a new network namespace, and send nothing here").conflicts_with("try"),
+        flag("quiet", "Don't say what was done").short('q'),
     ]
     .map(|arg| arg.help_heading("Plan"))
 }
@@ -211,6 +229,7 @@ mod tests {
         assert_eq!((all.file, all.command), (Some(PathBuf::from("f")), None));
         assert_eq!(of(&["-"]).expect("read").file, None);
         assert_eq!(of(&["-n", "f"]).expect("read").state, PathBuf::from(STATE));
+        assert!(of(&["-q", "f"]).expect("read").quiet && !of(&["f"]).expect("read").quiet);
     }
 
     #[test]
@@ -224,9 +243,14 @@ mod tests {
 
     #[test]
     fn refuses_what_makes_no_sense() {
-        for words in
-            [&["--try", "5", "-"][..], &["-n", "--try", "5", "f"], &["-n", "--check", "f"], &["--try", "0", "f"], &[]]
-        {
+        for words in [
+            &["--try", "5", "-"][..],
+            &["-n", "--try", "5", "f"],
+            &["-n", "--check", "f"],
+            &["-n", "-q", "f"],
+            &["--try", "0", "f"],
+            &[],
+        ] {
             assert!(of(words).is_err(), "{words:?}");
         }
         assert_eq!(of(&["--help"]).expect_err("help"), ErrorKind::DisplayHelp);

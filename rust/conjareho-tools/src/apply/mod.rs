@@ -5,6 +5,7 @@ mod after;
 mod arguments;
 mod back;
 mod blocks;
+mod command;
 mod compare;
 mod file;
 mod hardware;
@@ -46,10 +47,10 @@ use crate::netlink::fault::Printable;
 use crate::netlink::{Fault, Kernel, Listener, Socket, Transport};
 use crate::save::release;
 use crate::shown::lines_of;
-use std::fs;
+use std::fs::{self, File};
 use std::io::{self, Read as _, Write as _};
+use std::os::fd::AsFd as _;
 use std::process::ExitCode;
-use std::thread;
 
 /// How often it is planned anew, if another program changes something before the first request.
 const MOST_PLANS: u32 = 3;
@@ -94,7 +95,7 @@ fn failed(why: String) -> Ended {
 // Reads the file, or runs the command, and does what is asked for.
 fn opened(name: &'static str, arguments: &Arguments, said: &mut Vec<String>) -> Result<Status, Ended> {
     let file = match (&arguments.command, &arguments.dev) {
-        (Some(command), Some(dev)) => trial::made_by(command, dev)?,
+        (Some(command), Some(dev)) => trial::made_by(command, dev, said)?,
         _ => read(arguments).map_err(|error| failed(format!("{}: {error}", arguments.file_name())))?,
     };
     // Until here nothing was asked for that a signal shouldn't end.
@@ -111,11 +112,10 @@ fn opened(name: &'static str, arguments: &Arguments, said: &mut Vec<String>) -> 
     let _lock = lock::lock(arguments.way, &signal)?;
     let mut hold = || {
         let Some(time) = arguments.trial else { return Ok(()) };
-        let seconds = time.as_secs();
-        let asked = format!("the plan is applied; press Enter within {seconds} seconds, or it goes back");
-        // A terminal that nobody reads mustn't hold up the way back.
-        thread::spawn(move || say_all(name, &[asked]));
-        hold::hold(&mut io::stdin().lock(), time, &signal)
+        // Not through a buffer, which would keep what isn't asked for yet.
+        let input = io::stdin().as_fd().try_clone_to_owned();
+        let mut input = File::from(input.map_err(|error| Stop::Unconfirmed(format!("standard input: {error}")))?);
+        hold::hold(&mut input, time, &signal, move |question| say_all(name, &[question]))
     };
     Ok(apply(arguments, file, &mut world, &mut hold, said))
 }
@@ -183,6 +183,7 @@ fn apply<T: Transport, L: Transport>(
     match carried_out(arguments.way, &prepared, &mut sending, hold, said) {
         Ok(()) if prepared.wanted.is_partial => Status::Otherwise,
         Ok(()) => {
+            said.extend(prepared.summary.clone());
             let is_kept = arguments.trial.is_some() && !prepared.steps.is_empty();
             said.extend(is_kept.then(|| "Enter was pressed, so it stays".to_string()));
             Status::Restored

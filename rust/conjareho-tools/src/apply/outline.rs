@@ -15,6 +15,9 @@ use crate::tc_words::TcWords;
 use ::serde_json::Value;
 use std::collections::BTreeMap;
 
+/// What is said of a plan without requests.
+const SAME: &str = "what is there is what is wanted";
+
 /// The most values that a line has.
 const MOST_VALUES: usize = 6;
 
@@ -22,7 +25,7 @@ const MOST_VALUES: usize = 6;
 pub(crate) fn lines(steps: &[Vec<u8>], now: &[Vec<u8>], wanted: &[Vec<u8>], devices: &Devices) -> Vec<String> {
     let outline = Outline::of(steps, now, wanted, devices);
     let along = outline.gone_along();
-    let mut lines = vec![outline.counted(along.len())];
+    let mut lines = vec![if steps.is_empty() { SAME.to_string() } else { outline.counted(along.len()) }];
     let last_deletion = steps.iter().rposition(|step| deletes(step));
     for (number, step) in steps.iter().enumerate() {
         lines.extend(if deletes(step) { outline.deleted(step) } else { vec![outline.made(step)] });
@@ -31,6 +34,13 @@ pub(crate) fn lines(steps: &[Vec<u8>], now: &[Vec<u8>], wanted: &[Vec<u8>], devi
         }
     }
     lines
+}
+
+/// How many requests a plan has, of each verb, and what stays.
+pub(crate) fn counted(steps: &[Vec<u8>], now: &[Vec<u8>], wanted: &[Vec<u8>]) -> String {
+    let devices = Devices::default();
+    let outline = Outline::of(steps, now, wanted, &devices);
+    outline.counted(outline.gone_along().len())
 }
 
 /// The changes among these requests that weren't made, each with the values that differ, those of now and those that are wanted.
@@ -81,16 +91,14 @@ impl<'a> Outline<'a> {
 
     fn counted(&self, along: usize) -> String {
         let steps = self.steps;
-        if steps.is_empty() {
-            return "what is there is what is wanted".to_string();
-        }
         let deleted = steps.iter().filter(|step| deletes(step)).count();
         let changed = steps.iter().filter(|step| replaces(step)).count();
         let stay = self.wanted.keys().filter(|key| !key.is_order()).count().saturating_sub(steps.len() - deleted);
         let requests = if steps.len() == 1 { "1 request".to_string() } else { format!("{} requests", steps.len()) };
         let made = steps.len() - deleted - changed;
         let others = if along == 0 { String::new() } else { format!(", and {along} with them") };
-        format!("{requests}: {deleted} deleted{others}, {changed} changed, {made} made; {stay} objects stay")
+        let stay = if stay == 1 { "1 object stays".to_string() } else { format!("{stay} objects stay") };
+        format!("{requests}: {deleted} deleted{others}, {changed} changed, {made} made; {stay}")
     }
 
     // ---- What goes
@@ -142,7 +150,9 @@ impl<'a> Outline<'a> {
     fn more_of(&self, step: &[u8]) -> String {
         let Some((key, new)) = object_of(step) else { return String::new() };
         let Some(old) = old_of(&key, &self.old) else { return String::new() };
-        let (kind, values) = (kind_in(&old.normal()).to_string(), self.differing(old, &new));
+        // The request of a change lacks what only making it takes, which stays.
+        let new = old_of(&key, &self.wanted).filter(|_| replaces(step)).unwrap_or(&new);
+        let (kind, values) = (kind_in(&old.normal()).to_string(), self.differing(old, new));
         if kind != kind_in(&new.normal()) {
             return format!("; instead of {kind}");
         }
@@ -151,11 +161,11 @@ impl<'a> Outline<'a> {
             return format!(";{values}{anew}");
         }
         let why = match values.as_str() {
-            "" => "with what it belongs to".to_string(),
+            "" => "because what it is under is".to_string(),
             _ if self.gone.iter().any(|it| it.is_object_of(&key)) => {
                 format!("since this isn't changed in place:{values}")
             }
-            _ => format!("with what it belongs to:{values}"),
+            _ => format!("because what it is under is:{values}"),
         };
         format!("; made again, {why}{}", anew_of(step))
     }
@@ -316,6 +326,31 @@ mod tests {
         assert_eq!(differing_values(&class(5, 1), &class(5, 1)), Vec::<String>::new());
         assert_eq!(differing_values(&class(5, 1), &class(7, 1)), ["Htb/Parms/rate/rate 5 -> 7"]);
         assert_eq!(differing_values(&json!({"a": 1}), &json!({"b": "x"})), ["a 1 -> none", "b none -> x"]);
+    }
+
+    // The request of a change lacks the number of flows, which only making it takes.
+    #[test]
+    fn a_change_says_nothing_of_what_it_leaves_out() {
+        use crate::apply::plan::plan;
+        use crate::netlink::attributes::put;
+        use crate::netlink::message::{Tcmsg, tc_request};
+        let fq_codel = |limit: u32| {
+            let header = Tcmsg { index: 7, handle: 0x1_0000, parent: 0xffff_ffff, info: 2 };
+            let mut message = tc_request(RTM_NEWQDISC, 2, header);
+            put(&mut message, 1, b"fq_codel\0");
+            let mut options = Vec::new();
+            put(&mut options, 2, &limit.to_ne_bytes());
+            put(&mut options, 5, &1024u32.to_ne_bytes());
+            put(&mut message, 2, &options);
+            let len = message.len() as u32;
+            message[..4].copy_from_slice(&len.to_ne_bytes());
+            message
+        };
+        let (now, wanted) = ([fq_codel(10)], [fq_codel(20)]);
+        let steps = plan(&now, &wanted, |_| false).expect("a plan");
+        let said = lines(&steps, &now, &wanted, &Devices::default());
+        assert_eq!(said[0], "1 request: 0 deleted, 1 changed, 0 made; 0 objects stay");
+        assert_eq!(said[1], "  ~ qdisc fq_codel 1: dev 7 root limit 20p; limit 10p -> 20p");
     }
 
     #[test]

@@ -7,6 +7,7 @@ use super::blocks::{Others, blocks_of_others, check_blocks, is_in_block, without
 use super::compare::{key_of, objects_of};
 use super::messages::{blocks_of, has_unnumbered_action};
 use super::named::named;
+use super::outline::counted;
 use super::plan::{Fault, Plan, plan, plan_beside};
 use super::requests::requests_of_dump;
 use super::sending::{PATIENCE, PAUSE};
@@ -27,6 +28,8 @@ pub(crate) struct Prepared {
     pub(crate) wanted: Wanted,
     /// The requests.
     pub(crate) steps: Vec<Vec<u8>>,
+    /// What is said of them if all goes well; nothing if it isn't to be said.
+    pub(crate) summary: Option<String>,
     /// What there is now.
     pub(crate) before: Before,
 }
@@ -118,7 +121,12 @@ pub(crate) fn prepare<T: Transport, L: Transport>(
         Some(keep(arguments, &wanted.targets, &text_of(&dump, &wanted.targets.own())?.0)?)
     };
     let blocks = wanted.messages.iter().flat_map(|it| blocks_of(it)).chain(dump.blocks).collect();
+    let summary = || match steps.as_slice() {
+        [] => arguments.nothing_to_do(),
+        steps => counted(steps, &before, &wanted.messages),
+    };
     Ok(Prepared {
+        summary: (!arguments.quiet).then(summary),
         place: Place { devices: wanted.targets.devices.clone(), blocks },
         steps,
         before: Before {

@@ -75,7 +75,7 @@ fn by_name(head: &Head, arguments: &Arguments, devices: &Devices) -> Result<Targ
     }
     for dev in &head.devs {
         if let Some(device) = targets.indices.get(&dev.index).and_then(|index| devices.at(*index)) {
-            targets.warnings.extend(changes(dev, device));
+            targets.warnings.extend(changes(dev, device, arguments.command.is_some()));
             targets.devices.push(device.clone());
         }
     }
@@ -96,12 +96,17 @@ fn twice(devices: &[Device]) -> Option<String> {
     Some(format!("two interfaces of the save are {} today", again.name))
 }
 
-// How an interface differs from when it was saved.
-fn changes(saved: &file::Device, device: &Device) -> Vec<String> {
+// How an interface differs from when it was saved, or from how a command left it where it ran.
+fn changes(saved: &file::Device, device: &Device, is_by_command: bool) -> Vec<String> {
     let mut said = Vec::new();
+    let name = &device.name;
     let mut compare = |what: &str, old: Option<String>, new: String| match old {
-        Some(old) if old != new => said
-            .push(format!("{} has another {what} than {} when it was saved: {new} for {old}", device.name, saved.name)),
+        Some(old) if old != new && is_by_command => {
+            said.push(format!("the script sets another {what} ({old}) than {name} has ({new}), which isn't applied"));
+        }
+        Some(old) if old != new => {
+            said.push(format!("{name} has another {what} than {} when it was saved: {new} for {old}", saved.name));
+        }
         _ => {}
     };
     compare("MAC", saved.mac.clone(), device.mac_text());

@@ -2,6 +2,7 @@
 
 use super::arguments::Arguments;
 use super::check_after;
+use super::command;
 use super::compare::by_place;
 use super::messages::blocks_of;
 use super::plan::plan;
@@ -14,9 +15,10 @@ use super::status::Status;
 use super::wanted::{Wanted, wanted_of};
 use super::world::{Place, Stop, World, text_of};
 use super::{hardware, open_kernel, same};
+use crate::netlink::message::tcmsg_of;
 use crate::netlink::{Device, Devices, Fault, Kernel, Transport, state_of};
+use std::collections::BTreeSet;
 use std::ffi::OsString;
-use std::process::Command;
 
 fn nothing_sent(why: String) -> Ended {
     Ended::because(Status::NothingSent, vec![why])
@@ -24,43 +26,41 @@ fn nothing_sent(why: String) -> Ended {
 
 // ---- A command
 
-/// What a command finds.
-const NO_HARDWARE: &str = "where it ran no interface has hardware, and what depends on it can't be made";
-
-/// The save of what a command makes of an interface.
-pub(crate) fn made_by(command: &[OsString], dev: &str) -> Result<Vec<u8>, Ended> {
+/// The save of what a command makes of an interface. What it makes of others is named in `said`.
+pub(crate) fn made_by(command: &[OsString], dev: &str, said: &mut Vec<String>) -> Result<Vec<u8>, Ended> {
     let devices = Devices::of(&mut Kernel::open()?)?;
     let device = devices.find(dev).ok_or_else(|| nothing_sent(format!("there is no interface {dev}")))?;
     let made = within(&devices, || {
-        run(command)?;
+        command::run(command)?;
         saved(&device.name)
     });
-    Ok(made.map_err(nothing_sent)?.into_bytes())
-}
-
-fn run(command: &[OsString]) -> Result<(), String> {
-    let [program, words @ ..] = command else { return Ok(()) };
-    let name = program.to_string_lossy();
-    let status = Command::new(program).args(words).status().map_err(|error| format!("{name}: {error}"))?;
-    if status.success() {
-        return Ok(());
+    let (text, others) = made.map_err(nothing_sent)?;
+    if !others.is_empty() {
+        let program = command.first().map(|it| it.to_string_lossy()).unwrap_or_default();
+        let others = others.join(", ");
+        said.push(format!("{program} made something on {others} too, which isn't applied: only {} is", device.name));
     }
-    Err(format!("{name} ended with {status}; {NO_HARDWARE}"))
+    Ok(text.into_bytes())
 }
 
-// The save of an interface of this namespace.
-fn saved(name: &str) -> Result<String, String> {
-    let (mut kernel, [mut listener, _]) = open_kernel()?;
+// The save of an interface of this namespace, and the others on which there are qdiscs that somebody made.
+fn saved(name: &str) -> Result<(String, Vec<String>), String> {
+    let (mut kernel, [mut listener, watch]) = open_kernel()?;
     let said = |fault: Fault| fault.to_string();
     let devices = Devices::of(&mut kernel).map_err(said)?;
     let device = devices.iter().find(|device| device.name == name);
     let index = device.ok_or_else(|| format!("the command renamed or deleted {name}"))?.index;
     let dump = state_of(&mut kernel, &mut listener, &[index]).map_err(said)?;
-    match text_of(&dump, &[index]).map_err(said)? {
-        (text, false) if hardware::count_alone(text.lines()) == 0 => Ok(text),
-        (_, false) => Err(format!("the command made a filter with skip_sw; {NO_HARDWARE}")),
-        _ => Err("the command made something that the codec refuses".to_string()),
-    }
+    let text = match text_of(&dump, &[index]).map_err(said)? {
+        (text, false) if hardware::count_alone(text.lines()) == 0 => text,
+        (_, false) => return Err(format!("the command made a filter with skip_sw; {}", command::NO_HARDWARE)),
+        _ => return Err("the command made something that the codec refuses".to_string()),
+    };
+    let qdiscs = World::new(kernel, listener, watch, &|| None).qdiscs().map_err(said)?;
+    let made: BTreeSet<i32> =
+        qdiscs.iter().filter_map(|qdisc| tcmsg_of(qdisc)).filter(|it| it.handle != 0).map(|it| it.index).collect();
+    let is_made = |it: &&Device| it.index != index && i32::try_from(it.index).is_ok_and(|own| made.contains(&own));
+    Ok((text, devices.iter().filter(is_made).map(|it| it.name.clone()).collect()))
 }
 
 // ---- A trial
@@ -83,7 +83,12 @@ pub(crate) fn check<T: Transport, L: Transport>(
         ));
     }
     let count = within(&dump.devices, || tried(&now.requests, &wanted)).map_err(nothing_sent)?;
-    said.push(format!("in a new network namespace {count} requests made what is wanted; nothing is sent here"));
+    let done = match count {
+        0 => arguments.nothing_to_do(),
+        1 => "in a new network namespace 1 request made what is wanted".to_string(),
+        _ => format!("in a new network namespace {count} requests made what is wanted"),
+    };
+    said.extend((!arguments.quiet).then(|| format!("{done}; nothing is sent here")));
     Ok(Status::Restored)
 }
 

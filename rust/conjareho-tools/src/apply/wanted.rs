@@ -19,6 +19,9 @@ use crate::tcmake_lib::lines::{Dumped, Reading, RemarkKind, Source, read_lines};
 use crate::tcmake_messages::Forms;
 use std::collections::{BTreeMap, BTreeSet};
 
+/// What a script begins with.
+const SCRIPT: &[u8] = b"#!";
+
 /// What is wanted.
 #[derive(Debug)]
 pub(crate) struct Wanted {
@@ -133,6 +136,11 @@ fn left_of((number, message): (u64, Vec<u8>), objects: &Objects) -> Vec<(u64, Ve
 // The save of a file.
 fn save_in(arguments: &Arguments, file: Vec<u8>) -> Result<Save, Ended> {
     let refused = |why: String| Ended::because(Status::NothingSent, vec![format!("{}: {why}", arguments.file_name())]);
+    if file.starts_with(SCRIPT) && arguments.way == Way::Change {
+        let words = if arguments.dev.is_some() { "--" } else { "--dev DEV --" };
+        let said = format!("{} is a script: write {words} before it", arguments.file_name());
+        return Err(Ended::because(Status::NothingSent, vec![said]));
+    }
     let save = read_save(file).map_err(|error| refused(error.to_string()))?;
     if arguments.way == Way::Anew && save.head.is_none() {
         return Err(refused("--clear requires a save with a head and an end".to_string()));

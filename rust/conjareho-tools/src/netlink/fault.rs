@@ -60,7 +60,7 @@ impl fmt::Display for Refusal {
             write!(to, ": {}", Printable(&self.text))?;
         }
         match self.offset {
-            Some(offset) => write!(to, " (byte {offset})"),
+            Some(offset) => write!(to, " (byte {offset} of the netlink message)"),
             None => Ok(()),
         }
     }

@@ -32,7 +32,10 @@ fn otherwise() -> Vec<Vec<u8>> {
 #[test]
 fn what_is_there_already_takes_no_request() {
     let ran = run(&saved(tree(1000)), tree(1000), &Fake::new(taking()));
-    assert_eq!((ran.status, ran.said.as_str(), ran.sent.len(), ran.kept), (Status::Restored, "", 0, 0));
+    let said = "nothing to do: what is there is what standard input says";
+    assert_eq!((ran.status, ran.said.as_str(), ran.sent.len(), ran.kept), (Status::Restored, said, 0, 0));
+    let ran = run_held(&["-q"], &saved(tree(1000)), tree(1000), &Fake::new(taking()), || Ok(()));
+    assert_eq!((ran.status, ran.said.as_str()), (Status::Restored, ""));
 }
 
 #[test]
@@ -40,7 +43,8 @@ fn a_changed_class_takes_one_request() {
     let mut wanted = tree(1000);
     wanted[1] = of(RTM_NEWTCLASS, 0x1_0010, 0x1_0000, "drr", &[(1, 77)]);
     let ran = run(&saved(wanted.clone()), tree(1000), &Fake::new(taking()));
-    assert_eq!((ran.status, ran.said.as_str(), types(&ran.sent)), (Status::Restored, "", vec![40]));
+    let said = "1 request: 0 deleted, 1 changed, 0 made; 5 objects stay";
+    assert_eq!((ran.status, ran.said.as_str(), types(&ran.sent)), (Status::Restored, said, vec![40]));
     assert!(replaces(&ran.sent[0]));
     assert_eq!(plain(&ran.objects), plain(&wanted));
     assert_eq!(ran.kept, 1);
