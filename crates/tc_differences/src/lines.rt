@@ -49,7 +49,7 @@ pub fn difference_lines(
     before: Side<'_>,
     after: Side<'_>,
 ) -> Result<DifferenceLines, Stop>
-    ensures { IfOk result (λ lines. (lines.differ ≡ false) ↔ IsSame (things before.objects.now) (things after.objects.now)) }
+    ensures { IfOk result (λ lines. (lines.differ ≡ false) ↔ IsSame (things before.entry.objects.now) (things after.entry.objects.now)) }
 {
     let found = differences(alloc, before.objects, after.objects)?;
     let text = difference_text(alloc, before, after, &found)?;

@@ -177,19 +177,16 @@ pub(crate) fn put_values(
     for leaf in &old {
         let other = value_at(&new, &is, &leaf.path);
         if other != Some(leaf.value) {
-            put_value(alloc, &leaf.path, leaf.value, other.unwrap_or(NONE), out)?;
+            put_value(alloc, &leaf.path, Some(leaf.value), other, out)?;
         }
     }
     for leaf in &new {
         if was.get(&leaf.path).is_none() {
-            put_value(alloc, &leaf.path, NONE, leaf.value, out)?;
+            put_value(alloc, &leaf.path, None, Some(leaf.value), out)?;
         }
     }
     Ok(())
 }
-
-// What stands for a value that isn't there.
-const NONE: &str = "none";
 
 fn value_at<'t>(leaves: &[Leaf<'t>], places: &Numbers, path: &String) -> Option<&'t str> {
     match places.get(path) {
@@ -205,10 +202,19 @@ fn value_at<'t>(leaves: &[Leaf<'t>], places: &Numbers, path: &String) -> Option<
 fn put_value(
     alloc: Global,
     path: &str,
-    old: &str,
-    new: &str,
+    old: Option<&str>,
+    new: Option<&str>,
     out: &mut Vec<u8>,
 ) -> Result<(), Stop> {
+    let old = text_of(old);
+    let new = text_of(new);
     let line = format!(in alloc; "    {path} {old} -> {new}\n")?;
     write_text(alloc, out, line.as_str())
+}
+
+fn text_of(value: Option<&str>) -> &str {
+    match value {
+        Some(value) => value,
+        None => "none",
+    }
 }
