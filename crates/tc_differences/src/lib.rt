@@ -14,7 +14,7 @@ mod values;
 
 pub use difference::{Change, Difference};
 pub use laws::same_states_dont_differ;
-pub use lines::{DifferenceLines, Side, difference_lines};
+pub use lines::{DifferenceLines, difference_lines};
 pub use program::StateDiffer;
 pub use states::differences;
 

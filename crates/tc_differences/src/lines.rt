@@ -36,50 +36,55 @@ pub struct DifferenceLines {
     pub differ: bool,
 }
 
-/// A state, and names of interfaces, by index. The first of an index counts.
-#[derive(Clone, Copy)]
-pub struct Side<'a> {
-    pub objects: &'a [Object<Global>],
-    pub names: &'a [(u32, &'a str)],
-}
-
-/// The lines of the differences between two states. A priority has no line, since its filters have.
+/// The lines of the differences between two states, with these names of interfaces. A priority has no line, since its filters have.
 pub fn difference_lines(
     alloc: Global,
-    before: Side<'_>,
-    after: Side<'_>,
+    names: &[(u32, &str)],
+    before: &[Object<Global>],
+    after: &[Object<Global>],
 ) -> Result<DifferenceLines, Stop>
-    ensures { IfOk result (λ lines. (lines.differ ≡ false) ↔ IsSame (things before.entry.objects.now) (things after.entry.objects.now)) }
+    ensures { IfOk result (λ lines. (lines.differ ≡ false) ↔ IsSame (things before.now) (things after.now)) }
 {
-    let found = differences(alloc, before.objects, after.objects)?;
-    let text = difference_text(alloc, before, after, &found)?;
+    let found = differences(alloc, before, after)?;
+    let text = difference_text(alloc, names, before, after, &found)?;
     let differ = !found.is_empty();
     Ok(DifferenceLines { text, differ })
 }
 
 fn difference_text(
     alloc: Global,
-    before: Side<'_>,
-    after: Side<'_>,
+    names: &[(u32, &str)],
+    before: &[Object<Global>],
+    after: &[Object<Global>],
     found: &[Difference],
 ) -> Result<Vec<u8>, Stop> {
-    let was = index_of(alloc, before.objects)?;
-    let is = index_of(alloc, after.objects)?;
+    let was = index_of(alloc, before)?;
+    let is = index_of(alloc, after)?;
     let mut text = Vec::new(alloc);
     for difference in found {
-        let old = look_up(before.objects, &was, difference.key);
-        let new = look_up(after.objects, &is, difference.key);
-        match (old, new) {
-            (Some(old), Some(new)) => {
-                put_object(alloc, after.names, b"~", new, &mut text)?;
-                put_changes(alloc, after.names, old, new, &mut text)?;
-            }
-            (Some(old), None) => put_object(alloc, before.names, b"-", old, &mut text)?,
-            (None, Some(new)) => put_object(alloc, after.names, b"+", new, &mut text)?,
-            (None, None) => {}
-        }
+        let old = look_up(before, &was, difference.key);
+        let new = look_up(after, &is, difference.key);
+        put_difference(alloc, names, old, new, &mut text)?;
     }
     Ok(text)
+}
+
+fn put_difference(
+    alloc: Global,
+    names: &[(u32, &str)],
+    old: Option<&Object<Global>>,
+    new: Option<&Object<Global>>,
+    text: &mut Vec<u8>,
+) -> Result<(), Stop> {
+    match (old, new) {
+        (Some(old), Some(new)) => {
+            put_object(alloc, names, b"~", new, text)?;
+            put_changes(alloc, names, old, new, text)
+        }
+        (Some(old), None) => put_object(alloc, names, b"-", old, text),
+        (None, Some(new)) => put_object(alloc, names, b"+", new, text),
+        (None, None) => Ok(()),
+    }
 }
 
 // Appends the line of an object after a sign.

@@ -1,6 +1,6 @@
 //! What `tcshow --diff` does: it reads two dumps or saves, and prints their differences.
 
-use crate::lines::{DifferenceLines, Side, difference_lines};
+use crate::lines::{DifferenceLines, difference_lines};
 use forms_kinds::{ACTION_MESSAGE, TC_MESSAGE, TcTables};
 use program_io::{Reader, Writer, cause_of, write_all, write_text};
 use std::alloc::{AllocError, Global};
@@ -80,19 +80,13 @@ fn diff_with<R: AllocGlobal + Files + Input + Print, E: Write>(
     let alloc = rt.alloc();
     let before = state_of_file(rt, arguments, *first, None, errors)?;
     let after = state_of_file(rt, arguments, *second, Some(&before.state), errors)?;
-    let was = names_of(alloc, names, &before)?;
-    let is = names_of(alloc, names, &after)?;
-    let DifferenceLines { text, differ } = difference_lines(
-        alloc,
-        Side {
-            objects: &before.state.objects,
-            names: &was,
-        },
-        Side {
-            objects: &after.state.objects,
-            names: &is,
-        },
-    )?;
+    let (was, is) = (&before.state.objects, &after.state.objects);
+    let own = names_of(alloc, &after.names)?;
+    let DifferenceLines { text, differ } = if names.is_empty() {
+        difference_lines(alloc, &own, was, is)?
+    } else {
+        difference_lines(alloc, names, was, is)?
+    };
     print(rt, &text, errors)?;
     Ok(differ)
 }
@@ -104,17 +98,9 @@ struct Shown {
     names: Vec<(u32, String)>,
 }
 
-// These names, then those of a file.
-fn names_of<'a>(
-    alloc: Global,
-    names: &[(u32, &'a str)],
-    shown: &'a Shown,
-) -> Result<Vec<(u32, &'a str)>, AllocError> {
-    let mut all = Vec::new(alloc);
+fn names_of(alloc: Global, names: &[(u32, String)]) -> Result<Vec<(u32, &str)>, AllocError> {
+    let mut all = Vec::with_capacity(alloc, names.len())?;
     for (index, name) in names {
-        all.push((*index, *name))?;
-    }
-    for (index, name) in &shown.names {
         all.push((*index, name.as_str()))?;
     }
     Ok(all)

@@ -1,6 +1,6 @@
 //! Differences between small dumps. Their numbers are those of `tc`'s words: 10mbit is 1,250,000 bytes a second.
 
-use crate::lines::{DifferenceLines, Side, difference_lines};
+use crate::lines::{DifferenceLines, difference_lines};
 use forms_kinds::{ACTION_MESSAGE, TC_MESSAGE, TcTables};
 use std::alloc::Global;
 use std::str;
@@ -64,16 +64,7 @@ fn between(alloc: Global, before: &str, after: &str) -> Result<Option<Difference
     let Some(after) = state(alloc, after, Some(&before))? else {
         return Ok(None);
     };
-    let names = [(1, "lo")];
-    let before = Side {
-        objects: &before.objects,
-        names: &names,
-    };
-    let after = Side {
-        objects: &after.objects,
-        names: &names,
-    };
-    match difference_lines(alloc, before, after) {
+    match difference_lines(alloc, &[(1, "lo")], &before.objects, &after.objects) {
         Ok(lines) => Ok(Some(lines)),
         Err(_) => Err(Fail::from(std::alloc::AllocError)),
     }
