@@ -1,5 +1,6 @@
 -- Offsets of faults: counted with saturation, and inside the message.
-use Rattle.std.proofs.Common.{◌≡◌, ◌⊎◌, ℕ, zero, suc, ◌+◌, ◌-◌, ◌%◌, ◌^◌, ◌<◌, ◌≤◌, List, [], ◌∷◌, ◌++◌, length, drop, Option, Some, None, Ok, Err, Bool, true, false}
+use Rattle.std.proofs.Common.{◌≡◌, ◌⊎◌, ℕ, zero, suc, ◌+◌, ◌-◌, ◌%◌, ◌^◌, ◌<◌, ◌≤◌, List, [], ◌∷◌, ◌++◌, length, drop}
+use Rattle.std.proofs.Common.{Option, Some, None, Ok, Err, Bool, true, false}
 use Rattle.std.proofs.Common.{refl, sym, ap, ◌∙◌, arith, inl, inr}
 use Rattle.std.specs.Prelude.{min, is_some, ◌||◌, ◌==◌, if◌then◌else◌}
 use Rattle.std.specs.List.{AllByRecursion}
@@ -21,7 +22,8 @@ use Rattle.tc_index.specs.declared.table.Table.{Table as ListedTable}
 use Rattle.tc_index.specs.declared.table.Table.TheVariants as the
 use Rattle.tc_index.specs.Tables.{rows_in, table_of}
 use Rattle.tc_index.specs.Nesting.{class_at, class_in, list_in}
-use Rattle.tc_index.specs.Attributes.{Item, Yields, each, Walk, within, with_inner, attributes_in, to_fault, message_items, tc_items, action_items, after_header}
+use Rattle.tc_index.specs.Attributes.{Item, Yields, each, Walk, within, with_inner, attributes_in, to_fault, message_items, tc_items, action_items}
+use Rattle.tc_index.specs.Attributes.{after_header}
 use Rattle.tc_index.proofs.Frames.{takes}
 use Rattle.tc_index.proofs.Rows.{class-in}
 use Rattle.tc_outline.specs.declared.what.What.{What}

@@ -8,7 +8,8 @@ use Rattle.forms_values.specs.Places.{fields_of, form_of, layer_of, part_at, row
 use Rattle.forms_values.specs.Tables.{Field, Row}
 use Rattle.forms_values.specs.declared.form.Form.{Form}
 use Rattle.forms_values.specs.declared.form.Form.TheVariants as form
-use Rattle.std.specs.Prelude.{Bool, List, None, Option, Some, [], bytes_eq, codes, decimal, drop, false, if◌then◌else◌, length, nat_lt, suc, true, unwrap_or, zero, ℕ}
+use Rattle.std.specs.Prelude.{Bool, List, None, Option, Some, [], bytes_eq, codes, decimal, drop, false, if◌then◌else◌, length}
+use Rattle.std.specs.Prelude.{nat_lt, suc, true, unwrap_or, zero, ℕ}
 use Rattle.std.specs.Prelude.{◌+◌, ◌++◌, ◌-◌, ◌==◌, ◌&&◌, ◌∷◌}
 
 -- ---- texts

@@ -76,7 +76,8 @@ module _ (table : Table) (form : Form) where
   abbrev pub HasNoBytes : Data → Type 0
   HasNoBytes message = StandsForNone message ⊎ StandsForMany message
 
-  -- no bytes are made of a message: it stands for none, or for too many; the line says of its bytes what isn't so; what is to be settled was refused, or can't be
+  -- no bytes are made of a message: it stands for none, or for too many; the line says of its bytes what isn't so; what is to be settled was refused,
+  -- or can't be
   -- read or written; what is to be restored can't be read
   abbrev pub IsUnmade : Making → MessageType → Data → Data → Type 0
   IsUnmade AsGiven holds line message = HasNoBytes message
