@@ -110,17 +110,22 @@ asked_verb o (Some h) = request_verb o h
 
 -- ---- who speaks
 
--- a request before: it has the message's sequence number, and its port id or 0
-abbrev pub is_before : ℕ → Header → Request → Bool
-is_before kind h r = r.header.kind == kind && (r.header.sequence == h.sequence && (r.header.port == h.port || r.header.port == 0))
+-- a request to dump all objects of a type
+abbrev pub is_dump : Request → Bool
+is_dump r = modifiers r.header.flags == 3
 
-abbrev pub was_sent : List Request → ℕ → Header → Bool
-was_sent [] kind h = false
-was_sent (r ∷ rs) kind h = is_before kind h r || was_sent rs kind h
+-- a request before: it has the message's sequence number, and its port id or 0. Dumps may count, or not
+abbrev pub is_before : ℕ → Bool → Header → Request → Bool
+is_before kind dumps h r =
+    r.header.kind == kind && ((dumps || not (is_dump r)) && (r.header.sequence == h.sequence && (r.header.port == h.port || r.header.port == 0)))
+
+abbrev pub was_sent : List Request → ℕ → Bool → Header → Bool
+was_sent [] kind dumps h = false
+was_sent (r ∷ rs) kind dumps h = is_before kind dumps h r || was_sent rs kind dumps h
 
 -- a request of the message's type, or one to get its object
 abbrev pub was_asked : List Request → Header → Bool
-was_asked before h = was_sent before h.kind h || was_sent before (get_of h.kind) h
+was_asked before h = was_sent before h.kind true h || was_sent before (get_of h.kind) true h
 
 -- all is the kernel's in a file of rtmon, which has times and no packets, and in a stream in which it has named interfaces
 abbrev pub is_of_kernel : Past → Origin → Bool
@@ -132,18 +137,12 @@ abbrev pub is_request : Past → Origin → Header → Bool
 is_request past origin h =
     has_flag h.flags 1 && (not (is_of_kernel past origin) && (h.port == 0 || (is_some origin.packet && not (was_asked past.requests h))))
 
--- a request to get the message's object, and no dump of all such objects
-abbrev pub is_get : Header → Request → Bool
-is_get h r = is_before (get_of h.kind) h r && not (modifiers r.header.flags == 3)
-
-abbrev pub was_got : List Request → Header → Bool
-was_got [] h = false
-was_got (r ∷ rs) h = is_get h r || was_got rs h
-
--- the kernel answers a dump with NLM_F_MULTI, and actions with the type of the request
+-- the kernel answers a dump with NLM_F_MULTI, and actions with the type of the request. The notification of a change can have the sequence number of a dump,
+-- since tc takes it from the clock
 abbrev pub kernels_verb : List Request → Header → Verb
 kernels_verb before h =
-    if is_del h.kind then verb.Gone else if is_new h.kind && not (has_flag h.flags 2 || was_got before h) then verb.New else verb.Is
+    if is_del h.kind then verb.Gone
+    else if is_new h.kind && not (has_flag h.flags 2 || was_sent before (get_of h.kind) false h) then verb.New else verb.Is
 
 -- a notification has the port id of who caused it
 abbrev pub port_of : Verb → ℕ → ℕ

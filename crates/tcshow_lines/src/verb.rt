@@ -3,9 +3,9 @@
 ghost use Rattle.std.specs.Prelude.{◌≡◌, option_map};
 ghost use Rattle.tcshow_json.specs.Messages.{header_view, message_view};
 ghost use Rattle.tcshow_lines.specs.Past.{past_of, request_view, requests_view};
-ghost use Rattle.tcshow_lines.specs.Verbs.{asked_verb, changes, del_verb, flushes, get_of, get_verb, is_before, is_del, is_get, is_new, is_of_kernel};
+ghost use Rattle.tcshow_lines.specs.Verbs.{asked_verb, changes, del_verb, flushes, get_of, get_verb, is_before, is_del, is_dump, is_new, is_of_kernel};
 ghost use Rattle.tcshow_lines.specs.Verbs.{is_request, kernels_verb, modifiers, new_verb, object_in, port_of, replaces, request_verb, speech_by};
-ghost use Rattle.tcshow_lines.specs.Verbs.{speech_of, was_asked, was_got, was_sent};
+ghost use Rattle.tcshow_lines.specs.Verbs.{speech_of, was_asked, was_sent};
 
 use crate::past::{Request, Requests, has_flag};
 use tc_brief::Object;
@@ -156,22 +156,30 @@ fn request_verb(object: Object, header: &NetlinkHeader) -> Verb
     }
 }
 
-// True for a request of this type with the message's sequence number, and its port id or 0.
-fn is_before(kind: u32, header: &NetlinkHeader, request: &Request) -> bool
-    ensures { result ≡ is_before kind (header_view header.now) (request_view request.now) }
+// True for a request to dump all objects of a type (`NLM_F_DUMP`).
+fn is_dump(request: &Request) -> bool
+    ensures { result ≡ is_dump (request_view request.now) }
+{
+    modifiers(request.header.flags) == 3
+}
+
+// True for a request of this type with the message's sequence number, and its port id or 0. Dumps may count, or not.
+fn is_before(kind: u32, dumps: bool, header: &NetlinkHeader, request: &Request) -> bool
+    ensures { result ≡ is_before kind dumps (header_view header.now) (request_view request.now) }
 {
     u32::from(request.header.kind) == kind
-        && (request.header.sequence == header.sequence
-            && (request.header.port == header.port || request.header.port == 0))
+        && ((dumps || !is_dump(request))
+            && (request.header.sequence == header.sequence
+                && (request.header.port == header.port || request.header.port == 0)))
 }
 
 // True if one of the requests was of this type.
-fn was_sent(before: &[Request], kind: u32, header: &NetlinkHeader) -> bool
-    ensures { result ≡ was_sent (requests_view before.now) kind (header_view header.now) }
+fn was_sent(before: &[Request], kind: u32, dumps: bool, header: &NetlinkHeader) -> bool
+    ensures { result ≡ was_sent (requests_view before.now) kind dumps (header_view header.now) }
 {
     let mut left = before;
     'each: while let [request, rest @ ..] = left {
-        if is_before(kind, header, request) {
+        if is_before(kind, dumps, header, request) {
             return true;
         }
         left = rest;
@@ -190,8 +198,8 @@ fn get_of(kind: u16) -> u32
 fn was_asked(before: &[Request], header: &NetlinkHeader) -> bool
     ensures { result ≡ was_asked (requests_view before.now) (header_view header.now) }
 {
-    was_sent(before, u32::from(header.kind), header)
-        || was_sent(before, get_of(header.kind), header)
+    was_sent(before, u32::from(header.kind), true, header)
+        || was_sent(before, get_of(header.kind), true, header)
 }
 
 // True for messages in a file of rtmon, and in a stream in which the kernel has named interfaces.
@@ -210,35 +218,16 @@ fn is_request(past: &Requests, origin: &Origin, header: &NetlinkHeader) -> bool
                 || (origin.packet.is_some() && !was_asked(past.requests.as_slice(), header))))
 }
 
-// True for a request to get the message's object. The answer to a dump has `NLM_F_MULTI`, and `tc` takes its sequence numbers from the clock, so that
-// the notification of a change within the same second can have that of a dump.
-fn is_get(header: &NetlinkHeader, request: &Request) -> bool
-    ensures { result ≡ is_get (header_view header.now) (request_view request.now) }
-{
-    is_before(get_of(header.kind), header, request) && modifiers(request.header.flags) != 3
-}
-
-// True if one of the requests was to get the message's object.
-fn was_got(before: &[Request], header: &NetlinkHeader) -> bool
-    ensures { result ≡ was_got (requests_view before.now) (header_view header.now) }
-{
-    let mut left = before;
-    'each: while let [request, rest @ ..] = left {
-        if is_get(header, request) {
-            return true;
-        }
-        left = rest;
-    }
-    false
-}
-
 fn kernels_verb(before: &[Request], header: &NetlinkHeader) -> Verb
     ensures { result ≡ kernels_verb (requests_view before.now) (header_view header.now) }
 {
     if is_del(header.kind) {
         return Verb::Gone;
     }
-    if is_new(header.kind) && !(has_flag(header.flags, NLM_F_MULTI) || was_got(before, header)) {
+    if is_new(header.kind)
+        && !(has_flag(header.flags, NLM_F_MULTI)
+            || was_sent(before, get_of(header.kind), false, header))
+    {
         Verb::New
     } else {
         Verb::Is

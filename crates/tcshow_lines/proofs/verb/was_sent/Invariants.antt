@@ -7,7 +7,8 @@ use Rattle.tcshow_lines.proofs.verb.was_sent.Given as goal
 -- whether one of all was sent is whether one of those that are left was
 
 abbrev pub invariant-each : goal.invariant-each
-invariant-each l = was_sent (requests_view l.before) l.kind (header_view l.header) ≡ was_sent (requests_view l.left) l.kind (header_view l.header)
+invariant-each l =
+    was_sent (requests_view l.before) l.kind l.dumps (header_view l.header) ≡ was_sent (requests_view l.left) l.kind l.dumps (header_view l.header)
 
 abbrev pub decreases-each : goal.decreases-each
 decreases-each l = length l.left
