@@ -60,7 +60,7 @@ module _ (table : Table) (tc action : Form) where
   abbrev pub ShowsNone : List ℕ → Type 0
   ShowsNone line =
       HasNoJson line
-      ⊎ ((json : Data) × (read line ≡ Some json) × (IsOfSave json ⊎ IsWrong table tc action Restored json))
+      ⊎ ((json : Data) × (read line ≡ Some json) × (IsOfSave json ⊎ ((¬ IsOfKernel json) × IsWrong table tc action Restored json)))
       ⊎ ((given : NetlinkHeader) × (bytes : List ℕ) × IsMessage table tc action Restored line given bytes × IsOtherRequest given)
 
 module _ (table : Table) (tc action : Form) (index : Option ℤ) where

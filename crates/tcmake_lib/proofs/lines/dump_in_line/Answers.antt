@@ -1,7 +1,8 @@
-use Rattle.std.proofs.Common.{inl, inr}
+use Rattle.std.proofs.Common.{◌≡◌, ◌∙◌, IsTrue, inl, inr, sym, true, false}
 use Rattle.std.proofs.lemmas.Result.{err_from_is_err_and}
 use Rattle.serde_json.specs.View.{view}
 use Rattle.tcmake_messages.specs.Answer.{IsWrong}
+use Rattle.tcmake_messages.specs.Line.{IsOfKernel}
 use Rattle.tcmake_messages.specs.declared.making.Making.TheVariants.{Restored}
 use Rattle.tcmake_lib.specs.Requests.{ShowsNone}
 use Rattle.tcmake_lib.proofs.Complaints.{line_says}
@@ -13,7 +14,8 @@ returns-in_err-made_of_json-clause-refused g c =
     let tc = c.args.forms.tc in
     let action = c.args.forms.action in
     let json = view c.in_ok-json.json in
+    let other : ¬ IsOfKernel json = λ (is : IsOfKernel json). rw c.if-is_answer.false at c.is_answer.ensures.1 is in
     let p = err_from_is_err_and c.from_residual-in_err-made_of_json.result c.from_residual-in_err-made_of_json.ensures.1 in
     rw (p.1, p.2)
     (line_says (IsWrong table tc action Restored json) (ShowsNone table tc action c.args.line.items) c.in_err-made_of_json.field-0.0
-    (λ (wrong : IsWrong table tc action Restored json). inr (inl (json, c.in_ok-json.ensures.read, inr wrong))) c.in_err-made_of_json.ensures.wrong)
+    (λ (wrong : IsWrong table tc action Restored json). inr (inl (json, c.in_ok-json.ensures.read, inr (other, wrong)))) c.in_err-made_of_json.ensures.wrong)
