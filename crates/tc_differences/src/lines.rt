@@ -129,7 +129,7 @@ fn columns_of<'a>(root: Root, names: &'a [(u32, &'a str)]) -> KindColumns<'a> {
     }
 }
 
-// Appends the values in which the messages of two objects differ.
+// Appends the values that differ between the messages of two objects.
 fn put_changes(
     alloc: Global,
     names: &[(u32, &str)],
