@@ -1,4 +1,4 @@
-//! The values in which two outlines differ, each with the names that lead to it.
+//! The values that differ between two outlines, each with the names that lead to it.
 
 use program_io::{Stop, write_text};
 use std::alloc::{AllocError, Global};
