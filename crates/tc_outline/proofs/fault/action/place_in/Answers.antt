@@ -25,8 +25,7 @@ loop-frame-preserved c =
     let rest = items_left c.next.new.self in
     let left : items_left c.loop-frame.frame-iterator ≡ Ok f ∷ rest =
     c.in-Some.ensures.steps ∙ ap (λ (x : Outcome Frame). x ∷ rest) (ap (seen frame_of) c.in-Ok.is) in
-    let sum : c.saturating_add-at.result ≡ min (c.loop-frame.at + frame_length f) (2 ^ 64 - 1) = omega (arith, c.frame_length.ensures, c.saturating_add-at.ensures) in
     let same = next_capped action (2 ^ 64 - 1) c.loop-frame.at c.saturating_add-at.result f rest c.is_wrong_kind.result c.is_wrong_kind.ensures
-    c.if-is_wrong_kind.false sum
+    c.if-is_wrong_kind.false (omega (arith, c.frame_length.ensures, c.saturating_add-at.ensures))
     ∙ sym (ap (λ (l : List (Outcome Frame)). min (offset_in_frames action c.loop-frame.at l) (2 ^ 64 - 1)) left) ∙ c.loop-frame.invariant.same in
     record { fits = omega (arith, c.saturating_add-at.ensures); same = same }
