@@ -11,6 +11,9 @@ use std::time::Duration;
 /// Where the states before are kept.
 pub(crate) const STATE: &str = "/var/lib/conjareho";
 
+/// How long another one at work is waited for.
+const PATIENCE: Duration = Duration::from_secs(10);
+
 const ABOUT: &str = "\
 Brings interfaces from the traffic control configuration that they have to the one that FILE says,
 and leaves alone what is the same in both";
@@ -73,6 +76,8 @@ pub(crate) struct Arguments {
     pub(crate) partial: bool,
     /// Actions that filters of other interfaces hold too aren't changed.
     pub(crate) spares_actions: bool,
+    /// How long another one at work is waited for.
+    pub(crate) patience: Duration,
     pub(crate) dry_run: bool,
     pub(crate) check: bool,
     /// Nothing is said if it worked.
@@ -97,6 +102,7 @@ impl Arguments {
             way: Way::Change,
             partial: false,
             spares_actions: false,
+            patience: PATIENCE,
             dry_run: false,
             check: false,
             quiet: true,
@@ -130,13 +136,19 @@ pub(crate) fn arguments_of(words: impl IntoIterator<Item = OsString>) -> Result<
         dry_run: matches.get_flag("dry-run"),
         check: matches.get_flag("check"),
         quiet: matches.get_flag("quiet"),
-        trial: matches.get_one::<u64>("try").map(|seconds| Duration::from_secs(*seconds)),
+        trial: seconds_of(&matches, "try"),
+        patience: seconds_of(&matches, "wait").unwrap_or(PATIENCE),
+        spares_actions: matches.get_flag("spare-actions"),
         ..Arguments::shared(&mut matches)
     };
     if arguments.trial.is_some() && arguments.command.is_none() && arguments.file.is_none() {
         return Err(command().error(ErrorKind::ArgumentConflict, "--try waits at standard input, which FILE can't be"));
     }
     Ok(arguments)
+}
+
+fn seconds_of(matches: &ArgMatches, name: &str) -> Option<Duration> {
+    matches.get_one::<u64>(name).map(|seconds| Duration::from_secs(*seconds))
 }
 
 fn command() -> Command {
@@ -179,10 +191,13 @@ pub(crate) fn flag(name: &'static str, help: &'static str) -> Arg {
     Arg::new(name).long(name).action(ArgAction::SetTrue).help(help)
 }
 
-fn plans() -> [Arg; 3] {
+fn plans() -> [Arg; 5] {
+    let wait = Arg::new("wait").long("wait").value_name("SECONDS").value_parser(value_parser!(u64).range(0..=86_400));
     [
         flag("dry-run", "Print the plan, and send nothing").short('n').conflicts_with_all(["check", "try", "quiet"]),
         flag("check", "Carry the plan out in a new network namespace, and send nothing here").conflicts_with("try"),
+        flag("spare-actions", "Send nothing if an action would change that other interfaces' filters use too"),
+        wait.help(format!("How long another tcapply is waited for [default: {}]", PATIENCE.as_secs())),
         flag("quiet", "Don't say what was done").short('q'),
     ]
     .map(|arg| arg.help_heading("Plan"))
@@ -230,6 +245,9 @@ mod tests {
         assert_eq!(of(&["-"]).expect("read").file, None);
         assert_eq!(of(&["-n", "f"]).expect("read").state, PathBuf::from(STATE));
         assert!(of(&["-q", "f"]).expect("read").quiet && !of(&["f"]).expect("read").quiet);
+        assert!(of(&["--spare-actions", "f"]).expect("read").spares_actions && !of(&["f"]).expect("read").spares_actions);
+        let patience = |words: &[&str]| of(words).expect("read").patience.as_secs();
+        assert_eq!([patience(&["f"]), patience(&["--wait", "0", "f"]), patience(&["--wait", "90", "f"])], [10, 0, 90]);
     }
 
     #[test]

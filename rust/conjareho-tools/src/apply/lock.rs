@@ -1,6 +1,5 @@
 //! A lock of a network namespace: one tcapply at a time.
 
-use super::arguments::Way;
 use super::scratch::OWN_NETWORK;
 use super::status::Ended;
 use super::status::Status;
@@ -12,9 +11,6 @@ use std::os::fd::AsRawFd as _;
 use std::thread::sleep;
 use std::time::{Duration, Instant};
 
-/// How long it is waited for: by tcrestore longer, of which there may be one for each interface when a machine starts.
-const PATIENCE: Duration = Duration::from_secs(10);
-const PATIENCE_OF_RESTORES: Duration = Duration::from_secs(90);
 const PAUSE: Duration = Duration::from_millis(50);
 
 /// A lock, as long as it is there.
@@ -23,9 +19,9 @@ pub(crate) struct Lock {
     _file: File,
 }
 
-/// The lock of this network namespace: of the file by which the kernel shows it. The error is that another has it, that a signal came, or what failed.
-pub(crate) fn lock(way: Way, signal: &dyn Fn() -> Option<&'static str>) -> Result<Lock, Ended> {
-    let patience = if way == Way::Change { PATIENCE } else { PATIENCE_OF_RESTORES };
+/// The lock of this network namespace: of the file by which the kernel shows it. The error is that another has it for so long, that a signal came, or what
+/// failed.
+pub(crate) fn lock(patience: Duration, signal: &dyn Fn() -> Option<&'static str>) -> Result<Lock, Ended> {
     let failed = |error: io::Error| Ended::because(Status::Failed, vec![format!("the lock of {OWN_NETWORK}: {error}")]);
     let file = File::open(OWN_NETWORK).map_err(failed)?;
     let until = Instant::now() + patience;
@@ -52,9 +48,12 @@ mod tests {
 
     #[test]
     fn one_has_it() {
-        let first = lock(Way::Change, &|| None).expect("locked");
-        assert_eq!(lock(Way::Change, &|| Some("SIGINT")).expect_err("held").said[0], "SIGINT came");
+        const MINUTE: Duration = Duration::from_secs(60);
+        let first = lock(MINUTE, &|| None).expect("locked");
+        assert_eq!(lock(MINUTE, &|| Some("SIGINT")).expect_err("held").said[0], "SIGINT came");
+        let said = &lock(Duration::ZERO, &|| None).expect_err("held").said[0];
+        assert_eq!(said, "another tcapply has been at work for 0 seconds");
         drop(first);
-        lock(Way::Change, &|| Some("SIGINT")).expect("free again");
+        lock(MINUTE, &|| Some("SIGINT")).expect("free again");
     }
 }

@@ -109,7 +109,7 @@ fn opened(name: &'static str, arguments: &Arguments, said: &mut Vec<String>) -> 
     if arguments.check {
         return trial::check(arguments, file, &mut world, said);
     }
-    let _lock = lock::lock(arguments.way, &signal)?;
+    let _lock = lock::lock(arguments.patience, &signal)?;
     let mut hold = || {
         let Some(time) = arguments.trial else { return Ok(()) };
         // Not through a buffer, which would keep what isn't asked for yet.

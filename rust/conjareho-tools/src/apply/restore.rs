@@ -4,6 +4,10 @@ use super::arguments::{Arguments, STATE, Way, flag, pair_of};
 use ::clap::builder::NonEmptyStringValueParser;
 use ::clap::{Arg, ArgAction, Command, Error, value_parser};
 use std::ffi::OsString;
+use std::time::Duration;
+
+/// How long another one at work is waited for: there may be one for each interface when a machine starts.
+const PATIENCE: Duration = Duration::from_secs(90);
 
 const ABOUT: &str = "\
 Restores traffic control as tcsave saved it: qdiscs, classes, filters, chains and actions
@@ -42,6 +46,7 @@ pub(crate) fn arguments_of(words: impl IntoIterator<Item = OsString>) -> Result<
         way: if matches.get_flag("clear") { Way::Anew } else { Way::Beside },
         partial: matches.get_flag("partial"),
         spares_actions: !matches.get_flag("replace-actions"),
+        patience: PATIENCE,
         ..Arguments::shared(&mut matches)
     })
 }

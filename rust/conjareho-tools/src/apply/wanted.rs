@@ -142,10 +142,15 @@ fn save_in(arguments: &Arguments, file: Vec<u8>) -> Result<Save, Ended> {
         return Err(Ended::because(Status::NothingSent, vec![said]));
     }
     let save = read_save(file).map_err(|error| refused(error.to_string()))?;
-    if arguments.way == Way::Anew && save.head.is_none() {
-        return Err(refused("--clear requires a save with a head and an end".to_string()));
+    // Indices may be other interfaces' today.
+    match arguments.way {
+        _ if save.head.is_some() => Ok(save),
+        Way::Anew => Err(refused("--clear requires a save with a head and an end".to_string())),
+        Way::Change if arguments.dev.is_none() => {
+            Err(refused("it has no head with names of interfaces: --dev DEV says which one it is of".to_string()))
+        }
+        Way::Change | Way::Beside => Ok(save),
     }
-    Ok(save)
 }
 
 // The names of the save, and the interfaces that have them today.

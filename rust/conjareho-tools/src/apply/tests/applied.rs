@@ -38,6 +38,19 @@ fn what_is_there_already_takes_no_request() {
     assert_eq!((ran.status, ran.said.as_str()), (Status::Restored, ""));
 }
 
+// Indices of yesterday may be other interfaces' today.
+#[test]
+fn a_save_without_a_head_is_taken_for_the_interface_that_is_named() {
+    let whole = saved(tree(1000));
+    let lines: Vec<&str> = whole.lines().collect();
+    let old = lines[1..lines.len() - 1].join("\n");
+    let ran = run(&old, tree(2000), &Fake::new(taking()));
+    assert_eq!((ran.status, ran.sent.len()), (Status::NothingSent, 0));
+    assert!(ran.said.contains("--dev DEV"), "{}", ran.said);
+    let ran = run_held(&["--dev", "wan"], &old, tree(2000), &Fake::new(taking()), || Ok(()));
+    assert_eq!((ran.status, plain(&ran.objects)), (Status::Restored, plain(&tree(1000))), "{}", ran.said);
+}
+
 #[test]
 fn a_changed_class_takes_one_request() {
     let mut wanted = tree(1000);
