@@ -3,6 +3,7 @@
 use crate::Fault;
 use crate::names::{constant, ident, snake, type_name, variant};
 use crate::notation::{Block, ByKind, Form, KINDS, Line, List, Tables};
+use crate::usage::usage;
 use crate::uses::{Uses, bits_of, rust_number};
 use std::collections::{BTreeMap, BTreeSet};
 use std::fmt::Write as _;
@@ -64,6 +65,11 @@ pub(crate) fn page(tables: &Tables) -> String {
     page
 }
 
+/// The module of a block, below `kinds`.
+pub(crate) fn path_of(block: &Block) -> String {
+    block.file.split('/').map(ident).collect::<Vec<_>>().join("::")
+}
+
 fn module(name: &str, about: &str, text: &str) -> String {
     format!("#[doc = {about:?}]\npub mod {} {{\n#[allow(unused_imports)]\nuse crate::kinds::prelude::*;\n{text}}}\n", ident(name))
 }
@@ -104,8 +110,7 @@ impl Writer<'_> {
 
     /// The names of all types, which each module imports.
     fn prelude(&self) -> String {
-        let path = |block: &Block| block.file.split('/').map(ident).collect::<Vec<_>>().join("::");
-        let outside: BTreeSet<String> = self.typed().filter(|it| !self.is_at_root(it)).map(path).collect();
+        let outside: BTreeSet<String> = self.typed().filter(|it| !self.is_at_root(it)).map(path_of).collect();
         let uses: String = outside.iter().map(|path| format!("pub(super) use super::{path}::*;\n")).collect();
         format!("mod prelude {{\npub(super) use super::*;\n{uses}}}\n")
     }
@@ -115,10 +120,7 @@ impl Writer<'_> {
         let value = self.form(form, "").value;
         let name = value.strip_prefix("Attrs<").and_then(|value| value.strip_suffix('>')).unwrap_or(&value);
         match self.typed().find(|block| type_name(&block.sort, &block.names[0]) == name) {
-            Some(block) => {
-                let path = block.file.split('/').map(ident).collect::<Vec<_>>().join("::");
-                format!("[`{name}`](crate::kinds::{path}::{name})")
-            }
+            Some(block) => format!("[`{name}`](crate::kinds::{}::{name})", path_of(block)),
             None => format!("`{value}`"),
         }
     }
@@ -150,7 +152,7 @@ impl Writer<'_> {
             Some(Form::Struct(header)) if self.is_at_root(block) => format!("A message without its netlink header: `struct {header}` and attributes"),
             _ => format!("`struct {name}`"),
         };
-        let about = about(&what, block);
+        let about = about(&what, block) + &usage(self.tables, block);
         format!("record! {{ {}{} {{\n{}}} }}\n", attributes(&about, name), type_name("struct", name), fields.collect::<String>())
     }
 
@@ -162,9 +164,11 @@ impl Writer<'_> {
             let front = format!("{}{} {} with_{method}", attributes(&doc, &line.kernel), variant(&line.name), ident(&method));
             Some(format!("{front} {:?} {:?} {} {} ({value}) ({layout}) ({taken}),\n", line.name, layer(form), line.number, flags_of(form)))
         });
-        let about = about(&format!("An attribute of the list `{name}`"), block);
+        let type_name = type_name("list", name);
+        let getters = format!("A list of them is an [`Attrs`]`<{type_name}>`, which has a getter for each, and a method `with_..` that appends it.");
+        let about = format!("{}\n\n{getters}{}", about(&format!("An attribute of the list `{name}`"), block), usage(self.tables, block));
         let kinds = self.uses.kinds(name);
-        format!("attrs! {{ {}{} {kinds} {{\n{}}} }}\n", attributes(&about, ""), type_name("list", name), rows.collect::<String>())
+        format!("attrs! {{ {}{type_name} {kinds} {{\n{}}} }}\n", attributes(&about, ""), rows.collect::<String>())
     }
 
     fn named_number(&self, block: &Block, name: &str) -> String {
@@ -203,7 +207,7 @@ impl Writer<'_> {
             let front = format!("{}{} {:?} {:?}", attributes(&self.doc_of(line), ""), variant(&line.name), line.name, layer(form));
             Some(format!("{front} [{}] {:?}, ({value}) ({layout}),\n", prefix.join(", "), line.length))
         });
-        let about = about(&format!("One of the forms of `{name}`"), block);
+        let about = about(&format!("One of the forms of `{name}`"), block) + &usage(self.tables, block);
         format!("choice! {{ {}{} {{\n{}}} }}\n", attributes(&about, ""), type_name("choice", name), rows.collect::<String>())
     }
 
@@ -302,8 +306,7 @@ impl Writer<'_> {
             parts.push("big-endian in the message".to_string());
         }
         if let Some(block) = self.tables.blocks.iter().find(|block| block.sort == "names" && block.names.first() == Some(&line.names)) {
-            let path = block.file.split('/').map(ident).collect::<Vec<_>>().join("::");
-            parts.push(format!("named in [`{}`](crate::kinds::{path}::{})", line.names, ident(&line.names)));
+            parts.push(format!("named in [`{}`](crate::kinds::{}::{})", line.names, path_of(block), ident(&line.names)));
         }
         if !line.comment.is_empty() {
             parts.push(escaped(&line.comment));

@@ -29,17 +29,23 @@ impl Default for Sizes {
     }
 }
 
+impl Sizes {
+    /// What a packet of this size with its overhead counts as.
+    pub(super) fn counted(self, size: u64) -> u64 {
+        match (size.max(self.mpu.into()), self.linklayer) {
+            (size, TcLinklayer::Atm) => size.div_ceil(48) * 53,
+            (size, _) => size,
+        }
+    }
+}
+
 impl Ratespec {
     /// The record of a rate, and its rate table: the ticks of 256 sizes.
     #[must_use]
     pub fn with_table(rate: Rate, sizes: Sizes) -> (Self, Bytes) {
         let mtu = if sizes.mtu == 0 { 2047 } else { sizes.mtu };
         let cell_log = (0..31).find(|log| mtu >> log <= 255).unwrap_or(31);
-        let counted = |size: u64| match (size.max(sizes.mpu.into()), sizes.linklayer) {
-            (size, TcLinklayer::Atm) => size.div_ceil(48) * 53,
-            (size, _) => size,
-        };
-        let cells = (1..=256u64).map(|cell| u32::try_from(counted(cell << cell_log)).unwrap_or(u32::MAX));
+        let cells = (1..=256u64).map(|cell| u32::try_from(sizes.counted(cell << cell_log)).unwrap_or(u32::MAX));
         let table: Vec<u8> = cells.flat_map(|size| rate.ticks(size).0.to_le_bytes()).collect();
         let spec = Ratespec {
             cell_log,
@@ -83,6 +89,23 @@ impl From<Htb> for Options {
 }
 
 /// A class of htb as `tc class add .. htb` makes it.
+///
+/// It can be had from options that were read, to be changed and sent again. So can [`Htb`], [`Tbf`] and [`PoliceAction`].
+///
+/// ```
+/// use conjareho::kinds::{HtbClass, Message};
+/// use conjareho::requests::{Object, Verb};
+///
+/// # let class = HtbClass::new("60mbit".parse()?);
+/// # let bytes = Message::on(2).handle("1:10".parse()?).parent("1:".parse()?).of(class).to_bytes()?;
+/// // `bytes` is a class, as a socket received it, without its netlink header.
+/// let read = Message::parse(&bytes)?;
+/// let mut class = HtbClass::try_from(read.options().ok_or("no options")?)?;
+/// class.ceil = "80mbit".parse()?;
+/// let class = Message::on(read.header.index).handle(read.header.handle).parent(read.header.parent).of(class);
+/// let request = class.request(Object::Class, Verb::Change, 1)?;
+/// # Ok::<(), Box<dyn std::error::Error>>(())
+/// ```
 #[derive(Clone, Copy, PartialEq, Eq, Hash, Debug)]
 pub struct HtbClass {
     /// Its guaranteed rate.
@@ -107,18 +130,24 @@ impl HtbClass {
     pub fn new(rate: Rate) -> Self {
         HtbClass { rate, ceil: rate, burst: 0, cburst: 0, quantum: 0, prio: 0, sizes: Sizes::default() }
     }
+
+    /// What its packets count as, with the MTU that stands for 0.
+    fn sizes(&self) -> Sizes {
+        Sizes { mtu: if self.sizes.mtu == 0 { 1600 } else { self.sizes.mtu }, ..self.sizes }
+    }
+
+    /// The time of a burst at a rate. 0 stands for the least one: a packet, and what a nanosecond sends.
+    pub(super) fn ticks(&self, burst: u32, rate: Rate) -> Ticks {
+        let least = || u32::try_from(rate.0 / 1_000_000_000).unwrap_or(u32::MAX).saturating_add(self.sizes().mtu);
+        rate.ticks(if burst == 0 { least() } else { burst })
+    }
 }
 
 impl From<HtbClass> for Options {
     fn from(class: HtbClass) -> Self {
-        let mtu = if class.sizes.mtu == 0 { 1600 } else { class.sizes.mtu };
-        let sizes = Sizes { mtu, ..class.sizes };
-        let (rate, rate_table) = Ratespec::with_table(class.rate, sizes);
-        let (ceil, ceil_table) = Ratespec::with_table(class.ceil, sizes);
-        // The least burst: a packet, and what a nanosecond sends.
-        let least = |rate: Rate| u32::try_from(rate.0 / 1_000_000_000).unwrap_or(u32::MAX).saturating_add(mtu);
-        let burst = |burst: u32, rate: Rate| rate.ticks(if burst == 0 { least(rate) } else { burst });
-        let (buffer, cbuffer) = (burst(class.burst, class.rate), burst(class.cburst, class.ceil));
+        let (rate, rate_table) = Ratespec::with_table(class.rate, class.sizes());
+        let (ceil, ceil_table) = Ratespec::with_table(class.ceil, class.sizes());
+        let (buffer, cbuffer) = (class.ticks(class.burst, class.rate), class.ticks(class.cburst, class.ceil));
         let parms =
             HtbOpt { rate, ceil, buffer, cbuffer, quantum: class.quantum, prio: class.prio, ..HtbOpt::default() };
         let mut list = HtbAttr::list();

@@ -10,7 +10,8 @@ use core::ops::Deref;
 /// The attributes of a list, in their order.
 ///
 /// Parts of a message that the table doesn't describe are kept and written again: other flags of `nla_type`, nonzero padding, bytes
-/// after a record, a cut or broken attribute at the end. They count for `==`, and [`settle`](Attrs::settle) drops them.
+/// after a record, a cut or broken attribute at the end ([`remainder`](Attrs::remainder)). They count for `==`, and
+/// [`settle`](Attrs::settle) drops them.
 #[derive(Clone, PartialEq, Eq, Hash)]
 pub struct Attrs<A> {
     pub(super) items: Vec<A>,
@@ -37,6 +38,28 @@ macro_rules! list {
                     aside.odd.iter_mut().filter(|odd| odd.at + 1 == len).for_each(|odd| odd.padding = None);
                 }
                 self.items.push(item);
+            }
+
+            /// The bytes after the last whole attribute, where the next is cut or broken. They are written again, until a
+            /// [`push`](Self::push) drops them. Empty if all bytes are attributes.
+            ///
+            /// ```
+            /// use conjareho::kinds::Message;
+            /// use conjareho::{DecodeError, NlasIterator};
+            ///
+            /// let mut bytes = Message::on(2).with_kind("fq_codel").to_bytes()?;
+            /// bytes.extend([8, 0, 11, 0]); // TCA_CHAIN without its number
+            /// let message = Message::parse(&bytes)?;
+            /// assert_eq!(message.attributes.remainder(), [8, 0, 11, 0]);
+            /// let why = NlasIterator::new(message.attributes.remainder()).find_map(Result::err);
+            /// assert_eq!(why, Some(DecodeError::FrameTooLong { length: 8, left: 4 }));
+            /// # Ok::<(), conjareho::RewriteError>(())
+            /// ```
+            #[doc(alias = "leftover")]
+            #[doc(alias = "trailing")]
+            #[must_use]
+            pub fn remainder(&self) -> &[u8] {
+                self.aside.as_ref().map_or(&[], |aside| &aside.tail)
             }
 
             /// Keeps the attributes for which `is_kept` returns true.
@@ -147,7 +170,8 @@ impl<A: Attr> Attrs<A> {
     }
 }
 
-fn type_of<A: Attr>(item: &A) -> u16 {
+/// `nla_type`, with its flags.
+pub(super) fn type_of<A: Attr>(item: &A) -> u16 {
     item.write(&mut Out::default())
 }
 

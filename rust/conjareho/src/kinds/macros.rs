@@ -49,8 +49,6 @@ macro_rules! attrs {
         $variant:ident $get:ident $with:ident $json:literal $layer:literal $number:literal $flags:literal ($value:ty) ($form:ty) ($taken:ty),
     )* }) => {
         $(#[$about])*
-        ///
-        #[doc = concat!("A list of them is an [`Attrs`]`<", stringify!($name), ">`, which has a getter for each, and a method `with_..` that appends it.")]
         #[derive(Clone, PartialEq, Eq, Hash, Debug)]
         #[non_exhaustive]
         pub enum $name {
@@ -119,6 +117,14 @@ macro_rules! attrs {
             fn kind(&self) -> Option<&str> {
                 match self {
                     $($name::$variant(value) => <$form as Form>::kind(value),)*
+                    $name::Other(_) => None,
+                }
+            }
+
+            #[inline]
+            fn name(&self) -> Option<&'static str> {
+                match self {
+                    $($name::$variant(_) => Some(concat!(stringify!($name), "::", stringify!($variant))),)*
                     $name::Other(_) => None,
                 }
             }

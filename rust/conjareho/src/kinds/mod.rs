@@ -19,6 +19,7 @@ mod no_json;
 mod macros;
 mod builders;
 mod forms;
+mod from_options;
 mod list;
 #[cfg(feature = "serde")]
 mod serde;
@@ -33,6 +34,7 @@ use alloc::vec::Vec;
 pub use builders::{Htb, HtbClass, PoliceAction, Sizes, Tbf, police};
 use core::net::{Ipv4Addr, Ipv6Addr};
 use forms::{Array, Bare, Be, Code, Coded, Each, Empty, Fixed, Kind, List, Pad, Text, Times, Truth};
+pub use from_options::OptionsError;
 pub use list::{Attrs, Indexed};
 pub use units::{NotAProb, NotARate, NotATime, Rate};
 use values::show_flags;

@@ -159,6 +159,8 @@ pub trait Attr: Sized {
     fn write(&self, out: &mut Out) -> u16;
     /// The kind that it names.
     fn kind(&self) -> Option<&str>;
+    /// Its name in Rust, such as `HtbAttr::Parms`. `None` if the table doesn't have it.
+    fn name(&self) -> Option<&'static str>;
 }
 
 /// An attribute as read, the `nla_type` with which it would be written, and the bytes after the record that it holds.
