@@ -22,6 +22,8 @@
 //! assert!(!answers.is_interrupted());
 //! # Ok::<(), conjareho::answers::AnswerError>(())
 //! ```
+//!
+//! The payload is what `Message::parse` of [`kinds`](crate#every-kind-typed), or [`TcMessage`](crate::tc::TcMessage), reads.
 
 use crate::NlasIterator;
 use crate::capture::{CaptureError, Messages, NetlinkMessage, answer_in, errno_name};

@@ -92,6 +92,20 @@ pub mod tc {
 ///
 /// A typed message of [`kinds`](crate#every-kind-typed) writes its request itself, for an [`Object`](requests::Object) and a
 /// [`Verb`](requests::Verb). The other items build requests with the types of [`tc`], and make dumps into the requests that restore them.
+///
+/// ```
+/// # #[cfg(feature = "kinds")]
+/// # fn main() -> Result<(), Box<dyn std::error::Error>> {
+/// use conjareho::kinds::{Handle, Message};
+/// use conjareho::requests::{Object, Verb};
+///
+/// // `tc qdisc add dev .. root fq`, and `tc class show dev ..`, for the interface with index 2.
+/// let add = Message::on(2).parent(Handle::ROOT).with_kind("fq").request(Object::Qdisc, Verb::Add, 1)?;
+/// let show = Message::on(2).request(Object::Class, Verb::Dump, 2)?;
+/// # Ok(()) }
+/// # #[cfg(not(feature = "kinds"))]
+/// # fn main() {}
+/// ```
 pub mod requests {
     pub use crate::tc_requests::{
         ActionKindOption, FilterOption, OfKind, OptionOf, QdiscOption, RequestError, Target, TcKindOption, TcText,

@@ -60,6 +60,9 @@ impl Value {
 /// What the page of a block says about its use. Empty if nothing has it.
 pub(crate) fn usage(tables: &Tables, block: &Block) -> String {
     let usage = Usage { tables, block };
+    if usage.is_message(block) {
+        return "\n\nThe page of [its module](crate::kinds) has an example.".to_string();
+    }
     match BUILT.iter().find(|(name, _)| block.sort == "list" && block.names[0] == *name) {
         Some((_, builders)) => format!("\n\n{builders}."),
         None => usage.example().unwrap_or_else(|| usage.places()),
@@ -99,6 +102,11 @@ impl Usage<'_> {
         }
     }
 
+    /// True for a whole message, which is at the root.
+    fn is_message(&self, block: &Block) -> bool {
+        block.sort == "struct" && self.tables.messages.contains(&Form::Struct(block.names[0].clone()))
+    }
+
     fn has(&self, line: &Line) -> bool {
         line.form.as_ref().is_some_and(|form| self.is_in(form))
     }
@@ -116,8 +124,7 @@ impl Usage<'_> {
     /// A link to the variant or field of a line.
     fn place(&self, holder: &Block, line: &Line) -> String {
         let name = &holder.names[0];
-        let is_message = holder.sort == "struct" && self.tables.messages.contains(&Form::Struct(name.clone()));
-        let path = if is_message || KINDS.contains(&&*holder.sort) { String::new() } else { path_of(holder) + "::" };
+        let path = if self.is_message(holder) || KINDS.contains(&&*holder.sort) { String::new() } else { path_of(holder) + "::" };
         let (of, what) = match (&*holder.sort, &*line.name) {
             ("action", "options") => ("ActionOptions".to_string(), variant(name)),
             ("qdisc" | "filter", "options") => ("Options".to_string(), variant(name)),

@@ -58,7 +58,11 @@ impl fmt::Display for OptionsError {
 impl core::error::Error for OptionsError {}
 
 /// Checks that each attribute of a list has a field and is there once, but for those that are computed anew, or only reported.
-fn check<A: Attr>(list: &Attrs<A>, is_dropped: fn(&A) -> bool, has_field: fn(&A) -> bool) -> Result<(), OptionsError> {
+fn check<A: Attr>(
+    list: &Attrs<A>,
+    is_dropped: impl Fn(&A) -> bool,
+    has_field: impl Fn(&A) -> bool,
+) -> Result<(), OptionsError> {
     if list.aside.is_some() {
         return Err(OptionsError::NotSettled);
     }

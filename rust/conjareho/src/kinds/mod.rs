@@ -1,9 +1,35 @@
 //! Typed values of every kind: options, statistics, actions and extended matches.
 //!
-//! [`Message`] and [`ActionMessage`] are whole messages. Each file of the tables has a module, such as [`qdiscs::htb`], with a struct
-//! for each record, an enum for each list of attributes, each named number and each choice, and a set of flags for each flag word.
-//! [`Options`], [`ActionOptions`] and [`Statistics`] are enums by kind, and [`table`] lists all kinds with their types. Names are the
-//! kernel's in Rust's case, and the search finds the kernel's own, such as `TCA_HTB_RATE64`.
+//! [`Message`] and [`ActionMessage`] are whole messages. A socket's datagrams are cut into messages by [`answers`](crate::answers), files
+//! by [`capture`](crate::capture), and [`Message::request`] writes what a socket sends.
+//!
+//! ```
+//! use conjareho::kinds::qdiscs::fq_codel::FqCodelAttr;
+//! use conjareho::kinds::{Message, Options};
+//! use conjareho::requests::{Object, Verb};
+//!
+//! # let options = FqCodelAttr::list().with_target(5000).with_limit(10240);
+//! # let payload = Message::on(2).handle("1:".parse()?).parent("root".parse()?).of(options).to_bytes()?;
+//! // `payload` is a qdisc, as a socket received it, without its netlink header.
+//! let mut message = Message::parse(&payload)?;
+//! assert_eq!((message.kind(), message.header.index), ("fq_codel", 2));
+//! if let Some(basic) = message.stats().and_then(|stats| stats.basic()) {
+//!     println!("{} bytes, {} packets", basic.bytes, basic.packets);
+//! }
+//! // Half the limit, and a request for this change.
+//! if let Some(Options::FqCodel(list)) = message.options_mut() {
+//!     let limit = list.limit().copied().unwrap_or(10240);
+//!     list.set(FqCodelAttr::Limit(limit / 2));
+//! }
+//! let request = message.request(Object::Qdisc, Verb::Change, 1)?;
+//! # Ok::<(), Box<dyn std::error::Error>>(())
+//! ```
+//!
+//! Each file of the tables has a module, such as [`qdiscs::htb`], with a struct for each record, an enum for each list of attributes,
+//! each named number and each choice, and a set of flags for each flag word. The page of a kind's options has an example: of fq_codel
+//! it is [`FqCodelAttr`](qdiscs::fq_codel::FqCodelAttr). [`Options`], [`ActionOptions`] and [`Statistics`] are enums by kind, and
+//! [`table`] lists all kinds with their types. Names are the kernel's in Rust's case, and the search finds the kernel's own, such as
+//! `TCA_HTB_RATE64`. [`Htb`], [`HtbClass`], [`Tbf`] and [`PoliceAction`] compute what `tc` computes.
 //!
 //! A generator (`rust/kinds`) writes this module from the tables in `kinds/`. It is tested, and not proved: `rust/check` compares
 //! the JSON of typed values with the JSON of the proved forms on all messages that the repository has, and reads and writes a
