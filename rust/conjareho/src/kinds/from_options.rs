@@ -131,7 +131,7 @@ fn kernel_ticks(rate: Rate, sizes: Sizes, bytes: u32) -> u64 {
 impl TryFrom<&Options> for Htb {
     type Error = OptionsError;
 
-    /// The qdisc of options that were read. The number of packets that weren't shaped is dropped.
+    /// The qdisc of options that were read. What the kernel only reports is dropped: the number of packets that weren't shaped.
     fn try_from(options: &Options) -> Result<Self, OptionsError> {
         let Options::Htb(list) = options else {
             return Err(OptionsError::Kind { found: options.kind(), needed: "htb" });
