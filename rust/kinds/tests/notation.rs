@@ -69,6 +69,9 @@ fn the_tables_of_the_repository_are_written() {
         "latency \"latency\" \"\" (Ticks) (Coded<Ticks, u32>)",
         "pub const _802_1Q: u16 = 33024;",
         "Flower actions,",
+        "let options = FqCodelAttr::list().with_target(5000).with_limit(1000);\\nlet message = Message::on(2).parent(Handle::ROOT).of(options);",
+        "NetemQopt { latency: Duration::from_millis(10).into(), limit: 1000, ..NetemQopt::default() }",
+        "In [`NetemAttr::Loss`](crate::kinds::qdiscs::netem::NetemAttr::Loss).",
     ] {
         assert!(types.contains(part), "{part} isn't there");
     }
