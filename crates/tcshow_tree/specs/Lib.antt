@@ -1,0 +1,4 @@
+pub mod Forest
+pub mod Nodes
+pub mod Tree
+pub mod Words
