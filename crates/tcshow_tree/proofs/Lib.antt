@@ -1,0 +1,4 @@
+pub mod Firsts
+pub mod Lines
+pub mod Links
+pub mod Walks

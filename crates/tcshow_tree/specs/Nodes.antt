@@ -1,5 +1,5 @@
 -- The nodes of a tree: interfaces, the objects on them, and lines that are about no object.
-use Rattle.std.specs.Prelude.{◌≡◌, ℕ, ◌+◌, ◌==◌, ◌||◌, List, [], ◌∷◌, ◌++◌, bytes_eq, if◌then◌else◌, is_some, map, Option, None, position, Vec}
+use Rattle.std.specs.Prelude.{◌≡◌, ℕ, Bool, ◌+◌, ◌==◌, ◌||◌, List, [], ◌∷◌, ◌++◌, bytes_eq, if◌then◌else◌, is_some, map, Option, None, position, Vec}
 use Rattle.std.specs.Prelude.{nat_eq}
 use Rattle.std.specs.List.{slice_split}
 use Rattle.std.specs.HashMap as hash
@@ -91,6 +91,9 @@ mended nodes = mended_from nodes (preorder (parents nodes)) 0 nodes
 
 -- ---- the map of keys
 
+abbrev pub same_key : Vec ℕ Global → Vec ℕ Global → Bool
+same_key a b = pointwise nat_eq a.items b.items
+
 -- it has the place of the first node with each key
 abbrev pub IsIndex : Nodes → Type 0
-IsIndex nodes = (key : Vec ℕ Global) → hash.get (λ (a b : Vec ℕ Global). pointwise nat_eq a.items b.items) nodes.places key ≡ first (see_all nodes) key.items
+IsIndex nodes = (key : Vec ℕ Global) → hash.get same_key nodes.places key ≡ first (see_all nodes) key.items

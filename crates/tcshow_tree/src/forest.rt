@@ -1,6 +1,6 @@
 //! Forests: each place has a parent, which is another place, or none.
 
-ghost use Rattle.std.specs.Prelude.{◌≡◌, ℕ, ◌<◌, IfOk, None, Option, get_or, length, nat_eq};
+ghost use Rattle.std.specs.Prelude.{◌≡◌, ℕ, ◌<◌, IfOk, None, Option, false, get_or, length, nat_eq};
 ghost use Rattle.std.specs.HashMap as hash;
 ghost use Rattle.std.specs.Option.{option_eq};
 ghost use Rattle.tcshow_tree.specs.Forest.{IsLinked, children, is_reached, preorder};
@@ -60,14 +60,15 @@ pub(crate) fn preorder(
     let mut open = Vec::new(alloc);
     open.push((links.first_of(None), 0))?;
     'walk: while let Some((at, depth)) = open.pop() {
-        match at {
-            Some(place) if depth < parents.len() => {
-                order.push((place, depth))?;
-                open.push((links.next_of(place), depth))?;
-                open.push((links.first_of(Some(place)), depth + 1))?;
-            }
-            _ => {}
+        let Some(place) = at else {
+            continue;
+        };
+        if depth >= parents.len() {
+            continue;
         }
+        order.push((place, depth))?;
+        open.push((links.next_of(place), depth))?;
+        open.push((links.first_of(Some(place)), depth + 1))?;
     }
     Ok(order)
 }

@@ -1,8 +1,7 @@
 //! The nodes of lines, and their parents.
 
-ghost use Rattle.std.specs.Prelude.{◌≡◌, ◌++◌, ◌∷◌, [], ⊤, IfOk, OnOk, List, ℕ, get_or, length, ◌<◌};
-ghost use Rattle.tcshow_tree.specs.Forest.{is_reached, preorder};
-ghost use Rattle.tcshow_tree.specs.Nodes.{IsIndex, found, mended, nodes_of, parent_of, parents, see, see_all, with_line};
+ghost use Rattle.std.specs.Prelude.{◌≡◌, ◌++◌, ◌∷◌, [], IfOk, OnOk, get_or, if◌then◌else◌, map};
+ghost use Rattle.tcshow_tree.specs.Nodes.{IsIndex, found, mended, nodes_of, parent_of, parents, see, see_all, with_interface, with_line};
 
 use crate::forest::{preorder, reached};
 use crate::node::{Node, node_of, top_node};
@@ -14,7 +13,7 @@ use std::hash::{BuildHasherDefault, FoldHasher};
 /// Nodes, and the place of the first one with each key.
 #[derive(Drop)]
 pub(crate) struct Nodes {
-    pub(crate) list: Vec<Node>,
+    list: Vec<Node>,
     places: HashMap<Vec<u8>, usize, BuildHasherDefault<FoldHasher>, Global>,
 }
 
@@ -24,10 +23,12 @@ impl Nodes {
         ensures list { OnOk result (see_all self.new ≡ see_all self.old ++ see node ∷ []) }
         ensures index { OnOk result (IsIndex self.new) }
     {
-        if !self.places.contains_key(&node.key) {
-            let key = Vec::from_slice(alloc, &node.key)?;
-            self.places.insert(key, self.list.len())?;
+        if self.places.contains_key(&node.key) {
+            self.list.push(node)?;
+            return Ok(());
         }
+        let key = Vec::from_slice(alloc, &node.key)?;
+        self.places.insert(key, self.list.len())?;
         self.list.push(node)?;
         Ok(())
     }
@@ -43,6 +44,19 @@ impl Nodes {
         self.places.get(key).copied()
     }
 
+    // Adds an interface, unless it is there.
+    fn add_interface(&mut self, alloc: Global, on: &Vec<u8>) -> Result<(), AllocError>
+        requires { IsIndex self.old }
+        ensures list { OnOk result (see_all self.new ≡ with_interface (see_all self.old) on.now.items) }
+        ensures index { OnOk result (IsIndex self.new) }
+    {
+        if on.is_empty() || self.find(on).is_some() {
+            return Ok(());
+        }
+        let node = top_node(alloc, on, on)?;
+        self.push(alloc, node)
+    }
+
     // Adds the node of a line, and before it that of its interface if it isn't there.
     fn add(&mut self, alloc: Global, line: &[u8]) -> Result<(), AllocError>
         requires { IsIndex self.old }
@@ -53,11 +67,18 @@ impl Nodes {
             return Ok(());
         }
         let node = node_of(alloc, line)?;
-        if !node.interface.is_empty() && self.find(&node.interface).is_none() {
-            let interface = top_node(alloc, &node.interface, &node.interface)?;
-            self.push(alloc, interface)?;
-        }
+        self.add_interface(alloc, &node.interface)?;
         self.push(alloc, node)
+    }
+
+    /// The text of a node.
+    pub(crate) fn text_of(&self, place: usize) -> &[u8]
+        ensures { result.now ≡ get_or (map (λ node. node.text) (see_all self.now)) place [] }
+    {
+        if place >= self.list.len() {
+            return b"";
+        }
+        &self.list[place].text
     }
 
     fn parent_of(&self, node: &Node) -> Option<usize>
@@ -70,6 +91,18 @@ impl Nodes {
                 Some(place) => Some(place),
                 None => self.find(&node.interface),
             },
+        }
+    }
+
+    // The parent of a node. Of one that no walk comes to its interface.
+    fn mended_parent(&self, node: &Node, is_reached: bool) -> Option<usize>
+        requires { IsIndex self.now }
+        ensures { result ≡ (if is_reached then parent_of (see_all self.now) (see node.now) else found (see_all self.now) node.now.interface.items) }
+    {
+        if is_reached {
+            self.parent_of(node)
+        } else {
+            self.find(&node.interface)
         }
     }
 
@@ -94,11 +127,7 @@ impl Nodes {
         let flags = reached(alloc, &order, self.list.len())?;
         let mut made = Vec::new(alloc);
         for (place, node) in self.list.iter().enumerate() {
-            if flags[place] {
-                made.push(self.parent_of(node))?;
-            } else {
-                made.push(self.find(&node.interface))?;
-            }
+            made.push(self.mended_parent(node, flags[place]))?;
         }
         Ok(made)
     }

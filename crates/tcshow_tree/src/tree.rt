@@ -21,9 +21,7 @@ fn put_visit(out: &mut Vec<u8>, nodes: &Nodes, visit: (usize, usize)) -> Result<
     ensures { OnOk result (out.new.items ≡ out.old.items ++ line_of (see_all nodes.now) visit) }
 {
     put_margin(out, visit.1.min(64))?;
-    if let Some(node) = nodes.list.get(visit.0) {
-        out.extend_from_slice(&node.text)?;
-    }
+    out.extend_from_slice(nodes.text_of(visit.0))?;
     out.extend_from_slice(b"\n")
 }
 

@@ -7,19 +7,34 @@ ghost use Rattle.tcshow_tree.specs.Words.{is_interface, is_object, joined, major
 
 use std::alloc::{AllocError, Global};
 
+// The place of the first byte of this number, or the text's length if it has none.
+fn place_of(text: &[u8], number: u8) -> usize
+    ensures { result ≡ position_or_len (λ b. b == number) text.now }
+{
+    let mut at = 0;
+    let mut left = text;
+    'each: while let [byte, rest @ ..] = left {
+        if *byte == number {
+            return at;
+        }
+        at += 1;
+        left = rest;
+    }
+    at
+}
+
 /// The parts of a text before and after the first byte of this number. If it has none, the text and nothing.
 pub(crate) fn cut(text: &[u8], number: u8) -> (&[u8], &[u8])
     ensures before { result.0.now ≡ before_first (λ b. b == number) text.now }
     ensures after { result.1.now ≡ after_first (λ b. b == number) text.now }
 {
-    match text.iter().position(|byte| *byte == number) {
-        Some(at) => {
-            let (before, rest) = text.split_at(at);
-            let (_, after) = rest.split_at(1);
-            (before, after)
-        }
-        None => (text, b""),
+    let at = place_of(text, number);
+    if at >= text.len() {
+        return (text, b"");
     }
+    let (before, rest) = text.split_at(at);
+    let (_, after) = rest.split_at(1);
+    (before, after)
 }
 
 // The word after so many others.
@@ -87,10 +102,12 @@ pub(crate) fn is_object(said: &[u8]) -> bool
 pub(crate) fn major(handle: &[u8]) -> &[u8]
     ensures { result.now ≡ major handle.now }
 {
-    match handle.iter().position(|byte| *byte == b':') {
-        Some(at) => handle.split_at(at + 1).0,
-        None => handle,
+    let at = place_of(handle, b':');
+    if at >= handle.len() {
+        return handle;
     }
+    let (major, _) = handle.split_at(at + 1);
+    major
 }
 
 /// The handle of the class or qdisc that an object is below. Nothing for none.
