@@ -34,6 +34,8 @@ pub struct Arguments<'a> {
     pub format: OutputFormat,
     /// How times of lines are written (`--time`).
     pub time: TimeFormat,
+    /// True if objects are printed below their parents (`--tree`).
+    pub tree: bool,
     /// True if lines have acknowledgements without a text too (`--acks`).
     pub acks: bool,
     /// True if outlines have padding attributes too (`--all`).
@@ -102,6 +104,7 @@ const NOTES: &str = "Examples:
   tcshow --example                       a first look, without a capture
   tcshow f.pcap                          each object on a line, in the words of tc
   tcshow -s --kind htb --dev 7 f.pcap    htb of interface 7, with statistics
+  tcshow --tree save.json                classes, qdiscs and filters below their parents
   tcshow --outline f.pcap                every attribute, each on a line
   tcshow --refused f.pcap                malformed messages and requests the kernel rejected
   tcshow --json f.pcap | jq .message     messages as JSON
@@ -170,7 +173,7 @@ enum Value {
 }
 
 // The options: name, value, heading and text of the help.
-static OPTIONS: [(&str, Value, &str, &str); 25] = [
+static OPTIONS: [(&str, Value, &str, &str); 26] = [
     (
         "example",
         Value::Nothing,
@@ -206,6 +209,12 @@ static OPTIONS: [(&str, Value, &str, &str); 25] = [
         Value::Nothing,
         FORMS,
         "Print acknowledgements without a text too",
+    ),
+    (
+        "tree",
+        Value::Nothing,
+        FORMS,
+        "Print the objects of a dump below their parents, at the end of the input",
     ),
     (
         "outline",
@@ -424,6 +433,7 @@ fn input_group<'a>(alloc: Global) -> Result<ArgGroup<'a>, AllocError> {
 // Output formats, which exclude one another.
 fn form_group<'a>(alloc: Global) -> Result<ArgGroup<'a>, AllocError> {
     ArgGroup::new(alloc, "forms")
+        .arg("tree")?
         .arg("outline")?
         .arg("oneline")?
         .arg("json")
@@ -599,6 +609,7 @@ fn base_arguments<'a>(alloc: Global, matches: &ArgMatches<'a>) -> Arguments<'a> 
         names: matches.get_str("names"),
         format: format_of(matches),
         time: time_of(matches),
+        tree: matches.get_flag("tree"),
         acks: matches.get_flag("acks"),
         all: matches.get_flag("all"),
         without_header: without_header(matches),

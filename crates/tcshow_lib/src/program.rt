@@ -31,6 +31,7 @@ use tc_select::{Filter, LINK_FORMS};
 use tcmake_lines::OutputFormat as MadeFormat;
 use tcshow_colours::{ColouredLines, Styled};
 use tcshow_input::{Packets, Printer, Stop};
+use tcshow_tree::tree_lines;
 
 /// The comparison of two inputs (`--diff`). The program brings it, since it needs the crates that make requests of dumps.
 pub trait Differ {
@@ -401,6 +402,9 @@ fn show_filtered<R: AllocGlobal + Print, I: Read + Drop, E: Write>(
     let options = options_of(arguments, filter, names);
     let mut reader = Reader::new(reader);
     let mut writer = Writer::new(styled(alloc, arguments, io::writer(rt)));
+    if arguments.tree {
+        return serve_tree(alloc, &options, name, &mut reader, &mut writer, errors);
+    }
     serve(
         alloc,
         alloc,
@@ -410,6 +414,53 @@ fn show_filtered<R: AllocGlobal + Print, I: Read + Drop, E: Write>(
         &mut writer,
         errors,
     )
+}
+
+// Prints the messages of an input, objects below their parents.
+fn serve_tree<I: Read, W: Write, E: Write>(
+    alloc: Global,
+    options: &Options<'_>,
+    name: &str,
+    reader: &mut Reader<I>,
+    writer: &mut Writer<W>,
+    errors: &mut E,
+) -> Ended {
+    let mut lines = Vec::new(alloc);
+    let ended = serve(
+        alloc,
+        alloc,
+        options,
+        name,
+        reader,
+        &mut Writer::new(&mut lines),
+        errors,
+    );
+    print_tree(alloc, &lines, ended, writer, errors)
+}
+
+// Prints these lines as a tree, after a run that ended so.
+fn print_tree<W: Write, E: Write>(
+    alloc: Global,
+    lines: &[u8],
+    ended: Ended,
+    writer: &mut Writer<W>,
+    errors: &mut E,
+) -> Ended {
+    let mut tree = Vec::new(alloc);
+    if tree_lines(alloc, &mut tree, lines).is_err() {
+        return fail_without_memory(errors);
+    }
+    match write_all(writer, &tree) {
+        Ok(()) => ended,
+        Err(program_io::Stop::Closed) => Ended {
+            outcome: Err(Stop::Closed),
+            ..ended
+        },
+        Err(stop) => {
+            say_failure(alloc, errors, OUTPUT, writer.failure());
+            Ended::early(Stop::from(stop))
+        }
+    }
 }
 
 // Prints the messages of several files, one after another.
@@ -423,7 +474,7 @@ fn show_each<R: AllocGlobal + Files + Input + Print, E: Write>(
 ) -> Ended {
     let options = options_of(arguments, filter, names);
     let mut writer = Writer::new(styled(rt.alloc(), arguments, io::writer(rt)));
-    show_each_on(rt, &options, files, &mut writer, errors)
+    show_each_on(rt, &options, arguments.tree, files, &mut writer, errors)
 }
 
 // A writer that adds the colors that the arguments ask for.
@@ -432,7 +483,7 @@ fn styled<W: Write + Drop>(alloc: Global, arguments: &Arguments<'_>, writer: W) 
         OutputFormat::Outline if arguments.in_colours => {
             Styled::Outlines(Coloured::new(alloc, writer))
         }
-        OutputFormat::Lines(_) if arguments.in_colours => {
+        OutputFormat::Lines(_) if arguments.in_colours && !arguments.tree => {
             Styled::Lines(ColouredLines::new(alloc, writer))
         }
         _ => Styled::Plain(writer),
@@ -442,6 +493,7 @@ fn styled<W: Write + Drop>(alloc: Global, arguments: &Arguments<'_>, writer: W) 
 fn show_each_on<R: AllocGlobal + Files + Input, W: Write, E: Write>(
     rt: &R,
     options: &Options<'_>,
+    is_tree: bool,
     files: &[&str],
     writer: &mut Writer<W>,
     errors: &mut E,
@@ -450,13 +502,29 @@ fn show_each_on<R: AllocGlobal + Files + Input, W: Write, E: Write>(
     let mut printer = Printer::new(alloc, alloc, options);
     let mut worst = Ended::well();
     for file in files {
-        let ended = show_next(rt, &mut printer, *file, writer, errors);
+        let ended = if is_tree {
+            show_next_tree(rt, &mut printer, *file, writer, errors)
+        } else {
+            show_next(rt, &mut printer, *file, writer, errors)
+        };
         worst = worse(worst, ended);
         if ended.stops_output() {
             return worst;
         }
     }
     worse(worst, finish(alloc, &mut printer, writer, errors))
+}
+
+fn show_next_tree<R: AllocGlobal + Files + Input, W: Write, E: Write>(
+    rt: &R,
+    printer: &mut Printer<'_, Global>,
+    file: &str,
+    writer: &mut Writer<W>,
+    errors: &mut E,
+) -> Ended {
+    let mut lines = Vec::new(rt.alloc());
+    let ended = show_next(rt, printer, file, &mut Writer::new(&mut lines), errors);
+    print_tree(rt.alloc(), &lines, ended, writer, errors)
 }
 
 fn show_next<R: AllocGlobal + Files + Input, W: Write, E: Write>(

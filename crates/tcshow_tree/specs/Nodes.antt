@@ -1,10 +1,10 @@
 -- The nodes of a tree: interfaces, the objects on them, and lines that are about no object.
-use Rattle.std.specs.Prelude.{◌≡◌, ℕ, Bool, ◌+◌, ◌==◌, ◌||◌, List, [], ◌∷◌, ◌++◌, bytes_eq, if◌then◌else◌, is_some, map, Option, None, position, Vec}
+use Rattle.std.specs.Prelude.{◌≡◌, ℕ, Bool, ◌+◌, ◌==◌, ◌||◌, List, [], ◌∷◌, ◌++◌, bytes_eq, if◌then◌else◌, is_some, map, Option, Some, None, position, Vec}
 use Rattle.std.specs.Prelude.{nat_eq}
 use Rattle.std.specs.List.{slice_split}
 use Rattle.std.specs.HashMap as hash
 use Rattle.std.specs.Cmp.Lexicographic.{pointwise}
-use Rattle.std.specs.Option.{option_or}
+use Rattle.std.specs.Option.{option_eq, option_or}
 use Rattle.tcshow_tree.specs.Forest.{is_reached, preorder}
 use Rattle.tcshow_tree.specs.Words.{after_verb, holder, home, interface, is_empty, is_object, joined, major, shown}
 use Rattle.tcshow_tree.specs.declared.node.Node.{Node}
@@ -73,18 +73,28 @@ nodes_of text = with_lines [] (slice_split (λ b. b == 10) text)
 
 -- ---- parents
 
--- the place of what a node is below
-abbrev pub parent_of : List TreeNode → TreeNode → Option ℕ
-parent_of nodes node = option_or (found nodes node.parent) (option_or (found nodes node.qdisc) (found nodes node.interface))
+-- a node is not below itself
+abbrev pub other_than : ℕ → Option ℕ → Option ℕ
+other_than place parent = if option_eq nat_eq parent (Some place) then None else parent
+
+-- what the node at this place is below
+abbrev pub parent_of : List TreeNode → ℕ → TreeNode → Option ℕ
+parent_of nodes place node =
+    option_or (other_than place (found nodes node.parent))
+    (option_or (other_than place (found nodes node.qdisc)) (found nodes node.interface))
+
+abbrev pub parents_from : List TreeNode → ℕ → List TreeNode → List (Option ℕ)
+parents_from nodes place [] = []
+parents_from nodes place (node ∷ rest) = parent_of nodes place node ∷ parents_from nodes (place + 1) rest
 
 abbrev pub parents : List TreeNode → List (Option ℕ)
-parents nodes = map (parent_of nodes) nodes
+parents nodes = parents_from nodes 0 nodes
 
--- the same, but a node that is below itself, or below such, is below its interface
+-- the same, but a node in a circle of parents, or below one, is below its interface
 abbrev pub mended_from : List TreeNode → List (ℕ × ℕ) → ℕ → List TreeNode → List (Option ℕ)
 mended_from nodes order place [] = []
 mended_from nodes order place (node ∷ rest) =
-    (if is_reached order place then parent_of nodes node else found nodes node.interface) ∷ mended_from nodes order (place + 1) rest
+    (if is_reached order place then parent_of nodes place node else found nodes node.interface) ∷ mended_from nodes order (place + 1) rest
 
 abbrev pub mended : List TreeNode → List (Option ℕ)
 mended nodes = mended_from nodes (preorder (parents nodes)) 0 nodes

@@ -1,7 +1,7 @@
 //! The nodes of lines, and their parents.
 
 ghost use Rattle.std.specs.Prelude.{◌≡◌, ◌++◌, ◌∷◌, [], IfOk, OnOk, get_or, if◌then◌else◌, map};
-ghost use Rattle.tcshow_tree.specs.Nodes.{IsIndex, found, mended, nodes_of, parent_of, parents, see, see_all, with_interface, with_line};
+ghost use Rattle.tcshow_tree.specs.Nodes.{IsIndex, found, mended, nodes_of, other_than, parent_of, parents, see, see_all, with_interface, with_line};
 
 use crate::forest::{preorder, reached};
 use crate::node::{Node, node_of, top_node};
@@ -81,26 +81,35 @@ impl Nodes {
         &self.list[place].text
     }
 
-    fn parent_of(&self, node: &Node) -> Option<usize>
+    // The place of the first node with a key, unless it is this one.
+    fn find_other(&self, place: usize, key: &Vec<u8>) -> Option<usize>
         requires { IsIndex self.now }
-        ensures { result ≡ parent_of (see_all self.now) (see node.now) }
+        ensures { result ≡ other_than place (found (see_all self.now) key.now.items) }
     {
-        match self.find(&node.parent) {
-            Some(place) => Some(place),
-            None => match self.find(&node.qdisc) {
-                Some(place) => Some(place),
+        let found = self.find(key);
+        if found == Some(place) { None } else { found }
+    }
+
+    fn parent_of(&self, place: usize, node: &Node) -> Option<usize>
+        requires { IsIndex self.now }
+        ensures { result ≡ parent_of (see_all self.now) place (see node.now) }
+    {
+        match self.find_other(place, &node.parent) {
+            Some(parent) => Some(parent),
+            None => match self.find_other(place, &node.qdisc) {
+                Some(parent) => Some(parent),
                 None => self.find(&node.interface),
             },
         }
     }
 
     // The parent of a node. Of one that no walk comes to its interface.
-    fn mended_parent(&self, node: &Node, is_reached: bool) -> Option<usize>
+    fn mended_parent(&self, place: usize, node: &Node, is_reached: bool) -> Option<usize>
         requires { IsIndex self.now }
-        ensures { result ≡ (if is_reached then parent_of (see_all self.now) (see node.now) else found (see_all self.now) node.now.interface.items) }
+        ensures { result ≡ (if is_reached then parent_of (see_all self.now) place (see node.now) else found (see_all self.now) node.now.interface.items) }
     {
         if is_reached {
-            self.parent_of(node)
+            self.parent_of(place, node)
         } else {
             self.find(&node.interface)
         }
@@ -111,13 +120,13 @@ impl Nodes {
         ensures { IfOk result (λ made. made.items ≡ parents (see_all self.now)) }
     {
         let mut made = Vec::new(alloc);
-        for node in &self.list {
-            made.push(self.parent_of(node))?;
+        for (place, node) in self.list.iter().enumerate() {
+            made.push(self.parent_of(place, node))?;
         }
         Ok(made)
     }
 
-    /// The parent of each node. One that would be below itself, or below such, is below its interface.
+    /// The parent of each node. One in a circle, or below one, is below its interface.
     pub(crate) fn mended(&self, alloc: Global) -> Result<Vec<Option<usize>>, AllocError>
         requires { IsIndex self.now }
         ensures { IfOk result (λ made. made.items ≡ mended (see_all self.now)) }
@@ -127,7 +136,7 @@ impl Nodes {
         let flags = reached(alloc, &order, self.list.len())?;
         let mut made = Vec::new(alloc);
         for (place, node) in self.list.iter().enumerate() {
-            made.push(self.mended_parent(node, flags[place]))?;
+            made.push(self.mended_parent(place, node, flags[place]))?;
         }
         Ok(made)
     }

@@ -2,7 +2,7 @@
 
 ghost use Rattle.std.specs.Prelude.{◌≡◌, ◌==◌, IfOk};
 ghost use Rattle.std.specs.List.{after_first, before_first, position_or_len};
-ghost use Rattle.tcshow_tree.specs.Words.{after_verb, after_words, holder, home, interface, is_class, is_held, is_holder};
+ghost use Rattle.tcshow_tree.specs.Words.{after_interface, after_parent, after_verb, after_words, front, heads, holder, home, interface, is_class, is_held, is_holder};
 ghost use Rattle.tcshow_tree.specs.Words.{is_interface, is_object, joined, major, shown, word};
 
 use std::alloc::{AllocError, Global};
@@ -91,17 +91,37 @@ pub(crate) fn after_verb(line: &[u8]) -> &[u8]
     }
 }
 
-/// True if these words are about an object.
+// How many words precede `dev`.
+fn heads(said: &[u8]) -> usize
+    ensures { result ≡ heads said.now }
+{
+    if word(0, said) == b"chain".as_slice() {
+        2
+    } else {
+        3
+    }
+}
+
+/// True if these words are about an object on an interface.
 pub(crate) fn is_object(said: &[u8]) -> bool
     ensures { result ≡ is_object said.now }
 {
-    (is_holder(word(0, said)) || is_held(word(0, said))) && is_interface(word(3, said))
+    (is_holder(word(0, said)) || is_held(word(0, said))) && is_interface(word(heads(said), said))
+}
+
+fn after_interface(said: &[u8]) -> &[u8]
+    ensures { result.now ≡ after_interface said.now }
+{
+    after_words(heads(said) + 2, said)
 }
 
 /// The handle of the qdisc of a handle.
 pub(crate) fn major(handle: &[u8]) -> &[u8]
     ensures { result.now ≡ major handle.now }
 {
+    if handle.starts_with(b":") {
+        return b"-";
+    }
     let at = place_of(handle, b':');
     if at >= handle.len() {
         return handle;
@@ -115,12 +135,13 @@ pub(crate) fn home(said: &[u8]) -> &[u8]
     ensures { result.now ≡ home said.now }
 {
     let object = word(0, said);
-    let place = word(5, said);
-    if place == b"parent".as_slice() {
-        word(6, said)
-    } else if is_class(object) && place == b"root".as_slice() {
+    let place = after_interface(said);
+    let first = word(0, place);
+    if first == b"parent".as_slice() {
+        word(1, place)
+    } else if is_class(object) && first == b"root".as_slice() {
         major(word(2, said))
-    } else if is_held(object) && (place == b"ingress".as_slice() || place == b"egress".as_slice()) {
+    } else if is_held(object) && (first == b"ingress".as_slice() || first == b"egress".as_slice()) {
         b"ffff:"
     } else {
         b""
@@ -138,10 +159,13 @@ pub(crate) fn holder(said: &[u8]) -> &[u8]
     }
 }
 
-/// Two texts with a blank between. The first alone if the second is empty.
+/// Two texts with a blank between. One of them if the other is empty.
 pub(crate) fn joined(alloc: Global, a: &[u8], b: &[u8]) -> Result<Vec<u8>, AllocError>
     ensures { IfOk result (λ made. made.items ≡ joined a.now b.now) }
 {
+    if a.is_empty() {
+        return Vec::from_slice(alloc, b);
+    }
     let mut made = Vec::from_slice(alloc, a)?;
     if !b.is_empty() {
         made.push(b' ')?;
@@ -150,23 +174,39 @@ pub(crate) fn joined(alloc: Global, a: &[u8], b: &[u8]) -> Result<Vec<u8>, Alloc
     Ok(made)
 }
 
+// The first words.
+fn front(alloc: Global, count: usize, text: &[u8]) -> Result<Vec<u8>, AllocError>
+    ensures { IfOk result (λ made. made.items ≡ front count text.now) }
+{
+    let mut made = Vec::new(alloc);
+    for i in 0..count {
+        made = joined(alloc, &made, word(i, text))?;
+    }
+    Ok(made)
+}
+
 /// `dev eth0`.
 pub(crate) fn interface(alloc: Global, said: &[u8]) -> Result<Vec<u8>, AllocError>
     ensures { IfOk result (λ made. made.items ≡ interface said.now) }
 {
-    joined(alloc, word(3, said), word(4, said))
+    let at = heads(said);
+    joined(alloc, word(at, said), word(at + 1, said))
+}
+
+fn after_parent(place: &[u8]) -> &[u8]
+    ensures { result.now ≡ after_parent place.now }
+{
+    if word(0, place) == b"parent".as_slice() {
+        after_words(2, place)
+    } else {
+        place
+    }
 }
 
 /// What is printed of an object.
 pub(crate) fn shown(alloc: Global, said: &[u8]) -> Result<Vec<u8>, AllocError>
     ensures { IfOk result (λ made. made.items ≡ shown said.now) }
 {
-    let rest = if word(5, said) == b"parent".as_slice() {
-        after_words(7, said)
-    } else {
-        after_words(5, said)
-    };
-    let made = joined(alloc, word(0, said), word(1, said))?;
-    let made = joined(alloc, &made, word(2, said))?;
-    joined(alloc, &made, rest)
+    let made = front(alloc, heads(said), said)?;
+    joined(alloc, &made, after_parent(after_interface(said)))
 }

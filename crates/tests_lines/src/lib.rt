@@ -1,4 +1,4 @@
-//! Tests of the lines of messages, of the values in them, and of colors.
+//! Tests of the lines of messages, of the values in them, of colors, and of trees.
 #![tactic(auto)]
 
 #[cfg(test)]
@@ -9,5 +9,7 @@ mod colours;
 mod known;
 #[cfg(test)]
 mod parts;
+#[cfg(test)]
+mod tree;
 #[cfg(test)]
 mod values;
