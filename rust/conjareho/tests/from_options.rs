@@ -62,7 +62,7 @@ fn requests_of_iproute2_are_made_again() {
     let mut made = 0;
     let mut compare = |bytes: &[u8], is_action: bool, name: &str| {
         let (options, actions) = options_in(bytes, is_action);
-        for options in options {
+        if let Some(options) = options {
             assert_eq!(any_again(&options).as_ref(), Ok(&options), "{name}");
             made += 1;
         }
