@@ -14,7 +14,7 @@ returns-in_err-made_of_json-clause-refused g c =
     let tc = c.args.forms.tc in
     let action = c.args.forms.action in
     let json = view c.in_ok-json.json in
-    let other : ¬ IsOfKernel json = λ (is : IsOfKernel json). rw c.if-is_answer.false at c.is_answer.ensures.1 is in
+    let other : ¬ IsOfKernel json = λ (is : IsOfKernel json). let no : false ≡ true = sym c.if-is_answer.false ∙ c.is_answer.ensures.1 is in cc in
     let p = err_from_is_err_and c.from_residual-in_err-made_of_json.result c.from_residual-in_err-made_of_json.ensures.1 in
     rw (p.1, p.2)
     (line_says (IsWrong table tc action Restored json) (ShowsNone table tc action c.args.line.items) c.in_err-made_of_json.field-0.0
