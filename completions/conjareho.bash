@@ -40,7 +40,7 @@ _conjareho() {
             --parent) _conjareho_words root ingress clsact; return ;;
             --explain) _conjareho_words $_conjareho_kinds; return ;;
         esac
-        words="-h --help -V --version -r --read --example --no-header --names -s --statistics --time --acks -v --outline --json --oneline --all --color --diff --summary --kind --type --dev --handle --parent --chain --pref --since --until --refused --explain --schema"
+        words="-h --help -V --version -r --read --example --no-header --names -s --statistics --time --acks --tree -v --outline --json --oneline --all --color --diff --summary --kind --type --dev --handle --parent --chain --pref --since --until --refused --explain --schema"
         ;;
     "tcmake")
         case $previous in
