@@ -236,7 +236,7 @@ impl Usage<'_> {
             Form::Bits(_, name) => named("bits", name, |block| Some(constant(&block.lines.first()?.name)))?,
             Form::Leaf(leaf) if leaf == "handle" => Value::of("Handle::new(1, 0x10)").using("conjareho::kinds", "Handle"),
             Form::Leaf(leaf) if leaf == "ipv4" => Value::of(format!("Ipv4Addr::new(10, 0, 0, {number})")).using("std::net", "Ipv4Addr"),
-            Form::Leaf(_) => Value::of("\"eth0\""),
+            Form::Leaf(_) => Value { text: "\"eth0\"".to_string(), ..Value::default() },
             Form::Struct(name) => self.value_of(self.find("struct", name)?, 1)?,
             Form::Indexed(_) => {
                 let part = Some((".len()".to_string(), "1".to_string()));
