@@ -102,10 +102,10 @@ fn deep_trees(rt: HostRuntime) -> Result<(), Fail> {
     let mut out = Vec::new(alloc);
     tree_lines(alloc, &mut out, lines.as_bytes())?;
     let mut deepest = 0;
-    let mut count = 0;
+    let mut count = 0u32;
     for line in out.split(|byte| *byte == b'\n') {
         let blanks = line.iter().take_while(|byte| **byte == b' ').count();
-        count += 1;
+        count = u32::wrapping_add(count, 1);
         if blanks > deepest {
             deepest = blanks;
         }
