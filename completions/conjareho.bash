@@ -72,7 +72,7 @@ _conjareho() {
             --dev) _conjareho_devices; return ;;
             --state) _filedir -d; return ;;
         esac
-        words="-h --help -V --version -n --dry-run --check -q --quiet --dev --map --try --no-rollback --state"
+        words="-h --help -V --version -n --dry-run --check --spare-actions --wait -q --quiet --dev --map --try --no-rollback --state"
         ;;
     "tcnl")
         case $previous in

@@ -196,7 +196,7 @@ fn plans() -> [Arg; 5] {
     [
         flag("dry-run", "Print the plan, and send nothing").short('n').conflicts_with_all(["check", "try", "quiet"]),
         flag("check", "Carry the plan out in a new network namespace, and send nothing here").conflicts_with("try"),
-        flag("spare-actions", "Send nothing if an action would change that other interfaces' filters use too"),
+        flag("spare-actions", "Send nothing if an action that other interfaces' filters use would change"),
         wait.help(format!("How long another tcapply is waited for [default: {}]", PATIENCE.as_secs())),
         flag("quiet", "Don't say what was done").short('q'),
     ]
@@ -245,7 +245,8 @@ mod tests {
         assert_eq!(of(&["-"]).expect("read").file, None);
         assert_eq!(of(&["-n", "f"]).expect("read").state, PathBuf::from(STATE));
         assert!(of(&["-q", "f"]).expect("read").quiet && !of(&["f"]).expect("read").quiet);
-        assert!(of(&["--spare-actions", "f"]).expect("read").spares_actions && !of(&["f"]).expect("read").spares_actions);
+        let spares = |words: &[&str]| of(words).expect("read").spares_actions;
+        assert!(spares(&["--spare-actions", "f"]) && !spares(&["f"]));
         let patience = |words: &[&str]| of(words).expect("read").patience.as_secs();
         assert_eq!([patience(&["f"]), patience(&["--wait", "0", "f"]), patience(&["--wait", "90", "f"])], [10, 0, 90]);
     }
