@@ -124,7 +124,7 @@ fn kernel_ticks(rate: Rate, sizes: Sizes, bytes: u32) -> u64 {
         (second, shift) = (second << 1, shift + 1);
     }
     let size = sizes.counted(u64::from(bytes) + u64::from(sizes.overhead));
-    let ns = u128::from(size) * u128::from(second.checked_div(rate.0).unwrap_or(1)) >> shift;
+    let ns = (u128::from(size) * u128::from(second.checked_div(rate.0).unwrap_or(1))) >> shift;
     ns as u64 / 64
 }
 
