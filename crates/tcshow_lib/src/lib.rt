@@ -7,6 +7,7 @@ pub mod arguments;
 mod day;
 pub mod example;
 pub mod filter;
+pub mod hint;
 pub mod inputs;
 pub mod json;
 pub mod kinds;

@@ -13,6 +13,7 @@ use crate::arguments::{Arguments, Task, arguments_of};
 use crate::day::first_time;
 use crate::example::EXAMPLE;
 use crate::filter::{FilterError, FilterValues};
+use crate::hint::{HINT, lacks_header};
 use crate::inputs::{run_next, worse};
 use crate::json::{Made, form_by, joined, made_of, names_in_head, with_fault};
 use crate::kinds::{explain, is_known, put_schema_of_line, write_all_kinds};
@@ -264,8 +265,14 @@ fn show_reader<R: AllocGlobal + Print, I: Read + Drop, E: Write>(
     match Begun::begin(rt.alloc(), &mut reader) {
         Ok(input) => match form_by(input.first()) {
             None => {
+                let is_bare = arguments.without_header.is_none()
+                    && lacks_header(rt.alloc(), input.rest()).unwrap_or(false);
                 let whole = input.rest().chain(reader.into_inner());
-                show_bytes(rt, arguments, names, values, name, whole, errors)
+                let ended = show_bytes(rt, arguments, names, values, name, whole, errors);
+                if is_bare {
+                    say_of(rt.alloc(), errors, name, HINT);
+                }
+                ended
             }
             Some(form) => show_lines(rt, arguments, names, name, form, input, reader, errors),
         },

@@ -4,6 +4,7 @@ use crate::show::runs::{Written, all_in, gives, shown, writes};
 use std::alloc::{AllocError, Global};
 use std::str;
 use std::test::Fail;
+use tcshow_lib::hint::lacks_header;
 use tcshow_lib::options::OutputFormat;
 use tests_data::dumps::{
     HEXDUMP, PLAIN, TCPDUMP, TCPDUMP_TEXT, TSHARK, XXD, XXD_PLAIN, XXD_SINGLE, ZEROS,
@@ -158,4 +159,32 @@ fn other_lines(rt: HostRuntime) -> Result<(), Fail> {
         assert!(rt; outcome.status == 1, "{text}");
     }
     Ok(())
+}
+
+// A message without its netlink header, as xxd prints it.
+const BARE_XXD: &str = "00000000: 0000 0000 0200 0000 0000 0100 ffff ffff  ................";
+
+// Texts, and whether their messages have no netlink header.
+static BARE: [(&str, bool); 10] = [
+    (
+        "000000000200000000000100ffffffff000000000d00010066715f636f64656c00000000\n",
+        true,
+    ),
+    ("02 00 00 00 02 00 00 00 # a family\n02", true),
+    (BARE_XXD, true),
+    (PLAIN, false),
+    (XXD, false),
+    (PLAIN_FRAME, false),
+    (TCPDUMP_FRAME, false),
+    ("10000000", false),
+    ("000000", false),
+    ("# text\n00000000", false),
+];
+
+#[test]
+fn a_missing_header_is_noticed(rt: HostRuntime) {
+    for (text, is_missing) in &BARE {
+        let lacks = lacks_header(rt.alloc(), text.as_bytes());
+        assert!(rt; lacks.ok() == Some(*is_missing), "{text}");
+    }
 }
