@@ -1,6 +1,6 @@
 //! The program: its arguments are obeyed, and how it ends is its exit status.
 
-ghost use Rattle.std.specs.Prelude.{◌≡◌, ◌≢◌, ◌⊎◌, Err, None, OnOk, IfErr, IfSome};
+ghost use Rattle.std.specs.Prelude.{◌≡◌, ◌≢◌, ◌⊎◌, ℕ, List, [], Err, None, OnOk, IfErr, IfSome, Some};
 ghost use Rattle.program_io.specs.Streams.{read_failure, reader_inside, write_failure, writer_inside};
 ghost use Rattle.std.specs.Io.KnownBytes.{Appends};
 ghost use Rattle.tcshow_tree.specs.Tree.{tree_of};
@@ -419,24 +419,22 @@ fn show_filtered<R: AllocGlobal + Print, I: Read + Drop, E: Write>(
 }
 
 // Prints the messages of an input, objects below their parents.
-fn serve_tree<I: Read, W: Write, E: Write>(
+fn serve_tree<R: Read, W: Write, E: Write>(
     alloc: Global,
     options: &Options<'_>,
     name: &str,
-    reader: &mut Reader<I>,
+    reader: &mut Reader<R>,
     writer: &mut Writer<W>,
     errors: &mut E,
-) -> Ended {
-    let mut lines = Vec::new(alloc);
-    let ended = serve(
-        alloc,
-        alloc,
-        options,
-        name,
-        reader,
-        &mut Writer::new(&mut lines),
-        errors,
-    );
+) -> Ended
+    // At the end of the input, the lines of the whole input are written as a tree.
+    ensures { OnOk result.outcome ((lines : List ℕ)
+        × Ran options.now result.has_refused (R.remaining (reader_inside reader.old)) (Some []) (Some lines)
+        × Appends (W.contents (writer_inside writer.old)) (W.contents (writer_inside writer.new)) (tree_of lines)) }
+{
+    let mut text = Writer::new(Vec::new(alloc));
+    let ended = serve(alloc, alloc, options, name, reader, &mut text, errors);
+    let lines = text.into_inner();
     print_tree(alloc, &lines, ended, writer, errors)
 }
 
