@@ -1,6 +1,6 @@
 //! Messages from JSON.
 
-ghost use Rattle.std.specs.Prelude.{◌≡◌, ◌≢◌, ◌⊎◌, IfErr, IfOk, IsUtf8, None, OnOk};
+ghost use Rattle.std.specs.Prelude.{◌≡◌, ◌≢◌, ◌≤◌, ◌⊎◌, IfErr, IfOk, IsUtf8, None, OnOk, length, take};
 ghost use Rattle.nla_frames.specs.Value.{IsBytes};
 ghost use Rattle.serde_json.specs.Read.{read};
 ghost use Rattle.serde_json.specs.View.{view};
@@ -124,7 +124,9 @@ fn explain<E: Display>(
 
 /// Writes the characters of a text that fit into a buffer, and returns their length in bytes.
 fn put_text(text: &str, buffer: &mut [u8]) -> usize
-    ensures { IsText buffer.old buffer.new result }
+    ensures text { IsText buffer.old buffer.new result }
+    ensures front { take result buffer.new ≡ take result text.now }
+    ensures whole { length text.now ≤ length buffer.old → result ≡ length text.now }
 {
     let (front, _) = text.split_at(text.floor_char_boundary(buffer.len()));
     let (place, _) = buffer.split_at_mut(front.len());

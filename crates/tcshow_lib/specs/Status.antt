@@ -19,3 +19,11 @@ status_of (Err NoCapture) refused = 2
 status_of (Err NoRoute) refused = 2
 status_of (Err Closed) refused = refused_status refused
 status_of (Ok x) refused = refused_status refused
+
+-- after these ends nothing more can be written, or no memory is left
+abbrev pub stops_output : {X : Type 0} → Result X Stop → Bool
+stops_output (Err Closed) = true
+stops_output (Err Write) = true
+stops_output (Err NoMemory) = true
+stops_output (Err stop) = false
+stops_output (Ok x) = false

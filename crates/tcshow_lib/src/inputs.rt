@@ -1,6 +1,6 @@
 //! Several inputs, one after another.
 
-ghost use Rattle.std.specs.Prelude.{◌≡◌, ◌≢◌, false, max, List, None, OnOk, IfErr, IfSome};
+ghost use Rattle.std.specs.Prelude.{◌≡◌, ◌≢◌, ◌⊎◌, false, max, List, None, OnOk, IfErr, IfSome};
 ghost use Rattle.tcshow_input.specs.declared.stop.Stop.TheVariants.{NoMemory};
 ghost use Rattle.program_io.specs.Streams.{read_failure, reader_inside, write_failure, writer_inside};
 ghost use Rattle.tcshow_json.specs.Messages.{Thing};
@@ -32,6 +32,8 @@ pub fn run_next<A: Allocator + Copy, R: Read, W: Write>(
     ensures partly { IfErr result.outcome (λ stop. stop ≢ NoMemory → (things : List Thing)
         × AreFirstIn (R.remaining (reader_inside reader.old)) (state_of printer.old).header things
         × Halts things (W.contents (writer_inside writer.old)) (W.contents (writer_inside writer.new)) (state_of printer.old) (state_of printer.new)) }
+    // Faults before this input count too.
+    ensures refused { result.has_refused ≡ (state_of printer.new).bad }
     // Its input and the errors of its streams show why it ends early.
     ensures stopped { IfErr result.outcome (ShowsEnd (R.remaining (reader_inside reader.old)) (read_failure reader.new) (write_failure writer.new)) }
     // A rejected input has no other end.
@@ -103,7 +105,8 @@ fn show_next<A: Allocator + Copy, R: Read, W: Write>(
 
 /// The end of two runs: the one with the larger status.
 pub fn worse(first: Ended, second: Ended) -> Ended
-    ensures { status_of result.outcome result.has_refused
+    ensures one { (result ≡ first) ⊎ (result ≡ second) }
+    ensures status { status_of result.outcome result.has_refused
         ≡ max (status_of first.outcome first.has_refused) (status_of second.outcome second.has_refused) }
 {
     if second.status() > first.status() {

@@ -1,7 +1,9 @@
 //! The program: its arguments are obeyed, and how it ends is its exit status.
 
-ghost use Rattle.std.specs.Prelude.{◌≡◌, ◌≢◌, None, OnOk, IfErr, IfSome};
+ghost use Rattle.std.specs.Prelude.{◌≡◌, ◌≢◌, ◌⊎◌, ℕ, List, [], Err, None, OnOk, IfErr, IfSome, Some};
 ghost use Rattle.program_io.specs.Streams.{read_failure, reader_inside, write_failure, writer_inside};
+ghost use Rattle.std.specs.Io.KnownBytes.{Appends};
+ghost use Rattle.tcshow_tree.specs.Tree.{tree_of};
 ghost use Rattle.tcshow_input.specs.State.{Ran, RanOn};
 ghost use Rattle.tcshow_input.specs.declared.stop.Stop.TheVariants.{NoMemory};
 ghost use Rattle.tcshow_input.specs.Rejected.{rejection_of};
@@ -424,24 +426,22 @@ fn show_filtered<R: AllocGlobal + Print, I: Read + Drop, E: Write>(
 }
 
 // Prints the messages of an input, objects below their parents.
-fn serve_tree<I: Read, W: Write, E: Write>(
+fn serve_tree<R: Read, W: Write, E: Write>(
     alloc: Global,
     options: &Options<'_>,
     name: &str,
-    reader: &mut Reader<I>,
+    reader: &mut Reader<R>,
     writer: &mut Writer<W>,
     errors: &mut E,
-) -> Ended {
-    let mut lines = Vec::new(alloc);
-    let ended = serve(
-        alloc,
-        alloc,
-        options,
-        name,
-        reader,
-        &mut Writer::new(&mut lines),
-        errors,
-    );
+) -> Ended
+    // At the end of the input, the lines of the whole input are written as a tree.
+    ensures { OnOk result.outcome ((lines : List ℕ)
+        × Ran options.now result.has_refused (R.remaining (reader_inside reader.old)) (Some []) (Some lines)
+        × Appends (W.contents (writer_inside writer.old)) (W.contents (writer_inside writer.new)) (tree_of lines)) }
+{
+    let mut text = Writer::new(Vec::new(alloc));
+    let ended = serve(alloc, alloc, options, name, reader, &mut text, errors);
+    let lines = text.into_inner();
     print_tree(alloc, &lines, ended, writer, errors)
 }
 
@@ -452,7 +452,10 @@ fn print_tree<W: Write, E: Write>(
     ended: Ended,
     writer: &mut Writer<W>,
     errors: &mut E,
-) -> Ended {
+) -> Ended
+    ensures kept { OnOk result.outcome (result ≡ ended) }
+    ensures tree { OnOk result.outcome (Appends (W.contents (writer_inside writer.old)) (W.contents (writer_inside writer.new)) (tree_of lines.now)) }
+{
     let mut tree = Vec::new(alloc);
     if tree_lines(alloc, &mut tree, lines).is_err() {
         return fail_without_memory(errors);
@@ -681,12 +684,16 @@ fn say_no_memory<E: Write>(errors: &mut E) {
     let _ = write_all(errors, NO_MEMORY.as_bytes());
 }
 
-fn fail_without_memory<E: Write>(errors: &mut E) -> Ended {
+fn fail_without_memory<E: Write>(errors: &mut E) -> Ended
+    ensures { result.outcome ≡ Err NoMemory }
+{
     say_no_memory(errors);
     Ended::early(Stop::NoMemory)
 }
 
-fn complain<E: Write>(errors: &mut E, text: &str, stop: Stop) -> Ended {
+fn complain<E: Write>(errors: &mut E, text: &str, stop: Stop) -> Ended
+    ensures { result.outcome ≡ Err stop }
+{
     let _ = write_all(errors, text.as_bytes());
     Ended::early(stop)
 }
@@ -697,7 +704,9 @@ fn fail<E: Write>(
     errors: &mut E,
     text: Result<String, AllocError>,
     stop: Stop,
-) -> Ended {
+) -> Ended
+    ensures { (result.outcome ≡ Err stop) ⊎ (result.outcome ≡ Err NoMemory) }
+{
     match text {
         Ok(text) => {
             let _ = write_text(alloc, errors, text.as_str());

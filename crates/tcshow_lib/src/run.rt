@@ -33,11 +33,14 @@ pub struct Ended {
 }
 
 impl Ended {
-    ghost use Rattle.std.specs.Prelude.{◌≡◌};
-    ghost use Rattle.tcshow_lib.specs.Status.{status_of};
+    ghost use Rattle.std.specs.Prelude.{◌≡◌, Err, IsOk, false};
+    ghost use Rattle.tcshow_lib.specs.Status.{status_of, stops_output};
 
     /// An end before anything was read.
-    pub fn early(stop: Stop) -> Ended {
+    pub fn early(stop: Stop) -> Ended
+        ensures outcome { result.outcome ≡ Err stop }
+        ensures refused { result.has_refused ≡ false }
+    {
         Ended {
             outcome: Err(stop),
             has_refused: false,
@@ -46,7 +49,10 @@ impl Ended {
     }
 
     /// The end of a run that has nothing to read.
-    pub fn well() -> Ended {
+    pub fn well() -> Ended
+        ensures outcome { IsOk result.outcome }
+        ensures refused { result.has_refused ≡ false }
+    {
         Ended {
             outcome: Ok(()),
             has_refused: false,
@@ -55,7 +61,9 @@ impl Ended {
     }
 
     /// True if nothing more can be written, or no memory is left.
-    pub fn stops_output(&self) -> bool {
+    pub fn stops_output(&self) -> bool
+        ensures { result ≡ stops_output self.now.outcome }
+    {
         matches!(
             self.outcome,
             Err(Stop::Closed | Stop::Write | Stop::NoMemory)
