@@ -16,7 +16,7 @@ use Rattle.tc_changes.specs.Objects.{things, same_key}
 use Rattle.tc_changes.specs.declared.key.Key.{Key}
 use Rattle.tc_changes.specs.declared.object.Object.{Object as Thing}
 use Rattle.tc_objects.specs.Config.{making_in, message_in}
-use Rattle.tc_objects.specs.Configs.{IsConfigOf}
+use Rattle.tc_objects.specs.Configs.{IsConfigOf, IsActionConfigOf}
 use Rattle.tc_objects.specs.States.{root_in, ingress_in, is_filled, is_implied, is_by_kernel, key_named, handle_named, priority_named, action_named, keys_shown}
 use Rattle.tc_objects.specs.declared.dump.Dump.{Dump}
 use Rattle.tc_objects.specs.declared.dump.Dump.TheVariants.{Of, Actions}
@@ -46,7 +46,7 @@ IsPriority ingress object m k config = (priority_named ingress object m ≡ k �
 
 -- a standalone action
 abbrev pub IsAction : {A : Type 0} → TcAction A → Key → List ℕ → Type 0
-IsAction action k config = action_named action ≡ k ∷ []
+IsAction action k config = (action_named action ≡ k ∷ []) × IsActionConfigOf action config
 
 -- a dump shows an object with this key and this configuration, by the root tables, the interfaces with ingress and the chains with filters of all dumps
 abbrev pub IsShownBy : {A : Type 0} → List RootTable → List ℤ → (PlanKey → Bool) → Dump A → Key → List ℕ → Type 0

@@ -12,7 +12,7 @@ ghost use Rattle.tc_changes.specs.Model.{among};
 ghost use Rattle.tc_changes.specs.Objects.{same_key};
 ghost use Rattle.tc_changes.specs.declared.key.Key.{Key as KeyModel};
 ghost use Rattle.tc_changes.specs.declared.key.Key.TheVariants.{Action as ActionKey, Filter as FilterKey, Priority as PriorityKey};
-ghost use Rattle.tc_objects.specs.Configs.{IsConfigOf};
+ghost use Rattle.tc_objects.specs.Configs.{IsConfigOf, IsActionConfigOf};
 ghost use Rattle.tc_objects.specs.Contents.{parent_named, IsPriorityConfig};
 ghost use Rattle.tc_objects.specs.Needs.{key_of};
 ghost use Rattle.tc_objects.specs.Put.{key_at, keys_read, Puts, Adds, IsReadBy, IsReadByAny, IsPriorityRead, IsPriorityAt, IsActionRead, IsActionIn};
@@ -22,14 +22,13 @@ ghost use Rattle.tc_objects.specs.declared.dump.Dump.TheVariants.{Of};
 ghost use Rattle.tc_objects.specs.declared.shown.Sort.TheVariants.{Class as ClassSort, Qdisc as QdiscSort};
 
 use crate::classes::classes_of;
-use crate::config::{MADE, NEVER};
-use crate::configured::{configured, plain};
+use crate::config::MADE;
+use crate::configured::plain;
 use crate::dump::Dump;
-use crate::frames::emitted;
 use crate::known::Known;
 use crate::made::{handle_named, is_by_kernel};
 use crate::objects::key_of;
-use crate::requested::{Configured, config_of};
+use crate::requested::{Configured, config_of, config_of_action};
 use crate::shown::{Shown, Sort};
 use crate::state_error::StateError;
 use std::alloc::{AllocError, Allocator};
@@ -42,11 +41,7 @@ use tc_messages::TcMessage;
 use tc_plan::{
     Entry, Fate, Key as PlanKey, Named, entry_of, has_action, name_of_action, newest_first,
 };
-use tc_records::TcActionMessageHeader;
-use tc_restore::{
-    Object, RestoreError, actions_of_filter, kind_of_action, kind_of_message, request_of_actions,
-    standalone_index,
-};
+use tc_restore::{Object, actions_of_filter, kind_of_message, standalone_index};
 
 /// The origin of an object.
 #[derive(Clone, Copy, PartialEq, Eq, Drop, Debug)]
@@ -652,24 +647,13 @@ fn reading_of_action<A: Allocator + Copy>(
     index: u32,
     action: TcAction<A>,
 ) -> Result<Reading<A>, StateError>
-    ensures { IfOk result (λ made. key_of made.shown ≡ ActionKey name.kind index) }
+    ensures key { IfOk result (λ made. key_of made.shown ≡ ActionKey name.kind index) }
+    ensures config { IfOk result (λ made. IsActionConfigOf action made.shown.config.items) }
 {
-    let kind = String::from_str(alloc, kind_of_action(&action))?;
-    let message = alone(alloc, action)?;
-    let copy = message.clone()?;
-    let (message, can_make) = match request_of_actions(alloc, message) {
-        Ok(request) => (request.message, !has_action(&known.by_filters, name)),
-        Err(RestoreError::OutOfMemory) => return Err(StateError::OutOfMemory),
-        Err(_) => (copy, false),
-    };
-    let Some(bytes) = emitted(alloc, &message)? else {
-        return Err(StateError::TooLong { place });
-    };
     let sort = Sort::Action(name.kind);
-    let config = if can_make {
-        configured(alloc, sort, kind.as_str(), &bytes)?
-    } else {
-        plain(alloc, NEVER, &bytes)?
+    let by_filters = has_action(&known.by_filters, name);
+    let Some(config) = config_of_action(alloc, sort, by_filters, action)? else {
+        return Err(StateError::TooLong { place });
     };
     Ok(Reading {
         shown: of_action(alloc, sort, index, config),
@@ -684,6 +668,7 @@ fn reading_of_action<A: Allocator + Copy>(
 fn of_action<A: Allocator + Copy>(alloc: A, sort: Sort, index: u32, config: Vec<u8, A>) -> Shown<A>
     ensures sort { result.sort ≡ sort }
     ensures handle { result.handle ≡ index }
+    ensures config { result.config ≡ config }
 {
     Shown {
         sort,
@@ -696,19 +681,4 @@ fn of_action<A: Allocator + Copy>(alloc: A, sort: Sort, index: u32, config: Vec<
         others: Vec::new(alloc),
         config,
     }
-}
-
-// A message of this action.
-fn alone<A: Allocator + Copy>(
-    alloc: A,
-    action: TcAction<A>,
-) -> Result<TcActionMessage<A>, AllocError> {
-    let mut actions = Vec::new(alloc);
-    actions.push(action)?;
-    let mut attributes = Vec::new(alloc);
-    attributes.push(TcActionMessageAttribute::Actions(actions))?;
-    Ok(TcActionMessage {
-        header: TcActionMessageHeader::default(),
-        attributes,
-    })
 }

@@ -40,8 +40,7 @@ returns-clause-configs g c =
     let is : c.is_left_out.result
     ≡ (is_implied known.ingress.items (bag.contains plan.same_key known.filled) object m || is_by_kernel roots object m) = c.is_left_out.ensures in
     adds_itself roots known.ingress.items (bag.contains plan.same_key known.filled) object m c.args.readings c.in_ok-before.before c.in_ok-made.made
-    c.in_ok-reading.reading c.in_ok-before.ensures.configs c.in_ok-made.ensures.one
-    (
+    c.in_ok-reading.reading c.in_ok-before.ensures.configs c.in_ok-made.ensures.one (
       sym is ∙ c.if-is_left_out.false,
       c.in_ok-reading.ensures.key ∙ c.whereabouts_of-at.ensures.key (handle_named roots object m),
       subst (λ p. IsConfigOf roots object p m config) c.whereabouts_of-at.ensures.parent c.in_ok-reading.ensures.config,
