@@ -1,5 +1,5 @@
 -- The configuration of what a dump shows.
-use Rattle.std.proofs.Common.{◌≡◌, ℕ, Bool, true, false, List, Option, Some, None, Ok, Vec, IfSome, refl, inl, inr, tt}
+use Rattle.std.proofs.Common.{◌≡◌, ℕ, Bool, true, false, List, Option, Some, None, Ok, Vec, IfSome, refl, inl, inr}
 use Rattle.tc_meaning.specs.Whole.{act_bytes, tc_bytes}
 use Rattle.tc_actions.specs.declared.actions.action.TcAction.{TcAction}
 use Rattle.tc_action_messages.specs.ActionMessage.{action_message}
