@@ -9,7 +9,8 @@ use Rattle.tc_objects.proofs.reading.put_actions.Goals as goal
 
 pub loop-attribute-init : goal.loop-attribute-init
 loop-attribute-init g c =
-    let is : into_iter_items c.into_iter-attribute-iterator.result ≡ c.args.message.attributes.items = c.into_iter-attribute-iterator.ensures.into_iter_gives.0 in (
+    let is : into_iter_items c.into_iter-attribute-iterator.result ≡ c.args.message.attributes.items =
+    c.into_iter-attribute-iterator.ensures.into_iter_gives.0 in (
       λ made there. subst (λ l. Puts c.args.readings (flat_map actions_named l) made) is there,
       λ made there. subst (λ l. Adds c.args.readings (λ r. Any (λ attribute. IsActionIn attribute r) l) made) is there,
     )
@@ -28,10 +29,12 @@ pub returns-clause-keys : goal.returns-clause-keys
 returns-clause-keys g c =
     let rest = c.loop-attribute.attribute-iterator.rest in
     let none : length rest.items ≡ 0 = search rules in
-    puts_all actions_named c.args.readings c.loop-attribute.readings (into_iter_items c.loop-attribute.attribute-iterator) c.args.message.attributes.items c.loop-attribute.invariant.0 none
+    puts_all actions_named c.args.readings c.loop-attribute.readings (into_iter_items c.loop-attribute.attribute-iterator)
+    c.args.message.attributes.items c.loop-attribute.invariant.0 none
 
 pub returns-clause-actions : goal.returns-clause-actions
 returns-clause-actions g c =
     let rest = c.loop-attribute.attribute-iterator.rest in
     let none : length rest.items ≡ 0 = search rules in
-    adds_all IsActionIn c.args.readings c.loop-attribute.readings (into_iter_items c.loop-attribute.attribute-iterator) c.args.message.attributes.items c.loop-attribute.invariant.1 none
+    adds_all IsActionIn c.args.readings c.loop-attribute.readings (into_iter_items c.loop-attribute.attribute-iterator)
+    c.args.message.attributes.items c.loop-attribute.invariant.1 none

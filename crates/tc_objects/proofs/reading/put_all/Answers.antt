@@ -9,7 +9,8 @@ use Rattle.tc_objects.proofs.reading.put_all.Goals as goal
 
 pub loop-action-init : goal.loop-action-init
 loop-action-init g c =
-    let is : into_iter_items c.into_iter-action-iterator.result ≡ c.args.actions.items = c.into_iter-action-iterator.ensures.into_iter_gives.0 in (
+    let is : into_iter_items c.into_iter-action-iterator.result ≡ c.args.actions.items =
+    c.into_iter-action-iterator.ensures.into_iter_gives.0 in (
       λ made there. subst (λ l. Puts c.args.readings (flat_map action_named l) made) is there,
       λ made there. subst (λ l. Adds c.args.readings (λ r. Any (λ action. IsActionRead action r) l) made) is there,
     )
@@ -28,10 +29,12 @@ pub returns-clause-keys : goal.returns-clause-keys
 returns-clause-keys g c =
     let rest = c.loop-action.action-iterator.rest in
     let none : length rest.items ≡ 0 = search rules in
-    puts_all action_named c.args.readings c.loop-action.readings (into_iter_items c.loop-action.action-iterator) c.args.actions.items c.loop-action.invariant.0 none
+    puts_all action_named c.args.readings c.loop-action.readings (into_iter_items c.loop-action.action-iterator)
+    c.args.actions.items c.loop-action.invariant.0 none
 
 pub returns-clause-actions : goal.returns-clause-actions
 returns-clause-actions g c =
     let rest = c.loop-action.action-iterator.rest in
     let none : length rest.items ≡ 0 = search rules in
-    adds_all IsActionRead c.args.readings c.loop-action.readings (into_iter_items c.loop-action.action-iterator) c.args.actions.items c.loop-action.invariant.1 none
+    adds_all IsActionRead c.args.readings c.loop-action.readings (into_iter_items c.loop-action.action-iterator)
+    c.args.actions.items c.loop-action.invariant.1 none
