@@ -1,6 +1,7 @@
--- Keys that stay the same on the way from readings to a state.
+-- Keys and configurations that stay the same on the way from readings to a state.
 use Rattle.std.proofs.Common.{
   ◌≡◌,
+  ℕ,
   ℤ,
   length,
   append_assoc,
@@ -20,14 +21,22 @@ use Rattle.std.proofs.Common.{
   refl,
   sym,
   ap,
+  subst,
   ◌∙◌,
   append-nil,
 }
-use Rattle.std.specs.Prelude.{is_some, IsPermutation}
+use Rattle.std.specs.Prelude.{All, is_some, IsPermutation}
 use Rattle.std.specs.List.{list_any, flat_map}
 use Rattle.std.proofs.lemmas.List.{map-append}
-use Rattle.std.proofs.lemmas.List.Folds.{list_any-append}
-use Rattle.std.proofs.lemmas.List.Sorted.{list_any-IsPermutation}
+use Rattle.std.proofs.lemmas.List.Elements.{All-nil, All-cons, All-head, All-tail, All-map}
+use Rattle.std.proofs.lemmas.List.Sorted.{
+  list_any-IsPermutation,
+  All-permutation,
+  IsPermutation-map,
+  IsPermutation-trans,
+  IsPermutation-append_right,
+  IsPermutation-middle,
+}
 use Rattle.tc_changes.specs.Model.{among, has, or_else}
 use Rattle.tc_changes.specs.Objects.{things, same_key}
 use Rattle.tc_changes.specs.declared.key.Key.{Key}
@@ -35,8 +44,9 @@ use Rattle.tc_changes.specs.declared.object.Object.{Object}
 use Rattle.tc_order.specs.declared.order.Step.{Step}
 use Rattle.tc_restore.specs.declared.root_tables.RootTable.{RootTable}
 use Rattle.tc_plan.specs.declared.key.Key.{Key as PlanKey}
+use Rattle.tc_objects.specs.Contents.{IsShown, AreShown}
 use Rattle.tc_objects.specs.Needs.{key_of}
-use Rattle.tc_objects.specs.Put.{key_in, keys_made, keys_read}
+use Rattle.tc_objects.specs.Put.{content_in, content_of, contents_made, contents_read, keys_read, IsReadByAny}
 use Rattle.tc_objects.specs.States.{root_in, ingress_in, is_filled, keys_by, keys_shown}
 use Rattle.tc_objects.specs.declared.dump.Dump.{Dump}
 use Rattle.tc_objects.specs.declared.reading.Reading.{Reading}
@@ -53,51 +63,53 @@ any_map : {X Y : Type 0} (p : Y → Bool) (f : X → Y) (xs : List X) → list_a
 any_map p f [] = refl
 any_map p f (x ∷ xs) = ap (λ t. p (f x) || t) (any_map p f xs)
 
--- one more among the first of them, or among the last
-pub to_first : (f l x r : Bool) → (((f || (x || false)) || l) || r) ≡ ((f || l) || (x || r))
-to_first true l x r = refl
-to_first false true true r = refl
-to_first false false true r = refl
-to_first false l false r = refl
+all_of_map : {X Y : Type 0} (P : Y → Type 0) (f : X → Y) (xs : List X) → All P (map f xs) → All (λ x. P (f x)) xs
+all_of_map P f [] are = All-nil (λ x. P (f x))
+all_of_map P f (x ∷ xs) are =
+    All-cons (λ x. P (f x)) x xs (All-head P (f x) (map f xs) are) (all_of_map P f xs (All-tail P (f x) (map f xs) are))
 
-pub to_last : (f l x r : Bool) → ((f || (l || (x || false))) || r) ≡ ((f || l) || (x || r))
-to_last true l x r = refl
-to_last false true x r = refl
-to_last false false true r = refl
-to_last false false false r = refl
-
-with_none : (a : Bool) → (a || false) ≡ a
-with_none true = refl
-with_none false = refl
+-- the key of some content
+abbrev is_of : Key → Key × List ℕ → Bool
+is_of k c = same_key k c.0
 
 module _ {A : Type 0} where
   -- a state has the keys of its objects
-  pub has_keys : (objects : List (Object A)) (k : Key) → has same_key (things objects) k ≡ among same_key (map key_in objects) k
+  has_keys : (objects : List (Object A)) (k : Key) → has same_key (things objects) k ≡ list_any (is_of k) (map content_in objects)
   has_keys [] k = refl
   has_keys (o ∷ objects) k = one_more _ _ (same_key k o.key) ∙ ap (λ t. same_key k o.key || t) (has_keys objects k)
 
-  -- steps in another order, if none are left
-  pub ordered_keys : (steps sorted rest : List (Step (Item A) Key A)) (k : Key) → IsPermutation steps (sorted ++ rest) → rest ≡ []
-      → among same_key (keys_made sorted) k ≡ among same_key (keys_made steps) k
-  ordered_keys steps sorted rest k are none =
-      any_map (same_key k) (λ s. s.item.object.key) sorted
-      ∙ ap (list_any (λ s. same_key k s.item.object.key)) (sym (append-nil sorted) ∙ ap (λ l. sorted ++ l) (sym none))
-      ∙ sym (list_any-IsPermutation (λ s. same_key k s.item.object.key) steps (sorted ++ rest) are)
-      ∙ sym (any_map (same_key k) (λ s. s.item.object.key) steps)
+  read_keys : (readings : List (Reading A)) (k : Key) → list_any (is_of k) (contents_read readings) ≡ among same_key (keys_read readings) k
+  read_keys readings k = any_map (is_of k) (λ r. content_of r.shown) readings ∙ sym (any_map (same_key k) (λ r. key_of r.shown) readings)
 
-  -- the keys of a state, step by step
-  pub shown_state : (objects : List (Object A)) (sorted rest last steps : List (Step (Item A) Key A)) (readings : List (Reading A)) (keys : List Key)
-      → map key_in objects ≡ keys_made sorted → IsPermutation last (sorted ++ rest) → rest ≡ []
-      → ((k : Key) → among same_key (keys_made last) k ≡ among same_key (keys_made steps) k)
-      → keys_made steps ≡ keys_read readings → ((k : Key) → among same_key (keys_read readings) k ≡ among same_key keys k)
+  -- the objects of a state are what was read, in another order
+  pub same_contents : (objects : List (Object A)) (sorted rest last steps : List (Step (Item A) Key A)) (readings : List (Reading A))
+      → map content_in objects ≡ contents_made sorted → IsPermutation last (sorted ++ rest) → rest ≡ [] → IsPermutation steps last
+      → contents_made steps ≡ contents_read readings → IsPermutation (contents_read readings) (map content_in objects)
+  same_contents objects sorted rest last steps readings made once none moved are =
+      let whole : sorted ++ rest ≡ sorted = ap (λ l. sorted ++ l) none ∙ append-nil sorted in
+      let order : IsPermutation steps sorted = IsPermutation-trans steps last sorted moved (subst (IsPermutation last) whole once) in
+      subst (λ l. IsPermutation l (map content_in objects)) are
+      (subst (IsPermutation (contents_made steps)) (sym made) (IsPermutation-map (λ s. content_in s.item.object) steps sorted order))
+
+  -- so the state has the keys that were read
+  pub shown_state : (objects : List (Object A)) (readings : List (Reading A)) (keys : List Key)
+      → IsPermutation (contents_read readings) (map content_in objects)
+      → ((k : Key) → among same_key (keys_read readings) k ≡ among same_key keys k)
       → (k : Key) → has same_key (things objects) k ≡ among same_key keys k
-  shown_state objects sorted rest last steps readings keys made once none same are shown k =
+  shown_state objects readings keys same shown k =
       has_keys objects k
-      ∙ ap (λ l. among same_key l k) made
-      ∙ ordered_keys last sorted rest k once none
-      ∙ same k
-      ∙ ap (λ l. among same_key l k) are
+      ∙ sym (list_any-IsPermutation (is_of k) (contents_read readings) (map content_in objects) same)
+      ∙ read_keys readings k
       ∙ shown k
+
+  -- and their configurations
+  pub shown_configs : (dumps : List (Dump A)) (objects : List (Object A)) (readings : List (Reading A))
+      → IsPermutation (contents_read readings) (map content_in objects)
+      → All (λ r. IsShown dumps (key_of r.shown) r.shown.config.items) readings → AreShown dumps objects
+  shown_configs dumps objects readings same are =
+      let P = λ (c : Key × List ℕ). IsShown dumps c.0 c.1 in
+      all_of_map P content_in objects
+      (All-permutation P (contents_read readings) (map content_in objects) same (All-map P (λ r. content_of r.shown) readings are))
 
   -- the facts that need all dumps
   pub all_keys : (dumps : List (Dump A)) (roots : List RootTable) (ingress : List ℤ) (filled : PlanKey → Bool)
@@ -109,56 +121,57 @@ module _ {A : Type 0} where
       ∙ ap (λ i. flat_map (keys_by (flat_map root_in dumps) i filled) dumps) two
       ∙ ap (λ f. flat_map (keys_by (flat_map root_in dumps) (flat_map ingress_in dumps) f) dumps) (λ i k. three k i)
 
-  pushed : (steps : List (Step (Item A) Key A)) (x : Step (Item A) Key A) (k : Key)
-      → among same_key (keys_made (steps ++ x ∷ [])) k ≡ (among same_key (keys_made steps) k || (same_key k x.item.object.key || false))
-  pushed steps x k =
-      ap (λ l. among same_key l k) (map-append (λ s. s.item.object.key) steps (x ∷ []))
-      ∙ list_any-append (same_key k) (keys_made steps) (x.item.object.key ∷ [])
+  pub all_shown : (dumps : List (Dump A)) (roots : List RootTable) (ingress : List ℤ) (filled : PlanKey → Bool) (readings : List (Reading A))
+      → roots ≡ flat_map root_in dumps → ingress ≡ flat_map ingress_in dumps
+      → ((k : PlanKey) → filled k ≡ is_filled (flat_map ingress_in dumps) dumps k)
+      → All (IsReadByAny roots ingress filled dumps) readings
+      → All (λ r. IsShown dumps (key_of r.shown) r.shown.config.items) readings
+  all_shown dumps roots ingress filled readings one two three are =
+      subst (λ f. All (IsReadByAny (flat_map root_in dumps) (flat_map ingress_in dumps) f dumps) readings) (λ i k. three k i)
+      (subst (λ l. All (IsReadByAny (flat_map root_in dumps) l filled dumps) readings) two
+      (subst (λ l. All (IsReadByAny l ingress filled dumps) readings) one are))
 
   -- a step that goes to the last, and one that goes to the first
-  pub into_last : (first last new old rest all : List (Step (Item A) Key A)) (x : Step (Item A) Key A) (k : Key) → new ≡ last ++ x ∷ [] → old ≡ x ∷ rest
-      → ((among same_key (keys_made first) k || among same_key (keys_made last) k) || among same_key (keys_made old) k) ≡ among same_key (keys_made all) k
-      → ((among same_key (keys_made first) k || among same_key (keys_made new) k) || among same_key (keys_made rest) k) ≡ among same_key (keys_made all) k
-  into_last first last new old rest all x k more is inv =
-      ap (λ t. (among same_key (keys_made first) k || t) || among same_key (keys_made rest) k) (ap (λ l. among same_key (keys_made l) k) more ∙ pushed last x k)
-      ∙ to_last (among same_key (keys_made first) k) (among same_key (keys_made last) k) (same_key k x.item.object.key) (among same_key (keys_made rest) k)
-      ∙ ap (λ l. (among same_key (keys_made first) k || among same_key (keys_made last) k) || among same_key (keys_made l) k) (sym is)
-      ∙ inv
+  pub into_last : (first last new old rest all : List (Step (Item A) Key A)) (x : Step (Item A) Key A) → new ≡ last ++ x ∷ [] → old ≡ x ∷ rest
+      → IsPermutation all ((first ++ last) ++ old) → IsPermutation all ((first ++ new) ++ rest)
+  into_last first last new old rest all x more is inv =
+      subst (IsPermutation all)
+      (ap (λ l. (first ++ last) ++ l) is
+      ∙ sym (append_assoc (first ++ last) (x ∷ []) rest)
+      ∙ ap (λ l. l ++ rest) (append_assoc first last (x ∷ []) ∙ ap (λ l. first ++ l) (sym more)))
+      inv
 
-  pub into_first : (first last new old rest all : List (Step (Item A) Key A)) (x : Step (Item A) Key A) (k : Key) → new ≡ first ++ x ∷ [] → old ≡ x ∷ rest
-      → ((among same_key (keys_made first) k || among same_key (keys_made last) k) || among same_key (keys_made old) k) ≡ among same_key (keys_made all) k
-      → ((among same_key (keys_made new) k || among same_key (keys_made last) k) || among same_key (keys_made rest) k) ≡ among same_key (keys_made all) k
-  into_first first last new old rest all x k more is inv =
-      ap (λ t. (t || among same_key (keys_made last) k) || among same_key (keys_made rest) k) (ap (λ l. among same_key (keys_made l) k) more ∙ pushed first x k)
-      ∙ to_first (among same_key (keys_made first) k) (among same_key (keys_made last) k) (same_key k x.item.object.key) (among same_key (keys_made rest) k)
-      ∙ ap (λ l. (among same_key (keys_made first) k || among same_key (keys_made last) k) || among same_key (keys_made l) k) (sym is)
-      ∙ inv
+  pub into_first : (first last new old rest all : List (Step (Item A) Key A)) (x : Step (Item A) Key A) → new ≡ first ++ x ∷ [] → old ≡ x ∷ rest
+      → IsPermutation all ((first ++ last) ++ old) → IsPermutation all ((new ++ last) ++ rest)
+  into_first first last new old rest all x more is inv =
+      IsPermutation-trans all (first ++ (last ++ x ∷ rest)) ((new ++ last) ++ rest)
+      (subst (IsPermutation all) (ap (λ l. (first ++ last) ++ l) is ∙ append_assoc first last (x ∷ rest)) inv)
+      (subst (IsPermutation (first ++ (last ++ x ∷ rest)))
+      (sym (append_assoc first (x ∷ []) (last ++ rest))
+      ∙ ap (λ l. l ++ (last ++ rest)) (sym more)
+      ∙ sym (append_assoc new last rest))
+      (IsPermutation-append_right first (last ++ x ∷ rest) (x ∷ (last ++ rest)) (IsPermutation-middle last x rest)))
 
   -- the first and the last together, if none are left
-  pub appended : (first last new rest all : List (Step (Item A) Key A)) (k : Key) → new ≡ first ++ last → length rest ≡ 0
-      → ((among same_key (keys_made first) k || among same_key (keys_made last) k) || among same_key (keys_made rest) k) ≡ among same_key (keys_made all) k
-      → among same_key (keys_made new) k ≡ among same_key (keys_made all) k
-  appended first last new [] all k are none inv =
-      ap (λ l. among same_key (keys_made l) k) are
-      ∙ ap (λ l. among same_key l k) (map-append (λ s. s.item.object.key) first last)
-      ∙ list_any-append (same_key k) (keys_made first) (keys_made last)
-      ∙ sym (with_none (among same_key (keys_made first) k || among same_key (keys_made last) k))
-      ∙ inv
-  appended first last new (x ∷ rest) all k are none inv = absurd (cc none)
+  pub appended : (first last new rest all : List (Step (Item A) Key A)) → new ≡ first ++ last → length rest ≡ 0
+      → IsPermutation all ((first ++ last) ++ rest) → IsPermutation all new
+  appended first last new [] all are none inv = subst (IsPermutation all) (append-nil (first ++ last) ∙ sym are) inv
+  appended first last new (x ∷ rest) all are none inv = absurd (cc none)
 
   -- the step of what is shown
-  pub one_step : (steps new : List (Step (Item A) Key A)) (step : Step (Item A) Key A) (s : Shown A) (old rest : List (Shown A)) (all : List Key)
-      → new ≡ steps ++ step ∷ [] → old ≡ s ∷ rest → step.item.object.key ≡ key_of s
-      → keys_made steps ++ map key_of old ≡ all → keys_made new ++ map key_of rest ≡ all
-  one_step steps new step s old rest all more is own inv =
-      ap (λ l. keys_made l ++ map key_of rest) more
-      ∙ ap (λ l. l ++ map key_of rest) (map-append (λ s. s.item.object.key) steps (step ∷ []))
-      ∙ append_assoc (keys_made steps) (step.item.object.key ∷ []) (map key_of rest)
-      ∙ ap (λ k. keys_made steps ++ k ∷ map key_of rest) own
-      ∙ ap (λ l. keys_made steps ++ map key_of l) (sym is)
+  pub one_step : (steps new : List (Step (Item A) Key A)) (step : Step (Item A) Key A) (object : Object A) (s : Shown A) (old rest : List (Shown A))
+      (all : List (Key × List ℕ))
+      → new ≡ steps ++ step ∷ [] → old ≡ s ∷ rest → step.item.object ≡ object → content_in object ≡ content_of s
+      → contents_made steps ++ map content_of old ≡ all → contents_made new ++ map content_of rest ≡ all
+  one_step steps new step object s old rest all more is made own inv =
+      ap (λ l. contents_made l ++ map content_of rest) more
+      ∙ ap (λ l. l ++ map content_of rest) (map-append (λ s. content_in s.item.object) steps (step ∷ []))
+      ∙ append_assoc (contents_made steps) (content_in step.item.object ∷ []) (map content_of rest)
+      ∙ ap (λ c. contents_made steps ++ c ∷ map content_of rest) (ap content_in made ∙ own)
+      ∙ ap (λ l. contents_made steps ++ map content_of l) (sym is)
       ∙ inv
 
-  pub no_step : (steps : List (Step (Item A) Key A)) (rest : List (Shown A)) (all : List Key) → length rest ≡ 0
-      → keys_made steps ++ map key_of rest ≡ all → keys_made steps ≡ all
-  no_step steps [] all none inv = sym (append-nil (keys_made steps)) ∙ inv
+  pub no_step : (steps : List (Step (Item A) Key A)) (rest : List (Shown A)) (all : List (Key × List ℕ)) → length rest ≡ 0
+      → contents_made steps ++ map content_of rest ≡ all → contents_made steps ≡ all
+  no_step steps [] all none inv = sym (append-nil (contents_made steps)) ∙ inv
   no_step steps (s ∷ rest) all none inv = absurd (cc none)

@@ -1,6 +1,7 @@
 pub mod Holders
 pub mod Confined
 pub mod Put
+pub mod Adds
 pub mod Chosen
 pub mod Kept
 mod Configs

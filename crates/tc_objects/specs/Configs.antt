@@ -1,12 +1,16 @@
 -- The configuration of an object: the request that restores its dump, in normal form.
-use Rattle.std.specs.Prelude.{◌≡◌, ◌⊎◌, ℕ, List, Ok}
-use Rattle.tc_meaning.specs.Whole.{tc_bytes, SettledTc}
+use Rattle.std.specs.Prelude.{◌≡◌, ◌⊎◌, ℕ, List, [], ◌∷◌, Ok}
+use Rattle.std.specs.List.{flat_map}
+use Rattle.tc_meaning.specs.Whole.{act_bytes, tc_bytes, SettledAct, SettledTc}
 use Rattle.tc_records.specs.Header.{handle_of}
 use Rattle.tc_records.specs.declared.header.TcHeader.{TcHeader}
+use Rattle.tc_actions.specs.declared.actions.action.TcAction.{TcAction}
+use Rattle.tc_action_messages.specs.ActionMessage.{action_message}
+use Rattle.tc_action_messages.specs.declared.message.TcActionMessage.{TcActionMessage}
 use Rattle.tc_messages.specs.Message.{tc_message}
 use Rattle.tc_messages.specs.declared.message.TcMessage.{TcMessage}
 use Rattle.tc_restore.specs.RequestOf.{request_restored, RefusedBy}
-use Rattle.tc_restore.specs.RestoredMessages.{kind_of_message, tc_restored}
+use Rattle.tc_restore.specs.RestoredMessages.{kind_of_message, tc_restored, actions_message_restored}
 use Rattle.tc_restore.specs.RootTables.{is_in_root}
 use Rattle.tc_restore.specs.Steady.{Unsteady}
 use Rattle.tc_restore.specs.declared.restore_error.RestoreError.{RestoreError}
@@ -14,6 +18,7 @@ use Rattle.tc_restore.specs.declared.restore_error.RestoreError.TheVariants.{Out
 use Rattle.tc_restore.specs.declared.restore_messages.Object.{Object}
 use Rattle.tc_restore.specs.declared.restore_messages.Object.TheVariants.{Qdisc, Class, Filter, Chain}
 use Rattle.tc_restore.specs.declared.root_tables.RootTable.{RootTable}
+use Rattle.tc_plan.specs.Needs.{actions_in}
 use Rattle.tc_objects.specs.Config.{making_in, message_in}
 use Rattle.tc_objects.specs.Normal.{normal}
 
@@ -53,3 +58,21 @@ IsRefusedOf {A = A} roots object m =
 abbrev pub IsConfigOf : {A : Type 0} → List RootTable → Object → ℕ → TcMessage A → List ℕ → Type 0
 IsConfigOf roots object parent m config =
     ((making_in config ≡ 0 → ⊥) × IsRequestOf roots object parent m (message_in config)) ⊎ ((making_in config ≡ 0) × IsRefusedOf roots object m)
+
+-- a message whose actions are this one alone
+abbrev pub IsOfAction : {A : Type 0} → TcAction A → TcActionMessage A → Type 0
+IsOfAction action m = flat_map actions_in m.attributes.items ≡ action ∷ []
+
+-- no request restores these actions
+abbrev pub AreRefused : {A : Type 0} → TcActionMessage A → Type 0
+AreRefused {A = A} m =
+    (e : RestoreError) × (e ≡ OutOfMemory → ⊥)
+    × RefusedBy SettledAct (Unsteady (action_message {A = A}) actions_message_restored) (actions_message_restored m) e
+
+-- the configuration of a standalone action: the request that restores it, which makes it if its filters don't; or none, if no request restores it
+abbrev pub IsActionConfigOf : {A : Type 0} → TcAction A → List ℕ → Type 0
+IsActionConfigOf {A = A} action config =
+    (dump : TcActionMessage A) × IsOfAction action dump
+    × (((request : TcActionMessage A) × (actions_message_restored dump ≡ Ok (action_message request))
+    × (message_in config ≡ act_bytes (action_message request)))
+    ⊎ ((making_in config ≡ 0) × AreRefused dump))

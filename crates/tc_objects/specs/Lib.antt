@@ -6,5 +6,6 @@ pub mod Configs
 pub mod Sent
 pub mod Confined
 pub mod States
+pub mod Contents
 pub mod Put
 pub mod Renamings

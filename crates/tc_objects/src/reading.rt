@@ -1,7 +1,7 @@
 //! The objects of single dumps.
 
-ghost use Rattle.std.specs.Prelude.{◌≡◌, ◌∷◌, ◌||◌, [], ℕ, IfOk};
-ghost use Rattle.std.specs.List.{flat_map};
+ghost use Rattle.std.specs.Prelude.{◌≡◌, ◌∷◌, ◌||◌, [], ℕ, All, IfOk};
+ghost use Rattle.std.specs.List.{Any, flat_map};
 ghost use Rattle.std.specs.Option.{option_to_list};
 ghost use Rattle.std.specs.HashSet as bag;
 ghost use Rattle.tc_plan.specs.Fates as plan;
@@ -12,23 +12,23 @@ ghost use Rattle.tc_changes.specs.Model.{among};
 ghost use Rattle.tc_changes.specs.Objects.{same_key};
 ghost use Rattle.tc_changes.specs.declared.key.Key.{Key as KeyModel};
 ghost use Rattle.tc_changes.specs.declared.key.Key.TheVariants.{Action as ActionKey, Filter as FilterKey, Priority as PriorityKey};
-ghost use Rattle.tc_objects.specs.Configs.{IsConfigOf};
+ghost use Rattle.tc_objects.specs.Configs.{IsConfigOf, IsActionConfigOf};
+ghost use Rattle.tc_objects.specs.Contents.{parent_named, IsPriorityConfig};
 ghost use Rattle.tc_objects.specs.Needs.{key_of};
-ghost use Rattle.tc_objects.specs.Put.{key_at, keys_read, Puts};
+ghost use Rattle.tc_objects.specs.Put.{key_at, keys_read, Puts, Adds, IsReadBy, IsReadByAny, IsPriorityRead, IsPriorityAt, IsActionRead, IsActionIn};
 ghost use Rattle.tc_objects.specs.States.{keys_by, key_named, handle_named, priority_named, is_by_kernel, is_implied};
 ghost use Rattle.tc_objects.specs.States.{action_named, actions_named};
 ghost use Rattle.tc_objects.specs.declared.dump.Dump.TheVariants.{Of};
 ghost use Rattle.tc_objects.specs.declared.shown.Sort.TheVariants.{Class as ClassSort, Qdisc as QdiscSort};
 
 use crate::classes::classes_of;
-use crate::config::{MADE, NEVER};
-use crate::configured::{configured, plain};
+use crate::config::MADE;
+use crate::configured::plain;
 use crate::dump::Dump;
-use crate::frames::emitted;
 use crate::known::Known;
 use crate::made::{handle_named, is_by_kernel};
 use crate::objects::key_of;
-use crate::requested::{Configured, config_of};
+use crate::requested::{Configured, config_of, config_of_action};
 use crate::shown::{Shown, Sort};
 use crate::state_error::StateError;
 use std::alloc::{AllocError, Allocator};
@@ -41,11 +41,7 @@ use tc_messages::TcMessage;
 use tc_plan::{
     Entry, Fate, Key as PlanKey, Named, entry_of, has_action, name_of_action, newest_first,
 };
-use tc_records::TcActionMessageHeader;
-use tc_restore::{
-    Object, RestoreError, actions_of_filter, kind_of_action, kind_of_message, request_of_actions,
-    standalone_index,
-};
+use tc_restore::{Object, actions_of_filter, kind_of_message, standalone_index};
 
 /// The origin of an object.
 #[derive(Clone, Copy, PartialEq, Eq, Drop, Debug)]
@@ -79,9 +75,11 @@ pub(crate) fn readings_of<A: Allocator + Copy>(
     known: &Known<A>,
     dumps: Vec<Dump<A>, A>,
 ) -> Result<Vec<Reading<A>, A>, StateError>
-    ensures { IfOk result (λ made. (k : KeyModel) → among same_key (keys_read made.items) k
+    ensures keys { IfOk result (λ made. (k : KeyModel) → among same_key (keys_read made.items) k
         ≡ among same_key (flat_map (keys_by known.now.roots.items known.now.ingress.items
         (bag.contains plan.same_key known.now.filled)) dumps.items) k) }
+    ensures configs { IfOk result (λ made. All (IsReadByAny known.now.roots.items known.now.ingress.items
+        (bag.contains plan.same_key known.now.filled) dumps.items) made.items) }
 {
     let readings = Readings {
         all: Vec::new(alloc),
@@ -97,8 +95,10 @@ fn put_dumps<A: Allocator + Copy>(
     dumps: Vec<Dump<A>, A>,
     readings: Readings<A>,
 ) -> Result<Readings<A>, StateError>
-    ensures { IfOk result (λ made. Puts readings (flat_map (keys_by known.now.roots.items known.now.ingress.items
+    ensures keys { IfOk result (λ made. Puts readings (flat_map (keys_by known.now.roots.items known.now.ingress.items
         (bag.contains plan.same_key known.now.filled)) dumps.items) made) }
+    ensures configs { IfOk result (λ made. Adds readings (IsReadByAny known.now.roots.items known.now.ingress.items
+        (bag.contains plan.same_key known.now.filled) dumps.items) made) }
 {
     let mut readings = readings;
     let mut place = 0;
@@ -116,7 +116,9 @@ fn put_dump<A: Allocator + Copy>(
     dump: Dump<A>,
     readings: Readings<A>,
 ) -> Result<Readings<A>, StateError>
-    ensures { IfOk result (λ made. Puts readings (keys_by known.now.roots.items known.now.ingress.items
+    ensures keys { IfOk result (λ made. Puts readings (keys_by known.now.roots.items known.now.ingress.items
+        (bag.contains plan.same_key known.now.filled) dump) made) }
+    ensures configs { IfOk result (λ made. Adds readings (IsReadBy known.now.roots.items known.now.ingress.items
         (bag.contains plan.same_key known.now.filled) dump) made) }
 {
     match dump {
@@ -130,7 +132,8 @@ fn with_reading<A: Allocator>(
     readings: Readings<A>,
     reading: Reading<A>,
 ) -> Result<Readings<A>, AllocError>
-    ensures { IfOk result (λ made. Puts readings (key_of reading.shown ∷ []) made) }
+    ensures key { IfOk result (λ made. Puts readings (key_of reading.shown ∷ []) made) }
+    ensures one { IfOk result (λ made. Adds readings (λ r. r ≡ reading) made) }
 {
     let Readings { all, seen } = readings;
     let mut all = all;
@@ -143,7 +146,8 @@ fn with_new<A: Allocator + Copy>(
     readings: Readings<A>,
     reading: Reading<A>,
 ) -> Result<Readings<A>, AllocError>
-    ensures { IfOk result (λ made. Puts readings (key_of reading.shown ∷ []) made) }
+    ensures key { IfOk result (λ made. Puts readings (key_of reading.shown ∷ []) made) }
+    ensures one { IfOk result (λ made. Adds readings (λ r. r ≡ reading) made) }
 {
     let key = key_of(&reading.shown);
     if readings.seen.contains(&key) {
@@ -176,6 +180,7 @@ fn whereabouts_of<A: Allocator>(
     requires { entry.now.objects.items ≡ plan_object known.now.ingress.items object message.now }
     ensures key { (handle : ℕ) → key_at result.sort result.index result.parent result.chain result.priority handle
         ≡ key_named known.now.ingress.items object message.now handle }
+    ensures parent { result.parent ≡ parent_named known.now.ingress.items object message.now }
     ensures chain { object ≡ kinds.Chain → result.chain ≡ chain_number message.now.attributes.items }
 {
     let index = message.header.index;
@@ -247,7 +252,9 @@ fn put_object<A: Allocator + Copy>(
     message: TcMessage<A>,
     readings: Readings<A>,
 ) -> Result<Readings<A>, StateError>
-    ensures { IfOk result (λ made. Puts readings (keys_by known.now.roots.items known.now.ingress.items
+    ensures keys { IfOk result (λ made. Puts readings (keys_by known.now.roots.items known.now.ingress.items
+        (bag.contains plan.same_key known.now.filled) (Of object message)) made) }
+    ensures configs { IfOk result (λ made. Adds readings (IsReadBy known.now.roots.items known.now.ingress.items
         (bag.contains plan.same_key known.now.filled) (Of object message)) made) }
 {
     let entry = entry_of(alloc, 0, Fate::Request, object, &known.ingress, &message)?;
@@ -266,7 +273,8 @@ fn put_reading<A: Allocator + Copy>(
     readings: Readings<A>,
     reading: Reading<A>,
 ) -> Result<Readings<A>, AllocError>
-    ensures { IfOk result (λ made. Puts readings (key_of reading.shown ∷ []) made) }
+    ensures key { IfOk result (λ made. Puts readings (key_of reading.shown ∷ []) made) }
+    ensures one { IfOk result (λ made. Adds readings (λ r. r ≡ reading) made) }
 {
     if reading.shown.index == SHARED {
         with_new(readings, reading)
@@ -301,8 +309,9 @@ fn reading_of<A: Allocator + Copy>(
     entry: &Entry<A>,
     message: TcMessage<A>,
 ) -> Result<Reading<A>, StateError>
-    ensures { IfOk result (λ made. key_of made.shown
+    ensures key { IfOk result (λ made. key_of made.shown
         ≡ key_at at.sort at.index at.parent at.chain at.priority (handle_named known.now.roots.items object message)) }
+    ensures config { IfOk result (λ made. IsConfigOf known.now.roots.items object at.parent message made.shown.config.items) }
 {
     let origin = Origin {
         place,
@@ -406,7 +415,8 @@ fn put_priority<A: Allocator + Copy>(
 ) -> Result<Readings<A>, AllocError>
     requires { (handle : ℕ) → key_at at.sort at.index at.parent at.chain at.priority handle
         ≡ key_named known.now.ingress.items object message.now handle }
-    ensures { IfOk result (λ made. Puts readings (priority_named known.now.ingress.items object message.now) made) }
+    ensures keys { IfOk result (λ made. Puts readings (priority_named known.now.ingress.items object message.now) made) }
+    ensures configs { IfOk result (λ made. Adds readings (IsPriorityRead known.now.ingress.items object message.now) made) }
 {
     match object {
         Object::Filter => with_priority(alloc, known, place, at, message, readings),
@@ -424,13 +434,11 @@ fn with_priority<A: Allocator + Copy>(
     message: &TcMessage<A>,
     readings: Readings<A>,
 ) -> Result<Readings<A>, AllocError>
-    ensures { IfOk result (λ made. Puts readings (PriorityKey at.index at.parent at.chain at.priority ∷ []) made) }
+    ensures key { IfOk result (λ made. Puts readings (PriorityKey at.index at.parent at.chain at.priority ∷ []) made) }
+    ensures config { IfOk result (λ made. Adds readings (IsPriorityAt at.index at.parent at.chain at.priority message.now) made) }
 {
-    let protocol = message.header.info % 0x1_0000;
-    let mut text = Vec::from_slice(alloc, &protocol.to_le_bytes())?;
-    text.extend_from_slice(kind_of_message(message).as_bytes())?;
+    let config = priority_config(alloc, message)?;
     let others = with_places(Vec::new(alloc), known, at)?;
-    let config = plain(alloc, MADE, &text)?;
     let shown = priority_shown(alloc, at, others, config);
     with_new(
         readings,
@@ -442,13 +450,27 @@ fn with_priority<A: Allocator + Copy>(
     )
 }
 
+// The configuration of a priority: the protocol and the kind of its filters.
+fn priority_config<A: Allocator + Copy>(
+    alloc: A,
+    message: &TcMessage<A>,
+) -> Result<Vec<u8, A>, AllocError>
+    ensures { IfOk result (λ config. IsPriorityConfig message.now config.items) }
+{
+    let protocol = message.header.info % 0x1_0000;
+    let mut text = Vec::from_slice(alloc, &protocol.to_le_bytes())?;
+    text.extend_from_slice(kind_of_message(message).as_bytes())?;
+    plain(alloc, MADE, &text)
+}
+
 fn priority_shown<A: Allocator + Copy>(
     alloc: A,
     at: Whereabouts,
     others: Vec<Key, A>,
     config: Vec<u8, A>,
 ) -> Shown<A>
-    ensures { key_of result ≡ PriorityKey at.index at.parent at.chain at.priority }
+    ensures key { key_of result ≡ PriorityKey at.index at.parent at.chain at.priority }
+    ensures config { result.config ≡ config }
 {
     Shown {
         sort: Sort::Priority,
@@ -545,7 +567,8 @@ fn put_actions<A: Allocator + Copy>(
     message: TcActionMessage<A>,
     readings: Readings<A>,
 ) -> Result<Readings<A>, StateError>
-    ensures { IfOk result (λ made. Puts readings (flat_map actions_named message.attributes.items) made) }
+    ensures keys { IfOk result (λ made. Puts readings (flat_map actions_named message.attributes.items) made) }
+    ensures actions { IfOk result (λ made. Adds readings (λ r. Any (λ attribute. IsActionIn attribute r) message.attributes.items) made) }
 {
     let mut readings = readings;
     for attribute in message.attributes {
@@ -561,7 +584,8 @@ fn put_attribute<A: Allocator + Copy>(
     attribute: TcActionMessageAttribute<A>,
     readings: Readings<A>,
 ) -> Result<Readings<A>, StateError>
-    ensures { IfOk result (λ made. Puts readings (actions_named attribute) made) }
+    ensures keys { IfOk result (λ made. Puts readings (actions_named attribute) made) }
+    ensures actions { IfOk result (λ made. Adds readings (IsActionIn attribute) made) }
 {
     let actions = actions_of(alloc, attribute);
     put_all(alloc, known, place, actions, readings)
@@ -583,7 +607,8 @@ fn put_all<A: Allocator + Copy>(
     actions: Vec<TcAction<A>, A>,
     readings: Readings<A>,
 ) -> Result<Readings<A>, StateError>
-    ensures { IfOk result (λ made. Puts readings (flat_map action_named actions.items) made) }
+    ensures keys { IfOk result (λ made. Puts readings (flat_map action_named actions.items) made) }
+    ensures actions { IfOk result (λ made. Adds readings (λ r. Any (λ action. IsActionRead action r) actions.items) made) }
 {
     let mut readings = readings;
     for action in actions {
@@ -599,7 +624,8 @@ fn put_action<A: Allocator + Copy>(
     action: TcAction<A>,
     readings: Readings<A>,
 ) -> Result<Readings<A>, StateError>
-    ensures { IfOk result (λ made. Puts readings (action_named action) made) }
+    ensures keys { IfOk result (λ made. Puts readings (action_named action) made) }
+    ensures action { IfOk result (λ made. Adds readings (IsActionRead action) made) }
 {
     let Some(name) = name_of_action(&action) else {
         return Err(StateError::Unnamed { place });
@@ -621,24 +647,13 @@ fn reading_of_action<A: Allocator + Copy>(
     index: u32,
     action: TcAction<A>,
 ) -> Result<Reading<A>, StateError>
-    ensures { IfOk result (λ made. key_of made.shown ≡ ActionKey name.kind index) }
+    ensures key { IfOk result (λ made. key_of made.shown ≡ ActionKey name.kind index) }
+    ensures config { IfOk result (λ made. IsActionConfigOf action made.shown.config.items) }
 {
-    let kind = String::from_str(alloc, kind_of_action(&action))?;
-    let message = alone(alloc, action)?;
-    let copy = message.clone()?;
-    let (message, can_make) = match request_of_actions(alloc, message) {
-        Ok(request) => (request.message, !has_action(&known.by_filters, name)),
-        Err(RestoreError::OutOfMemory) => return Err(StateError::OutOfMemory),
-        Err(_) => (copy, false),
-    };
-    let Some(bytes) = emitted(alloc, &message)? else {
-        return Err(StateError::TooLong { place });
-    };
     let sort = Sort::Action(name.kind);
-    let config = if can_make {
-        configured(alloc, sort, kind.as_str(), &bytes)?
-    } else {
-        plain(alloc, NEVER, &bytes)?
+    let by_filters = has_action(&known.by_filters, name);
+    let Some(config) = config_of_action(alloc, sort, by_filters, action)? else {
+        return Err(StateError::TooLong { place });
     };
     Ok(Reading {
         shown: of_action(alloc, sort, index, config),
@@ -653,6 +668,7 @@ fn reading_of_action<A: Allocator + Copy>(
 fn of_action<A: Allocator + Copy>(alloc: A, sort: Sort, index: u32, config: Vec<u8, A>) -> Shown<A>
     ensures sort { result.sort ≡ sort }
     ensures handle { result.handle ≡ index }
+    ensures config { result.config ≡ config }
 {
     Shown {
         sort,
@@ -665,19 +681,4 @@ fn of_action<A: Allocator + Copy>(alloc: A, sort: Sort, index: u32, config: Vec<
         others: Vec::new(alloc),
         config,
     }
-}
-
-// A message of this action.
-fn alone<A: Allocator + Copy>(
-    alloc: A,
-    action: TcAction<A>,
-) -> Result<TcActionMessage<A>, AllocError> {
-    let mut actions = Vec::new(alloc);
-    actions.push(action)?;
-    let mut attributes = Vec::new(alloc);
-    attributes.push(TcActionMessageAttribute::Actions(actions))?;
-    Ok(TcActionMessage {
-        header: TcActionMessageHeader::default(),
-        attributes,
-    })
 }

@@ -1,12 +1,14 @@
 //! The configuration of what a dump shows: the request that restores it, in normal form.
 
 ghost use Rattle.std.specs.Prelude.{◌≡◌, true, false, Ok, IfOk, IfSome};
-ghost use Rattle.tc_meaning.specs.Whole.{tc_bytes};
+ghost use Rattle.tc_action_messages.specs.ActionMessage.{action_message};
+ghost use Rattle.tc_meaning.specs.Whole.{act_bytes, tc_bytes};
 ghost use Rattle.tc_messages.specs.Message.{tc_message};
 ghost use Rattle.tc_restore.specs.RequestOf.{request_restored};
+ghost use Rattle.tc_restore.specs.RestoredMessages.{actions_message_restored};
 ghost use Rattle.tc_restore.specs.declared.restore_error.RestoreError.TheVariants.{OutOfMemory};
 ghost use Rattle.tc_objects.specs.Config.{making_in, message_in};
-ghost use Rattle.tc_objects.specs.Configs.{IsConfigOf, IsRefusedOf, settled, header_settled, info_settled};
+ghost use Rattle.tc_objects.specs.Configs.{IsConfigOf, IsRefusedOf, IsActionConfigOf, IsOfAction, AreRefused, settled, header_settled, info_settled};
 ghost use Rattle.tc_objects.specs.Normal.{normal};
 
 use crate::config::NEVER;
@@ -15,9 +17,14 @@ use crate::frames::emitted;
 use crate::normal::normal;
 use crate::shown::Sort;
 use std::alloc::{AllocError, Allocator};
+use tc_action_messages::{TcActionMessage, TcActionMessageAttribute};
+use tc_actions::TcAction;
 use tc_messages::{TcAttribute, TcMessage};
-use tc_records::{TcHandle, TcHeader};
-use tc_restore::{Object, RestoreError, RootTable, kind_of_message, request_of};
+use tc_records::{TcActionMessageHeader, TcHandle, TcHeader};
+use tc_restore::{
+    Object, RestoreError, RootTable, kind_of_action, kind_of_message, request_of,
+    request_of_actions,
+};
 
 /// A configuration, and its request.
 #[derive(Drop)]
@@ -67,6 +74,81 @@ fn request_or_dump<A: Allocator + Copy>(
             Ok((without_counts(copy), false))
         }
     }
+}
+
+/// The configuration of an action of this type: the request that restores it, if it isn't one that only filters can make. `None` if the
+/// message is too long to be written.
+pub(crate) fn config_of_action<A: Allocator + Copy>(
+    alloc: A,
+    sort: Sort,
+    by_filters: bool,
+    action: TcAction<A>,
+) -> Result<Option<Vec<u8, A>>, AllocError>
+    ensures { IfOk result (λ made. IfSome made (λ config. IsActionConfigOf action config.items)) }
+{
+    let kind = String::from_str(alloc, kind_of_action(&action))?;
+    let dump = alone(alloc, action)?;
+    let (message, is_restored) = actions_or_dump(alloc, dump)?;
+    let can_make = is_restored && !by_filters;
+    let config = written_action(alloc, sort, kind.as_str(), &message, can_make)?;
+    Ok(config)
+}
+
+// A message of this action.
+fn alone<A: Allocator + Copy>(
+    alloc: A,
+    action: TcAction<A>,
+) -> Result<TcActionMessage<A>, AllocError>
+    ensures { IfOk result (λ dump. IsOfAction action dump) }
+{
+    let mut actions = Vec::new(alloc);
+    actions.push(action)?;
+    let mut attributes = Vec::new(alloc);
+    attributes.push(TcActionMessageAttribute::Actions(actions))?;
+    Ok(TcActionMessage {
+        header: TcActionMessageHeader::default(),
+        attributes,
+    })
+}
+
+// The request that restores a dump of actions, and true; or if there is none, the dump and false.
+fn actions_or_dump<A: Allocator + Copy>(
+    alloc: A,
+    dump: TcActionMessage<A>,
+) -> Result<(TcActionMessage<A>, bool), AllocError>
+    ensures made { IfOk result (λ made. made.1 ≡ true → actions_message_restored dump ≡ Ok (action_message made.0)) }
+    ensures refused { IfOk result (λ made. made.1 ≡ false → AreRefused dump) }
+{
+    let copy = dump.clone()?;
+    match request_of_actions(alloc, dump) {
+        Ok(request) => Ok((request.message, true)),
+        Err(error) => {
+            other_than_memory(error)?;
+            Ok((copy, false))
+        }
+    }
+}
+
+// The configuration of a request that makes an action of this kind, or of a dump. None if its message is too long.
+fn written_action<A: Allocator + Copy>(
+    alloc: A,
+    sort: Sort,
+    kind: &str,
+    message: &TcActionMessage<A>,
+    can_make: bool,
+) -> Result<Option<Vec<u8, A>>, AllocError>
+    ensures never { IfOk result (λ made. IfSome made (λ config. can_make ≡ false → making_in config.items ≡ 0)) }
+    ensures message { IfOk result (λ made. IfSome made (λ config. message_in config.items ≡ act_bytes (action_message message.now))) }
+{
+    let Some(bytes) = emitted(alloc, message)? else {
+        return Ok(None);
+    };
+    let config = if can_make {
+        configured(alloc, sort, kind, &bytes)?
+    } else {
+        plain(alloc, NEVER, &bytes)?
+    };
+    Ok(Some(config))
 }
 
 // Fails if memory ran out.

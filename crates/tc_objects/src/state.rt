@@ -1,10 +1,10 @@
 //! States.
 
-ghost use Rattle.std.specs.Prelude.{◌≡◌, ◌∷◌, ◌++◌, [], ℕ, ℤ, true, map, IfOk, IfNone};
+ghost use Rattle.std.specs.Prelude.{◌≡◌, ◌∷◌, ◌++◌, [], ℕ, ℤ, true, map, IfOk, IfNone, IsPermutation};
 ghost use Rattle.tc_changes.specs.Model.{ready, has, among};
 ghost use Rattle.tc_changes.specs.declared.key.Key.{Key as KeyModel};
-ghost use Rattle.tc_objects.specs.Needs.{key_of};
-ghost use Rattle.tc_objects.specs.Put.{key_in, keys_made, keys_read};
+ghost use Rattle.tc_objects.specs.Contents.{AreShown, IsStateOf};
+ghost use Rattle.tc_objects.specs.Put.{content_in, content_of, contents_made, contents_read};
 ghost use Rattle.tc_objects.specs.States.{keys_shown, dump_renamed, IsRenaming, IsOfNow};
 ghost use Rattle.std.specs.HashMap as hash;
 ghost use Rattle.tc_changes.specs.Objects.{things, same_key};
@@ -52,6 +52,8 @@ pub fn state_of<A: Allocator + Copy>(
     // The keys of its objects are the keys that the dumps show.
     ensures shown { IfOk result (λ state. (k : KeyModel) →
         has same_key (things state.objects.items) k ≡ among same_key (keys_shown dumps.items) k) }
+    // Each has the configuration that one of the dumps shows.
+    ensures configs { IfOk result (λ state. AreShown dumps.items state.objects.items) }
 {
     let none = HashMap::new(alloc);
     state_by(alloc, dumps, &none, false)
@@ -70,6 +72,10 @@ pub fn state_after<A: Allocator + Copy>(
     ensures shown { IfOk result (λ state. (renaming : ℤ → ℕ → ℕ) × (IsRenaming renaming
         × (IsOfNow (hash.get same_key now.now.handles) renaming × ((k : KeyModel) →
         has same_key (things state.objects.items) k ≡ among same_key (keys_shown (map (dump_renamed renaming) dumps.items)) k)))) }
+    // After such a renaming its objects have the keys and the configurations that the dumps show.
+    ensures configs { IfOk result (λ state. (renaming : ℤ → ℕ → ℕ) × (IsRenaming renaming
+        × (IsOfNow (hash.get same_key now.now.handles) renaming
+        × IsStateOf (map (dump_renamed renaming) dumps.items) state.objects.items))) }
 {
     let wanted = renamed(alloc, &now.handles, dumps)?;
     let state = state_by(alloc, wanted, &now.handles, true)?;
@@ -86,6 +92,7 @@ fn state_by<A: Allocator + Copy>(
     ensures ready { IfOk result (λ state. ready same_key [] (things state.objects.items) ≡ true) }
     ensures shown { IfOk result (λ state. (k : KeyModel) →
         has same_key (things state.objects.items) k ≡ among same_key (keys_shown dumps.items) k) }
+    ensures configs { IfOk result (λ state. AreShown dumps.items state.objects.items) }
 {
     let known = known_of(alloc, &dumps)?;
     let readings = readings_of(alloc, &known, dumps)?;
@@ -126,7 +133,7 @@ fn new_last<A: Allocator + Copy>(
     sorts: bool,
     steps: Vec<Step<Item<A>, Key, A>, A>,
 ) -> Result<Vec<Step<Item<A>, Key, A>, A>, AllocError>
-    ensures { IfOk result (λ made. (k : KeyModel) → among same_key (keys_made made.items) k ≡ among same_key (keys_made steps.items) k) }
+    ensures { IfOk result (λ made. IsPermutation steps.items made.items) }
 {
     if !sorts {
         return Ok(steps);
@@ -157,7 +164,7 @@ fn in_order<A: Allocator + Copy>(
     alloc: A,
     steps: Vec<Step<Item<A>, Key, A>, A>,
 ) -> Result<State<A>, AllocError>
-    ensures { IfOk result (λ state. map key_in state.objects.items ≡ keys_made steps.items) }
+    ensures { IfOk result (λ state. map content_in state.objects.items ≡ contents_made steps.items) }
 {
     let mut objects = Vec::with_capacity(alloc, steps.len())?;
     let mut origins = Vec::with_capacity(alloc, steps.len())?;
@@ -180,7 +187,7 @@ fn steps_of<A: Allocator + Copy>(
     alloc: A,
     readings: Vec<Reading<A>, A>,
 ) -> Result<Vec<Step<Item<A>, Key, A>, A>, StateError>
-    ensures { IfOk result (λ steps. keys_made steps.items ≡ keys_read readings.items) }
+    ensures { IfOk result (λ steps. contents_made steps.items ≡ contents_read readings.items) }
 {
     let newer = newer_of(alloc, &readings)?;
     let (shown, origins) = parted(alloc, readings)?;
@@ -206,7 +213,7 @@ fn parted<A: Allocator + Copy>(
     alloc: A,
     readings: Vec<Reading<A>, A>,
 ) -> Result<(Vec<Shown<A>, A>, Vec<Origin, A>), AllocError>
-    ensures { IfOk result (λ made. map key_of made.0.items ≡ keys_read readings.items) }
+    ensures { IfOk result (λ made. map content_of made.0.items ≡ contents_read readings.items) }
 {
     let mut shown = Vec::with_capacity(alloc, readings.len())?;
     let mut origins = Vec::with_capacity(alloc, readings.len())?;
@@ -229,7 +236,7 @@ fn step_of<A: Allocator + Copy>(
     origin: Origin,
     newer: Option<Key>,
 ) -> Result<Step<Item<A>, Key, A>, AllocError>
-    ensures { IfOk result (λ step. step.item.object.key ≡ object.key) }
+    ensures { IfOk result (λ step. step.item.object ≡ object) }
 {
     let mut provides = Vec::with_capacity(alloc, 1)?;
     provides.push(object.key)?;

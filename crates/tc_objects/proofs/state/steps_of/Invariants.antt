@@ -1,8 +1,7 @@
 use Rattle.std.proofs.Common.{◌≡◌, ◌++◌, map}
 use Rattle.std.specs.Vec.Iter.{into_iter_items}
-use Rattle.tc_objects.specs.Needs.{key_of}
-use Rattle.tc_objects.specs.Put.{keys_made, keys_read}
+use Rattle.tc_objects.specs.Put.{content_of, contents_made, contents_read}
 use Rattle.tc_objects.proofs.state.steps_of.Given as goal
 
 abbrev pub invariant-loop-one : goal.invariant-loop-one
-invariant-loop-one g l = keys_made l.steps.items ++ map key_of (into_iter_items l.one-iterator) ≡ keys_read l.fn.readings.items
+invariant-loop-one g l = contents_made l.steps.items ++ map content_of (into_iter_items l.one-iterator) ≡ contents_read l.fn.readings.items
