@@ -1,6 +1,7 @@
 //! The requests that lead from what there is now to what is wanted.
 
-ghost use Rattle.std.specs.Prelude.{◌≡◌, ◌≢◌, ◌∷◌, ◌++◌, ◌||◌, [], false, map, option_map, true, IfNone, IfOk, IfSome, List, MatchOption};
+ghost use Rattle.std.specs.Prelude.{◌≡◌, ◌≢◌, ◌∷◌, ◌++◌, ◌||◌, [], false, map, option_map, true};
+ghost use Rattle.std.specs.Prelude.{IfNone, IfOk, IfSome, List, MatchOption};
 ghost use Rattle.tc_changes.specs.Model.{ready};
 ghost use Rattle.tc_changes.specs.Objects.{same_key, things, IfRefused, IsRefused};
 ghost use Rattle.tc_objects.specs.Sent.{seen};
@@ -140,16 +141,10 @@ pub(crate) fn plan_by<R: Rules<Global>>(
     ensures of_now { IfOk result (λ r. has_complaint now.remarks.items ≡ true → r.is_void ≡ true) }
     ensures of_wanted { IfOk result (λ r. has_complaint want.remarks.items ≡ true → r.is_void ≡ true) }
 {
-    let is_void = are_void(&now, &want);
+    let is_void = now.is_void || want.is_void;
     let mut remarks = Vec::new(alloc);
     let requests = requests_between(alloc, rules, now, want, &mut remarks)?;
     Ok(restored_by(alloc, requests, remarks, is_void))
-}
-
-fn are_void(now: &Lines, want: &Lines) -> bool
-    ensures { result ≡ (now.now.is_void || want.now.is_void) }
-{
-    now.is_void || want.is_void
 }
 
 // These requests, or none if something is wrong.
@@ -193,7 +188,7 @@ fn requests_between<R: Rules<Global>>(
 {
     let found = state_in(alloc, Source::Now, None, now, remarks)?;
     match found {
-        Some((now, was)) => requests_after(alloc, rules, &now, &was, want, remarks),
+        Some(shown) => requests_after(alloc, rules, &shown.0, &shown.1, want, remarks),
         None => {
             state_in(alloc, Source::Wanted, None, want, remarks)?;
             Ok(Vec::new(alloc))
@@ -218,10 +213,10 @@ fn requests_after<R: Rules<Global>>(
 {
     let found = state_in(alloc, Source::Wanted, Some(now), want, remarks)?;
     match found {
-        Some((want, is)) => {
+        Some(shown) => {
+            let (want, is) = shown;
             let planned = plan_between(alloc, rules, now, want)?;
-            let requests = line_requests(alloc, planned, was, &is, remarks)?;
-            Ok(requests)
+            Ok(line_requests(alloc, planned, was, &is, remarks)?)
         }
         None => Ok(Vec::new(alloc)),
     }

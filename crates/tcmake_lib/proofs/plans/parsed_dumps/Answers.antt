@@ -12,7 +12,7 @@ loop-dump-preserved c =
     subst (λ y. take (i + 1) xs ≡ take i xs ++ y ∷ []) (sym c.dump-item.is) (take_more xs i x c.loop-dump-test.true) in
     let front : map shown_by (take (i + 1) xs) ≡ map shown_by (take i xs) ++ shown_by x ∷ [] =
     ap (map shown_by) more ∙ map-append shown_by (take i xs) (x ∷ []) in record {
-      dumps = λ no. subst (λ l. AreDumps l c.in_ok-parsed.parsed.dumps.items) (sym front)
-          (c.in_ok-parsed.ensures.dumps no (map shown_by (take i xs)) (c.loop-dump.invariant.dumps (c.in_ok-parsed.ensures.said no)));
-      said = λ no. c.loop-dump.invariant.said (c.in_ok-parsed.ensures.said no);
+      dumps = λ none. subst (λ l. AreDumps l c.in_ok-parsed.parsed.dumps.items) (sym front)
+          (c.in_ok-parsed.ensures.dumps none (map shown_by (take i xs)) (c.loop-dump.invariant.dumps (c.in_ok-parsed.ensures.said none)));
+      said = λ none. c.loop-dump.invariant.said (c.in_ok-parsed.ensures.said none);
     }

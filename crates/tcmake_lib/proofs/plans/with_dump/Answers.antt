@@ -1,4 +1,4 @@
-use Rattle.std.proofs.Common.{◌≡◌, ◌∷◌, ◌++◌, ◌∙◌, [], true, false, sym, subst}
+use Rattle.std.proofs.Common.{◌∷◌, ◌++◌, [], sym, subst}
 use Rattle.std.proofs.lemmas.Result.{IfOk-weaker}
 use Rattle.tcmake_lib.specs.Planned.{AreDumps, IsDumpIn, shown_by}
 use Rattle.tcmake_lib.proofs.Planned.{AllZip-more}
@@ -7,15 +7,6 @@ use Rattle.tcmake_lib.proofs.plans.with_dump.Goals as goal
 pub returns-in-Ok-clause-dumps : goal.returns-in-Ok-clause-dumps
 returns-in-Ok-clause-dumps c =
     let dump = shown_by c.args.dump.now in
-    IfOk-weaker c.with_shown.result _ _ (λ made more no before are.
+    IfOk-weaker c.with_shown.result _ _ (λ made more none before are.
     subst (AreDumps (before ++ dump ∷ [])) (sym more) (AllZip-more IsDumpIn before c.args.parsed.dumps.items dump c.in-Ok.shown are c.in-Ok.ensures))
     c.with_shown.ensures
-
-pub returns-in-Ok-clause-said : goal.returns-in-Ok-clause-said
-returns-in-Ok-clause-said c = IfOk-weaker c.with_shown.result _ _ (λ made more no. no) c.with_shown.ensures
-
-pub returns-in-Err-clause-dumps : goal.returns-in-Err-clause-dumps
-returns-in-Err-clause-dumps c = λ no before are. let both : true ≡ false = sym c.in_ok-complain.ensures ∙ no in cc
-
-pub returns-in-Err-clause-said : goal.returns-in-Err-clause-said
-returns-in-Err-clause-said c = λ no. let both : true ≡ false = sym c.in_ok-complain.ensures ∙ no in cc
