@@ -1,2 +1,3 @@
 mod Complaints
+mod Planned
 mod Runs

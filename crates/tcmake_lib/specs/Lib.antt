@@ -2,3 +2,4 @@ pub mod Complaints
 pub mod Written
 pub mod Restored
 pub mod Requests
+pub mod Planned

@@ -1,7 +1,8 @@
 //! Lines of an input, and the dumps in them.
 
-ghost use Rattle.std.specs.Prelude.{◌≡◌, ◌%◌, IfErr, IfOk, IsTrue, MatchOption, false, ◌⊎◌, ◌↔◌};
+ghost use Rattle.std.specs.Prelude.{◌≡◌, ◌∷◌, ◌++◌, ◌%◌, [], IfErr, IfOk, IsTrue, MatchOption, false, map, true, ◌⊎◌, ◌↔◌};
 ghost use Rattle.tcmake_lib.specs.Complaints.{Says};
+ghost use Rattle.tcmake_lib.specs.Planned.{given_as, has_complaint, is_complaint, shown_by};
 ghost use Rattle.tcmake_lib.specs.Requests.{
   AsksForDump,
   IsAsked,
@@ -93,7 +94,11 @@ pub(crate) struct Reading<'a> {
 
 impl Lines {
     /// None yet.
-    pub(crate) fn new(alloc: Global) -> Lines {
+    pub(crate) fn new(alloc: Global) -> Lines
+        ensures dumps { result.dumps.items ≡ [] }
+        ensures remarks { result.remarks.items ≡ [] }
+        ensures void { result.is_void ≡ false }
+    {
         Lines {
             dumps: Vec::new(alloc),
             remarks: Vec::new(alloc),
@@ -104,7 +109,11 @@ impl Lines {
     }
 
     /// Keeps a dump.
-    pub(crate) fn keep(&mut self, number: u64, made: Made) -> Result<(), AllocError> {
+    pub(crate) fn keep(&mut self, number: u64, made: Made) -> Result<(), AllocError>
+        ensures dumps { IfOk result (λ _. map shown_by self.new.dumps.items ≡ map shown_by self.old.dumps.items ++ (made.given, made.bytes.items) ∷ []) }
+        ensures remarks { self.new.remarks.items ≡ self.old.remarks.items }
+        ensures void { self.new.is_void ≡ self.old.is_void }
+    {
         self.dumps.push(Dumped { number, made })?;
         Ok(())
     }
@@ -120,14 +129,66 @@ impl Lines {
         if complaint.is_of_all() || source == Source::Now {
             self.is_void = true;
         }
-        self.remarks.push(Remark {
-            source,
-            number,
-            kind: RemarkKind::Complaint,
-            text: format!(in alloc; "{complaint}")?,
-        })?;
-        Ok(())
+        complain(alloc, source, number, complaint, &mut self.remarks)
     }
+}
+
+/// Says what is wrong with a line.
+pub(crate) fn complain(
+    alloc: Global,
+    source: Source,
+    number: u64,
+    complaint: &Complaint,
+    remarks: &mut Vec<Remark>,
+) -> Result<(), AllocError>
+    ensures { IfOk result (λ _. has_complaint remarks.new.items ≡ true) }
+{
+    remarks.push(Remark {
+        source,
+        number,
+        kind: RemarkKind::Complaint,
+        text: format!(in alloc; "{complaint}")?,
+    })?;
+    Ok(())
+}
+
+/// True if something is wrong.
+pub(crate) fn has_complaint(remarks: &[Remark]) -> bool
+    ensures { result ≡ has_complaint remarks.now }
+{
+    remarks.iter().any(|remark| is_complaint(remark))
+}
+
+fn is_complaint(remark: &Remark) -> bool
+    ensures { result ≡ is_complaint remark.now.kind }
+{
+    remark.kind == RemarkKind::Complaint
+}
+
+/// Dumps as lines, which are numbered from 1.
+pub(crate) fn lines_of(
+    alloc: Global,
+    dumps: Vec<(NetlinkHeader, Vec<u8>)>,
+) -> Result<Lines, AllocError>
+    ensures dumps { IfOk result (λ lines. map shown_by lines.dumps.items ≡ map given_as dumps.items) }
+    ensures remarks { IfOk result (λ lines. lines.remarks.items ≡ []) }
+    ensures void { IfOk result (λ lines. lines.is_void ≡ false) }
+{
+    let mut lines = Lines::new(alloc);
+    let mut number = 0;
+    for (given, bytes) in dumps {
+        number = u64::wrapping_add(number, 1);
+        let settled = Vec::new(alloc);
+        lines.keep(
+            number,
+            Made {
+                given,
+                bytes,
+                settled,
+            },
+        )?;
+    }
+    Ok(lines)
 }
 
 /// Reads all lines of an input, and keeps what is dumped.

@@ -2,7 +2,7 @@
 
 use crate::arguments::Request;
 use crate::complaint::Complaint;
-use crate::lines::{Dumped, Lines, Reading, Remark, RemarkKind, Source, read_lines};
+use crate::lines::{Dumped, Lines, Reading, Remark, RemarkKind, Source, lines_of, read_lines};
 use crate::now::{Counts, Single, now_of, singles_of, unlisted_in};
 use crate::plans::{of_interfaces, plan_by};
 use crate::restore::{Dump, dump_of, restored};
@@ -335,20 +335,7 @@ pub fn requests_of_dumps(
     alloc: Global,
     dumps: Vec<(NetlinkHeader, Vec<u8>)>,
 ) -> Result<Restored, Stop> {
-    let mut lines = Lines::new(alloc);
-    let mut number = 0;
-    for (given, bytes) in dumps {
-        number = u64::wrapping_add(number, 1);
-        let settled = Vec::new(alloc);
-        lines.keep(
-            number,
-            Made {
-                given,
-                bytes,
-                settled,
-            },
-        )?;
-    }
+    let lines = lines_of(alloc, dumps)?;
     requests_by(alloc, lines, None, false)
 }
 

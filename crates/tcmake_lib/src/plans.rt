@@ -1,11 +1,30 @@
 //! The requests that lead from what there is now to what is wanted.
 
-ghost use Rattle.std.specs.Prelude.{◌≡◌, [], true, IfOk, IfSome};
+ghost use Rattle.std.specs.Prelude.{◌≡◌, ◌≢◌, ◌∷◌, ◌++◌, ◌||◌, [], false, map, option_map, true};
+ghost use Rattle.std.specs.Prelude.{IfNone, IfOk, IfSome, List, MatchOption};
 ghost use Rattle.tc_changes.specs.Model.{ready};
-ghost use Rattle.tc_changes.specs.Objects.{same_key, things};
+ghost use Rattle.tc_changes.specs.Objects.{same_key, things, IfRefused, IsRefused};
+ghost use Rattle.tc_objects.specs.Sent.{seen};
+ghost use Rattle.tcmake_lib.specs.Planned.{
+  AreDumps,
+  AreRequestsOf,
+  IsDumpIn,
+  IsPlanned,
+  IsPlannedFrom,
+  Message,
+  ShownBy,
+  Shows,
+  given_as,
+  has_complaint,
+  planned_as,
+  requested_as,
+  shown_by,
+};
 
 use crate::complaint::Complaint;
-use crate::lines::{Lines, Reading, Remark, RemarkKind, Source, read_lines};
+use crate::lines::{
+    Dumped, Lines, Reading, Remark, Source, complain, has_complaint, lines_of, read_lines,
+};
 use crate::order::{LineRequest, Restored};
 use crate::restore::{Dump, dump_of};
 use forms_json::Tables;
@@ -44,7 +63,14 @@ pub fn plan_of_dumps<R: Rules<Global>>(
     rules: &R,
     now: Vec<(NetlinkHeader, Vec<u8>)>,
     want: Vec<(NetlinkHeader, Vec<u8>)>,
-) -> Result<Restored, Stop> {
+) -> Result<Restored, Stop>
+    // They are those of a plan between the states that the dumps show, which leads there and keeps all that `plan_between` promises.
+    ensures planned { IfOk result (λ r. r.is_void ≡ false → IsPlanned (R.takes rules.now) (R.can_make rules.now)
+        (map given_as now.items) (map given_as want.items) r.requests.items) }
+    // If something is wrong, there are none, and a remark says what.
+    ensures void { IfOk result (λ r. r.is_void ≡ true → r.requests.items ≡ []) }
+    ensures told { IfOk result (λ r. r.is_void ≡ has_complaint r.remarks.items) }
+{
     let now = lines_of(alloc, now)?;
     let want = lines_of(alloc, want)?;
     plan_by(alloc, rules, now, want)
@@ -100,56 +126,100 @@ fn interface_of(made: &Made) -> Option<i32> {
     }
 }
 
-// Dumps as lines.
-fn lines_of(alloc: Global, dumps: Vec<(NetlinkHeader, Vec<u8>)>) -> Result<Lines, AllocError> {
-    let mut lines = Lines::new(alloc);
-    let mut number = 0;
-    for (given, bytes) in dumps {
-        number = u64::wrapping_add(number, 1);
-        let settled = Vec::new(alloc);
-        lines.keep(
-            number,
-            Made {
-                given,
-                bytes,
-                settled,
-            },
-        )?;
-    }
-    Ok(lines)
-}
-
 /// The requests that lead from the present lines to the wanted ones, using the changes that the kernel makes in place.
 pub(crate) fn plan_by<R: Rules<Global>>(
     alloc: Global,
     rules: &R,
     now: Lines,
     want: Lines,
-) -> Result<Restored, Stop> {
-    let mut remarks = Lines::new(alloc);
-    let now = state_in(alloc, Source::Now, None, now, &mut remarks)?;
-    let there = match &now {
-        Some((now, _)) => Some(now),
-        None => None,
-    };
-    let want = state_in(alloc, Source::Wanted, there, want, &mut remarks)?;
-    let requests = match (&now, want) {
-        (Some((now, was)), Some((want, is))) => {
-            let plan = plan_between(alloc, rules, now, want)?;
-            line_requests(alloc, plan, was, &is, &mut remarks)?
-        }
-        _ => Vec::new(alloc),
-    };
-    let Lines {
-        remarks,
-        is_void,
-        ..
-    } = remarks;
-    Ok(Restored {
+) -> Result<Restored, Stop>
+    ensures planned { IfOk result (λ r. r.is_void ≡ false → IsPlanned (R.takes rules.now) (R.can_make rules.now)
+        (map shown_by now.dumps.items) (map shown_by want.dumps.items) r.requests.items) }
+    ensures void { IfOk result (λ r. r.is_void ≡ true → r.requests.items ≡ []) }
+    ensures told { IfOk result (λ r. r.is_void ≡ (has_complaint r.remarks.items || (now.is_void || want.is_void))) }
+    // What is wrong with a line is still said.
+    ensures of_now { IfOk result (λ r. has_complaint now.remarks.items ≡ true → r.is_void ≡ true) }
+    ensures of_wanted { IfOk result (λ r. has_complaint want.remarks.items ≡ true → r.is_void ≡ true) }
+{
+    let is_void = now.is_void || want.is_void;
+    let mut remarks = Vec::new(alloc);
+    let requests = requests_between(alloc, rules, now, want, &mut remarks)?;
+    Ok(restored_by(alloc, requests, remarks, is_void))
+}
+
+// These requests, or none if something is wrong.
+fn restored_by(
+    alloc: Global,
+    requests: Vec<LineRequest>,
+    remarks: Vec<Remark>,
+    is_void: bool,
+) -> Restored
+    ensures made { result.is_void ≡ false → result.requests.items ≡ requests.items }
+    ensures void { result.is_void ≡ true → result.requests.items ≡ [] }
+    ensures told { result.is_void ≡ (has_complaint remarks.items || is_void) }
+    ensures said { result.remarks.items ≡ remarks.items }
+{
+    if has_complaint(&remarks) || is_void {
+        return Restored {
+            requests: Vec::new(alloc),
+            remarks,
+            is_void: true,
+        };
+    }
+    Restored {
         requests,
         remarks,
-        is_void,
-    })
+        is_void: false,
+    }
+}
+
+// The requests of a plan between what lines show. What is wrong is said.
+fn requests_between<R: Rules<Global>>(
+    alloc: Global,
+    rules: &R,
+    now: Lines,
+    want: Lines,
+    remarks: &mut Vec<Remark>,
+) -> Result<Vec<LineRequest>, Stop>
+    ensures planned { IfOk result (λ made. has_complaint remarks.new.items ≡ false → IsPlanned (R.takes rules.now) (R.can_make rules.now)
+        (map shown_by now.dumps.items) (map shown_by want.dumps.items) made.items) }
+    ensures of_now { IfOk result (λ _. has_complaint remarks.new.items ≡ false → has_complaint now.remarks.items ≡ false) }
+    ensures of_wanted { IfOk result (λ _. has_complaint remarks.new.items ≡ false → has_complaint want.remarks.items ≡ false) }
+{
+    let found = state_in(alloc, Source::Now, None, now, remarks)?;
+    match found {
+        Some(shown) => requests_after(alloc, rules, &shown.0, &shown.1, want, remarks),
+        None => {
+            state_in(alloc, Source::Wanted, None, want, remarks)?;
+            Ok(Vec::new(alloc))
+        }
+    }
+}
+
+// The requests of a plan from a state to what lines show.
+fn requests_after<R: Rules<Global>>(
+    alloc: Global,
+    rules: &R,
+    now: &State<Global>,
+    was: &Numbers,
+    want: Lines,
+    remarks: &mut Vec<Remark>,
+) -> Result<Vec<LineRequest>, Stop>
+    requires now_ready { ready same_key [] (things now.now.objects.items) ≡ true }
+    ensures planned { IfOk result (λ made. has_complaint remarks.new.items ≡ false → IsPlannedFrom (R.takes rules.now) (R.can_make rules.now)
+        now.now (map shown_by want.dumps.items) made.items) }
+    ensures said { IfOk result (λ _. has_complaint remarks.new.items ≡ false → has_complaint remarks.old.items ≡ false) }
+    ensures of_wanted { IfOk result (λ _. has_complaint remarks.new.items ≡ false → has_complaint want.remarks.items ≡ false) }
+{
+    let found = state_in(alloc, Source::Wanted, Some(now), want, remarks)?;
+    match found {
+        Some(shown) => {
+            let (want, is) = shown;
+            let planned = plan_between(alloc, rules, now, want)?;
+            Ok(line_requests(alloc, planned, was, &is, remarks)?)
+        }
+        None => Ok(Vec::new(alloc)),
+    }
 }
 
 /// The state that lines show.
@@ -181,14 +251,14 @@ pub fn state_of_lines<T: Tables, R: BufRead>(
         Some(names) => names,
         None => Vec::new(alloc),
     };
-    let mut remarks = Lines::new(alloc);
+    let is_void = lines.is_void;
+    let mut remarks = Vec::new(alloc);
     let found = state_in(alloc, Source::Wanted, there, lines, &mut remarks)?;
-    let Lines {
-        remarks,
-        is_void,
-        ..
-    } = remarks;
-    let state = if is_void { None } else { state_alone(found) };
+    let state = if is_void || has_complaint(&remarks) {
+        None
+    } else {
+        state_alone(found)
+    };
     Ok(LineState {
         state,
         names,
@@ -202,46 +272,105 @@ fn state_alone(found: Option<(State<Global>, Numbers)>) -> Option<State<Global>>
     Some(state)
 }
 
-// The state that lines show, and the numbers of their lines; what is wrong with them is kept.
+// The state that lines show, and the numbers of their lines. What is wrong with them is said.
 fn state_in(
     alloc: Global,
     source: Source,
     there: Option<&State<Global>>,
     lines: Lines,
-    remarks: &mut Lines,
+    remarks: &mut Vec<Remark>,
 ) -> Result<Option<(State<Global>, Numbers)>, AllocError>
     ensures ready { IfOk result (λ found. IfSome found (λ shown. ready same_key [] (things shown.0.objects.items) ≡ true)) }
+    ensures shown { IfOk result (λ found. has_complaint remarks.new.items ≡ false → MatchOption found ⊥ (λ shown.
+        ShownBy (option_map (λ s. s.now) there.entry) (map shown_by lines.dumps.items) shown.0)) }
+    ensures said { IfOk result (λ _. has_complaint remarks.new.items ≡ false → has_complaint remarks.old.items ≡ false) }
+    ensures of_lines { IfOk result (λ _. has_complaint remarks.new.items ≡ false → has_complaint lines.remarks.items ≡ false) }
 {
     let Lines {
         dumps,
         remarks: said,
-        is_void,
         ..
     } = lines;
-    remarks.is_void = remarks.is_void || is_void;
+    say_all(said, remarks)?;
+    let parsed = parsed_dumps(alloc, source, &dumps, remarks)?;
+    state_by(alloc, source, there, parsed, remarks)
+}
+
+// More remarks.
+fn say_all(said: Vec<Remark>, remarks: &mut Vec<Remark>) -> Result<(), AllocError>
+    ensures { IfOk result (λ _. remarks.new.items ≡ remarks.old.items ++ said.items) }
+{
     for remark in said {
-        remarks.is_void = remarks.is_void || remark.kind == RemarkKind::Complaint;
-        remarks.remarks.push(remark)?;
+        remarks.push(remark)?;
     }
+    Ok(())
+}
+
+// The dumps of lines. A line that has none is wrong.
+fn parsed_dumps(
+    alloc: Global,
+    source: Source,
+    dumps: &[Dumped],
+    remarks: &mut Vec<Remark>,
+) -> Result<Parsed, AllocError>
+    ensures dumps { IfOk result (λ parsed. has_complaint remarks.new.items ≡ false → AreDumps (map shown_by dumps.now) parsed.dumps.items) }
+    ensures said { IfOk result (λ _. has_complaint remarks.new.items ≡ false → has_complaint remarks.old.items ≡ false) }
+{
     let mut parsed = Parsed {
         dumps: Vec::new(alloc),
         numbers: Vec::new(alloc),
     };
-    for dump in &dumps {
-        match parsed_dump(alloc, &dump.made) {
-            Ok(shown) => {
-                parsed.dumps.push(shown)?;
-                parsed.numbers.push(dump.number)?;
-            }
-            Err(complaint) => fail_all(alloc, source, dump.number, &complaint, remarks)?,
+    for dump in dumps {
+        parsed = with_dump(alloc, source, dump, parsed, remarks)?;
+    }
+    Ok(parsed)
+}
+
+// Dumps, and that of one more line.
+fn with_dump(
+    alloc: Global,
+    source: Source,
+    dump: &Dumped,
+    parsed: Parsed,
+    remarks: &mut Vec<Remark>,
+) -> Result<Parsed, AllocError>
+    ensures dumps { IfOk result (λ made. has_complaint remarks.new.items ≡ false → (before : List Message) →
+        AreDumps before parsed.dumps.items → AreDumps (before ++ shown_by dump.now ∷ []) made.dumps.items) }
+    ensures said { IfOk result (λ _. has_complaint remarks.new.items ≡ false → has_complaint remarks.old.items ≡ false) }
+{
+    match parsed_dump(alloc, &dump.made) {
+        Ok(shown) => with_shown(parsed, shown, dump.number),
+        Err(complaint) => {
+            complain(alloc, source, dump.number, &complaint, remarks)?;
+            Ok(parsed)
         }
     }
+}
+
+// Dumps, and one more.
+fn with_shown(parsed: Parsed, shown: Shown<Global>, number: u64) -> Result<Parsed, AllocError>
+    ensures { IfOk result (λ made. made.dumps.items ≡ parsed.dumps.items ++ shown ∷ []) }
+{
+    let mut parsed = parsed;
+    parsed.dumps.push(shown)?;
+    parsed.numbers.push(number)?;
+    Ok(parsed)
+}
+
+// The state that dumps show, and the numbers of their lines.
+fn state_by(
+    alloc: Global,
+    source: Source,
+    there: Option<&State<Global>>,
+    parsed: Parsed,
+    remarks: &mut Vec<Remark>,
+) -> Result<Option<(State<Global>, Numbers)>, AllocError>
+    ensures shown { IfOk result (λ found. IfSome found (λ shown. Shows (option_map (λ s. s.now) there.entry) parsed.dumps.items shown.0)) }
+    ensures wrong { IfOk result (λ found. IfNone found (has_complaint remarks.new.items ≡ true)) }
+    ensures said { IfOk result (λ _. has_complaint remarks.new.items ≡ false → has_complaint remarks.old.items ≡ false) }
+{
     let Parsed { dumps, numbers } = parsed;
-    let state = match there {
-        Some(now) => state_after(alloc, dumps, now),
-        None => state_of(alloc, dumps),
-    };
-    match state {
+    match state_shown(alloc, there, dumps) {
         Ok(state) => {
             let numbers = numbers_of(alloc, &state, &numbers)?;
             Ok(Some((state, numbers)))
@@ -249,35 +378,45 @@ fn state_in(
         Err(StateError::OutOfMemory) => Err(AllocError),
         Err(error) => {
             let number = number_at(&numbers, error.place());
-            fail_all(alloc, source, number, &Complaint::State(error), remarks)?;
+            complain(alloc, source, number, &Complaint::State(error), remarks)?;
             Ok(None)
         }
+    }
+}
+
+fn state_shown(
+    alloc: Global,
+    there: Option<&State<Global>>,
+    dumps: Vec<Shown<Global>>,
+) -> Result<State<Global>, StateError>
+    ensures { IfOk result (λ state. Shows (option_map (λ s. s.now) there.entry) dumps.items state) }
+{
+    match there {
+        Some(now) => state_after(alloc, dumps, now),
+        None => state_of(alloc, dumps),
     }
 }
 
 // `NLM_F_DUMP_INTR` of `linux/netlink.h`.
 const NLM_F_DUMP_INTR: u16 = 0x10;
 
-fn parsed_dump(alloc: Global, made: &Made) -> Result<Shown<Global>, Complaint> {
+fn parsed_dump(alloc: Global, made: &Made) -> Result<Shown<Global>, Complaint>
+    ensures { IfOk result (IsDumpIn (made.now.given, made.now.bytes.items)) }
+{
     if made.given.flags & NLM_F_DUMP_INTR != 0 {
         return Err(Complaint::Interrupted);
     }
-    match dump_of(made.given.kind)? {
-        Dump::Of(object) => Ok(Shown::Of(object, TcMessage::parse(alloc, &made.bytes)?)),
-        Dump::Actions => Ok(Shown::Actions(TcActionMessage::parse(alloc, &made.bytes)?)),
+    let dump = dump_of(made.given.kind)?;
+    match dump {
+        Dump::Of(object) => {
+            let message = TcMessage::parse(alloc, &made.bytes)?;
+            Ok(Shown::Of(object, message))
+        }
+        Dump::Actions => {
+            let actions = TcActionMessage::parse(alloc, &made.bytes)?;
+            Ok(Shown::Actions(actions))
+        }
     }
-}
-
-// Keeps what is wrong with a line; then there are no requests.
-fn fail_all(
-    alloc: Global,
-    source: Source,
-    number: u64,
-    complaint: &Complaint,
-    remarks: &mut Lines,
-) -> Result<(), AllocError> {
-    remarks.is_void = true;
-    remarks.fail_with(alloc, source, number, complaint)
 }
 
 fn number_at(numbers: &[u64], place: Option<usize>) -> u64 {
@@ -299,29 +438,58 @@ fn numbers_of(
     Ok(found)
 }
 
-// The requests of a plan, with the numbers of lines; or what can't be made.
+// The requests of a plan, with the numbers of lines. What can't be made is said.
 fn line_requests(
     alloc: Global,
     planned: Planned<Global>,
     was: &Numbers,
     is: &Numbers,
-    remarks: &mut Lines,
-) -> Result<Vec<LineRequest>, AllocError> {
+    remarks: &mut Vec<Remark>,
+) -> Result<Vec<LineRequest>, AllocError>
+    ensures sent { IfOk result (λ made. (IsRefused planned.plan → ⊥) → AreRequestsOf planned.requests.items made.items) }
+    ensures refused { IfOk result (λ _. IfRefused planned.plan (λ keys. keys ≢ [] → has_complaint remarks.new.items ≡ true)) }
+    ensures said { IfOk result (λ _. has_complaint remarks.new.items ≡ false → has_complaint remarks.old.items ≡ false) }
+{
     let Planned { plan, requests } = planned;
-    let mut made = Vec::new(alloc);
     match plan {
-        Plan::Steps(_) => {
-            for request in requests {
-                made.push(line_request(was, is, request))?;
-            }
-        }
+        Plan::Steps(_) => requests_sent(alloc, requests, was, is),
         Plan::Refused(keys) => {
-            for key in keys {
-                let number = is.get(&key).copied().unwrap_or(0);
-                let complaint = Complaint::Unmade(Label(key));
-                fail_all(alloc, Source::Wanted, number, &complaint, remarks)?;
-            }
+            say_unmade(alloc, &keys, is, remarks)?;
+            Ok(Vec::new(alloc))
         }
+    }
+}
+
+// That the objects of these keys can't be made.
+fn say_unmade(
+    alloc: Global,
+    keys: &[Key],
+    is: &Numbers,
+    remarks: &mut Vec<Remark>,
+) -> Result<(), AllocError>
+    ensures told { IfOk result (λ _. keys.now ≢ [] → has_complaint remarks.new.items ≡ true) }
+    ensures said { IfOk result (λ _. has_complaint remarks.new.items ≡ false → has_complaint remarks.old.items ≡ false) }
+{
+    for key in keys {
+        let number = is.get(key).copied().unwrap_or(0);
+        let complaint = Complaint::Unmade(Label(*key));
+        complain(alloc, Source::Wanted, number, &complaint, remarks)?;
+    }
+    Ok(())
+}
+
+// Requests of a plan, with the numbers of lines.
+fn requests_sent(
+    alloc: Global,
+    requests: Vec<PlanRequest<Global>>,
+    was: &Numbers,
+    is: &Numbers,
+) -> Result<Vec<LineRequest>, AllocError>
+    ensures { IfOk result (λ made. AreRequestsOf requests.items made.items) }
+{
+    let mut made = Vec::new(alloc);
+    for request in requests {
+        made.push(line_request(was, is, request))?;
     }
     Ok(made)
 }
@@ -330,7 +498,9 @@ fn line_requests(
 const RTM_DELACTION: u16 = 49;
 
 // A request, with the number of the line of now that it deletes, or of the line that is wanted.
-fn line_request(was: &Numbers, is: &Numbers, request: PlanRequest<Global>) -> LineRequest {
+fn line_request(was: &Numbers, is: &Numbers, request: PlanRequest<Global>) -> LineRequest
+    ensures { requested_as result ≡ planned_as (seen request) }
+{
     let numbers = if request.flags == DELETE_FLAGS {
         was
     } else {
