@@ -1,8 +1,8 @@
 -- The explanation of a kind: a line for each attribute, field and choice, in the order of the table, below the one that
 -- contains it.
 use Rattle.std.specs.Option.{option_map_or}
-use Rattle.std.specs.Prelude.{List, None, Option, Some, [], bytes_eq, codes, decimal, if◌then◌else◌, nat_le, nat_lt, suc, zero, ℕ}
-use Rattle.std.specs.Prelude.{◌&&◌, ◌++◌, ◌+◌, ◌-◌, ◌/◌, ◌∷◌}
+use Rattle.std.specs.Prelude.{Bool, List, None, Option, Some, [], bytes_eq, codes, decimal, false, if◌then◌else◌, length, nat_le, nat_lt, suc, zero, ℕ}
+use Rattle.std.specs.Prelude.{◌&&◌, ◌++◌, ◌+◌, ◌-◌, ◌/◌, ◌==◌, ◌∷◌}
 use Rattle.forms_values.specs.Tables.{KindRows, Kinds, One, Part, Table}
 use Rattle.forms_values.specs.declared.form.Form.{Form}
 use Rattle.forms_values.specs.declared.form.Form.TheVariants as form
@@ -61,24 +61,31 @@ abbrev pub alone : Part → Option Form
 alone (One f) = Some f
 alone p = None
 
+-- a choice of nothing, which has no line
+abbrev pub is_empty_choice : Table → Form → Bool
+is_empty_choice table (form.Choice i) = length (members_of (table i)) == 0
+is_empty_choice table f = false
+
 -- `Inner` explains the contents of a form
-module _ (Inner : Form → List ℕ) (notes : List CodeNote) where
+module _ (Inner : Form → List ℕ) (notes : List CodeNote) (table : Table) where
   -- the line of a member of the part at a place, then the names of its numbers or bits, then a text
   abbrev pub member_text : ℕ → ℕ → Member → Note → List ℕ → List ℕ
   member_text level all m note rest = member_line level all m note ++ (named_lines (level + 1) note.numbers note.names ++ rest)
 
-  -- each member, with its contents
+  -- each member that has a line, with its contents
   abbrev pub members_text : ℕ → ℕ → ℕ → List Member → List ℕ
   members_text level all place [] = []
-  members_text level all place (m ∷ ms) = member_text level all m (note_of notes place m.name) (Inner m.form ++ members_text level all place ms)
+  members_text level all place (m ∷ ms) =
+      if is_empty_choice table m.form then members_text level all place ms
+      else member_text level all m (note_of notes place m.name) (Inner m.form ++ members_text level all place ms)
 
   abbrev pub part_text : ℕ → ℕ → ℕ → Part → Option Form → List ℕ
   part_text level all place p (Some f) = Inner f
   part_text level all place p None = members_text level all place (members_of p)
 
-  abbrev pub text_at : Table → ℕ → ℕ → Option ℕ → List ℕ
-  text_at table level all None = []
-  text_at table level all (Some i) = part_text level all i (table i) (alone (table i))
+  abbrev pub text_at : ℕ → ℕ → Option ℕ → List ℕ
+  text_at level all None = []
+  text_at level all (Some i) = part_text level all i (table i) (alone (table i))
 
 -- the contents of a form, at most n levels deep
 abbrev pub explained : Table → List CodeNote → ℕ → Form → List ℕ

@@ -12,7 +12,7 @@ use Rattle.tc_schema.specs.declared.json.Each.TheVariants as each
 use Rattle.tc_schema.specs.declared.json.TheConstants.{BYTES, CLOSED, EXAMPLE, INTEGER, KINDED, LINE, LIST, NAMED, OBJECT, OR_OTHER, OTHER_ENDS}
 use Rattle.tc_schema.specs.declared.json.TheConstants.{OTHERWISE, RAW_OR, REQUIRED, REST, TAB, TAB_ENDS, UNKNOWN, WORD}
 
--- ---- an example: the first of a list or choice, each field of a record
+-- ---- an example: the first of a list or choice, each field of a record, each element of an array of a fixed length
 
 abbrev pub name_example : List Member → List ℕ
 name_example [] = codes "{\"Other\":1}"
@@ -21,6 +21,11 @@ name_example (m ∷ ms) = quoted m.name
 -- zeros in hex
 abbrev pub zeros : ℕ → List ℕ
 zeros n = codes "\"" ++ (times n (codes "00") ++ codes "\"")
+
+-- a text n times, with commas between
+abbrev pub elements : Bool → ℕ → List ℕ → List ℕ
+elements is_first zero text = []
+elements is_first (suc n) text = comma is_first ++ (text ++ elements false n text)
 
 -- a text of each member, except those that are left out
 abbrev pub each_text : (Form → Bool) → (Bool → Member → List ℕ) → Bool → List Member → List ℕ
@@ -55,7 +60,7 @@ module _ (Inner : Form → List ℕ) where
   example_by table (form.Record i) = codes "{" ++ (each_text is_pad member_example true (members_of (table i)) ++ codes "}")
   example_by table (form.Choice i) = first_example (members_of (table i))
   example_by table (form.Array i) = codes "[" ++ (Inner (form_of i (table i)) ++ codes "]")
-  example_by table (form.Times n i) = codes "[" ++ (Inner (form_of i (table i)) ++ codes "]")
+  example_by table (form.Times n i) = codes "[" ++ (elements true n (Inner (form_of i (table i))) ++ codes "]")
   example_by table (form.List i) = codes "[" ++ (list_example [] (layer_of (table i)) (members_of (table i)) ++ codes "]")
   example_by table f = (about f).sample
 

@@ -2,7 +2,7 @@
 
 ghost use Rattle.std.specs.Prelude.{OnOk, is_some, ◌++◌, ◌-◌, ◌≡◌, ◌≤◌};
 ghost use Rattle.forms_values.specs.Tables.{kinds_view, part_view};
-ghost use Rattle.tc_schema.specs.Explained.{alone, explained, kind_text, kinds_of, member_line, members_text, named_lines, place_in};
+ghost use Rattle.tc_schema.specs.Explained.{alone, explained, is_empty_choice, kind_text, kinds_of, member_line, members_text, named_lines, place_in};
 ghost use Rattle.tc_schema.specs.Explained.{rows_of_kind, signed_of, signed_text, value_text};
 ghost use Rattle.tc_schema.specs.Notes.{note_view};
 ghost use Rattle.tc_schema.specs.Texts.{deepest, member_view, members_of};
@@ -110,6 +110,16 @@ fn alone(part: Part<'static>) -> Option<Form>
     None
 }
 
+// True for a choice of nothing, which has no line.
+fn is_empty_choice<T: Tables>(table: T, form: Form) -> bool
+    ensures { result ≡ is_empty_choice (T.parts_of table) form }
+{
+    match form {
+        Form::Choice(place) => first_member(table.part(place)).is_none(),
+        _ => false,
+    }
+}
+
 // Appends the contents of a form.
 #[cycle(explain)]
 fn explain_form<T: Tables, A: Allocator>(out: &mut Vec<u8, A>, at: &At<'_, T>, form: Form) -> Done
@@ -135,7 +145,7 @@ fn explain_form<T: Tables, A: Allocator>(out: &mut Vec<u8, A>, at: &At<'_, T>, f
     }
 }
 
-// Appends the members of a part, each with its contents.
+// Appends the members of a part that have a line, each with its contents.
 #[cycle(explain)]
 fn explain_members<T: Tables, A: Allocator>(
     out: &mut Vec<u8, A>,
@@ -145,16 +155,18 @@ fn explain_members<T: Tables, A: Allocator>(
 ) -> Done
     requires { at.now.depth ≤ 12 }
     ensures { OnOk result (out.new.items ≡ out.old.items ++
-        members_text (explained (T.parts_of at.now.table) at.now.notes.now at.now.depth) at.now.notes.now
+        members_text (explained (T.parts_of at.now.table) at.now.notes.now at.now.depth) at.now.notes.now (T.parts_of at.now.table)
         (deepest - at.now.depth) all place (members_of (T.parts_of at.now.table place))) }
 {
     let level = DEEPEST - at.depth;
     let mut left = at.table.part(place);
     while let Some((member, others)) = first_member(left) {
-        let note = note_of(at.notes, place, member.name);
-        put_line(out, level, all, member, note)?;
-        put_named(out, level + 1, note.numbers, note.names)?;
-        explain_form(out, at, member.form)?;
+        if !is_empty_choice(at.table, member.form) {
+            let note = note_of(at.notes, place, member.name);
+            put_line(out, level, all, member, note)?;
+            put_named(out, level + 1, note.numbers, note.names)?;
+            explain_form(out, at, member.form)?;
+        }
         left = others;
     }
     Ok(())

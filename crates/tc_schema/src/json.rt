@@ -4,7 +4,7 @@
 ghost use Rattle.std.specs.Prelude.{OnOk, [], codes, true, ◌++◌, ◌≡◌};
 ghost use Rattle.forms_values.specs.Places.{form_of, layer_of};
 ghost use Rattle.forms_values.specs.Tables.{kinds_view, part_view};
-ghost use Rattle.tc_schema.specs.Json.{array, definitions, each_text, element, example, example_by, first_example, form_schema, indexed, is_left_out, item};
+ghost use Rattle.tc_schema.specs.Json.{array, definitions, each_text, element, elements, example, example_by, first_example, form_schema, indexed, is_left_out, item};
 ghost use Rattle.tc_schema.specs.Json.{kind_example, kinds_schema, list_example, named, object_schema, member_text, only};
 ghost use Rattle.tc_schema.specs.Json.{or_raw, part_schema, reference, row, schema_of_line};
 ghost use Rattle.tc_schema.specs.Texts.{member_view, members_of};
@@ -53,9 +53,14 @@ fn put_inner<T: Tables, A: Allocator>(out: &mut Vec<u8, A>, table: T, inner: u8,
             put(out, "}")
         }
         Form::Choice(place) => put_one(out, table, inner, place),
-        Form::Array(place) | Form::Times(_, place) => {
+        Form::Array(place) => {
             put(out, "[")?;
             put_deep(out, table, inner, form_at(table, place))?;
+            put(out, "]")
+        }
+        Form::Times(count, place) => {
+            put(out, "[")?;
+            put_elements(out, table, inner, count, form_at(table, place))?;
             put(out, "]")
         }
         Form::List(place) => {
@@ -65,6 +70,28 @@ fn put_inner<T: Tables, A: Allocator>(out: &mut Vec<u8, A>, table: T, inner: u8,
         }
         _ => put(out, about(form).sample),
     }
+}
+
+// Appends an example of a form so many times, with commas between.
+#[cycle(example)]
+fn put_elements<T: Tables, A: Allocator>(
+    out: &mut Vec<u8, A>,
+    table: T,
+    inner: u8,
+    count: usize,
+    form: Form,
+) -> Done
+    ensures { OnOk result (out.new.items ≡ out.old.items ++ elements true count (example (T.parts_of table) inner form)) }
+{
+    let mut is_first = true;
+    let mut left = count;
+    while let Some(others) = left.checked_sub(1) {
+        put_comma(out, is_first)?;
+        put_deep(out, table, inner, form)?;
+        is_first = false;
+        left = others;
+    }
+    Ok(())
 }
 
 // Appends an object of the first member.

@@ -410,7 +410,7 @@ fn links_name(rt: HostRuntime) {
 
 // Kinds, and what is written in words about them: lines, and the kernel's names in them, of bits too, and of a number below zero, as
 // linux/pkt_sched.h and linux/pkt_cls.h have them.
-static EXPLAINED: [(&str, Written<'static>); 8] = [
+static EXPLAINED: [(&str, Written<'static>); 10] = [
     ("Htb", Written::Is(&[])),
     (
         "htb",
@@ -440,6 +440,15 @@ static EXPLAINED: [(&str, Written<'static>); 8] = [
     ),
     ("gact", Written::Has("Unspec = -1 (TC_ACT_UNSPEC)\n")),
     ("gact", Written::Has("Shot = 2 (TC_ACT_SHOT)\n")),
+    // no line of a choice without any
+    (
+        "bfifo",
+        Written::Begins("bfifo\n  Options: record (TCA_OPTIONS)\n    limit: u32, bytes\nexample: "),
+    ),
+    (
+        "prio",
+        Written::Has("\"priomap\":[1,1,1,1,1,1,1,1,1,1,1,1,1,1,1,1]"),
+    ),
 ];
 
 // True if this is written about a kind.

@@ -5,6 +5,7 @@ use std::alloc::Global;
 use std::str;
 use tcmake_lines::OutputFormat as MadeFormat;
 use tcshow_lib::json::{form_by, made_of};
+use tcshow_lib::kinds::{explain, write_all_kinds};
 use tcshow_lib::options::OutputFormat;
 
 // A save, a line with the time of its packet, and one with a misspelt option.
@@ -51,4 +52,69 @@ fn lines_of_json(rt: HostRuntime) {
     let line = "22:13:20.123456 new qdisc fq_codel 1: dev 2 root limit 10240p\n";
     assert!(rt; are_shown(alloc, TIMED, line, ""));
     assert!(rt; are_shown(alloc, MISSPELT, "", "tcshow: input: line 1: "));
+}
+
+// The lines around the attributes of an example, of a qdisc and of an action.
+static AROUND: [(&str, &str); 2] = [
+    (
+        r#"{"type":"RTM_NEWQDISC","message":{"header":{"family":"Unspec","index":2,"handle":"1:","parent":"root","info":0},"attributes":"#,
+        "}}\n",
+    ),
+    (
+        r#"{"type":"RTM_NEWACTION","message":{"header":{"family":"Unspec"},"attributes":[{"Actions":[{"tab":1,"attributes":"#,
+        "}]}]}}\n",
+    ),
+];
+
+// True if messages are made of lines, and there is no complaint.
+fn are_made(alloc: Global, lines: &str) -> bool {
+    let mut errors = Vec::new(alloc);
+    match made_of(
+        alloc,
+        "input",
+        MadeFormat::Stream,
+        lines.as_bytes(),
+        &mut errors,
+    ) {
+        Ok(made) => !made.has_wrong && errors.is_empty() && !made.bytes.is_empty(),
+        Err(_) => false,
+    }
+}
+
+// True if a message with these attributes is made, of a qdisc or of an action.
+fn is_taken(alloc: Global, example: &str) -> bool {
+    for (before, after) in &AROUND {
+        match format!(in alloc; "{before}{example}{after}") {
+            Ok(line) if are_made(alloc, line.as_str()) => return true,
+            _ => {}
+        }
+    }
+    false
+}
+
+// True if `--explain` has examples of a kind, two of one that filters and actions have, and all of them are taken.
+fn are_taken(alloc: Global, kind: &str) -> bool {
+    let mut text = Vec::new(alloc);
+    if explain(alloc, kind, &mut text).is_err() {
+        return false;
+    }
+    let mut has_example = false;
+    for line in str::from_utf8(&text).unwrap_or("").lines() {
+        if let Some(example) = line.strip_prefix("example: ") {
+            if !is_taken(alloc, example) {
+                return false;
+            }
+            has_example = true;
+        }
+    }
+    has_example
+}
+
+#[test]
+fn examples_are_taken(rt: HostRuntime) {
+    let mut kinds = String::new(rt.alloc());
+    assert!(rt; write_all_kinds(&mut kinds).is_ok() && !kinds.as_str().is_empty());
+    for kind in kinds.as_str().lines() {
+        assert!(rt; are_taken(rt.alloc(), kind), "{kind}");
+    }
 }

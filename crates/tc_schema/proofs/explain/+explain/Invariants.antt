@@ -16,6 +16,6 @@ decreases-explain_members-loop-member g l = length (members_of (part_view l.left
 -- the text so far and the text of the remaining members are the whole text
 abbrev pub invariant-explain_members-loop-member : goal.invariant-explain_members-loop-member
 invariant-explain_members-loop-member g l =
-    let Inner = explained (g.T.Tables.parts_of l.at.table) l.at.notes.now l.at.depth in
-    let text = members_text Inner l.at.notes.now (deepest - l.at.depth) l.all l.place in
+    let table = g.T.Tables.parts_of l.at.table in
+    let text = members_text (explained table l.at.notes.now l.at.depth) l.at.notes.now table (deepest - l.at.depth) l.all l.place in
     l.out.items ++ text (members_of (part_view l.left)) ≡ l.initial.out.items ++ text (members_of (part_view l.initial.left))
