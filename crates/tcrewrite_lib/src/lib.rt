@@ -2,7 +2,6 @@
 #![tactic(auto)]
 
 mod answer;
-pub mod arguments;
 pub mod laws;
 pub mod mode;
 pub mod program;

@@ -4,8 +4,8 @@ use failing_alloc::Failing;
 use std::alloc::Global;
 use std::env::{self, FillError};
 use std::rt::Env;
-use tcrewrite_lib::arguments::{Arguments, read_arguments};
 use tcrewrite_lib::mode::Mode;
+use tcrewrite_lib::program::{Arguments, read_arguments};
 
 // The arguments of a program.
 #[derive(Clone, Copy)]

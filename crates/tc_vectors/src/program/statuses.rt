@@ -1,8 +1,8 @@
 //! The exit status of the program in both modes: the report's status, or 3 if a stream fails.
 
 use crate::program::streams::{LIMIT_OF_FQ_CODEL, REPORT_ON_LIMIT, serves};
-use tcrewrite_lib::arguments::Arguments;
 use tcrewrite_lib::mode::Mode;
+use tcrewrite_lib::program::Arguments;
 
 // A text, and the report on it in one mode, with its status.
 struct Row {

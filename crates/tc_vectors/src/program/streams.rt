@@ -2,9 +2,8 @@
 
 use std::alloc::Global;
 use std::io::{Error, ErrorKind, Read, Result, Write};
-use tcrewrite_lib::arguments::Arguments;
 use tcrewrite_lib::mode::Mode;
-use tcrewrite_lib::program::serve;
+use tcrewrite_lib::program::{Arguments, serve};
 use tcrewrite_lib::run::{RunError, run};
 
 /// A message with the kind fq_codel and a limit of 10240 packets.

@@ -5,8 +5,8 @@ use Rattle.std.proofs.lemmas.List.{map-id}
 use Rattle.std.specs.Vec.Iter.{into_iter_items}
 use Rattle.tcrewrite_lib.specs.Arguments.{HasMode}
 use Rattle.tc_capture.specs.declared.kind.MessageType.{MessageType}
-use Rattle.tcrewrite_lib.specs.declared.arguments.Arguments.TheVariants.{Report}
-use Rattle.tcrewrite_lib.proofs.arguments.read_arguments.Goals as goal
+use Rattle.tcrewrite_lib.specs.declared.program.Arguments.TheVariants.{Report}
+use Rattle.tcrewrite_lib.proofs.program.read_arguments.Goals as goal
 
 -- what was collected is all that the iterator had
 pub returns-in-Ok-from_iter-clause-read : goal.returns-in-Ok-from_iter-clause-read
