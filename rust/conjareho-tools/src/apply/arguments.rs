@@ -194,7 +194,7 @@ pub(crate) fn flag(name: &'static str, help: &'static str) -> Arg {
 fn plans() -> [Arg; 5] {
     let wait = Arg::new("wait").long("wait").value_name("SECONDS").value_parser(value_parser!(u64).range(0..=86_400));
     [
-        flag("dry-run", "Print the plan, and send nothing").short('n').conflicts_with_all(["check", "try", "quiet"]),
+        flag("dry-run", "Print the plan, and send nothing: - deleted, + made, ~ changed").short('n').conflicts_with_all(["check", "try", "quiet"]),
         flag("check", "Carry the plan out in a new network namespace, and send nothing here").conflicts_with("try"),
         flag("spare-actions", "Send nothing if an action that other interfaces' filters use would change"),
         wait.help(format!("How long another tcapply is waited for [default: {}]", PATIENCE.as_secs())),
