@@ -2,6 +2,7 @@
 state is made where nothing is."""
 
 import random
+import re
 
 from generate import ACTIONS, CLASSES, FILTERS, QDISCS
 from guests import HERE, Guest, Said, fail
@@ -12,6 +13,7 @@ from states import State, as_used
 OF_A_KIND = 3  # states
 PATH = (0, 1, 0, 2, 1, 2, 0)  # each ordered pair of them, after the way from nothing to the first
 GUESTS = 2
+CHANGED, NOT_MADE = r" [1-9]\d* changed,", "took a change and didn't make it"  # what tcapply says of a change in place, and of one that it sees not made
 NUMBERED = ("basic", "fw", "flow", "cgroup", "bpf")  # filters to which tc gives no handle by itself
 
 
@@ -55,8 +57,9 @@ class Walk:
         return State(self.names, list(map(as_used, answer.got)))
 
     def judge(self):
-        """Returns what is wrong, "" for nothing. `named` is true if something can't be made again, and is named."""
-        found, self.named = self.guest.answers.get(self.number, []), False
+        """Returns what is wrong, "" for nothing. `named` is true if something can't be made again, and is named. `changed` counts ways with changes
+        in place."""
+        found, self.named, self.changed = self.guest.answers.get(self.number, []), False, 0
         if len(found) != 4 * self.count + 2 * len(self.path):
             return "no whole answer"
         fresh = [self.state(found[4 * it + 1]) for it in range(self.count)]
@@ -65,9 +68,10 @@ class Walk:
         for number, said, after in zip(self.path, found[4 * self.count :: 2], found[4 * self.count + 1 :: 2]):
             if said.status == 1 and any(why in it for why in unmade for it in said.lines):
                 self.named = True
-            elif said.status:
+            elif said.status or any(NOT_MADE in it for it in said.lines):
                 return f"from {before} to state {number}: {said}"
             else:
+                self.changed += sum(bool(re.search(CHANGED, it)) for it in said.lines)
                 wrong = fresh[number].differences(self.state(after))
                 if wrong:
                     return f"from {before} to state {number}: {'; '.join(wrong[:4])}"
@@ -89,10 +93,10 @@ class Changes:
             self.walks.append(Walk(name, some, self.guests[number % GUESTS], programs, names))
 
     def judge(self):
-        good, named, ways = 0, 0, 0
+        good, named, ways, changed = 0, 0, 0, 0
         for walk in self.walks:
             wrong = walk.judge()
             if wrong:
                 fail(f"{walk.name} ({walk.guest.folder}): {wrong}")
-            good, named, ways = good + (not wrong), named + walk.named, ways + len(walk.path)
-        return f"{good} of {len(self.walks)} kinds ({named} named as not to be made) led from state to state in {ways} ways"
+            good, named, ways, changed = good + (not wrong), named + walk.named, ways + len(walk.path), changed + walk.changed
+        return f"{good} of {len(self.walks)} kinds ({named} named as not to be made) led from state to state in {ways} ways, {changed} with changes in place"
