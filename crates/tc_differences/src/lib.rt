@@ -8,6 +8,7 @@ mod difference;
 mod laws;
 pub mod lines;
 mod places;
+mod priorities;
 pub mod program;
 mod states;
 mod values;

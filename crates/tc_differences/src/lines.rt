@@ -13,6 +13,7 @@ ghost use Rattle.tc_differences.specs.Differences.{IsSame};
 
 use crate::difference::Difference;
 use crate::places::{index_of, look_up};
+use crate::priorities::{filter_of_priority, with_filters};
 use crate::states::differences;
 use crate::values::put_values;
 use forms_json::Form;
@@ -36,7 +37,8 @@ pub struct DifferenceLines {
     pub differ: bool,
 }
 
-/// The lines of the differences between two states, with these names of interfaces. A priority has no line, since its filters have.
+/// The lines of the differences between two states, with these names of interfaces. A priority has a line only if neither state has a
+/// filter in it.
 pub fn difference_lines(
     alloc: Global,
     names: &[(u32, &str)],
@@ -60,11 +62,14 @@ fn difference_text(
 ) -> Result<Vec<u8>, Stop> {
     let was = index_of(alloc, before)?;
     let is = index_of(alloc, after)?;
+    let filled = with_filters(alloc, before, after)?;
     let mut text = Vec::new(alloc);
     for difference in found {
-        let old = look_up(before, &was, difference.key);
-        let new = look_up(after, &is, difference.key);
-        put_difference(alloc, names, old, new, &mut text)?;
+        if !filled.contains(&difference.key) {
+            let old = look_up(before, &was, difference.key);
+            let new = look_up(after, &is, difference.key);
+            put_difference(alloc, names, old, new, &mut text)?;
+        }
     }
     Ok(text)
 }
@@ -96,9 +101,34 @@ fn put_object(
     text: &mut Vec<u8>,
 ) -> Result<(), Stop> {
     let message = message_of(&object.config);
-    let Some((root, words)) = root_of(object.key, message) else {
-        return Ok(());
-    };
+    match (object.key, root_of(object.key, message)) {
+        (_, Some((root, words))) => put_line(alloc, names, sign, root, words, message, text),
+        (Key::Priority { .. }, None) => {
+            let filter = filter_of_priority(alloc, object.key, message)?;
+            put_line(
+                alloc,
+                names,
+                sign,
+                Root::Filter,
+                Words::Filter,
+                &filter,
+                text,
+            )
+        }
+        _ => Ok(()),
+    }
+}
+
+// Appends the line of a message after a sign.
+fn put_line(
+    alloc: Global,
+    names: &[(u32, &str)],
+    sign: &[u8],
+    root: Root,
+    words: Words,
+    message: &[u8],
+    text: &mut Vec<u8>,
+) -> Result<(), Stop> {
     let said = Said {
         begin: sign,
         object: words,

@@ -30,6 +30,15 @@ const CLASS: &str =
     r#"{"type":"RTM_NEWTCLASS","flags":0,"message":{"header":{"family":"Unspec","index":1,"handle":"1:10","parent":"1:","info":0},"attributes":[{"Kind":"htb"},{"Options":[{"Htb":{"DirectQlen":1000}}]}]}}
 "#;
 
+// Priority 6 of u32 without filters, and one in chain 7.
+const PRIORITY: &str =
+    r#"{"type":"RTM_NEWTFILTER","flags":2,"message":{"header":{"family":"Unspec","index":1,"handle":"0:","parent":"1:","info":393984},"attributes":[{"Kind":"u32"}]}}
+"#;
+
+const PRIORITY_IN_CHAIN: &str =
+    r#"{"type":"RTM_NEWTFILTER","flags":2,"message":{"header":{"family":"Unspec","index":1,"handle":"0:","parent":"1:","info":393984},"attributes":[{"Kind":"u32"},{"Chain":7}]}}
+"#;
+
 // A dump that was interrupted (`NLM_F_DUMP_INTR`).
 const INTERRUPTED: &str =
     r#"{"type":"RTM_NEWQDISC","flags":18,"message":{"header":{"family":"Unspec","index":1,"handle":"1:","parent":"root","info":2},"attributes":[{"Kind":"htb"},{"Options":[{"Htb":{"Init":{"version":196625,"rate2quantum":10,"defcls":48,"debug":0,"direct_pkts":7}}}]}]}}
@@ -94,6 +103,18 @@ fn differences_of_dumps(rt: HostRuntime) -> Result<(), Fail> {
     options/memory none -> 4096B
 ";
     assert!(rt; differ(alloc, CAKE_10, CAKE_20, changed)?);
+    Ok(())
+}
+
+#[test]
+fn priorities_without_filters(rt: HostRuntime) -> Result<(), Fail> {
+    let alloc = rt.alloc();
+    let with_priority = format!(in alloc; "{HTB}{PRIORITY}")?;
+    let in_chain = format!(in alloc; "{HTB}{PRIORITY_IN_CHAIN}")?;
+    let gone = "- filter u32 - dev lo parent 1: pref 6 protocol all\n";
+    let new = "+ filter u32 - dev lo parent 1: pref 6 protocol all chain 7\n";
+    assert!(rt; differ(alloc, with_priority.as_str(), HTB, gone)?);
+    assert!(rt; differ(alloc, HTB, in_chain.as_str(), new)?);
     Ok(())
 }
 

@@ -13,6 +13,7 @@ use Rattle.tc_changes.specs.declared.key.Key.{Key}
 use Rattle.tc_meaning.specs.Whole.{ReadsAct, ReadsTc}
 use Rattle.tc_messages.specs.Message.{tc_message}
 use Rattle.tc_objects.specs.Confined.{AreConfined}
+use Rattle.tc_objects.specs.Contents.{AreShown}
 use Rattle.tc_objects.specs.Sent.{Sent, seen}
 use Rattle.tc_objects.specs.Sent as of_step
 use Rattle.tc_objects.specs.States.{keys_shown, dump_renamed, IsRenaming, IsOfNow}
@@ -68,10 +69,12 @@ AreDumps messages dumps = AllZip IsDumpIn messages dumps
 
 -- ---- states
 
--- dumps show this state: each object comes after all that it needs, and their keys are the keys that the dumps show
+-- dumps show this state: each object comes after all that it needs, their keys are the keys that the dumps show, and each has the configuration that one
+-- of the dumps shows
 pub record IsState (dumps : List (Dump Global)) (state : State Global) : Type 0 where
   pub in_order : ready same_key [] (things state.objects.items) ≡ true
   pub keys : (k : Key) → has same_key (things state.objects.items) k ≡ among same_key (keys_shown dumps) k
+  pub configs : AreShown dumps state.objects.items
 
 -- the same of what is wanted, after a renaming: handles that the kernel chose become handles that qdiscs of the same interface have now
 pub record IsWanted (now : State Global) (dumps : List (Dump Global)) (state : State Global) : Type 0 where
