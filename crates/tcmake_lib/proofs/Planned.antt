@@ -1,17 +1,22 @@
 -- The requests of a plan between what dumps show.
 use Rattle.std.proofs.Common.{◌≡◌, ◌≢◌, ◌∙◌, ◌||◌, Bool, true, false, List, [], ◌∷◌, ◌++◌, None, refl, sym}
-use Rattle.std.specs.Prelude.{Result, Ok, Err, IfOk}
+use Rattle.std.specs.Prelude.{Result, Ok, Err, IfOk, ℕ, ℤ, map}
 use Rattle.std.specs.List.{AllZip}
+use Rattle.std.specs.HashMap as hash
 use Rattle.std.specs.declared.alloc.Global.{Global}
 use Rattle.std.specs.declared.vec.Vec.{Vec}
 use Rattle.std.proofs.lemmas.Bool.{false≢true}
 use Rattle.std.proofs.lemmas.List.Folds.{list_any-append}
-use Rattle.tc_changes.specs.Objects.{KernelThing, IfRefused, IsRefused}
+use Rattle.tc_changes.specs.Model.{ready}
+use Rattle.tc_changes.specs.Objects.{KernelThing, IfRefused, IsRefused, things, same_key}
 use Rattle.tc_changes.specs.declared.key.Key.{Key}
 use Rattle.tc_changes.specs.declared.step.Plan.{Plan}
 use Rattle.tc_changes.specs.declared.step.Plan.TheVariants.{Steps, Refused}
+use Rattle.tc_objects.specs.Contents.{IsStateOf}
+use Rattle.tc_objects.specs.States.{IsOfNow, IsRenaming, dump_renamed}
+use Rattle.tc_objects.specs.declared.dump.Dump.{Dump}
 use Rattle.tc_objects.specs.declared.state.State.{State}
-use Rattle.tcmake_lib.specs.Planned.{IsPlanned, IsPlannedFrom, Message, ShownBy, has_complaint, is_complaint}
+use Rattle.tcmake_lib.specs.Planned.{IsPlanned, IsPlannedFrom, IsWanted, Message, ShownBy, has_complaint, is_complaint}
 use Rattle.tcmake_lib.specs.declared.lines.Remark.{Remark}
 use Rattle.tcmake_lib.specs.declared.order.LineRequest.{LineRequest}
 
@@ -47,3 +52,17 @@ planned_from takes can_make (Err e) state now want before after planned said sho
 planned_from takes can_make (Ok made) state now want before after planned said shown = λ none.
     let by : ShownBy None now state = shown (said none) in
     record { dumps = by.0; are_dumps = by.1; state = state; is_state = by.2; planned = planned none }
+
+-- what a state after another one is
+pub wanted_of : {E : Type 0} (r : Result (State Global) E) (now : State Global) (dumps : List (Dump Global))
+    → IfOk r (λ state. ready same_key [] (things state.objects.items) ≡ true)
+    → IfOk r (λ state. (renaming : ℤ → ℕ → ℕ) × (IsRenaming renaming
+    × (IsOfNow (hash.get same_key now.handles) renaming × IsStateOf (map (dump_renamed renaming) dumps) state.objects.items)))
+    → IfOk r (λ state. IsWanted now dumps state)
+wanted_of (Err e) now dumps ordered is = tt
+wanted_of (Ok state) now dumps ordered is = record {
+  renaming = is.0;
+  chosen = is.1.0;
+  of_now = is.1.1.0;
+  shown = record { in_order = ordered; keys = is.1.1.1.0; configs = is.1.1.1.1 };
+}
