@@ -237,7 +237,12 @@ fn carried_out<T: Transport, L: Transport>(
     if wanted.in_hardware > 0 {
         said.extend(hardware::lost(wanted.in_hardware, hardware::count(lines_of(&after)?.text.lines())));
     }
-    if prepared.steps.is_empty() { Ok(()) } else { hold() }
+    if prepared.steps.is_empty() {
+        return Ok(());
+    }
+    hold()?;
+    // While Enter was waited for, others may have changed something.
+    sending.world.look(sending.place)
 }
 
 // What is there, as it is dumped; an error if it isn't what is wanted. Actions belong to no interface: others may be there.

@@ -136,18 +136,20 @@ fn without_enter_it_goes_back() {
 
 #[test]
 fn what_others_make_while_enter_is_waited_for_is_left() {
-    let fake = Fake::new(taking());
-    let held = || {
-        let theirs = of(RTM_NEWTFILTER, 9, 0xFFFF_FFF3, "matchall", &[(1, 0x1_0010)]);
-        let mut state = fake.state.borrow_mut();
-        state.objects.push(theirs.clone());
-        state.tell(&theirs, OTHER);
-        Err("SIGHUP")
-    };
     let count = run(&saved(otherwise()), tree(2000), &Fake::new(taking())).sent.len();
-    let ran = run_held(&[], &saved(otherwise()), tree(2000), &fake, held);
-    assert_eq!((ran.status, ran.sent.len()), (Status::Lost, count), "{}", ran.said);
-    assert!(ran.said.contains("netlink port 4242") && ran.said.contains("before-"), "{}", ran.said);
+    for answer in [Err("SIGHUP"), Ok(())] {
+        let fake = Fake::new(taking());
+        let held = || {
+            let theirs = of(RTM_NEWTFILTER, 9, 0xFFFF_FFF3, "matchall", &[(1, 0x1_0010)]);
+            let mut state = fake.state.borrow_mut();
+            state.objects.push(theirs.clone());
+            state.tell(&theirs, OTHER);
+            answer
+        };
+        let ran = run_held(&[], &saved(otherwise()), tree(2000), &fake, held);
+        assert_eq!((ran.status, ran.sent.len()), (Status::Lost, count), "{answer:?}: {}", ran.said);
+        assert!(ran.said.contains("netlink port 4242") && ran.said.contains("before-"), "{}", ran.said);
+    }
 }
 
 #[test]
