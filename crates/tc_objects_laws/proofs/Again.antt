@@ -1,25 +1,16 @@
 -- The normal form of a message is its own normal form: of its options, of its attributes, and of the whole.
-use Rattle.std.proofs.Common.{◌≡◌, ℕ, ◌+◌, ◌%◌, ◌<◌, ◌≤◌, List, [], ◌∷◌, ◌++◌, length, map, take, drop, Bool, true, false, cond, refl, sym, ap, ap₂, subst, ◌∙◌, arith}
+use Rattle.std.proofs.Common.{◌≡◌, ℕ, ◌+◌, ◌≤◌, List, [], ◌∷◌, length, map, take, drop, Bool, true, false, cond, refl, ap, ap₂, arith}
 use Rattle.std.specs.Prelude.{◌==◌, if◌then◌else◌}
-use Rattle.std.specs.List.{filter, AllByRecursion}
+use Rattle.std.specs.List.{filter}
 use Rattle.std.proofs.lemmas.List.{length-drop}
 use Rattle.nla_frames.specs.Value.{IsBytes}
 use Rattle.nla_frames.specs.Frame.{Frame, IsWireFrame, type_of, frame_length}
 use Rattle.nla_frames.specs.DefaultNla.{kept_codec}
 use Rattle.nla_frames.proofs.Bytes.{IsBytes-append, IsBytes-take, IsBytes-drop}
 use Rattle.nla_frames.proofs.CutFrames.{IsBytes-list_bytes}
-use Rattle.tc_objects.specs.Normal.{frames_in, value_normal, with_value, option_normal, is_kept, before_options, options_normal, attribute_normal, has_such, normal}
+use Rattle.tc_objects.specs.Normal.{frames_in, with_value, option_normal, is_kept, before_options, options_normal, attribute_normal, has_such, normal}
 use Rattle.tc_objects.specs.Sent.{frame_bytes}
-use Rattle.tc_objects_laws.proofs.Frames.{
-  AreWire,
-  AreWire-frames_in,
-  frame_bytes-nil,
-  length-frames,
-  length-frames_in,
-  with_changed,
-  length-with_changed,
-  with_changed-again,
-}
+use Rattle.tc_objects_laws.proofs.Frames.{AreWire, AreWire-frames_in, length-frames, length-frames_in, with_changed, length-with_changed, with_changed-again}
 use Rattle.tc_objects_laws.proofs.Values.{either, value-again, length-value, IsBytes-value}
 
 module _ (kind : List ℕ) where

@@ -1,7 +1,7 @@
 -- Frames that are written and read again, and how much shorter bytes can be than their frames are when they are written.
-use Rattle.std.proofs.Common.{◌≡◌, ℕ, zero, suc, ◌+◌, ◌<◌, ◌≤◌, List, [], ◌∷◌, ◌++◌, length, map, take, drop, None, Ok, Err, refl, sym, ap, subst, ◌∙◌, arith}
+use Rattle.std.proofs.Common.{◌≡◌, ℕ, zero, suc, ◌+◌, ◌≤◌, List, [], ◌∷◌, ◌++◌, length, map, take, drop, None, Ok, Err, refl, sym, ap, subst, ◌∙◌, arith}
 use Rattle.std.specs.List.{AllByRecursion}
-use Rattle.std.proofs.lemmas.List.{length-append, length-take, length-drop, map-id}
+use Rattle.std.proofs.lemmas.List.{length-append, length-take, length-drop}
 use Rattle.nla_frames.specs.Fault.{Outcome}
 use Rattle.nla_frames.specs.Value.{IsBytes}
 use Rattle.nla_frames.specs.Frame.{Frame, IsWireFrame, header, frame_length, frame_bytes as bytes_of_frame}
@@ -146,14 +146,19 @@ module _ (n : ℕ) (change : List Frame → List Frame) (bytes : List ℕ) where
     length-drop n bytes,
   )
 
+  no-frames : change [] ≡ [] → length bytes ≤ n → frame_bytes changed ≡ []
+  no-frames nil short =
+      ap (λ b. frame_bytes (change (frames_in b))) (drop-short n bytes short)
+      ∙ ap (λ fs. frame_bytes (change fs)) frames_in-nil
+      ∙ ap frame_bytes nil
+      ∙ frame_bytes-nil
+
 pub with_changed-again : (n : ℕ) (change : List Frame → List Frame) (bytes : List ℕ) → change [] ≡ []
     → AreWire (changed n change bytes) → change (changed n change bytes) ≡ changed n change bytes
     → with_changed n change (with_changed n change bytes) ≡ with_changed n change bytes
 with_changed-again n change bytes nil wire again =
     let frames = frame_bytes (changed n change bytes) in
-    let none : length bytes ≤ n → frames ≡ [] = λ short.
-    ap (λ b. frame_bytes (change (frames_in b))) (drop-short n bytes short) ∙ ap (λ fs. frame_bytes (change fs)) frames_in-nil ∙ ap frame_bytes nil ∙ frame_bytes-nil in
-    let parts = take-and-frames n bytes frames none in
+    let parts = take-and-frames n bytes frames (no-frames n change bytes nil) in
     ap (λ front. front ++ frame_bytes (change (frames_in (drop n (take n bytes ++ frames))))) parts.0
     ∙ ap (λ b. take n bytes ++ frame_bytes (change (frames_in b))) parts.1
     ∙ ap (λ fs. take n bytes ++ frame_bytes (change fs)) (frames_in-frame_bytes (changed n change bytes) wire)

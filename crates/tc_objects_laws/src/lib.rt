@@ -1,4 +1,4 @@
-//! Laws of requests: the normal form of a message is its own normal form.
+//! A law of the normal form of requests.
 #![tactic(auto)]
 
 ghost use Rattle.std.specs.Prelude.{◌≡◌, ℕ, ◌≤◌, List, length};
