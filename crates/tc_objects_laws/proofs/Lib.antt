@@ -1,0 +1,3 @@
+mod Frames
+mod Values
+mod Again
