@@ -158,11 +158,14 @@ def own_tables(objects, asked):
 
 
 def without_empty(objects, roots):
-    """Leaves out priorities of u32 without a filter in their root table: nothing is matched there, and no request makes one."""
+    """Leaves out priorities of u32 without a filter in their root table, and chains without a template that have only such ones: nothing is matched there,
+    and no request makes one."""
     root_of = lambda it: roots.get(it.place_of_tables()[0])
     filled = {it.place_of_tables()[0] for it in objects if it.type == FILTER and it.handle & 0xFFFFF and it.handle & TABLE == root_of(it)}
     is_empty = lambda it: it.type == FILTER and it.kind == "u32" and it.handle in (0, root_of(it)) and it.place_of_tables()[0] not in filled
-    return [it for it in objects if not is_empty(it)]
+    left = [it for it in objects if not is_empty(it)]
+    emptied = {it.block() for it in objects if is_empty(it)} - {it.block() for it in left if it.type == FILTER}
+    return [it for it in left if it.type != CHAIN or it.kind or it.block() not in emptied]
 
 
 def by_places(objects):

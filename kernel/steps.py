@@ -11,8 +11,8 @@ MADE_BY_USER = ("htb", "hfsc", "drr", "qfq")  # the kernel makes the classes of 
 SENT = ("of cgroup, with its priority", "in a class of taprio, over it")  # how requests are sent that Linux doesn't take otherwise, as tcapply does
 GONE = (2, 22)  # ENOENT and EINVAL: what is to be deleted isn't there
 
-# Of actions those that filters share or none holds, and what each is.
-Dump = collections.namedtuple("Dump", "objects roots shared actions")
+# Of actions those that filters share or none holds, those that no filter has to hold, and what each is.
+Dump = collections.namedtuple("Dump", "objects roots shared kept actions")
 
 
 def dump_of(messages):
@@ -22,8 +22,9 @@ def dump_of(messages):
     objects = renumbered(objects_in(messages), roots, chosen=False)
     actions = actions_in(messages)
     shared = {(it.kind, it.number) for it in actions if (it.held, it.bound) != (1, 1)}
+    kept = {(it.kind, it.number) for it in actions if it.held > it.bound}
     own = {it.place(): it for it in objects if not is_by_kernel(it)}
-    return Dump(own, roots, shared, {(it.kind, it.number): unnumbered(it) for it in actions})
+    return Dump(own, roots, shared, kept, {(it.kind, it.number): unnumbered(it) for it in actions})
 
 
 def is_by_kernel(it):
@@ -57,8 +58,8 @@ class Model:
 
     def __init__(self, first, last):
         self.last, self.now = last, dict(first.objects)
-        # An action that only filters hold goes with the last of these, so those that stay are looked for.
         self.actions, self.shared = {it: first.actions[it] for it in first.shared}, first.shared | last.shared
+        self.kept = set(first.kept)  # actions that are there without a filter
 
     def take(self, request, roots):
         """Takes a request. `roots` are the root tables of u32 before it. Returns what is wrong with it, "" for nothing."""
@@ -81,13 +82,21 @@ class Model:
         for own in [dict(attributes(it)) for number, some in attributes(payload[4:]) if number == 1 for _, it in attributes(some)]:
             kind = text(own[1])
             parms = [x for n, x in attributes(own.get(2, b"")) if n in PARMS_OF.get(kind, [2])]
-            number = int.from_bytes((own[3] if 3 in own else parms[0])[:4], "little")
-            self.actions.pop((kind, number), None)
-            if not is_deletion and (kind, number) not in self.last.actions:
-                return f"action {kind} {number} is made, and isn't there in the end"
-            if not is_deletion:
-                self.actions[kind, number] = self.last.actions[kind, number]
+            key = kind, int.from_bytes((own[3] if 3 in own else parms[0])[:4], "little")
+            self.actions.pop(key, None)
+            if is_deletion:
+                self.kept.discard(key)
+                continue
+            if key not in self.last.actions:
+                return f"action {kind} {key[1]} is made, and isn't there in the end"
+            self.actions[key] = self.last.actions[key]
+            if key not in self.held():  # else it is changed
+                self.kept.add(key)
         return ""
+
+    def held(self):
+        """The actions that are there: one that only filters hold goes with the last of these."""
+        return self.kept | {(own.kind, own.number) for it in self.now.values() for own in it.actions}
 
     def rename(self, it, roots):
         """Gives an object of a request the names that it has in a dump."""
@@ -139,8 +148,9 @@ class Model:
                 out.append(f"{place}: {(mine or found).kind} is {'gone' if mine else 'new'}")
             elif config(mine, self.shared) != config(found, self.shared):
                 out.append(f"{place}: another configuration")
+        held = self.held()
         for key, mine in self.actions.items():
-            if key not in dump.actions and key in self.last.shared:
+            if key not in dump.actions and key in self.last.shared and key in held:
                 out.append(f"action {key[0]} {key[1]}: is gone")
             elif dump.actions.get(key, mine) != mine:
                 out.append(f"action {key[0]} {key[1]}: another configuration")
