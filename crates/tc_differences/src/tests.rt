@@ -32,11 +32,11 @@ const CLASS: &str =
 
 // Priority 6 of u32 without filters, and one in chain 7.
 const PRIORITY: &str =
-    r#"{"type":"RTM_NEWTFILTER","flags":2,"message":{"header":{"family":"Unspec","index":1,"handle":"0:","parent":"1:","info":393984},"attributes":[{"Kind":"u32"}]}}
+    r#"{"type":"RTM_NEWTFILTER","flags":2,"message":{"header":{"family":"Unspec","index":1,"handle":"0:0","parent":"1:","info":393984},"attributes":[{"Kind":"u32"}]}}
 "#;
 
 const PRIORITY_IN_CHAIN: &str =
-    r#"{"type":"RTM_NEWTFILTER","flags":2,"message":{"header":{"family":"Unspec","index":1,"handle":"0:","parent":"1:","info":393984},"attributes":[{"Kind":"u32"},{"Chain":7}]}}
+    r#"{"type":"RTM_NEWTFILTER","flags":2,"message":{"header":{"family":"Unspec","index":1,"handle":"0:0","parent":"1:","info":393984},"attributes":[{"Kind":"u32"},{"Chain":7}]}}
 "#;
 
 // A dump that was interrupted (`NLM_F_DUMP_INTR`).
