@@ -58,7 +58,9 @@ pub(crate) fn filter_of_priority(
         message.extend_from_slice(&parent.to_le_bytes())?;
         message.extend_from_slice(protocol.get(..2).unwrap_or(&[]))?;
         message.extend_from_slice(&priority.to_le_bytes()[..2])?;
-        put_attribute(&mut message, TCA_KIND, kind)?;
+        let mut text = Vec::from_slice(alloc, kind)?;
+        text.push(0)?;
+        put_attribute(&mut message, TCA_KIND, &text)?;
         if number != 0 {
             put_attribute(&mut message, TCA_CHAIN, &number.to_le_bytes())?;
         }
