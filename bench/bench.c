@@ -357,7 +357,7 @@ static Blocks count_blocks(const Operation *op, const Message *m) {
     return (Blocks){all.taken - at_rest.taken, all.grown - at_rest.grown, 0};
 }
 
-// In an arena the same bytes are written, also once it was emptied, and nothing behind them.
+// In an arena the same bytes are written, also once it was emptied, and nothing after them.
 static void check_in_arena(const Message *m, Write *write, size_t written) {
     memset(in_arena, 0x55, written + 1);
     done(m, write(m->bytes, m->len, in_arena, MOST_BYTES, 1));

@@ -9,7 +9,7 @@
 
 enum { LINE = 1 << 16, SAMPLES = 5000, TIMES = 200 };
 
-// The slots begin half a page behind the bytes: a load of the place in a page that was just stored to waits for that store.
+// The slots begin half a page after the bytes: a load of the place in a page that was just stored to waits for that store.
 static _Alignas(4096) struct {
     uint8_t bytes[LINE / 2 + 2048];
     struct vtc_node slots[LINE / 8];

@@ -2,13 +2,13 @@
  *
  * `bytes` are a message without the 16 bytes of its netlink header (struct nlmsghdr). vtc_* are for the types
  * RTM_*QDISC, RTM_*TCLASS, RTM_*TFILTER and RTM_*CHAIN, which begin with struct tcmsg; vtc_action_* for RTM_*ACTION,
- * which begin with struct tcamsg. All lengths, places and counts are in bytes, but for those of slots, which are in
- * slots. Numbers of the structs below are the host's; the host is little-endian.
+ * which begin with struct tcamsg. All lengths, offsets and counts are in bytes, except those of slots, which are in
+ * slots. Numbers in the structs below are the host's, which is little-endian.
  *
- * Whatever the bytes are, every call returns. No call reads or writes beyond the lengths that it is given, keeps a
- * pointer, or has a state of its own, so calls may run in several threads at once.
+ * Every call returns, whatever the bytes are. No call reads or writes beyond the lengths that it is given, keeps a
+ * pointer or has static state, so calls may run in several threads at once.
  *
- * The caller has to see to this, which no call can test:
+ * The caller must ensure this, which no call can test:
  *  - No pointer is NULL, but that a pointer whose length is 0 may be.
  *  - A pointer and the length after it are of one object, of at most PTRDIFF_MAX bytes, that may be read for the
  *    whole call; one that isn't `const` may be written too. Pointers are aligned for their type.
@@ -31,7 +31,7 @@ extern "C" {
 /* In the version of a library that was built from plain Rust, made of the proved sources. */
 #define VTC_PLAIN_RUST UINT32_C(0x80000000)
 
-/* The version of the library: major * 65536 + minor * 256 + patch, and VTC_PLAIN_RUST where that is so. */
+/* The version of the library: major * 65536 + minor * 256 + patch, plus VTC_PLAIN_RUST if it was built so. */
 uint32_t vtc_version(void);
 
 /* 1 if the library that runs is one for this header, 0 if not: of the same major version, and not older. */
@@ -100,7 +100,7 @@ struct vtc_node {
 };
 
 /* Writes the attributes of a message, each before those in it, into as many slots as there are, and returns how many
- * attributes there are: those before the first broken one, and none where the message is shorter than its header.
+ * attributes there are: those before the first broken one, and none if the message is shorter than its header.
  * Slots beyond that number stay unchanged. len / 4 slots suffice. */
 size_t vtc_index(const uint8_t *bytes, size_t len, struct vtc_node *slots, size_t count);
 size_t vtc_action_index(const uint8_t *bytes, size_t len, struct vtc_node *slots, size_t count);
@@ -112,8 +112,8 @@ struct vtc_attr {
     uint16_t word; /* nla_type */
 };
 
-/* Takes the attribute at *at, a place in a list of attributes. VTC_OK: *attr is the attribute, and *at the place
- * behind its padding. VTC_END: *at is len or more. VTC_FRAME_HEADER_SHORT, VTC_FRAME_TOO_LONG or VTC_FRAME_TOO_SHORT:
+/* Takes the attribute at *at, an offset in a list of attributes. VTC_OK: *attr is the attribute, and *at the offset
+ * after its padding. VTC_END: *at is len or more. VTC_FRAME_HEADER_SHORT, VTC_FRAME_TOO_LONG or VTC_FRAME_TOO_SHORT:
  * no whole attribute is there. Unless it is VTC_OK, *at and *attr stay unchanged. `bytes` may be a message: its list
  * begins at 20, that of an action message at 4. */
 uint32_t vtc_next(const uint8_t *bytes, size_t len, size_t *at, struct vtc_attr *attr);
@@ -122,40 +122,40 @@ uint32_t vtc_next(const uint8_t *bytes, size_t len, size_t *at, struct vtc_attr 
  * allocator and align a block to each power of two up to 16 that divides its size; what they take, they free. They
  * are not for signal handlers, nor for the child that a process of several threads forked. */
 
-/* What is said of a message. Each of the three is 1 or 0. */
+/* The verdict on a message. Each of the three is 1 or 0. */
 struct vtc_verdict {
-    size_t length;     /* how many bytes are written of it; 0 where it doesn't fit */
-    uint8_t fits;      /* it can be written */
-    uint8_t settled;   /* where it fits, the bytes that are written of it are read as the same message */
-    uint8_t canonical; /* the bytes are those that are written of it */
+    size_t length;     /* the length of its encoding; 0 if it doesn't fit */
+    uint8_t fits;      /* it can be encoded */
+    uint8_t settled;   /* if it fits: its encoding reads as the same message */
+    uint8_t canonical; /* the bytes are its encoding */
 };
 
 /* The first fault of bytes. */
 struct vtc_fault {
-    size_t first;  /* its numbers, as enum vtc_status says; 0 in place of those that it doesn't have */
+    size_t first;  /* its numbers, as in enum vtc_status; 0 for those that it doesn't have */
     size_t second;
     size_t offset; /* where it is: of a short header and a broken attribute its first byte, of a value the value's */
 };
 
-/* VTC_OK: *verdict is said of the message. 1 to 11: *fault is why it can't be read. The other struct stays unchanged. */
+/* VTC_OK: *verdict is that of the message. 1 to 11: *fault is why it can't be read. The other struct stays unchanged. */
 uint32_t vtc_check(const uint8_t *bytes, size_t len, struct vtc_verdict *verdict, struct vtc_fault *fault);
 uint32_t vtc_action_check(const uint8_t *bytes, size_t len, struct vtc_verdict *verdict, struct vtc_fault *fault);
 
 /* The following write into `buffer`, which has `room` bytes. VTC_OK: the result is in its first *length bytes.
- * VTC_NO_ROOM: *length is how many bytes are needed; so NULL and 0 ask for that alone. Else why there is no result: 1
+ * VTC_NO_ROOM: *length is how many bytes are needed; so NULL and 0 ask only for that. Else why there is no result: 1
  * to 11, or VTC_DOES_NOT_FIT. Unless it is VTC_OK, the buffer stays unchanged. */
 
-/* The bytes that are written of the message that was read. */
+/* Reads the bytes as a message, and encodes it. */
 uint32_t vtc_rewrite(const uint8_t *bytes, size_t len, uint8_t *buffer, size_t room, size_t *length);
 uint32_t vtc_action_rewrite(const uint8_t *bytes, size_t len, uint8_t *buffer, size_t room, size_t *length);
 
-/* The canonical bytes to which rewriting leads, after *rewrites rewrites: 0 where the bytes are canonical. *rewrites
- * is set with *length. */
+/* The canonical bytes that repeated rewriting leads to, after *rewrites rewrites: 0 if the bytes are canonical.
+ * *rewrites is set with *length. */
 uint32_t vtc_settle(const uint8_t *bytes, size_t len, uint8_t *buffer, size_t room, size_t *length, size_t *rewrites);
 uint32_t vtc_action_settle(const uint8_t *bytes, size_t len, uint8_t *buffer, size_t room, size_t *length, size_t *rewrites);
 
-/* The JSON of the bytes, whatever they are, in UTF-8, without a NUL at its end. Bytes that aren't a message have theirs
- * too: what doesn't follow its form is shown as {"raw":".."}, in hex. It is VTC_OK, VTC_NO_ROOM or VTC_OUT_OF_MEMORY,
+/* The JSON of the bytes, whatever they are, in UTF-8, without a NUL at its end. Bytes that aren't a message have one
+ * too: what isn't in its format is shown as {"raw":".."}, in hex. It is VTC_OK, VTC_NO_ROOM or VTC_OUT_OF_MEMORY,
  * which is any failure to make the text. */
 uint32_t vtc_json(const uint8_t *bytes, size_t len, uint8_t *buffer, size_t room, size_t *length);
 uint32_t vtc_action_json(const uint8_t *bytes, size_t len, uint8_t *buffer, size_t room, size_t *length);
@@ -167,18 +167,18 @@ uint32_t vtc_action_json(const uint8_t *bytes, size_t len, uint8_t *buffer, size
  * `why` is written. The JSON has to be what vtc_json shows of some bytes, up to the order of members and to blanks: a
  * member that it wouldn't show, as one that is misspelt, is VTC_NO_MESSAGE. */
 
-/* The bytes of which this JSON is shown, whatever they are. */
+/* The bytes that have this JSON, whatever they are. */
 uint32_t vtc_make_as_given(const char *json, size_t len, uint8_t *buffer, size_t room, size_t *length,
                            char *why, size_t why_room, size_t *why_length);
 uint32_t vtc_action_make_as_given(const char *json, size_t len, uint8_t *buffer, size_t room, size_t *length,
                                   char *why, size_t why_room, size_t *why_length);
 
-/* The canonical bytes of the message that the JSON stands for: what is written of the message that is read of the bytes
- * above. So a flag of a type that isn't the type's own ("word"), padding other than zeros ("pad"), bytes behind a record
- * ("rest") and a kind without its NUL ("bare") go where reading drops them. It is VTC_NO_MESSAGE where those bytes can't
- * be read, with the place of the first fault; where what is read can't be written; and where a value would change,
- * with the place, the value and what it would become. All else that is shown is a value: also the padding of a header or
- * a record ("padding"), and an action's place with its flags ("tab"). */
+/* The canonical bytes of the message that the JSON describes: the bytes above, read as a message, which is encoded.
+ * Flags that a type does not have ("word"), padding other than zeros ("pad"), bytes after a record ("rest") and a kind without
+ * its NUL ("bare") go, if reading drops them. It is VTC_NO_MESSAGE if those bytes can't be read, with the place of the
+ * first fault; if what is read can't be encoded; and if a value would change, with the place, the value and what it
+ * would become. Everything else is a value: also the padding of a header or a record ("padding"), and an action's place
+ * with its flags ("tab"). */
 uint32_t vtc_make(const char *json, size_t len, uint8_t *buffer, size_t room, size_t *length,
                   char *why, size_t why_room, size_t *why_length);
 uint32_t vtc_action_make(const char *json, size_t len, uint8_t *buffer, size_t room, size_t *length,

@@ -129,7 +129,7 @@ static void done(void) {
     putchar('\n');
 }
 
-// a message of a kind, up to the attributes behind TCA_KIND
+// a message of a kind, up to the attributes after TCA_KIND
 static void of(const char *label, const char *kind) {
     start(label, "tc");
     RECORD(struct tcmsg, it.tcm_family = families[family++ % 6], FIELD(tcm_ifindex), FIELD(tcm_handle), FIELD(tcm_parent), FIELD(tcm_info));

@@ -1,4 +1,6 @@
-"""The notation of the files beside this one, which README.md has: reads them into blocks, and reports mistakes with file and line."""
+"""The notation of the files next to this one, which README.md has: reads them into blocks, and reports mistakes with file and line. A mistake is a form, unit,
+column, line, block or option that doesn't exist, a name or number that is reserved, too large for its width or in a list, record or enum twice, a kind that is
+there twice, and a block that nothing uses. `generate` adds more than 24 parts (blocks, and lists in a layer) in a file."""
 import os
 import re
 
@@ -60,7 +62,7 @@ def number(where, text):
     return 1 << int(text[3:]) if text.startswith('1<<') else int(re.sub(r'\D', '', text) or 0) * (-1 if text[0] == '-' else 1)
 
 def read_form(where, words):
-    """The form at the front of the words, and the words behind it."""
+    """The form at the front of the words, and the words after it."""
     word, rest = (words + [''])[0], words[1:]
     plural = re.fullmatch(r'(.*)\[(\d*)\]', rest[0] if word == 'struct' and rest else word)
     if plural:
@@ -201,7 +203,9 @@ def check_use(where, form):
             block.layers.append(f.layer)
 
 def check_columns(block, x):
-    """That what a line's columns name is there: names, and the line before it whose mask or end it is."""
+    """That what a line's columns name is there: names, and the line before it whose mask or end it is. That only a number has a unit."""
+    if x.unit and x.form.what == 'enum':
+        fault(x.where, 'an enum has no unit: %s' % x.unit)
     names = blocks.get(('names', x.columns.get('names')))
     if 'names' in x.columns and not names:
         fault(x.where, 'no such names: %s' % x.columns['names'])
@@ -226,6 +230,8 @@ def check_word(block, x):
         fault(x.where, 'no rate with the word %s' % word[1:])
     if '@' in word and word.split('@')[1] not in [y.columns['tc'] for y in block.lines if is_rate(y)]:
         fault(x.where, 'no rate with the word %s' % word.split('@')[1])
+    if '|' in word and x.form.what == 'enum' and named(x.form) and word.count('|') > max(y.number for y in named(x.form).lines):
+        fault(x.where, 'enum %s has no number %d, for the word %s' % (x.form.of, word.count('|'), word.split('|')[-1]))
     if '=' in x.columns and not re.fullmatch(r'\d+|0-\d+', x.columns['=']):
         fault(x.where, 'no number: %s' % x.columns['='])
 

@@ -9,7 +9,7 @@ raw in its place, so that no two messages are shown alike:
     {"Other":"dead"}                              where no choice fits
     {"Other":{"word":9,"value":"dead"}}           an attribute of a type without a row
     "word", "pad"                                 beside an attribute: another word than the row's; padding that isn't zeros or is missing
-    "rest", "padding"                             in a record: bytes behind it; padding that isn't zeros
+    "rest", "padding"                             in a record: bytes after it; padding that isn't zeros
     {"Kind":"htb","bare":true}                    a kind without its NUL
     {"tab":1,"attributes":[..]}                   an element of an indexed list
 """
@@ -80,7 +80,7 @@ def padding(width, name="padding"): return name, Form(width, octets(width).show,
 # ---- Records, and their elements one after the other
 
 def taken(form, data):
-    """A field's bytes, and those behind it."""
+    """A field's bytes, and those after it."""
     return (data, b"") if form.width is None else (data[:form.width], data[form.width:])
 
 def record(*fields):

@@ -46,7 +46,7 @@ HANDLES = "ClassId Baseclass".split()
 IN_HEX = "act_simple.Data choke.Stab gred.Stab red.Stab act_ct.Labels act_ct.LabelsMask".split()
 OTHERWISE = {"act_ct.NatIpv4Min": IPV4, "act_ct.NatIpv4Max": IPV4, "rsvp.Dst": IPV4, "rsvp.Src": IPV4, "rsvp6.Dst": IPV6, "rsvp6.Src": IPV6,
              "atm.Hdr": array(U8)}
-# The attributes of rsvp and rsvp6 are those of one enum; their addresses differ. What iproute2 puts behind prio's record is a nest.
+# The attributes of rsvp and rsvp6 are those of one enum; their addresses differ. What iproute2 puts after prio's record is a nest.
 FACTS["tables"]["rsvp6"] = FACTS["tables"]["rsvp"]
 FACTS["kinds"]["filter"]["rsvp6"]["options"]["table"] = "rsvp6"
 FACTS["tables"]["prio_tail"]["attrs"][0].update(form="nested", table="prio_tail")
@@ -68,8 +68,8 @@ def field_of(struct, name, fact):
     form = number_of(fact["type"], NAMED.get(f"{struct}.{name}", fact.get("enum")))
     return array(form, fact["count"]) if "count" in fact else form
 
-def fields_of(struct, *behind):
-    """A record by its facts, with fields behind it."""
+def fields_of(struct, *after):
+    """A record by its facts, with fields after it."""
     size, facts = FACTS["structs"][struct]["size"], FACTS["structs"][struct]["fields"]
     fields, at, units = [], 0, {}
     for fact in facts:
@@ -88,7 +88,7 @@ def fields_of(struct, *behind):
         fields.append(padding(fact["width"], name) if pads else (name, field_of(struct, name, fact)))
     if at < size:
         fields.append(padding(size - at))
-    return record(*fields, *behind)
+    return record(*fields, *after)
 
 BITFIELD = record(*each(U32, "value selector"))
 TABLES = {}
@@ -184,7 +184,7 @@ def further_statistics(word, name):
 def rows(first, form, names): return [(first + at, name, form) for at, name in enumerate(names.split())]
 
 FQ_CODEL_STATS = record(("FqCodel", choice(("Qdisc", bytes(4), QDISC), ("Class", b"\1\0\0\0", CLASS))))
-# What Linux 6.7 added to fq's statistics is behind them, or isn't there.
+# What Linux 6.7 added to fq's statistics is after them, or isn't there.
 FQ_STATS = record(
     *each(U64, "gc_flows highprio_packets tcp_retrans throttled flows_plimit pkts_too_long allocation_errors"), ("time_next_delayed_flow", I64),
     *each(U32, "flows inactive_flows throttled_flows unthrottle_latency_ns"), *each(U64, "ce_mark horizon_drops horizon_caps"),

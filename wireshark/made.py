@@ -11,7 +11,7 @@ VERBS, OBJECTS = ['new', 'del', 'get'], {'qdisc': 36, 'tclass': 40, 'tfilter': 4
 # ---- files
 
 def cooked(messages, link=253):
-    """A packet of netlink messages behind a cooked header."""
+    """A packet of netlink messages after a cooked header."""
     if link == 276:  # LINKTYPE_LINUX_SLL2
         return struct.pack('>HHIHBB8x', 0, 0, 1, 824, 4, 0) + messages
     return struct.pack('>HH10xH', 4, 824, 0) + messages

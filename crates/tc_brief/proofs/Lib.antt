@@ -1,5 +1,6 @@
 pub mod Bare
 pub mod Choices
+pub mod Names
 pub mod Stacks
 pub mod Tapes
 pub mod Written

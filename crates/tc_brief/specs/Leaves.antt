@@ -19,6 +19,8 @@ pub data Value : Type 0 where
   text : List ℕ → Value
   -- a name in JSON, and its number
   named : List ℕ → ℕ → Value
+  -- malformed bytes instead of a number with names, in hex
+  raw : List ℕ → Value
   -- the index of an interface, and its name if known
   interface : ℕ → Option (List ℕ) → Value
   -- the `nla_type` of an attribute without a row, and its bytes in hex
@@ -49,6 +51,7 @@ value_view (code.Unsigned n) = number n
 value_view (code.Signed z) = signed z
 value_view (code.Text s) = text s.now
 value_view (code.Named s n) = named s.now n
+value_view (code.Raw s) = raw s.now
 value_view (code.Interface n name) = interface n (name_now name)
 value_view (code.Attribute n s) = attribute n s.now
 value_view (code.Opens shape) = opens shape

@@ -57,9 +57,17 @@ abbrev pub begun : List ℕ → List ℕ → List ℕ
 begun [] name = equals name
 begun (b ∷ bs) name = []
 
+-- the word before a value; a choice of words has none
+abbrev pub word_before : Style → List ℕ → List ℕ
+word_before style.Choice word = []
+word_before s word = word
+
 -- `word value` or `Name=value`
+abbrev pub valued_after : List ℕ → Leaf → List ℕ → List (List ℕ)
+valued_after word l text = own_word word ++ (begun word (name_of_leaf l l.value) ++ text) ∷ []
+
 abbrev pub valued : Leaf → List ℕ → List (List ℕ)
-valued l text = own_word l.row.word ++ (begun l.row.word (name_of_leaf l l.value) ++ text) ∷ []
+valued l text = valued_after (word_before l.row.style l.row.word) l text
 
 -- only the word or the name if the value is true
 abbrev pub plain_as : Leaf → Value → List (List ℕ)
@@ -68,6 +76,11 @@ plain_as l v = valued l (value_text l v)
 
 abbrev pub plain : Leaf → List (List ℕ)
 plain l = plain_as l l.value
+
+-- the value without a word; malformed bytes have the name
+abbrev pub alone_as : Leaf → Value → List (List ℕ)
+alone_as l (leaf.raw s) = plain l
+alone_as l v = value_text l v ∷ []
 
 -- ---- the member after an address or the first of a range
 
@@ -219,7 +232,7 @@ count_words ls l = if is_counted (count_in l.section ls l.key) l then [] else as
 -- ---- the words of a leaf
 
 abbrev pub styled_words : Style → Around → List Leaf → Leaf → List (List ℕ)
-styled_words style.Alone c rest l = value_text l l.value ∷ []
+styled_words style.Alone c rest l = alone_as l l.value
 styled_words style.Choice c rest l = chosen l (choice l.row.word (number_in l.value))
 styled_words style.Mask c rest l = valued l (value_text l l.value ++ mask_text (next_with rest l.row.with))
 styled_words style.Range c rest l = valued l (value_text l l.value ++ end_text (next_with rest l.row.with))

@@ -1,7 +1,10 @@
 -- The value of a leaf, as part of a word.
+use Rattle.std.specs.Int.{from_le_bytes, w32}
 use Rattle.std.specs.List.{list_all}
 use Rattle.std.specs.Prelude.{Bool, List, None, Option, Some, [], bytes_eq, codes, decimal, false, if◌then◌else◌, length, nat_le, nat_lt, true, ℕ, ℤ, ◌%◌}
 use Rattle.std.specs.Prelude.{◌&&◌, ◌+◌, ◌++◌, ◌-◌, ◌/◌, ◌==◌, ◌||◌, ◌∷◌}
+use Rattle.hex.specs.Hex.{decode_sized}
+use Rattle.forms_values.specs.Raw.{decoded}
 use Rattle.tc_brief.specs.Leaves as leaf
 use Rattle.tc_brief.specs.Leaves.{Leaf, Value}
 use Rattle.tc_brief.specs.Numbers.{number_text, signed_text}
@@ -66,13 +69,27 @@ bytes_text hex = if nat_le (length hex) 64 then codes "0x" ++ hex else codes "<"
 abbrev pub truth_text : Bool → List ℕ
 truth_text b = if b then codes "true" else codes "false"
 
+-- four bytes in hex as a number, little-endian
+abbrev pub count_or : List ℕ → Option (List ℕ) → List ℕ
+count_or s None = s
+count_or s (Some bytes) = decimal (from_le_bytes w32 bytes)
+
+-- a text as its column says
+abbrev pub shown_text : Display → List ℕ → List ℕ
+shown_text display.Count s = count_or s (decoded (decode_sized s 4))
+shown_text h s = s
+
+abbrev pub raw_text : List ℕ → List ℕ
+raw_text hex = codes "{raw=" ++ (hex ++ codes "}")
+
 abbrev pub value_text : Leaf → Value → List ℕ
 value_text l leaf.nothing = codes "null"
 value_text l (leaf.truth b) = truth_text b
 value_text l (leaf.number n) = shown_number l.display l.names n
 value_text l (leaf.signed z) = shown_signed l.display z
-value_text l (leaf.text s) = s
+value_text l (leaf.text s) = shown_text l.display s
 value_text l (leaf.named s n) = shown_name l.display l.names s n
+value_text l (leaf.raw s) = raw_text s
 value_text l (leaf.interface n name) = interface_text n name
 value_text l (leaf.attribute w s) = bytes_text s
 value_text l v = []

@@ -1,11 +1,11 @@
 -- From the events of JSON to its leaves.
 use Rattle.std.specs.Prelude.{Bool, List, None, Option, Some, [], bytes_eq, codes, false, if◌then◌else◌, option_and_then, option_map, reverse}
-use Rattle.std.specs.Prelude.{true, unwrap_or, ℕ, map, ◌&&◌, ◌++◌, ◌||◌, ◌∷◌}
+use Rattle.std.specs.Prelude.{true, unwrap_or, ℕ, map, ◌&&◌, ◌++◌, ◌||◌, ◌∷◌, ◌≡◌}
 use Rattle.serde.specs.Event as event
 use Rattle.serde.specs.Event.{Event}
 use Rattle.serde.specs.declared.name.Case.TheVariants.{AsIs}
-use Rattle.tc_brief.specs.Leaves.{Leaf, Value, attribute, closes, interface, leaves_view, named, nothing, number, opens, signed, text, truth}
-use Rattle.tc_brief.specs.Rows.{Row, find_row, or_row, plain_row, row_view}
+use Rattle.tc_brief.specs.Leaves.{Leaf, Value, attribute, closes, interface, leaves_view, named, nothing, number, opens, raw, signed, text, truth}
+use Rattle.tc_brief.specs.Rows.{Row, find_row, or_row, plain_row, row_view, rows_view}
 use Rattle.tc_brief.specs.declared.leaf.Section.{Section}
 use Rattle.tc_brief.specs.declared.leaf.Section.TheVariants as section
 use Rattle.tc_brief.specs.declared.leaf.Shape.{Shape}
@@ -14,8 +14,9 @@ use Rattle.tc_brief.specs.declared.row.LeftOut.TheVariants.{Never}
 use Rattle.tc_brief.specs.declared.row.Style.{Style}
 use Rattle.tc_brief.specs.declared.row.Style.TheVariants as style
 use Rattle.tc_brief.specs.declared.walk.Frame.{Frame as CodeFrame}
+use Rattle.tc_brief.specs.declared.walk.Own.{Own}
 use Rattle.tc_brief.specs.declared.walk.Walk.{Walk}
-use Rattle.tc_lines.specs.Columns.{Table, column_of, is_nested, place_in}
+use Rattle.tc_lines.specs.Columns.{Table, column_of, columns_view, is_nested, place_in}
 use Rattle.tc_lines.specs.Lines.{NONE, companion_by, says_block}
 use Rattle.tc_lines.specs.declared.column.Display.{Display}
 use Rattle.tc_lines.specs.declared.column.Display.TheVariants as display
@@ -192,9 +193,10 @@ row_in rows f key = unwrap_or (or_row (find_row (rows f.place) key) (find_row (r
 abbrev pub row_at : (ℕ → List Row) → Frame → List ℕ → Row
 row_at rows f key = rated (row_in rows f key).style f.row (row_in rows f key)
 
-abbrev pub with_number : List ℕ → Option ℕ → Value
-with_number s None = text s
-with_number s (Some n) = named s n
+-- a text, or a name in JSON with its number; instead of a number with names a text that is no name is the hex of malformed bytes
+abbrev pub text_value : Display → List ℕ → Option ℕ → Value
+text_value h s None = if is_enum h then raw s else text s
+text_value h s (Some n) = named s n
 
 -- a record or list as the value of a name
 abbrev pub within : Bool → Shape → State → Frame → Frame
@@ -275,7 +277,7 @@ module _ (t : Table) where
   value_of h (event.boolean b) = truth b
   value_of h (event.unsigned n) = number_value h n
   value_of h (event.signed z) = signed z
-  value_of h (event.text s) = with_number s (text_number h s)
+  value_of h (event.text s) = text_value h s (text_number h s)
   value_of h e = nothing
 
   abbrev pub leaf_of : State → Frame → Value → Leaf
@@ -350,10 +352,14 @@ abbrev pub state_of : Walk → State
 state_of w =
     record {
       out = leaves_view w.out.items;
-      frames = stack_of w.frames.items;
+      frames = frame_view w.top ∷ stack_of w.around.items;
       companion = w.companion;
       key = w.key.now;
       display = w.display;
       row = row_view w.row;
       word = w.word;
     }
+
+-- the columns and the rows at a place
+abbrev pub IsOwn : Table → (ℕ → List Row) → Own → Type 0
+IsOwn t rows own = (columns_view own.columns.now ≡ t.columns own.place) × (rows_view own.rows.now ≡ rows own.place)

@@ -15,16 +15,16 @@ pub(crate) enum Section {
     Hardware,
     /// Statistics of the object.
     Statistics,
-    /// The first leaf of an action.
-    Begin,
-    /// The kind of an action.
-    Kind,
     /// The words of an action's kind.
     Actions,
     /// The end of an action: its index, and its verdict.
     Control,
     /// Statistics of an action.
     ActionStatistics,
+    /// The first leaf of an action.
+    Begin,
+    /// The kind of an action.
+    Kind,
 }
 
 /// How a list or a record is written.
@@ -48,6 +48,8 @@ pub(crate) enum Value<'t> {
     Text(&'t str),
     /// A name in JSON, and its number.
     Named(&'t str, u64),
+    /// Malformed bytes instead of a number with names, in hex.
+    Raw(&'t str),
     /// The index of an interface, and its name if known.
     Interface(u64, Option<&'t str>),
     /// The `nla_type` of an attribute without a row, and its bytes in hex.

@@ -16,6 +16,7 @@
 mod error;
 mod leaf;
 mod line;
+mod named;
 mod numbers;
 mod parts;
 mod row;

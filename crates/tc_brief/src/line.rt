@@ -1,6 +1,6 @@
 //! The line of an object.
 
-ghost use Rattle.std.specs.Prelude.{IfOk, List, None, OnOk, Some, [], bytes_eq, codes, decimal, option_map, unwrap_or, ◌++◌, ◌∷◌, ◌≡◌};
+ghost use Rattle.std.specs.Prelude.{IfOk, List, None, OnOk, Some, [], codes, decimal, option_map, unwrap_or, ◌++◌, ◌∷◌, ◌≡◌};
 ghost use Rattle.forms_json.specs.Shown.{shown_of};
 ghost use Rattle.forms_values.specs.Sent.{events};
 ghost use Rattle.tc_brief.specs.Leaves.{Leaf as LeafView, leaf_view, leaves_view, value_view};
@@ -19,6 +19,7 @@ ghost use Rattle.tc_units.specs.Names.{name_of, names_view};
 
 use crate::error::BriefError;
 use crate::leaf::{Leaf, Section, Value};
+use crate::named::is_same;
 use crate::numbers::put_signed;
 use crate::parts::{Line, Scope, bare, count_in, is_in};
 use crate::row::Words;
@@ -65,12 +66,6 @@ fn object_text(object: Object) -> &'static str
         Object::Chain => "chain",
         Object::Action => "action",
     }
-}
-
-fn is_same(a: &str, b: &str) -> bool
-    ensures { result ≡ bytes_eq a.now b.now }
-{
-    a == b
 }
 
 // The first leaf of this name in the head.
@@ -666,7 +661,7 @@ impl Line {
     fn message(&mut self, said: &Said<'_>, leaves: &[Leaf<'_>]) -> Result<(), BriefError>
         ensures { OnOk result (self.new.text.items ≡ self.old.text.items ++ message_lines (said_view said.now) (leaves_view leaves.now)) }
     {
-        if has_action(leaves) && is_of_actions(said.object) {
+        if is_of_actions(said.object) && has_action(leaves) {
             return self.own_actions(said, leaves);
         }
         self.text.extend_from_slice(said.begin)?;

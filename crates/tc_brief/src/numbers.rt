@@ -7,12 +7,15 @@ ghost use Rattle.tc_brief.specs.Numbers.{thousandths_of, thousandths_text, time_
 
 use itoa::Buffer;
 use std::alloc::AllocError;
-use tc_units::{Unit, put_number as put_exact};
+use tc_units::{Unit, put_decimal, put_number as put_exact};
 
 // Appends a number in decimal.
 pub(crate) fn put_wide(out: &mut Vec<u8>, n: u128) -> Result<(), AllocError>
     ensures { OnOk result (out.new.items ≡ out.old.items ++ decimal n) }
 {
+    if n <= 0xffff_ffff_ffff_ffff {
+        return put_decimal(out, n as u64);
+    }
     let mut buffer = Buffer::new();
     out.extend_from_slice(buffer.format(n).as_bytes())
 }

@@ -1,14 +1,14 @@
 //! The words of a leaf, given the leaves around it.
 
 ghost use Rattle.std.specs.List.{after_first, before_first};
-ghost use Rattle.std.specs.Prelude.{None, OnOk, [], bytes_eq, codes, decimal, option_map, true, unwrap_or, ◌++◌, ◌<◌, ◌≡◌, ◌∷◌};
+ghost use Rattle.std.specs.Prelude.{None, OnOk, [], codes, decimal, option_map, true, unwrap_or, ◌++◌, ◌<◌, ◌≡◌, ◌∷◌};
 ghost use Rattle.tc_brief.specs.Leaves.{leaf_view, leaves_view, value_view};
 ghost use Rattle.tc_brief.specs.Parts.{bare, begun, bit_words, burst_text, choice, choice_at, chosen, control, end_text, hardware, hex_words, is_bar};
 ghost use Rattle.tc_brief.specs.Parts.{is_blank, is_in, is_rate};
 ghost use Rattle.tc_brief.specs.Parts.{is_taken, is_with, key_text, key_words, mask_text, match_words, next_with, number_of, number_of_section, opened_words};
 ghost use Rattle.tc_brief.specs.Parts.{agrees, is_braces, count_in, count_words, is_counted, or_key};
 ghost use Rattle.tc_brief.specs.Parts.{own_word, phrase, plain, protocol_words, rate_named, rate_of, rate_text, scope_view, section_words, styled_words};
-ghost use Rattle.tc_brief.specs.Parts.{takes, valued, verdict_words, words_by, words_of};
+ghost use Rattle.tc_brief.specs.Parts.{alone_as, takes, valued, verdict_words, word_before, words_by, words_of};
 ghost use Rattle.tc_brief.specs.Values.{assigned, name_of_leaf, number_in, opened_text, value_text, within_word};
 ghost use Rattle.tc_brief.specs.Words.{written};
 ghost use Rattle.tc_units.specs.Names.{names_view};
@@ -16,6 +16,7 @@ ghost use Rattle.tc_units.specs.Numerals.{four_digits};
 
 use crate::error::BriefError;
 use crate::leaf::{Leaf, Section, Shape, Value};
+use crate::named::is_same;
 use crate::numbers::{put_bits, put_burst};
 use crate::row::Style;
 use crate::values::{
@@ -67,16 +68,28 @@ impl Line {
 
     // Writes the word of a row, or begins a word with the name. The value comes next.
     fn begin_valued(&mut self, leaf: &Leaf<'_>) -> Result<(), AllocError>
-        ensures text { OnOk result (self.new.text.items ≡ self.old.text.items ++ written (own_word leaf.now.row.word.now)) }
-        ensures word { OnOk result (self.new.word.items ≡ begun leaf.now.row.word.now (name_of_leaf (leaf_view leaf.now) (value_view leaf.now.value))) }
+        ensures text { OnOk result (self.new.text.items ≡ self.old.text.items ++ written (own_word (word_before leaf.now.row.style leaf.now.row.word.now))) }
+        ensures word { OnOk result (self.new.word.items
+            ≡ begun (word_before leaf.now.row.style leaf.now.row.word.now) (name_of_leaf (leaf_view leaf.now) (value_view leaf.now.value))) }
     {
-        if leaf.row.word.is_empty() {
+        let word = word_before(leaf.row.style, leaf.row.word);
+        if word.is_empty() {
             self.begin();
             return put_name_of(&mut self.word, leaf);
         }
-        self.word(leaf.row.word.as_bytes())?;
+        self.word(word.as_bytes())?;
         self.begin();
         Ok(())
+    }
+
+    // Writes the value without a word, and before malformed bytes the name.
+    fn alone_or_raw(&mut self, leaf: &Leaf<'_>) -> Result<(), AllocError>
+        ensures { OnOk result (self.new.text.items ≡ self.old.text.items ++ written (alone_as (leaf_view leaf.now) (value_view leaf.now.value))) }
+    {
+        match leaf.value {
+            Value::Raw(_) => self.plain(leaf),
+            _ => self.alone(leaf),
+        }
     }
 
     // Writes the word or the name of a leaf that is true.
@@ -348,7 +361,7 @@ impl Line {
             ++ written (styled_words leaf.now.row.style (scope_view scope.now) (leaves_view rest.now) (leaf_view leaf.now))) }
     {
         match leaf.row.style {
-            Style::Alone => self.alone(leaf),
+            Style::Alone => self.alone_or_raw(leaf),
             Style::Choice => self.choice(leaf),
             Style::Mask => self.masked(leaf, rest),
             Style::Range => self.ranged(leaf, rest),
@@ -491,16 +504,20 @@ fn put_within_word(out: &mut Vec<u8>, leaves: &[Leaf<'_>]) -> Result<(), BriefEr
     Ok(())
 }
 
-fn is_same(a: &str, b: &str) -> bool
-    ensures { result ≡ bytes_eq a.now b.now }
-{
-    a == b
-}
-
 fn is_braces(shape: Shape) -> bool
     ensures { result ≡ is_braces shape }
 {
     matches!(shape, Shape::Braces)
+}
+
+// The word before a value: none of a choice.
+fn word_before(style: Style, word: &str) -> &str
+    ensures { result.now ≡ word_before style word.now }
+{
+    match style {
+        Style::Choice => "",
+        _ => word,
+    }
 }
 
 /// The leaf without its unit.

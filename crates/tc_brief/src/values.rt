@@ -1,19 +1,23 @@
 //! The value of a leaf, as part of a word.
 
+ghost use Rattle.forms_values.specs.Raw.{decoded};
+ghost use Rattle.hex.specs.Hex.{decode_sized};
 ghost use Rattle.std.specs.List.{list_all};
-ghost use Rattle.std.specs.Prelude.{IfSome, OnOk, [], bytes_eq, ◌++◌, ◌≡◌};
+ghost use Rattle.std.specs.Prelude.{IfSome, OnOk, [], ◌++◌, ◌≡◌};
 ghost use Rattle.tc_brief.specs.Leaves.{leaf_view, leaves_view, name_now, value_view};
 ghost use Rattle.tc_brief.specs.Numbers.{number_text};
-ghost use Rattle.tc_brief.specs.Values.{assigned, attribute_name, bar, bits_text, bytes_text, close_text, comma, depth_after, equals};
+ghost use Rattle.tc_brief.specs.Values.{assigned, attribute_name, bar, bits_text, bytes_text, close_text, comma, count_or, depth_after, equals};
 ghost use Rattle.tc_brief.specs.Values.{flags_text, interface_text, is_closing, is_count, is_framing, is_hollow, is_left_out, is_number, is_opening};
-ghost use Rattle.tc_brief.specs.Values.{is_numeric, is_skipped, is_table, items_of, left_by, name_of_leaf, named_text};
-ghost use Rattle.tc_brief.specs.Values.{number_in, open_text, shown_name, shown_number, shown_signed, value_text, within_as};
+ghost use Rattle.tc_brief.specs.Values.{is_numeric, is_skipped, is_table, items_of, left_by, name_of_leaf, named_text, raw_text};
+ghost use Rattle.tc_brief.specs.Values.{number_in, open_text, shown_name, shown_number, shown_signed, shown_text, value_text, within_as};
 ghost use Rattle.tc_units.specs.Flags.{is_set};
 ghost use Rattle.tc_units.specs.Names.{names_view};
 
 use crate::leaf::{Leaf, Shape, Value};
+use crate::named::is_same;
 use crate::numbers::{put_number, put_signed};
 use crate::row::{LeftOut, Style};
+use hex::FromHex;
 use std::alloc::AllocError;
 use tc_lines::Display;
 use tc_units::{Name, Unit, name_of, put_decimal, put_hex, put_verdict};
@@ -152,6 +156,35 @@ pub(crate) fn put_hex_bytes(out: &mut Vec<u8>, hex: &str) -> Result<(), AllocErr
     out.extend_from_slice(b"B>")
 }
 
+// Appends four bytes in hex as a number, or the text if it isn't four bytes.
+fn put_count(out: &mut Vec<u8>, text: &str) -> Result<(), AllocError>
+    ensures { OnOk result (out.new.items ≡ out.old.items ++ count_or text.now (decoded (decode_sized text.now 4))) }
+{
+    match <[u8; 4]>::from_hex(text.as_bytes()) {
+        Ok(octets) => put_decimal(out, u32::from_le_bytes(octets) as u64),
+        Err(_) => out.extend_from_slice(text.as_bytes()),
+    }
+}
+
+// Appends a text as its column says.
+fn put_text(out: &mut Vec<u8>, display: &Display, text: &str) -> Result<(), AllocError>
+    ensures { OnOk result (out.new.items ≡ out.old.items ++ shown_text display.now text.now) }
+{
+    match display {
+        Display::Count => put_count(out, text),
+        _ => out.extend_from_slice(text.as_bytes()),
+    }
+}
+
+// Appends malformed bytes in hex.
+fn put_raw(out: &mut Vec<u8>, hex: &str) -> Result<(), AllocError>
+    ensures { OnOk result (out.new.items ≡ out.old.items ++ raw_text hex.now) }
+{
+    out.extend_from_slice(b"{raw=")?;
+    out.extend_from_slice(hex.as_bytes())?;
+    out.extend_from_slice(b"}")
+}
+
 /// Appends the value of a leaf.
 pub(crate) fn put_value(out: &mut Vec<u8>, leaf: &Leaf<'_>) -> Result<(), AllocError>
     ensures { OnOk result (out.new.items ≡ out.old.items ++ value_text (leaf_view leaf.now) (value_view leaf.now.value)) }
@@ -162,8 +195,9 @@ pub(crate) fn put_value(out: &mut Vec<u8>, leaf: &Leaf<'_>) -> Result<(), AllocE
         Value::Bool(false) => out.extend_from_slice(b"false"),
         Value::Unsigned(n) => put_shown(out, &leaf.display, leaf.names, n),
         Value::Signed(n) => put_shown_signed(out, &leaf.display, n),
-        Value::Text(text) => out.extend_from_slice(text.as_bytes()),
+        Value::Text(text) => put_text(out, &leaf.display, text),
         Value::Named(text, n) => put_name(out, &leaf.display, leaf.names, text, n),
+        Value::Raw(hex) => put_raw(out, hex),
         Value::Interface(n, name) => put_interface(out, n, name),
         Value::Attribute(_, hex) => put_hex_bytes(out, hex),
         Value::Opens(_) | Value::Closes(_) => Ok(()),
@@ -241,12 +275,6 @@ fn left_by(left: LeftOut, value: &Value<'_>) -> bool
             None => false,
         },
     }
-}
-
-fn is_same(a: &str, b: &str) -> bool
-    ensures { result ≡ bytes_eq a.now b.now }
-{
-    a == b
 }
 
 // True for the `nla_type` and the padding of an attribute.

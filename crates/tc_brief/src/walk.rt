@@ -1,6 +1,6 @@
 //! From the events of JSON to its leaves.
 
-ghost use Rattle.std.specs.Prelude.{IfOk, MatchOption, OnOk, Some, [], bytes_eq, option_map, unwrap_or, ◌++◌, ◌∷◌, ◌≡◌};
+ghost use Rattle.std.specs.Prelude.{IfOk, MatchOption, OnOk, Some, [], option_map, unwrap_or, ◌++◌, ◌∷◌, ◌≡◌};
 ghost use Rattle.tc_lines.specs.Columns.{column_of, columns_view, find, unnamed};
 ghost use Rattle.tc_lines.specs.Lines.{companion_by, says_block};
 ghost use Rattle.tc_units.specs.Names.{names_view};
@@ -11,11 +11,12 @@ ghost use Rattle.tc_brief.specs.Walk.{close_map, close_seq, closing, displayed, 
 ghost use Rattle.tc_brief.specs.Walk.{is_silent, is_stand_in, is_through, is_transparent, item_shape, leaf_of, leaves, list_shape, names_in, note};
 ghost use Rattle.tc_brief.specs.Walk.{begin_row, number_value};
 ghost use Rattle.tc_brief.specs.Walk.{open_map, open_seq, opened, opening, option_list, other_leaf, place_within, plain_leaf, rated, record_shape};
-ghost use Rattle.tc_brief.specs.Walk.{rest_of, section_in, settle, stack_of, start, state_of, step, styled, take_key, take_leaf, text_number, top_of};
-ghost use Rattle.tc_brief.specs.Walk.{value_of, with_number};
+ghost use Rattle.tc_brief.specs.Walk.{rest_of, section_in, stack_of, start, state_of, step, styled, take_key, take_leaf, text_number, IsOwn};
+ghost use Rattle.tc_brief.specs.Walk.{text_value, value_of};
 
 use crate::error::BriefError;
 use crate::leaf::{Leaf, Section, Shape, Value};
+use crate::named::{first_named, is_same};
 use crate::row::{LeftOut, Row, Style, Words};
 use crate::tape::{Tape, Token};
 use std::alloc::{AllocError, Global};
@@ -40,8 +41,9 @@ pub(crate) struct Frame<'t> {
 #[derive(Drop)]
 pub(crate) struct Walk<'t> {
     pub out: Vec<Leaf<'t>>,
-    // Innermost last.
-    pub frames: Vec<Frame<'t>>,
+    // The innermost open record or list, and those around it, innermost last.
+    pub top: Frame<'t>,
+    pub around: Vec<Frame<'t>>,
     // The place of the columns that are looked up first: those of the last leaf's companion.
     pub companion: usize,
     // The name, display and row of the next value.
@@ -55,31 +57,34 @@ pub(crate) struct Walk<'t> {
 // The place without columns.
 const NONE: usize = 65535;
 
-fn is_same(a: &str, b: &str) -> bool
-    ensures { result ≡ bytes_eq a.now b.now }
-{
-    a == b
-}
-
 // The display of a name's column.
+#[inline(always)]
 fn find(columns: &[Column<'_>], key: &str) -> Option<Display>
     ensures { result ≡ option_map (λ c. c.display) (find (columns_view columns.now) key.now) }
 {
-    match columns.split_first() {
-        Some((column, _)) if is_same(column.key, key) => Some(column.display),
-        Some((_, others)) => find(others, key),
+    match first_named(columns, key) {
+        Some(column) => Some(column.display),
         None => None,
     }
 }
 
-fn find_row(rows: &'static [Row<'static>], key: &str) -> Option<Row<'static>>
-    ensures { option_map row_view result ≡ find_row (rows_view rows.now) key.now }
+// The same among the columns of a companion; usually there is none.
+#[inline(always)]
+fn find_companion<C: Columns>(columns: &C, companion: usize, key: &str) -> Option<Display>
+    ensures { result ≡ option_map (λ c. c.display) (find ((C.table (C.options columns.now)).columns companion) key.now) }
 {
-    match rows.split_first() {
-        Some((row, _)) if is_same(row.key, key) => Some(*row),
-        Some((_, others)) => find_row(others, key),
-        None => None,
+    if companion == NONE {
+        return None;
     }
+    find(columns.columns(companion), key)
+}
+
+// The row of a name among these.
+#[inline(always)]
+fn find_row(rows: &'static [Row<'static>], key: &str) -> Option<&'static Row<'static>>
+    ensures { option_map (λ r. row_view r.now) result ≡ find_row (rows_view rows.now) key.now }
+{
+    first_named(rows, key)
 }
 
 // The row of a member without one.
@@ -108,25 +113,60 @@ fn begin_row<'t>() -> Row<'t>
     }
 }
 
-// The row of a name.
-fn row_in<'t, W: Words>(words: &W, place: usize, base: usize, key: &'t str) -> Row<'t>
-    ensures { row_view result ≡ unwrap_or (or_row (find_row (W.rows place) key.now) (find_row (W.rows base) key.now)) (plain_row key.now) }
+// The columns and the rows at the place of the innermost record or list.
+#[derive(Clone, Copy)]
+pub(crate) struct Own {
+    pub place: usize,
+    pub columns: &'static [Column<'static>],
+    pub rows: &'static [Row<'static>],
+}
+
+// The columns and the rows at a place.
+fn own_at<C: Columns, W: Words>(columns: &C, words: &W, place: usize) -> Own
+    ensures place { result.place ≡ place }
+    ensures columns { columns_view result.columns.now ≡ (C.table (C.options columns.now)).columns place }
+    ensures rows { rows_view result.rows.now ≡ W.rows place }
 {
-    if let Some(row) = find_row(words.rows(place), key) {
-        return row;
+    Own {
+        place,
+        columns: columns.columns(place),
+        rows: words.rows(place),
     }
-    if base == place {
+}
+
+// The same, given those at a place, which mostly is the same.
+#[inline(always)]
+fn own_from<C: Columns, W: Words>(columns: &C, words: &W, own: Own, place: usize) -> Own
+    requires { IsOwn (C.table (C.options columns.now)) W.rows own }
+    ensures place { result.place ≡ place }
+    ensures own { IsOwn (C.table (C.options columns.now)) W.rows result }
+{
+    if own.place == place {
+        return own;
+    }
+    own_at(columns, words, place)
+}
+
+// The row of a name, given the rows at a place.
+fn row_in<'t, W: Words>(words: &W, own: &Own, base: usize, key: &'t str) -> Row<'t>
+    requires { rows_view own.now.rows.now ≡ W.rows own.now.place }
+    ensures { row_view result ≡ unwrap_or (or_row (find_row (W.rows own.now.place) key.now) (find_row (W.rows base) key.now)) (plain_row key.now) }
+{
+    if let Some(row) = find_row(own.rows, key) {
+        return *row;
+    }
+    if base == own.place {
         return plain_row(key);
     }
     if let Some(row) = find_row(words.rows(base), key) {
-        return row;
+        return *row;
     }
     plain_row(key)
 }
 
 // The row of a member of a record that has this row.
-fn rated<'t>(outer: Row<'t>, row: Row<'t>) -> Row<'t>
-    ensures { row_view result ≡ rated row.entry.style (row_view outer.entry) (row_view row.entry) }
+fn rated<'t>(outer: &Row<'t>, row: Row<'t>) -> Row<'t>
+    ensures { row_view result ≡ rated row.entry.style (row_view outer.now) (row_view row.entry) }
 {
     match row.style {
         Style::OfRate => Row {
@@ -154,20 +194,21 @@ fn display_without_column(key: &str) -> Display
 fn display_at<C: Columns>(
     columns: &C,
     companion: usize,
-    place: usize,
+    own: &Own,
     base: usize,
     key: &str,
 ) -> Display
-    ensures { result ≡ (column_of ((C.table (C.options columns.now)).columns companion) ((C.table (C.options columns.now)).columns place)
+    requires { columns_view own.now.columns.now ≡ (C.table (C.options columns.now)).columns own.now.place }
+    ensures { result ≡ (column_of ((C.table (C.options columns.now)).columns companion) ((C.table (C.options columns.now)).columns own.now.place)
         ((C.table (C.options columns.now)).columns base) key.now).display }
 {
-    if let Some(display) = find(columns.columns(companion), key) {
+    if let Some(display) = find_companion(columns, companion, key) {
         return display;
     }
-    if let Some(display) = find(columns.columns(place), key) {
+    if let Some(display) = find(own.columns, key) {
         return display;
     }
-    if base == place {
+    if base == own.place {
         return display_without_column(key);
     }
     if let Some(display) = find(columns.columns(base), key) {
@@ -365,10 +406,11 @@ fn text_number<C: Columns>(columns: &C, display: &Display, text: &str) -> Option
 }
 
 fn text_value<'t, C: Columns>(columns: &C, display: &Display, text: &'t str) -> Value<'t>
-    ensures { value_view result ≡ with_number text.now (text_number (C.table (C.options columns.now)) display.now text.now) }
+    ensures { value_view result ≡ text_value display.now text.now (text_number (C.table (C.options columns.now)) display.now text.now) }
 {
     match text_number(columns, display, text) {
         Some(n) => Value::Named(text, n),
+        None if is_enum(display) => Value::Raw(text),
         None => Value::Text(text),
     }
 }
@@ -435,32 +477,12 @@ fn pop<'t>(frames: &mut Vec<Frame<'t>>) -> Option<Frame<'t>>
     frames.pop()
 }
 
-// Closes the innermost.
-fn drop_top(frames: &mut Vec<Frame<'_>>)
-    ensures { stack_of frames.new.items ≡ rest_of (stack_of frames.old.items) }
+// After a kind, the items after it have its columns.
+fn note<C: Columns>(columns: &C, token: &Token<'_>, display: &Display, frame: &mut Frame<'_>)
+    ensures { frame_view frame.new ≡ note (C.table (C.options columns.now)) (event_of token.now) display.now (frame_view frame.old) }
 {
-    let _ = pop(frames);
-}
-
-// The innermost.
-#[tactic(auto, using(crate::proofs::Stacks::reverse_snoc))]
-fn top<'t>(frames: &[Frame<'t>]) -> Option<Frame<'t>>
-    ensures { option_map frame_view result ≡ top_of (stack_of frames.now) }
-{
-    match frames.split_last() {
-        Some((frame, _)) => Some(*frame),
-        None => None,
-    }
-}
-
-// After a record, the items of its list have the columns of the kind in it.
-fn settle(place: usize, frames: &mut Vec<Frame<'_>>) -> Result<(), AllocError>
-    ensures { OnOk result (stack_of frames.new.items ≡ settle place (stack_of frames.old.items)) }
-{
-    match pop(frames) {
-        Some(frame) if frame.list => push(frames, Frame { place, ..frame }),
-        Some(frame) => push(frames, frame),
-        None => Ok(()),
+    if let (Display::Kind, Token::Text(name)) = (display, token) {
+        frame.place = columns.under(frame.base, *name);
     }
 }
 
@@ -497,8 +519,8 @@ impl<'t> Walk<'t> {
         ensures { IfOk result (λ w. state_of w ≡ start root) }
     {
         let out = Vec::with_capacity(alloc, room)?;
-        let mut frames = Vec::with_capacity(alloc, 16)?;
-        let first = Frame {
+        let around = Vec::with_capacity(alloc, 8)?;
+        let top = Frame {
             place: root,
             base: root,
             section: Section::Words,
@@ -507,10 +529,10 @@ impl<'t> Walk<'t> {
             inside: false,
             row: plain_row(""),
         };
-        push(&mut frames, first)?;
         Ok(Walk {
             out,
-            frames,
+            top,
+            around,
             companion: NONE,
             key: "",
             display: Display::Inline(root),
@@ -520,47 +542,31 @@ impl<'t> Walk<'t> {
     }
 
     // The name of the next value.
-    fn take_key<C: Columns, W: Words>(
-        &mut self,
-        columns: &C,
-        words: &W,
-        key: &'t str,
-        frame: &Frame<'t>,
-    )
-        ensures { state_of self.new ≡ take_key (C.table (C.options columns.now)) W.rows key.now (state_of self.old) (frame_view frame.now) }
+    fn take_key<C: Columns, W: Words>(&mut self, columns: &C, words: &W, own: &Own, key: &'t str)
+        requires place { own.now.place ≡ self.old.top.place }
+        requires own { IsOwn (C.table (C.options columns.now)) W.rows own.now }
+        ensures { state_of self.new ≡ take_key (C.table (C.options columns.now)) W.rows key.now (state_of self.old) (frame_view self.old.top) }
     {
         if is_enum(&self.display) && is_stand_in(key) {
             return;
         }
+        let base = self.top.base;
         self.key = key;
-        self.display = display_at(columns, self.companion, frame.place, frame.base, key);
-        self.row = rated(frame.row, row_in(words, frame.place, frame.base, key));
+        self.display = display_at(columns, self.companion, own, base, key);
+        self.row = rated(&self.top.row, row_in(words, own, base, key));
     }
 
     // The next value, which has no contents.
-    fn leaf_of<C: Columns>(&self, columns: &C, frame: &Frame<'t>, value: Value<'t>) -> Leaf<'t>
-        ensures { leaf_view result ≡ leaf_of (C.table (C.options columns.now)) (state_of self.now) (frame_view frame.now) (value_view value.entry) }
+    fn leaf_of<C: Columns>(&self, columns: &C, value: Value<'t>) -> Leaf<'t>
+        ensures { leaf_view result ≡ leaf_of (C.table (C.options columns.now)) (state_of self.now) (frame_view self.now.top) (value_view value.entry) }
     {
         Leaf {
-            key: if frame.list { "" } else { self.key },
+            key: if self.top.list { "" } else { self.key },
             row: self.row,
             display: self.display,
             names: names_in(columns, &self.display),
-            section: section_in(frame, &self.display, self.row.style),
+            section: section_in(&self.top, &self.display, self.row.style),
             value,
-        }
-    }
-
-    // The innermost record or list after a leaf: a kind selects the columns of the items after it.
-    fn noted<C: Columns>(&self, columns: &C, token: &Token<'_>, frame: Frame<'t>) -> Frame<'t>
-        ensures { frame_view result ≡ note (C.table (C.options columns.now)) (event_of token.now) self.now.display (frame_view frame.entry) }
-    {
-        match (self.display, token) {
-            (Display::Kind, Token::Text(name)) => Frame {
-                place: columns.under(frame.base, *name),
-                ..frame
-            },
-            _ => frame,
         }
     }
 
@@ -569,23 +575,21 @@ impl<'t> Walk<'t> {
         &mut self,
         columns: &'t C,
         token: &Token<'t>,
-        frame: Frame<'t>,
     ) -> Result<(), AllocError>
         ensures { OnOk result (state_of self.new
-            ≡ plain_leaf (C.table (C.options columns.now)) (event_of token.now) (state_of self.old) (frame_view frame.entry)) }
+            ≡ plain_leaf (C.table (C.options columns.now)) (event_of token.now) (state_of self.old) (frame_view self.old.top)) }
     {
         let value = value_of(columns, &self.display, token);
-        let leaf = self.leaf_of(columns, &frame, value);
+        let leaf = self.leaf_of(columns, value);
         self.out.push(leaf)?;
-        let before = if is_head(frame.section) {
+        let before = if is_head(self.top.section) {
             self.companion
         } else {
             NONE
         };
         self.companion = companion_by(&self.display, says_block(token), before);
-        let noted = self.noted(columns, token, frame);
-        drop_top(&mut self.frames);
-        push(&mut self.frames, noted)
+        note(columns, token, &self.display, &mut self.top);
+        Ok(())
     }
 
     // A leaf of an attribute without a row: its `nla_type`, or its bytes.
@@ -593,10 +597,9 @@ impl<'t> Walk<'t> {
         &mut self,
         columns: &'t C,
         token: &Token<'t>,
-        frame: Frame<'t>,
     ) -> Result<(), AllocError>
         ensures { OnOk result (state_of self.new
-            ≡ other_leaf (C.table (C.options columns.now)) (event_of token.now) (state_of self.old) (frame_view frame.entry)) }
+            ≡ other_leaf (C.table (C.options columns.now)) (event_of token.now) (state_of self.old) (frame_view self.old.top)) }
     {
         match token {
             Token::Unsigned(n) => {
@@ -605,28 +608,23 @@ impl<'t> Walk<'t> {
             }
             Token::Text(text) => {
                 let value = Value::Attribute(self.word, *text);
-                let leaf = self.leaf_of(columns, &frame, value);
+                let leaf = self.leaf_of(columns, value);
                 self.out.push(leaf)?;
                 Ok(())
             }
-            _ => self.plain_leaf(columns, token, frame),
+            _ => self.plain_leaf(columns, token),
         }
     }
 
     // The next value, which has no contents.
-    fn take_leaf<C: Columns>(
-        &mut self,
-        columns: &'t C,
-        token: &Token<'t>,
-        frame: Frame<'t>,
-    ) -> Result<(), AllocError>
+    fn take_leaf<C: Columns>(&mut self, columns: &'t C, token: &Token<'t>) -> Result<(), AllocError>
         ensures { OnOk result (state_of self.new
-            ≡ take_leaf (C.table (C.options columns.now)) (event_of token.now) (state_of self.old) (frame_view frame.entry)) }
+            ≡ take_leaf (C.table (C.options columns.now)) (event_of token.now) (state_of self.old) (frame_view self.old.top)) }
     {
-        if is_other(frame.row.key) {
-            return self.other_leaf(columns, token, frame);
+        if is_other(self.top.row.key) {
+            return self.other_leaf(columns, token);
         }
-        self.plain_leaf(columns, token, frame)
+        self.plain_leaf(columns, token)
     }
 
     // The beginning of a record or list, if it is a part of its own.
@@ -665,71 +663,94 @@ impl<'t> Walk<'t> {
         })
     }
 
-    // Opens a record or list as the value of a name.
-    fn open(&mut self, list: bool, shape: Shape, frame: &Frame<'t>) -> Result<(), AllocError>
-        ensures { OnOk result (state_of self.new ≡ opened list shape (state_of self.old) (frame_view frame.now)) }
+    // Opens a record or list.
+    fn enter(&mut self, within: Frame<'t>) -> Result<(), AllocError>
+        ensures { OnOk result (state_of self.new ≡ record (state_of self.old) { frames = frame_view within.entry ∷ (state_of self.old).frames }) }
     {
-        let section = section_in(frame, &self.display, self.row.style);
-        let key = if frame.list { "" } else { self.key };
+        push(&mut self.around, self.top)?;
+        self.top = within;
+        Ok(())
+    }
+
+    // Closes the innermost record or list.
+    fn leave(&mut self) -> Result<(), BriefError>
+        ensures { OnOk result (state_of self.new ≡ record (state_of self.old) { frames = rest_of (state_of self.old).frames }) }
+    {
+        match pop(&mut self.around) {
+            Some(frame) => {
+                self.top = frame;
+                Ok(())
+            }
+            None => Err(BriefError::NotJson),
+        }
+    }
+
+    // Opens a record or list as the value of a name.
+    fn open(&mut self, list: bool, shape: Shape) -> Result<(), AllocError>
+        ensures { OnOk result (state_of self.new ≡ opened list shape (state_of self.old) (frame_view self.old.top)) }
+    {
+        let section = section_in(&self.top, &self.display, self.row.style);
+        let key = if self.top.list { "" } else { self.key };
         let actions = is_actions(self.row.style);
         let leaf = self.opening(actions, key, section, shape);
         put(&mut self.out, leaf)?;
         let place = place_within(&self.display);
-        let within = Frame {
+        self.enter(Frame {
             place,
             base: place,
             section,
             shape,
             list,
-            inside: frame.inside || !is_silent(shape),
+            inside: self.top.inside || !is_silent(shape),
             row: self.row,
-        };
-        push(&mut self.frames, within)
+        })
     }
 
     // Opens a record.
-    fn open_map(&mut self, frame: &Frame<'t>) -> Result<(), AllocError>
-        ensures { OnOk result (state_of self.new ≡ open_map (state_of self.old) (frame_view frame.now)) }
+    fn open_map(&mut self) -> Result<(), AllocError>
+        ensures { OnOk result (state_of self.new ≡ open_map (state_of self.old) (frame_view self.old.top)) }
     {
-        if !frame.list {
+        if !self.top.list {
             let shape = record_shape(self.key, &self.display, self.row.style);
-            return self.open(false, shape, frame);
+            return self.open(false, shape);
         }
-        let shape = item_shape(frame.shape);
-        let leaf = self.opening(false, "", frame.section, shape);
+        let shape = item_shape(self.top.shape);
+        let leaf = self.opening(false, "", self.top.section, shape);
         put(&mut self.out, leaf)?;
-        let item = Frame {
+        self.enter(Frame {
             shape,
             list: false,
-            ..*frame
-        };
-        push(&mut self.frames, item)
+            ..self.top
+        })
     }
 
     // Opens a list.
-    fn open_seq(&mut self, frame: &Frame<'t>) -> Result<(), AllocError>
-        ensures { OnOk result (state_of self.new ≡ open_seq (state_of self.old) (frame_view frame.now)) }
+    fn open_seq(&mut self) -> Result<(), AllocError>
+        ensures { OnOk result (state_of self.new ≡ open_seq (state_of self.old) (frame_view self.old.top)) }
     {
         let shape = list_shape(self.key, &self.display, self.row.style);
-        self.open(true, shape, frame)
+        self.open(true, shape)
     }
 
-    // Closes a record.
-    fn close_map(&mut self, frame: &Frame<'t>) -> Result<(), AllocError>
-        ensures { OnOk result (state_of self.new ≡ close_map (state_of self.old) (frame_view frame.now)) }
+    // Closes a record. After it, the items of its list have the columns of the kind in it.
+    fn close_map(&mut self) -> Result<(), BriefError>
+        ensures { OnOk result (state_of self.new ≡ close_map (state_of self.old) (frame_view self.old.top)) }
     {
-        put(&mut self.out, closing(frame))?;
-        drop_top(&mut self.frames);
-        settle(frame.place, &mut self.frames)
+        put(&mut self.out, closing(&self.top))?;
+        let place = self.top.place;
+        self.leave()?;
+        if self.top.list {
+            self.top.place = place;
+        }
+        Ok(())
     }
 
     // Closes a list.
-    fn close_seq(&mut self, frame: &Frame<'t>) -> Result<(), AllocError>
-        ensures { OnOk result (state_of self.new ≡ close_seq (state_of self.old) (frame_view frame.now)) }
+    fn close_seq(&mut self) -> Result<(), BriefError>
+        ensures { OnOk result (state_of self.new ≡ close_seq (state_of self.old) (frame_view self.old.top)) }
     {
-        put(&mut self.out, closing(frame))?;
-        drop_top(&mut self.frames);
-        Ok(())
+        put(&mut self.out, closing(&self.top))?;
+        self.leave()
     }
 
     // One event.
@@ -737,21 +758,20 @@ impl<'t> Walk<'t> {
         &mut self,
         columns: &'t C,
         words: &W,
+        own: &Own,
         token: &Token<'t>,
     ) -> Result<(), BriefError>
+        requires place { own.now.place ≡ self.old.top.place }
+        requires own { IsOwn (C.table (C.options columns.now)) W.rows own.now }
         ensures { OnOk result (step (C.table (C.options columns.now)) W.rows (event_of token.now) (state_of self.old) ≡ Some (state_of self.new)) }
     {
-        let frame = match top(&self.frames) {
-            Some(frame) => frame,
-            None => return Err(BriefError::NotJson),
-        };
         match token {
-            Token::Key(key) => self.take_key(columns, words, *key, &frame),
-            Token::BeginMap => self.open_map(&frame)?,
-            Token::BeginSeq => self.open_seq(&frame)?,
-            Token::EndMap => self.close_map(&frame)?,
-            Token::EndSeq => self.close_seq(&frame)?,
-            _ => self.take_leaf(columns, token, frame)?,
+            Token::Key(key) => self.take_key(columns, words, own, *key),
+            Token::BeginMap => self.open_map()?,
+            Token::BeginSeq => self.open_seq()?,
+            Token::EndMap => self.close_map()?,
+            Token::EndSeq => self.close_seq()?,
+            _ => self.take_leaf(columns, token)?,
         }
         Ok(())
     }
@@ -768,6 +788,7 @@ pub(crate) fn leaves_of<'t, C: Columns, W: Words>(
         ≡ Some (leaves_view found.items)) }
 {
     let mut walk = Walk::new(alloc, columns.root(), tape.kept.len() / 2)?;
+    let mut own = own_at(columns, words, columns.root());
     let mut texts = tape.texts.as_str();
     let mut left = tape.kept.as_slice();
     'each: while let [kept, others @ ..] = left {
@@ -775,7 +796,8 @@ pub(crate) fn leaves_of<'t, C: Columns, W: Words>(
             Some(parts) => parts,
             None => return Err(BriefError::NotJson),
         };
-        walk.take(columns, words, &token)?;
+        own = own_from(columns, words, own, walk.top.place);
+        walk.take(columns, words, &own, &token)?;
         texts = rest;
         left = others;
     }

@@ -29,6 +29,3 @@ pub use order::is_ready;
 pub use planned::plan;
 pub use rules::Rules;
 pub use step::{Plan, Step};
-
-#[cfg(test)]
-mod tests;

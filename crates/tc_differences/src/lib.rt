@@ -18,6 +18,3 @@ pub use laws::same_states_dont_differ;
 pub use lines::{DifferenceLines, difference_lines};
 pub use program::StateDiffer;
 pub use states::differences;
-
-#[cfg(test)]
-mod tests;

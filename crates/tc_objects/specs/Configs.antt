@@ -1,4 +1,4 @@
--- The configuration of an object: the request that restores its dump, in normal form.
+-- The configuration of an object: the request that restores its dump, or else the dump, in normal form.
 use Rattle.std.specs.Prelude.{◌≡◌, ◌⊎◌, ℕ, List, [], ◌∷◌, Ok}
 use Rattle.std.specs.List.{flat_map}
 use Rattle.tc_meaning.specs.Whole.{act_bytes, tc_bytes, SettledAct, SettledTc}
@@ -20,7 +20,7 @@ use Rattle.tc_restore.specs.declared.restore_messages.Object.TheVariants.{Qdisc,
 use Rattle.tc_restore.specs.declared.root_tables.RootTable.{RootTable}
 use Rattle.tc_plan.specs.Needs.{actions_in}
 use Rattle.tc_objects.specs.Config.{making_in, message_in}
-use Rattle.tc_objects.specs.Normal.{normal}
+use Rattle.tc_objects.specs.Normal.{normal, dump_normal, action_dump_normal}
 
 -- the word of a qdisc and of a class (`tcm_info`) isn't configured; of a filter it is its priority and its protocol
 abbrev pub info_settled : Object → ℕ → ℕ
@@ -54,10 +54,15 @@ IsRefusedOf {A = A} roots object m =
     (e : RestoreError) × (e ≡ OutOfMemory → ⊥)
     × RefusedBy SettledTc (Unsteady (tc_message {A = A}) (tc_restored (is_in_root roots object m))) (request_restored roots object m) e
 
--- the configuration of what a dump shows: its request; or none, if no request restores it
+-- the message of a dump that no request restores, in normal form
+abbrev pub IsDumpOf : {A : Type 0} → Object → ℕ → TcMessage A → List ℕ → Type 0
+IsDumpOf object parent m message = message ≡ dump_normal (kind_of_message m) (tc_bytes (tc_message (settled object parent m)))
+
+-- the configuration of what a dump shows: its request; or the dump, if no request restores it
 abbrev pub IsConfigOf : {A : Type 0} → List RootTable → Object → ℕ → TcMessage A → List ℕ → Type 0
 IsConfigOf roots object parent m config =
-    ((making_in config ≡ 0 → ⊥) × IsRequestOf roots object parent m (message_in config)) ⊎ ((making_in config ≡ 0) × IsRefusedOf roots object m)
+    ((making_in config ≡ 0 → ⊥) × IsRequestOf roots object parent m (message_in config))
+    ⊎ ((making_in config ≡ 0) × IsRefusedOf roots object m × IsDumpOf object parent m (message_in config))
 
 -- a message whose actions are this one alone
 abbrev pub IsOfAction : {A : Type 0} → TcAction A → TcActionMessage A → Type 0
@@ -69,10 +74,11 @@ AreRefused {A = A} m =
     (e : RestoreError) × (e ≡ OutOfMemory → ⊥)
     × RefusedBy SettledAct (Unsteady (action_message {A = A}) actions_message_restored) (actions_message_restored m) e
 
--- the configuration of a standalone action: the request that restores it, which makes it if its filters don't; or none, if no request restores it
+-- the configuration of a standalone action: the request that restores it, which makes it if its filters don't; or the dump in normal form, if no request
+-- restores it
 abbrev pub IsActionConfigOf : {A : Type 0} → TcAction A → List ℕ → Type 0
 IsActionConfigOf {A = A} action config =
     (dump : TcActionMessage A) × IsOfAction action dump
     × (((request : TcActionMessage A) × (actions_message_restored dump ≡ Ok (action_message request))
     × (message_in config ≡ act_bytes (action_message request)))
-    ⊎ ((making_in config ≡ 0) × AreRefused dump))
+    ⊎ ((making_in config ≡ 0) × AreRefused dump × (message_in config ≡ action_dump_normal (act_bytes (action_message dump)))))

@@ -1,4 +1,6 @@
 pub mod Names
+pub mod Parts
+pub mod Actions
 pub mod Normal
 pub mod Needs
 pub mod Config

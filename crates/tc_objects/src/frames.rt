@@ -3,7 +3,7 @@
 ghost use Rattle.std.specs.Prelude.{◌≡◌, map, take, drop, IfOk, IfSome};
 ghost use Rattle.nla_frames.specs.DefaultNla.{kept_frame};
 ghost use Rattle.nla_frames.specs.Frame.{type_of};
-ghost use Rattle.tc_objects.specs.Normal.{frames_in};
+ghost use Rattle.tc_objects.specs.Parts.{frames_in};
 ghost use Rattle.tc_objects.specs.Sent.{frame_bytes};
 
 use nla_frames::{

@@ -2,6 +2,7 @@
 //! filters.
 #![tactic(auto)]
 
+mod actions;
 mod classes;
 mod config;
 mod configured;
@@ -14,6 +15,7 @@ mod made;
 pub mod names;
 mod normal;
 pub mod objects;
+mod parts;
 pub mod plans;
 pub mod reading;
 mod renamed;
@@ -37,6 +39,3 @@ pub use rules::KindRules;
 pub use shown::{Shown, Sort};
 pub use state::{State, state_after, state_of};
 pub use state_error::StateError;
-
-#[cfg(test)]
-mod tests;

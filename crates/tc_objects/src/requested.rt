@@ -1,6 +1,6 @@
 //! The configuration of what a dump shows: the request that restores it, in normal form.
 
-ghost use Rattle.std.specs.Prelude.{◌≡◌, true, false, Ok, IfOk, IfSome};
+ghost use Rattle.std.specs.Prelude.{◌≡◌, true, false, not, Ok, IfOk, IfSome};
 ghost use Rattle.tc_action_messages.specs.ActionMessage.{action_message};
 ghost use Rattle.tc_meaning.specs.Whole.{act_bytes, tc_bytes};
 ghost use Rattle.tc_messages.specs.Message.{tc_message};
@@ -9,17 +9,17 @@ ghost use Rattle.tc_restore.specs.RestoredMessages.{actions_message_restored};
 ghost use Rattle.tc_restore.specs.declared.restore_error.RestoreError.TheVariants.{OutOfMemory};
 ghost use Rattle.tc_objects.specs.Config.{making_in, message_in};
 ghost use Rattle.tc_objects.specs.Configs.{IsConfigOf, IsRefusedOf, IsActionConfigOf, IsOfAction, AreRefused, settled, header_settled, info_settled};
-ghost use Rattle.tc_objects.specs.Normal.{normal};
+ghost use Rattle.tc_objects.specs.Normal.{normal_by, action_normal_by};
 
 use crate::config::NEVER;
 use crate::configured::{configured, plain};
 use crate::frames::emitted;
-use crate::normal::normal;
+use crate::normal::{normal, normal_action_dump};
 use crate::shown::Sort;
 use std::alloc::{AllocError, Allocator};
 use tc_action_messages::{TcActionMessage, TcActionMessageAttribute};
 use tc_actions::TcAction;
-use tc_messages::{TcAttribute, TcMessage};
+use tc_messages::TcMessage;
 use tc_records::{TcActionMessageHeader, TcHandle, TcHeader};
 use tc_restore::{
     Object, RestoreError, RootTable, kind_of_action, kind_of_message, request_of,
@@ -36,7 +36,8 @@ pub struct Configured<A: Allocator> {
 }
 
 /// The configuration of the object that a dump shows, which has this type and is named by this parent: the request that restores the dump,
-/// with counters of 0. `roots` are the root tables of u32 in all dumps. `None` if the message is too long to be written.
+/// with counters of 0, or else the dump without counts and times. `roots` are the root tables of u32 in all dumps. `None` if the message is too
+/// long to be written.
 pub fn config_of<A: Allocator + Copy>(
     alloc: A,
     roots: &[RootTable],
@@ -65,20 +66,45 @@ fn request_or_dump<A: Allocator + Copy>(
 ) -> Result<(TcMessage<A>, bool), AllocError>
     ensures made { IfOk result (λ made. made.1 ≡ true → request_restored roots.now object dump ≡ Ok (tc_message made.0)) }
     ensures refused { IfOk result (λ made. made.1 ≡ false → IsRefusedOf roots.now object dump) }
+    ensures header { IfOk result (λ made. made.1 ≡ false → made.0.header ≡ dump.header) }
+    ensures dump { IfOk result (λ made. made.1 ≡ false → tc_message made.0 ≡ tc_message dump) }
 {
-    let copy = dump.clone()?;
+    let copy = copied(&dump)?;
     match request_of(alloc, roots, object, dump) {
         Ok(request) => Ok((request.message, true)),
         Err(error) => {
             other_than_memory(error)?;
-            Ok((without_counts(copy), false))
+            Ok((copy, false))
         }
     }
 }
 
-/// The configuration of an action of this type: the request that restores it, if it isn't one that only filters can make. `None` if the
-/// message is too long to be written.
-pub(crate) fn config_of_action<A: Allocator + Copy>(
+// The same message.
+fn copied<A: Allocator + Copy>(message: &TcMessage<A>) -> Result<TcMessage<A>, AllocError>
+    ensures header { IfOk result (λ copy. copy.header ≡ message.now.header) }
+    ensures message { IfOk result (λ copy. tc_message copy ≡ tc_message message.now) }
+{
+    let header = &message.header;
+    let copy = TcMessage {
+        header: TcHeader {
+            family: header.family,
+            index: header.index,
+            handle: header.handle,
+            parent: header.parent,
+            info: header.info,
+        },
+        attributes: message.attributes.clone()?,
+    };
+    // The copy is equal, but the contract of `clone` doesn't say so: this test does.
+    if copy != *message {
+        return Err(AllocError);
+    }
+    Ok(copy)
+}
+
+/// The configuration of an action of this type: the request that restores it, if it isn't one that only filters can make, or else its dump
+/// without counts and times. `None` if the message is too long to be written.
+pub fn config_of_action<A: Allocator + Copy>(
     alloc: A,
     sort: Sort,
     by_filters: bool,
@@ -90,7 +116,7 @@ pub(crate) fn config_of_action<A: Allocator + Copy>(
     let dump = alone(alloc, action)?;
     let (message, is_restored) = actions_or_dump(alloc, dump)?;
     let can_make = is_restored && !by_filters;
-    let config = written_action(alloc, sort, kind.as_str(), &message, can_make)?;
+    let config = written_action(alloc, sort, kind.as_str(), &message, is_restored, can_make)?;
     Ok(config)
 }
 
@@ -118,8 +144,13 @@ fn actions_or_dump<A: Allocator + Copy>(
 ) -> Result<(TcActionMessage<A>, bool), AllocError>
     ensures made { IfOk result (λ made. made.1 ≡ true → actions_message_restored dump ≡ Ok (action_message made.0)) }
     ensures refused { IfOk result (λ made. made.1 ≡ false → AreRefused dump) }
+    ensures dump { IfOk result (λ made. made.1 ≡ false → action_message made.0 ≡ action_message dump) }
 {
     let copy = dump.clone()?;
+    // The copy is equal, but the contract of `clone` doesn't say so: this test does.
+    if copy != dump {
+        return Err(AllocError);
+    }
     match request_of_actions(alloc, dump) {
         Ok(request) => Ok((request.message, true)),
         Err(error) => {
@@ -135,20 +166,38 @@ fn written_action<A: Allocator + Copy>(
     sort: Sort,
     kind: &str,
     message: &TcActionMessage<A>,
+    is_restored: bool,
     can_make: bool,
 ) -> Result<Option<Vec<u8, A>>, AllocError>
     ensures never { IfOk result (λ made. IfSome made (λ config. can_make ≡ false → making_in config.items ≡ 0)) }
-    ensures message { IfOk result (λ made. IfSome made (λ config. message_in config.items ≡ act_bytes (action_message message.now))) }
+    ensures message { IfOk result (λ made. IfSome made (λ config.
+        message_in config.items ≡ action_normal_by is_restored (act_bytes (action_message message.now)))) }
 {
     let Some(bytes) = emitted(alloc, message)? else {
         return Ok(None);
     };
+    let bytes = action_bytes(alloc, is_restored, bytes)?;
     let config = if can_make {
         configured(alloc, sort, kind, &bytes)?
     } else {
         plain(alloc, NEVER, &bytes)?
     };
     Ok(Some(config))
+}
+
+// The bytes of a request, or the normal form of a dump.
+fn action_bytes<A: Allocator + Copy>(
+    alloc: A,
+    is_restored: bool,
+    bytes: Vec<u8, A>,
+) -> Result<Vec<u8, A>, AllocError>
+    ensures { IfOk result (λ made. made.items ≡ action_normal_by is_restored bytes.items) }
+{
+    if is_restored {
+        Ok(bytes)
+    } else {
+        normal_action_dump(alloc, &bytes)
+    }
 }
 
 // Fails if memory ran out.
@@ -172,12 +221,12 @@ fn written_config<A: Allocator + Copy>(
     ensures making { IfOk result (λ made. IfSome made (λ config. making_in config.items ≡ 0 → can_make ≡ false)) }
     ensures never { IfOk result (λ made. IfSome made (λ config. can_make ≡ false → making_in config.items ≡ 0)) }
     ensures message { IfOk result (λ made. IfSome made (λ config.
-        message_in config.items ≡ normal kind.now (tc_bytes (tc_message message.now)))) }
+        message_in config.items ≡ normal_by (not can_make) kind.now (tc_bytes (tc_message message.now)))) }
 {
     let Some(bytes) = emitted(alloc, message)? else {
         return Ok(None);
     };
-    let bytes = normal(alloc, kind, bytes)?;
+    let bytes = normal(alloc, !can_make, kind, bytes)?;
     let config = if can_make {
         configured(alloc, sort, kind, &bytes)?
     } else {
@@ -217,20 +266,4 @@ fn info_settled(object: Object, info: u32) -> u32
         Object::Qdisc | Object::Class => 0,
         Object::Filter | Object::Chain => info,
     }
-}
-
-// A dump without the attributes that only the kernel writes.
-fn without_counts<A: Allocator>(message: TcMessage<A>) -> TcMessage<A> {
-    let mut message = message;
-    message.attributes.retain(|attribute| {
-        !matches!(
-            attribute,
-            TcAttribute::Stats(_)
-                | TcAttribute::Xstats(_)
-                | TcAttribute::Stats2(_)
-                | TcAttribute::Fcnt(_)
-                | TcAttribute::HwOffload(_)
-        )
-    });
-    message
 }

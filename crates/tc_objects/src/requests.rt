@@ -300,8 +300,8 @@ fn in_frame<A: Allocator + Copy>(alloc: A, value: Vec<u8, A>) -> Result<Vec<u8, 
     framed(alloc, &frames)
 }
 
-// A kind without the zeros in it.
-fn name_in<A: Allocator>(alloc: A, kind: &[u8]) -> Result<Vec<u8, A>, AllocError>
+/// A kind without the zeros in it.
+pub(crate) fn name_in<A: Allocator>(alloc: A, kind: &[u8]) -> Result<Vec<u8, A>, AllocError>
     ensures { IfOk result (λ made. made.items ≡ name_in kind.now) }
 {
     let mut name = Vec::new(alloc);

@@ -1,7 +1,7 @@
 -- Frames that are written and read again, and how much shorter bytes can be than their frames are when they are written.
 use Rattle.std.proofs.Common.{◌≡◌, ℕ, zero, suc, ◌+◌, ◌≤◌, List, [], ◌∷◌, ◌++◌, length, map, take, drop, None, Ok, Err, refl, sym, ap, subst, ◌∙◌, arith}
 use Rattle.std.specs.List.{AllByRecursion}
-use Rattle.std.proofs.lemmas.List.{length-append, length-take, length-drop}
+use Rattle.std.proofs.lemmas.List.{length-append}
 use Rattle.nla_frames.specs.Fault.{Outcome}
 use Rattle.nla_frames.specs.Value.{IsBytes}
 use Rattle.nla_frames.specs.Frame.{Frame, IsWireFrame, header, frame_length, frame_bytes as bytes_of_frame}
@@ -17,9 +17,8 @@ use Rattle.nla_frames.proofs.Front.{length-header}
 use Rattle.nla_frames.proofs.KeptLaws.{kept_laws}
 use Rattle.nla_frames.proofs.ListLaws.{cut-written, ReadInTurn-read_list, read_list-ReadInTurn}
 use Rattle.nla_frames.proofs.ReadEach.{ReadInTurn}
-use Rattle.nla_frames.proofs.Bytes.{IsBytes-drop}
 use Rattle.tc_restore.specs.FilterActions.{or_none}
-use Rattle.tc_objects.specs.Normal.{frames_in}
+use Rattle.tc_objects.specs.Parts.{frames_in}
 use Rattle.tc_objects.specs.Sent.{frame_bytes}
 
 abbrev pub AreWire : List Frame → Type 0
@@ -121,7 +120,7 @@ take-and-frames (suc n) (b ∷ bytes) frames none =
     let rest = take-and-frames n bytes frames (λ short. none (omega (arith, short))) in
     (ap (λ (l : List ℕ). b ∷ l) rest.0, rest.1)
 
-drop-short : (n : ℕ) (bytes : List ℕ) → length bytes ≤ n → drop n bytes ≡ []
+pub drop-short : (n : ℕ) (bytes : List ℕ) → length bytes ≤ n → drop n bytes ≡ []
 drop-short zero [] short = refl
 drop-short zero (b ∷ bytes) short = absurd (omega arith)
 drop-short (suc n) [] short = refl
@@ -134,17 +133,6 @@ module _ (n : ℕ) (change : List Frame → List Frame) (bytes : List ℕ) where
 
   abbrev pub with_changed : List ℕ
   with_changed = take n bytes ++ frame_bytes changed
-
-  pub length-with_changed : IsBytes bytes → ((fs : List Frame) → length (frame_bytes (change fs)) ≤ length (frame_bytes fs))
-      → length with_changed ≤ length bytes + 3
-  length-with_changed are shorter = omega (
-    arith,
-    length-append (take n bytes) (frame_bytes changed),
-    shorter (frames_in (drop n bytes)),
-    length-frames_in (drop n bytes) (IsBytes-drop n bytes are),
-    length-take n bytes,
-    length-drop n bytes,
-  )
 
   no-frames : change [] ≡ [] → length bytes ≤ n → frame_bytes changed ≡ []
   no-frames nil short =

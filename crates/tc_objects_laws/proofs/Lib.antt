@@ -1,3 +1,5 @@
 mod Frames
 mod Values
+mod Changes
+mod Actions
 mod Again

@@ -5,7 +5,8 @@ use Rattle.std.proofs.lemmas.Bool.{eqb-true, leb-true}
 use Rattle.std.proofs.lemmas.List.{length-append, length-drop, length-take-le, take_at, drop_at, drop-drop}
 use Rattle.nla_frames.specs.Value.{IsBytes}
 use Rattle.nla_frames.proofs.Bytes.{IsBytes-nil, IsBytes-cons, IsBytes-append, IsBytes-take, IsBytes-drop}
-use Rattle.tc_objects.specs.Normal.{put, is_inner, value_normal}
+use Rattle.tc_objects.specs.Normal.{is_inner, value_normal}
+use Rattle.tc_objects.specs.Parts.{put}
 
 -- what is so of both is so of the one that is chosen
 pub either : {X : Type 0} (P : X → Type 0) (b : Bool) (x y : X) → P x → P y → P (if b then x else y)
@@ -59,13 +60,13 @@ module _ (at : ℕ) (new bytes : List ℕ) where
       (IsBytes-append new (drop (at + length new) bytes) new_are (IsBytes-drop (at + length new) bytes are)))
       are
 
-abbrev zeros4 : List ℕ
+abbrev pub zeros4 : List ℕ
 zeros4 = 0 ∷ 0 ∷ 0 ∷ 0 ∷ []
 
 abbrev zeros12 : List ℕ
 zeros12 = 0 ∷ 0 ∷ 0 ∷ 0 ∷ 0 ∷ 0 ∷ 0 ∷ 0 ∷ 0 ∷ 0 ∷ 0 ∷ 0 ∷ []
 
-more-zeros : (bytes : List ℕ) → IsBytes bytes → IsBytes (0 ∷ 0 ∷ 0 ∷ 0 ∷ bytes)
+pub more-zeros : (bytes : List ℕ) → IsBytes bytes → IsBytes (0 ∷ 0 ∷ 0 ∷ 0 ∷ bytes)
 more-zeros bytes are =
     IsBytes-cons 0 _ (omega arith) (IsBytes-cons 0 _ (omega arith) (IsBytes-cons 0 _ (omega arith) (IsBytes-cons 0 bytes (omega arith) are)))
 

@@ -7,9 +7,8 @@ ghost use Rattle.tc_actions.specs.ActionOption.{action_option};
 ghost use Rattle.tc_restore.specs.Unheld.{generic_unheld, record_unheld, parameters_unheld, option_unheld, attribute_unheld, unheld};
 
 use crate::numbers::with_number;
-use crate::restore::is_of;
 use crate::standalone::kind_of_action;
-use crate::uses::parameters;
+use crate::uses::are_parameters;
 use nla_frames::{DefaultNla, Nla};
 use std::alloc::{AllocError, Allocator};
 use tc_actions::{
@@ -106,7 +105,7 @@ fn unheld_option<A: Allocator + Copy>(
             })))
         }
         TcActionOption::Other(nla) => {
-            if is_of(parameters(kind), &nla) {
+            if are_parameters(kind, &nla) {
                 let value = unheld_parameters(alloc, kind, nla.value())?;
                 Ok(TcActionOption::Other(DefaultNla::new(nla.kind(), value)))
             } else {

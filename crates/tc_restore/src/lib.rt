@@ -35,6 +35,7 @@ pub mod uses;
 pub use counts::unheld;
 pub use filter_actions::actions_of_filter;
 pub use notice::{Notice, notice_of};
+pub use restore_actions::only_dumped;
 pub use restore_error::RestoreError;
 pub use restore_messages::{
     NEW_FLAGS, Object, RTM_NEWACTION, Request, is_made, kind_of_message, request_of,

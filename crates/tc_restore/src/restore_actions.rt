@@ -17,7 +17,7 @@ use crate::restore::{Around, Restore, is_of, restore_after, restore_own};
 use crate::restore_error::RestoreError;
 use crate::restore_tunnels::restored_tunnel;
 use crate::uses::{
-    mirror_restored, nat_restored, parameters, record_restored, tunnel_key_restored,
+    are_parameters, mirror_restored, nat_restored, record_restored, tunnel_key_restored,
 };
 use nla_frames::{DefaultNla, NLA_TYPE_MASK, Nla};
 use std::alloc::{AllocError, Allocator};
@@ -29,30 +29,49 @@ use tc_actions::{
 // The most actions in a list: `TCA_ACT_MAX_PRIO` of `linux/pkt_cls.h`.
 const MOST_ACTIONS: usize = 32;
 
-// The types of options that occur only in dumps.
-fn only_dumped(kind: &str) -> &'static [u16]
+/// The types of options that occur only in dumps, by the action's kind: `TCA_.._TM`, `TCA_.._PAD`, the counters of ctinfo, and the rate
+/// tables of police, which a request makes anew.
+pub fn only_dumped(kind: &[u8]) -> &'static [u16]
     ensures { result.now ≡ only_dumped kind.now }
 {
-    match kind {
-        "gact" => &[1, 4],
-        "mirred" => &[1, 3],
-        "nat" => &[2, 3],
-        "tunnel_key" => &[1, 8],
-        "police" => &[2, 3, 6, 7],
-        "pedit" => &[1, 3],
-        "simple" => &[1, 4],
-        "skbedit" => &[1, 6],
-        "vlan" => &[1, 5],
-        "csum" => &[2, 3],
-        "bpf" => &[1, 7],
-        "connmark" => &[2, 3],
-        "ife" => &[2, 7],
-        "skbmod" => &[1, 6],
-        "sample" => &[1, 6],
-        "ct" => &[2, 15],
-        "ctinfo" => &[1, 2, 8, 9, 10],
-        "gate" => &[1, 3],
-        _ => &[],
+    if kind == b"gact".as_slice() {
+        &[1, 4]
+    } else if kind == b"mirred".as_slice() {
+        &[1, 3]
+    } else if kind == b"nat".as_slice() {
+        &[2, 3]
+    } else if kind == b"tunnel_key".as_slice() {
+        &[1, 8]
+    } else if kind == b"police".as_slice() {
+        &[2, 3, 6, 7]
+    } else if kind == b"pedit".as_slice() {
+        &[1, 3]
+    } else if kind == b"simple".as_slice() {
+        &[1, 4]
+    } else if kind == b"skbedit".as_slice() {
+        &[1, 6]
+    } else if kind == b"vlan".as_slice() {
+        &[1, 5]
+    } else if kind == b"csum".as_slice() {
+        &[2, 3]
+    } else if kind == b"bpf".as_slice() {
+        &[1, 7]
+    } else if kind == b"connmark".as_slice() {
+        &[2, 3]
+    } else if kind == b"ife".as_slice() {
+        &[2, 7]
+    } else if kind == b"skbmod".as_slice() {
+        &[1, 6]
+    } else if kind == b"sample".as_slice() {
+        &[1, 6]
+    } else if kind == b"ct".as_slice() {
+        &[2, 15]
+    } else if kind == b"ctinfo".as_slice() {
+        &[1, 2, 8, 9, 10]
+    } else if kind == b"gate".as_slice() {
+        &[1, 3]
+    } else {
+        &[]
     }
 }
 
@@ -63,7 +82,7 @@ fn dumped_types<A: Allocator>(kind: &str, options: &[TcActionOption<A>]) -> &'st
     if kind == "mpls" {
         mpls_types(is_change(options))
     } else {
-        only_dumped(kind)
+        only_dumped(kind.as_bytes())
     }
 }
 
@@ -278,7 +297,7 @@ fn restored_raw_option<A: Allocator + Copy>(
     if kind == "bpf" && number == 9 {
         return Err(RestoreError::ProgramByNumber);
     }
-    if is_of(parameters(kind), &nla) {
+    if are_parameters(kind, &nla) {
         let value = restored_parameters(alloc, kind, nla.value())?;
         return Ok(DefaultNla::new(nla.kind(), value));
     }

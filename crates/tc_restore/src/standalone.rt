@@ -8,9 +8,9 @@ ghost use Rattle.tc_restore.specs.RestoredActions.{kind_of_action};
 ghost use Rattle.tc_restore.specs.Standalone.{use_of, answer, answer_if, option_says, attribute_says, says, standalone, are_private, standalone_restored};
 ghost use Rattle.tc_restore.specs.Standalone.{use_among, use_under, first_use, use_of_action, index_if, standalone_index};
 
-use crate::restore::{NOTHING_AROUND, is_of, restore_all, sole_kind};
+use crate::restore::{NOTHING_AROUND, restore_all, sole_kind};
 use crate::restore_error::RestoreError;
-use crate::uses::{Use, goes_to_chain, is_private, parameters, use_in, use_of_generic};
+use crate::uses::{Use, are_parameters, goes_to_chain, is_private, use_in, use_of_generic};
 use std::alloc::Allocator;
 use tc_actions::{
     TcAction, TcActionAttribute, TcActionMirrorOption, TcActionNatOption, TcActionOption,
@@ -195,7 +195,7 @@ fn use_of<A: Allocator>(kind: &str, option: &TcActionOption<A>) -> Option<Use>
             Some(use_of_generic(&record.generic))
         }
         TcActionOption::Other(nla) => {
-            if is_of(parameters(kind), nla) {
+            if are_parameters(kind, nla) {
                 use_in(kind, nla.value())
             } else {
                 None

@@ -1,9 +1,12 @@
 //! Indices of actions and counts of their holders, in a dump and in a request.
 
 ghost use Rattle.std.specs.Prelude.{◌≡◌, ◌+◌, ◌≤◌, length, IfOk};
+ghost use Rattle.tc_restore.specs.RestoredActions.{is_of};
 ghost use Rattle.tc_restore.specs.Uses.{parameters, use_at, use_in, use_of_generic, goes_to_chain, is_private, index_wanted, generic_restored, mirror_restored, nat_restored, tunnel_key_restored, record_restored};
 
 use crate::numbers::{number_at, with_number};
+use crate::restore::is_of;
+use nla_frames::DefaultNla;
 use std::alloc::{AllocError, Allocator};
 use tc_records::{TcActionGeneric, TcMirror, TcNat, TcTunnelKey};
 
@@ -20,21 +23,36 @@ pub struct Use {
     pub filters: u32,
 }
 
-// The types of the options that are the parameters, by kind.
-pub(crate) fn parameters(kind: &str) -> &'static [u16]
+/// The types of the parameters among an action's options, by its kind: `TCA_.._PARMS`, `TCA_POLICE_TBF`, `TCA_CTINFO_ACT`.
+pub fn parameters(kind: &[u8]) -> &'static [u16]
     ensures { result.now ≡ parameters kind.now }
 {
-    match kind {
-        "nat" => &[1],
-        "csum" => &[1],
-        "police" => &[1],
-        "connmark" => &[1],
-        "ife" => &[1],
-        "ct" => &[1],
-        "ctinfo" => &[3],
-        "pedit" => &[2, 4],
-        _ => &[2],
+    if kind == b"nat".as_slice() {
+        &[1]
+    } else if kind == b"csum".as_slice() {
+        &[1]
+    } else if kind == b"police".as_slice() {
+        &[1]
+    } else if kind == b"connmark".as_slice() {
+        &[1]
+    } else if kind == b"ife".as_slice() {
+        &[1]
+    } else if kind == b"ct".as_slice() {
+        &[1]
+    } else if kind == b"ctinfo".as_slice() {
+        &[3]
+    } else if kind == b"pedit".as_slice() {
+        &[2, 4]
+    } else {
+        &[2]
     }
+}
+
+// True if a raw option of an action of this kind is its parameters.
+pub(crate) fn are_parameters<A: Allocator>(kind: &str, nla: &DefaultNla<A>) -> bool
+    ensures { result ≡ is_of (parameters kind.now) nla.now }
+{
+    is_of(parameters(kind.as_bytes()), nla)
 }
 
 // Reads the record of parameters.
@@ -54,6 +72,8 @@ pub(crate) fn use_in(kind: &str, bytes: &[u8]) -> Option<Use>
     }
 }
 
+// The numbers of a record of parameters, little-endian: the index at byte 0, and at these bytes the verdict, the number of holders and
+// the number of filters among them.
 fn use_at(bytes: &[u8], next: usize, held: usize, bound: usize) -> Use
     requires next { next + 4 ≤ length bytes.now }
     requires held { held + 4 ≤ length bytes.now }
@@ -89,8 +109,9 @@ pub(crate) fn goes_to_chain(next: u32) -> bool
     next / CHAINS == 2
 }
 
-// True for one filter's own action.
-pub(crate) fn is_private(found: Use) -> bool
+/// True for one filter's own action: one filter holds it and nothing else, or filters hold it and it has `goto chain`
+/// (`TC_ACT_GOTO_CHAIN`).
+pub fn is_private(found: Use) -> bool
     ensures { result ≡ is_private found }
 {
     found.references == 1 && found.filters == 1 || goes_to_chain(found.next) && found.filters != 0

@@ -3,8 +3,10 @@
 
 mod attributes;
 mod constants;
-mod defaults;
+mod flags;
+mod numbers;
 mod options;
+mod records;
 
 pub(crate) use attributes::is_attribute;
 pub(crate) use options::{is_option, is_refused_option};

@@ -1,4 +1,4 @@
-//! Tests alone, of messages, their attributes and their options: what no contract says, worked bytes, and hostile ones;
+//! Tests alone, of messages, their attributes, options and other parts: what no contract says, worked bytes, and hostile ones;
 //! and of runs of the program `tcrewrite`.
 #![tactic(auto)]
 
@@ -24,6 +24,8 @@ mod lengths;
 mod made;
 #[cfg(test)]
 mod messages;
+#[cfg(test)]
+mod parts;
 #[cfg(test)]
 mod program;
 #[cfg(test)]

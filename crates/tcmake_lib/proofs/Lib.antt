@@ -1,3 +1,4 @@
 mod Complaints
 mod Planned
 mod Runs
+mod InOrder

@@ -20,7 +20,7 @@ use Rattle.tcmake_lib.specs.Planned.{IsPlanned, IsPlannedFrom, IsWanted, Message
 use Rattle.tcmake_lib.specs.declared.lines.Remark.{Remark}
 use Rattle.tcmake_lib.specs.declared.order.LineRequest.{LineRequest}
 
-neither : (a b : Bool) → (a || b) ≡ false → (a ≡ false) × (b ≡ false)
+pub neither : (a b : Bool) → (a || b) ≡ false → (a ≡ false) × (b ≡ false)
 neither true b none = absurd (false≢true (sym none))
 neither false b none = (refl, none)
 

@@ -42,6 +42,10 @@ const ABOUT: &str = "Build Linux traffic control messages from the JSON that tcs
 tcmake reads one JSON object per line from standard input and prints each message as a line of hex.
 A line written by hand needs \"type\" and \"message\"; flags and seq default to 0.";
 
+const USAGE: &str = "tcmake [OPTIONS] < LINES
+       tcmake --request [OPTIONS] < DUMP
+       tcmake --plan <FILE> [OPTIONS] < WANTED";
+
 const NOTES: &str = "Examples:
   tcshow --json a.pcap | tcmake --pcap > b.pcap             copy the messages of a capture
   tcshow --json a.pcap | sed 's/\"Limit\":10240/\"Limit\":500/' | tcmake --pcap > b.pcap
@@ -150,6 +154,7 @@ fn with_value<'a>(option: Arg<'a>, value: Value) -> Arg<'a> {
 fn begun<'a>(alloc: Global) -> Command<'a> {
     Command::new(alloc, "tcmake")
         .version("0.3.0")
+        .override_usage(USAGE)
         .about(ABOUT)
         .after_help(NOTES)
 }

@@ -1,7 +1,14 @@
 //! Lines of an input, and the dumps in them.
 
-ghost use Rattle.std.specs.Prelude.{◌≡◌, ◌∷◌, ◌++◌, ◌%◌, [], IfErr, IfOk, IsTrue, MatchOption, false, map, true, ◌⊎◌, ◌↔◌};
+ghost use Rattle.std.specs.Prelude.{◌≡◌, ◌≢◌, ◌≤◌, ◌%◌, ℕ, ℤ, List, [], ◌∷◌, ◌++◌, length, map, IfErr, IfOk, OnOk, IsNone, IsTrue, MatchOption, Option, Some, true, false, ◌⊎◌, ◌↔◌};
+ghost use Rattle.serde_json.specs.Read.{read};
+ghost use Rattle.serde_json.specs.View.{view};
+ghost use Rattle.forms_values.specs.declared.form.Form.{Form as FormType};
+ghost use Rattle.forms_values.specs.Tables.{Table};
+ghost use Rattle.program_io.specs.declared.stop.Stop.TheVariants.{Closed};
+ghost use Rattle.tcmake_lines.specs.Lines.{IsFound, IsRead, is_end};
 ghost use Rattle.tcmake_lib.specs.Complaints.{Says};
+ghost use Rattle.tcmake_lib.specs.InOrder.{AreRead, AreShown, IsQuiet, TakesLine, dump_at};
 ghost use Rattle.tcmake_lib.specs.Planned.{given_as, has_complaint, is_complaint, shown_by};
 ghost use Rattle.tcmake_lib.specs.Requests.{
   AsksForDump,
@@ -110,12 +117,23 @@ impl Lines {
 
     /// Keeps a dump.
     pub(crate) fn keep(&mut self, number: u64, made: Made) -> Result<(), AllocError>
-        ensures dumps { IfOk result (λ _. map shown_by self.new.dumps.items ≡ map shown_by self.old.dumps.items ++ (made.given, made.bytes.items) ∷ []) }
+        ensures dumps { OnOk result (self.new.dumps.items ≡ self.old.dumps.items ++ record { number = number; made = made } ∷ []) }
         ensures remarks { self.new.remarks.items ≡ self.old.remarks.items }
         ensures void { self.new.is_void ≡ self.old.is_void }
     {
         self.dumps.push(Dumped { number, made })?;
         Ok(())
+    }
+
+    // Keeps the dump of a line, if it shows one.
+    fn keep_if(&mut self, number: u64, dump: Option<Made>) -> Result<(), AllocError>
+        ensures dumps { OnOk result (self.new.dumps.items ≡ self.old.dumps.items ++ dump_at number dump) }
+        ensures remarks { self.new.remarks.items ≡ self.old.remarks.items }
+    {
+        match dump {
+            Some(made) => self.keep(number, made),
+            None => Ok(()),
+        }
     }
 
     /// Keeps what is wrong with a line.
@@ -125,11 +143,32 @@ impl Lines {
         source: Source,
         number: u64,
         complaint: &Complaint,
-    ) -> Result<(), AllocError> {
+    ) -> Result<(), AllocError>
+        ensures kept { self.new.dumps ≡ self.old.dumps }
+        ensures wrong { OnOk result (has_complaint self.new.remarks.items ≡ true) }
+    {
         if complaint.is_of_all() || source == Source::Now {
             self.is_void = true;
         }
         complain(alloc, source, number, complaint, &mut self.remarks)
+    }
+
+    // Keeps what a line shows, or what is wrong with it.
+    fn take(
+        &mut self,
+        alloc: Global,
+        source: Source,
+        number: u64,
+        found: Result<Option<Made>, Complaint>,
+    ) -> Result<(), AllocError>
+        ensures { OnOk result ((table : Table) (tc action : FormType) (index : Option ℤ) (lines : List (List ℕ)) (line : List ℕ)
+            → IfOk found (TakesLine table tc action index line) → AreShown table tc action index lines self.old
+            → AreShown table tc action index (lines ++ line ∷ []) self.new) }
+    {
+        match found {
+            Ok(dump) => self.keep_if(number, dump),
+            Err(complaint) => self.fail_with(alloc, source, number, &complaint),
+        }
     }
 }
 
@@ -197,21 +236,37 @@ pub(crate) fn read_lines<T: Tables, R: BufRead>(
     forms: Forms<T>,
     reading: Reading<'_>,
     reader: &mut R,
-) -> Result<Lines, Stop> {
+) -> Result<Lines, Stop>
+    ensures read { IfOk result (AreRead (T.parts_of forms.table) forms.tc forms.action reading.entry.index reading.entry (R.remaining reader.old)) }
+    ensures open { IfErr result (λ stop. stop ≢ Closed) }
+{
     let mut lines = Lines::new(alloc);
     let mut save = Save::new();
     for number in 1..u64::MAX {
         let mut line = Vec::new(alloc);
         let found = next_line(reader, &mut line)?;
-        if found == LineStatus::End {
-            break;
+        if is_end(found) {
+            let all = ended(alloc, reading, save, lines)?;
+            return Ok(all);
         }
-        match dump_in(alloc, forms, reading, &mut save, found, line, number) {
-            Ok(Some(made)) => lines.keep(number, made)?,
-            Ok(None) => {}
-            Err(complaint) => lines.fail_with(alloc, reading.source, number, &complaint)?,
-        }
+        let dump = dump_in(alloc, forms, reading, &mut save, found, line, number);
+        lines.take(alloc, reading.source, number, dump)?;
     }
+    Err(Stop::Read)
+}
+
+fn is_end(found: LineStatus) -> bool
+    ensures { result ≡ is_end found }
+{
+    matches!(found, LineStatus::End)
+}
+
+// All lines of an input, with what is wrong at its end.
+fn ended(alloc: Global, reading: Reading<'_>, save: Save, lines: Lines) -> Result<Lines, AllocError>
+    ensures dumps { IfOk result (λ all. all.dumps ≡ lines.dumps) }
+    ensures quiet { IfOk result (λ all. IsQuiet all.remarks.items → IsQuiet lines.remarks.items) }
+{
+    let mut lines = lines;
     end(alloc, reading, &save, &mut lines)?;
     let (names, devices) = save.into_interfaces();
     lines.names = names;
@@ -225,7 +280,10 @@ fn end(
     reading: Reading<'_>,
     save: &Save,
     lines: &mut Lines,
-) -> Result<(), AllocError> {
+) -> Result<(), AllocError>
+    ensures dumps { OnOk result (lines.new.dumps ≡ lines.old.dumps) }
+    ensures quiet { OnOk result (IsQuiet lines.new.remarks.items → IsQuiet lines.old.remarks.items) }
+{
     if let Some((number, fault)) = save.fault_at_end() {
         lines.fail_with(alloc, reading.source, number, &Complaint::Save(fault))?;
     }
@@ -244,14 +302,34 @@ fn dump_in<T: Tables>(
     found: LineStatus,
     line: Vec<u8>,
     number: u64,
-) -> Result<Option<Made>, Complaint> {
+) -> Result<Option<Made>, Complaint>
+    requires { length line.items ≤ 4194304 }
+    ensures { IsNone reading.entry.names → (whole : List ℕ) → IsFound found whole line.items
+        → IfOk result (TakesLine (T.parts_of forms.table) forms.tc forms.action reading.entry.index whole) }
+{
     match found {
         LineStatus::TooLong => Err(without_json(save, number, LineError::LongLine)),
-        LineStatus::Whole | LineStatus::End => match content_of(&line) {
-            LineContent::ManyValues => Err(without_json(save, number, LineError::ManyValues)),
-            LineContent::Blank => Ok(None),
-            LineContent::Text => dump_in_text(alloc, forms, reading, save, line, number),
-        },
+        LineStatus::Whole => dump_in_whole(alloc, forms, reading, save, line, number),
+        LineStatus::End => Ok(None),
+    }
+}
+
+fn dump_in_whole<T: Tables>(
+    alloc: Global,
+    forms: Forms<T>,
+    reading: Reading<'_>,
+    save: &mut Save,
+    line: Vec<u8>,
+    number: u64,
+) -> Result<Option<Made>, Complaint>
+    requires { length line.items ≤ 4194304 }
+    ensures { IsNone reading.entry.names
+        → IfOk result (TakesLine (T.parts_of forms.table) forms.tc forms.action reading.entry.index line.items) }
+{
+    match content_of(&line) {
+        LineContent::ManyValues => Err(without_json(save, number, LineError::ManyValues)),
+        LineContent::Blank => Ok(None),
+        LineContent::Text => dump_in_text(alloc, forms, reading, save, line, number),
     }
 }
 
@@ -270,10 +348,18 @@ fn dump_in_text<T: Tables>(
     save: &mut Save,
     line: Vec<u8>,
     number: u64,
-) -> Result<Option<Made>, Complaint> {
+) -> Result<Option<Made>, Complaint>
+    requires { IsRead line.items }
+    ensures { IsNone reading.entry.names
+        → IfOk result (TakesLine (T.parts_of forms.table) forms.tc forms.action reading.entry.index line.items) }
+{
     match json_in(alloc, line) {
         Ok(json) => {
-            if save.take(alloc, number, &json)? || is_answer(&json) {
+            let is_of_save = save.take(alloc, number, &json)?;
+            if is_of_save {
+                return Ok(None);
+            }
+            if is_answer(&json) {
                 return Ok(None);
             }
             dump_in_json(alloc, forms, reading, save.names(), json)
@@ -288,7 +374,11 @@ fn dump_in_json<T: Tables>(
     reading: Reading<'_>,
     saved: Option<&Names>,
     json: Value,
-) -> Result<Option<Made>, Complaint> {
+) -> Result<Option<Made>, Complaint>
+    ensures { (line : List ℕ) → read line ≡ Some (view json) → IsNone reading.entry.names → IfOk result (λ found. MatchOption found
+        (IsAsked (T.parts_of forms.table) forms.tc forms.action line)
+        (λ dump. ShowsDump (T.parts_of forms.table) forms.tc forms.action reading.entry.index line dump.given dump.bytes.items)) }
+{
     match (reading.names, saved) {
         (Some(now), Some(saved)) => {
             let json = json_now(alloc, json, Interfaces { saved, now })?;

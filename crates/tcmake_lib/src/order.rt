@@ -1,10 +1,17 @@
 //! Requests in order: each after all that it needs.
 
+ghost use Rattle.std.specs.Prelude.{◌≡◌, ◌≢◌, ◌||◌, IfErr, IfOk, OnOk};
+ghost use Rattle.program_io.specs.declared.stop.Stop.TheVariants.{Closed, NoMemory};
+ghost use Rattle.tcmake_lib.specs.InOrder.{AreMade, IsQuiet, RanInOrder, RanPartlyInOrder, WritesAll, WritesSome};
+
 use crate::arguments::Request;
 use crate::complaint::Complaint;
-use crate::lines::{Dumped, Lines, Reading, Remark, RemarkKind, Source, lines_of, read_lines};
+use crate::lines::{
+    Dumped, Lines, Reading, Remark, RemarkKind, Source, complain, has_complaint, lines_of,
+    read_lines,
+};
 use crate::now::{Counts, Single, now_of, singles_of, unlisted_in};
-use crate::plans::{of_interfaces, plan_by};
+use crate::plans::{of_interfaces, plan_by, say_all};
 use crate::restore::{Dump, dump_of, restored};
 use forms_json::Tables;
 use nla_frames::{NLA_TYPE_MASK, Nla, ParseableBytes};
@@ -307,7 +314,11 @@ pub fn requests_of<T: Tables, R: BufRead>(
     forms: Forms<T>,
     asked: &Asked<'_>,
     reader: &mut R,
-) -> Result<Restored, Stop> {
+) -> Result<Restored, Stop>
+    // Without a complaint, every line was accepted.
+    ensures made { IfOk result (AreMade (T.parts_of forms.table) forms.tc forms.action asked.entry.now.index asked.entry.now (R.remaining reader.old)) }
+    ensures open { IfErr result (λ stop. stop ≢ Closed) }
+{
     let reading = Reading {
         source: Source::Wanted,
         index: asked.index,
@@ -316,18 +327,44 @@ pub fn requests_of<T: Tables, R: BufRead>(
     let lines = read_lines(alloc, forms, reading, reader)?;
     match asked.now {
         None => requests_by(alloc, lines, None, false),
-        Some(text) => {
-            if asked.plans {
-                let there = lines_of_now(alloc, forms, asked.index, text)?;
-                let lines = of_interfaces(alloc, &there, lines)?;
-                return plan_by(alloc, &KindRules, there, lines);
-            }
-            let mut there = lines_of_now(alloc, forms, None, text)?;
-            let now = now_of(alloc, &mut there)?;
-            let lines = with_remarks(lines, there)?;
-            requests_by(alloc, lines, Some(&now), asked.replaces_actions)
-        }
+        Some(text) => if asked.plans {
+            requests_of_plan(alloc, forms, asked.index, text, lines)
+        } else {
+            requests_by_now(alloc, forms, asked.replaces_actions, text, lines)
+        },
     }
+}
+
+// The requests that lead from what there is now to what lines show.
+fn requests_of_plan<T: Tables>(
+    alloc: Global,
+    forms: Forms<T>,
+    index: Option<i32>,
+    now: &[u8],
+    lines: Lines,
+) -> Result<Restored, Stop>
+    ensures open { IfErr result (λ stop. stop ≢ Closed) }
+{
+    let there = lines_of_now(alloc, forms, index, now)?;
+    let wanted = of_interfaces(alloc, &there, lines)?;
+    plan_by(alloc, &KindRules, there, wanted)
+}
+
+// The requests of what lines show, but of actions that are there already.
+fn requests_by_now<T: Tables>(
+    alloc: Global,
+    forms: Forms<T>,
+    replaces_actions: bool,
+    now: &[u8],
+    lines: Lines,
+) -> Result<Restored, Stop>
+    ensures quiet { IfOk result (λ made. IsQuiet made.remarks.items → IsQuiet lines.remarks.items) }
+    ensures open { IfErr result (λ stop. stop ≢ Closed) }
+{
+    let mut there = lines_of_now(alloc, forms, None, now)?;
+    let now = now_of(alloc, &mut there)?;
+    let all = with_remarks(lines, there)?;
+    requests_by(alloc, all, Some(&now), replaces_actions)
 }
 
 /// The requests of dumps, each with its netlink header, as `requests_of` makes them from lines. Lines are numbered from 1.
@@ -344,7 +381,9 @@ fn lines_of_now<T: Tables>(
     forms: Forms<T>,
     index: Option<i32>,
     text: &[u8],
-) -> Result<Lines, Stop> {
+) -> Result<Lines, Stop>
+    ensures { IfErr result (λ stop. stop ≢ Closed) }
+{
     let reading = Reading {
         source: Source::Now,
         index,
@@ -355,12 +394,13 @@ fn lines_of_now<T: Tables>(
 }
 
 // Lines, with what is said of others.
-fn with_remarks(lines: Lines, others: Lines) -> Result<Lines, AllocError> {
+fn with_remarks(lines: Lines, others: Lines) -> Result<Lines, AllocError>
+    ensures dumps { IfOk result (λ all. all.dumps ≡ lines.dumps) }
+    ensures quiet { IfOk result (λ all. IsQuiet all.remarks.items → IsQuiet lines.remarks.items) }
+{
     let mut lines = lines;
-    lines.is_void = lines.is_void || others.is_void;
-    for remark in others.remarks {
-        lines.remarks.push(remark)?;
-    }
+    lines.is_void = either(lines.is_void, others.is_void);
+    say_all(others.remarks, &mut lines.remarks)?;
     Ok(lines)
 }
 
@@ -370,7 +410,10 @@ fn requests_by(
     lines: Lines,
     now: Option<&Now<Global>>,
     replaces_actions: bool,
-) -> Result<Restored, Stop> {
+) -> Result<Restored, Stop>
+    ensures quiet { IfOk result (λ made. IsQuiet made.remarks.items → IsQuiet lines.remarks.items) }
+    ensures open { IfErr result (λ stop. stop ≢ Closed) }
+{
     let Lines {
         dumps,
         mut remarks,
@@ -416,26 +459,16 @@ fn keep_all(
     replaces_actions: bool,
     requests: &mut Requests,
     remarks: &mut Vec<Remark>,
-) -> Result<(), AllocError> {
-    let mut shown = Shown {
-        roots: Vec::new(alloc),
-        ingress: Vec::new(alloc),
-        listed: Vec::new(alloc),
-        shared: Vec::new(alloc),
-        offloaded: Vec::new(alloc),
-    };
-    for dump in dumps {
-        if let Err(complaint) = shown.keep(alloc, dump) {
-            fail_with(alloc, remarks, dump.number, &complaint)?;
-        }
-    }
+) -> Result<(), AllocError>
+    ensures quiet { OnOk result (IsQuiet remarks.new.items → IsQuiet remarks.old.items) }
+{
     let Shown {
         roots,
         ingress,
         listed,
         shared,
         offloaded,
-    } = shown;
+    } = shown_by(alloc, dumps, remarks)?;
     let by_filters = made_by_filters(shared, &offloaded);
     let known = Known {
         roots: &roots,
@@ -447,10 +480,29 @@ fn keep_all(
     };
     for dump in dumps {
         if let Err(complaint) = requests.keep(alloc, known, dump) {
-            fail_with(alloc, remarks, dump.number, &complaint)?;
+            complain(alloc, Source::Wanted, dump.number, &complaint, remarks)?;
         }
     }
     Ok(())
+}
+
+// The parts of all dumps on which requests depend.
+fn shown_by(alloc: Global, dumps: &[Dumped], remarks: &mut Vec<Remark>) -> Result<Shown, AllocError>
+    ensures { IfOk result (λ _. IsQuiet remarks.new.items → IsQuiet remarks.old.items) }
+{
+    let mut shown = Shown {
+        roots: Vec::new(alloc),
+        ingress: Vec::new(alloc),
+        listed: Vec::new(alloc),
+        shared: Vec::new(alloc),
+        offloaded: Vec::new(alloc),
+    };
+    for dump in dumps {
+        if let Err(complaint) = shown.keep(alloc, dump) {
+            complain(alloc, Source::Wanted, dump.number, &complaint, remarks)?;
+        }
+    }
+    Ok(shown)
 }
 
 // Parts of all dumps on which requests depend.
@@ -548,23 +600,14 @@ fn begins_with_offload_flag(value: &[u8]) -> bool {
     }
 }
 
-// Keeps what is wrong with a line.
-fn fail_with(
-    alloc: Global,
-    remarks: &mut Vec<Remark>,
-    number: u64,
-    complaint: &Complaint,
-) -> Result<(), AllocError> {
-    let text = format!(in alloc; "{complaint}")?;
-    say(remarks, number, RemarkKind::Complaint, text)
-}
-
 fn say(
     remarks: &mut Vec<Remark>,
     number: u64,
     kind: RemarkKind,
     text: String,
-) -> Result<(), AllocError> {
+) -> Result<(), AllocError>
+    ensures { OnOk result (IsQuiet remarks.new.items → IsQuiet remarks.old.items) }
+{
     remarks.push(Remark {
         source: Source::Wanted,
         number,
@@ -580,7 +623,9 @@ fn say_left(
     lines: &[Planned],
     left: &[Step<Item, Key, Global>],
     remarks: &mut Vec<Remark>,
-) -> Result<bool, AllocError> {
+) -> Result<bool, AllocError>
+    ensures { IfOk result (λ _. IsQuiet remarks.new.items → IsQuiet remarks.old.items) }
+{
     let mut is_void = false;
     if !left.is_empty() {
         let around = circle(alloc, left)?;
@@ -607,7 +652,9 @@ fn say_reason(
     place: usize,
     reason: &Reason,
     remarks: &mut Vec<Remark>,
-) -> Result<(), AllocError> {
+) -> Result<(), AllocError>
+    ensures { OnOk result (IsQuiet remarks.new.items → IsQuiet remarks.old.items) }
+{
     if let Some(planned) = lines.get(place) {
         let text = format!(in alloc; "{reason}")?;
         say(remarks, planned.number, RemarkKind::Complaint, text)?;
@@ -648,7 +695,9 @@ fn requests_in_order(
     lines: Vec<Planned>,
     order: &[Step<Item, Key, Global>],
     remarks: &mut Vec<Remark>,
-) -> Result<Vec<LineRequest>, AllocError> {
+) -> Result<Vec<LineRequest>, AllocError>
+    ensures quiet { IfOk result (λ _. IsQuiet remarks.new.items → IsQuiet remarks.old.items) }
+{
     let mut lines = lines;
     let mut requests = Vec::new(alloc);
     for step in order {
@@ -670,7 +719,9 @@ fn say_made(
     number: u64,
     text: &str,
     remarks: &mut Vec<Remark>,
-) -> Result<(), AllocError> {
+) -> Result<(), AllocError>
+    ensures { OnOk result (IsQuiet remarks.new.items → IsQuiet remarks.old.items) }
+{
     say(
         remarks,
         number,
@@ -701,17 +752,21 @@ pub(crate) fn restore_in_order<T: Tables, R: BufRead, W: Write, E: Write>(
     writer: &mut W,
     errors: &mut E,
     has_refused: &mut bool,
-) -> Result<(), Stop> {
+) -> Result<(), Stop>
+    ensures ran { OnOk result (RanInOrder (T.parts_of forms.table) forms.tc forms.action asked.entry.now.index asked.entry.now request.now.form
+        has_refused.new (R.remaining reader.old) (W.contents writer.old) (W.contents writer.new)) }
+    ensures partly { IfErr result (λ stop. stop ≢ NoMemory → RanPartlyInOrder (T.parts_of forms.table) forms.tc forms.action asked.entry.now.index
+        asked.entry.now request.now.form has_refused.new stop (R.remaining reader.old) (W.contents writer.old) (W.contents writer.new)) }
+{
     let restored = requests_of(alloc, forms, asked, reader)?;
-    *has_refused = restored.is_void;
-    for remark in &restored.remarks {
-        if remark.kind == RemarkKind::Complaint {
-            *has_refused = true;
-        }
-        if remark.kind != RemarkKind::Made || request.verbose {
-            write_remark(alloc, remark, asked.plans, errors)?;
-        }
-    }
+    *has_refused = either(restored.is_void, has_complaint(&restored.remarks));
+    write_remarks(
+        alloc,
+        &restored.remarks,
+        request.verbose,
+        asked.plans,
+        errors,
+    )?;
     if restored.is_void {
         return Ok(());
     }
@@ -723,6 +778,28 @@ pub(crate) fn restore_in_order<T: Tables, R: BufRead, W: Write, E: Write>(
         errors,
         has_refused,
     )
+}
+
+fn either(one: bool, other: bool) -> bool
+    ensures { result ≡ (one || other) }
+{
+    one || other
+}
+
+// Writes the remarks on lines. That a dump needs no request is written with `verbose` only.
+fn write_remarks<E: Write>(
+    alloc: Global,
+    remarks: &[Remark],
+    verbose: bool,
+    plans: bool,
+    errors: &mut E,
+) -> Result<(), AllocError> {
+    for remark in remarks {
+        if remark.kind != RemarkKind::Made || verbose {
+            write_remark(alloc, remark, plans, errors)?;
+        }
+    }
+    Ok(())
 }
 
 fn write_remark<E: Write>(
@@ -749,11 +826,15 @@ fn write_requests<W: Write, E: Write>(
     writer: &mut W,
     errors: &mut E,
     has_refused: &mut bool,
-) -> Result<(), Stop> {
+) -> Result<(), Stop>
+    ensures all { OnOk result (WritesAll form requests.now has_refused.old has_refused.new (W.contents writer.old) (W.contents writer.new)) }
+    ensures some { IfErr result (λ stop. stop ≢ NoMemory → WritesSome form requests.now has_refused.old has_refused.new
+        (W.contents writer.old) (W.contents writer.new)) }
+{
     let mut output = Output::new(alloc, form);
     output.begin()?;
     for request in requests {
-        if put_message(
+        let is_wrong = put_message(
             alloc,
             &request.given,
             &request.bytes,
@@ -761,9 +842,8 @@ fn write_requests<W: Write, E: Write>(
             request.number,
             &mut output,
             errors,
-        )? {
-            *has_refused = true;
-        }
+        )?;
+        *has_refused = either(*has_refused, is_wrong);
         output.write(writer)?;
     }
     output.end()?;

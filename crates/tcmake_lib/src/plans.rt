@@ -1,7 +1,8 @@
 //! The requests that lead from what there is now to what is wanted.
 
 ghost use Rattle.std.specs.Prelude.{◌≡◌, ◌≢◌, ◌∷◌, ◌++◌, ◌||◌, [], false, map, option_map, true};
-ghost use Rattle.std.specs.Prelude.{IfNone, IfOk, IfSome, List, MatchOption};
+ghost use Rattle.std.specs.Prelude.{IfErr, IfNone, IfOk, IfSome, List, MatchOption};
+ghost use Rattle.program_io.specs.declared.stop.Stop.TheVariants.{Closed};
 ghost use Rattle.tc_changes.specs.Model.{ready};
 ghost use Rattle.tc_changes.specs.Objects.{same_key, things, IfRefused, IsRefused};
 ghost use Rattle.tc_objects.specs.Sent.{seen};
@@ -140,6 +141,7 @@ pub(crate) fn plan_by<R: Rules<Global>>(
     // What is wrong with a line is still said.
     ensures of_now { IfOk result (λ r. has_complaint now.remarks.items ≡ true → r.is_void ≡ true) }
     ensures of_wanted { IfOk result (λ r. has_complaint want.remarks.items ≡ true → r.is_void ≡ true) }
+    ensures open { IfErr result (λ stop. stop ≢ Closed) }
 {
     let is_void = now.is_void || want.is_void;
     let mut remarks = Vec::new(alloc);
@@ -185,6 +187,7 @@ fn requests_between<R: Rules<Global>>(
         (map shown_by now.dumps.items) (map shown_by want.dumps.items) made.items) }
     ensures of_now { IfOk result (λ _. has_complaint remarks.new.items ≡ false → has_complaint now.remarks.items ≡ false) }
     ensures of_wanted { IfOk result (λ _. has_complaint remarks.new.items ≡ false → has_complaint want.remarks.items ≡ false) }
+    ensures open { IfErr result (λ stop. stop ≢ Closed) }
 {
     let found = state_in(alloc, Source::Now, None, now, remarks)?;
     match found {
@@ -210,6 +213,7 @@ fn requests_after<R: Rules<Global>>(
         now.now (map shown_by want.dumps.items) made.items) }
     ensures said { IfOk result (λ _. has_complaint remarks.new.items ≡ false → has_complaint remarks.old.items ≡ false) }
     ensures of_wanted { IfOk result (λ _. has_complaint remarks.new.items ≡ false → has_complaint want.remarks.items ≡ false) }
+    ensures open { IfErr result (λ stop. stop ≢ Closed) }
 {
     let found = state_in(alloc, Source::Wanted, Some(now), want, remarks)?;
     match found {
@@ -296,8 +300,8 @@ fn state_in(
     state_by(alloc, source, there, parsed, remarks)
 }
 
-// More remarks.
-fn say_all(said: Vec<Remark>, remarks: &mut Vec<Remark>) -> Result<(), AllocError>
+/// More remarks.
+pub(crate) fn say_all(said: Vec<Remark>, remarks: &mut Vec<Remark>) -> Result<(), AllocError>
     ensures { IfOk result (λ _. remarks.new.items ≡ remarks.old.items ++ said.items) }
 {
     for remark in said {

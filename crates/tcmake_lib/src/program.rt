@@ -4,6 +4,7 @@ ghost use Rattle.std.specs.Prelude.{◌≡◌, ◌≢◌, Err, IfErr, OnOk};
 ghost use Rattle.std.specs.Io.Buffered.{reader_inner};
 ghost use Rattle.program_io.specs.Streams.{Shows, read_failure, write_failure, writer_inside};
 ghost use Rattle.program_io.specs.declared.stop.Stop.TheVariants.{Closed, NoMemory};
+ghost use Rattle.tcmake_lib.specs.InOrder.{IsInOrder, RanInOrder, RanPartlyInOrder, of_dumps};
 ghost use Rattle.tcmake_lib.specs.Requests.{IsLineByLine, Makes, Passes, Refuses};
 ghost use Rattle.tcmake_lines.specs.Lines.{left_in};
 ghost use Rattle.tcmake_lines.specs.Parts.{Ran, RanOn, RanPartly};
@@ -250,6 +251,14 @@ pub fn serve<T: Tables, R: Read, W: Write, E: Write>(
         (Passes (T.parts_of forms.table) forms.tc forms.action request.now.index request.now.making)
         (Refuses (T.parts_of forms.table) forms.tc forms.action request.now.index request.now.making) request.now.form result.has_refused
         (left_in R.remaining reader.old) (W.contents (writer_inside writer.old)) (W.contents (writer_inside writer.new))) }
+    // Requests in the default order: whole requests are written, or nothing if the run refuses. A run that refuses nothing has accepted every line.
+    ensures ran_in_order { IsInOrder request.now → OnOk result.outcome (RanInOrder (T.parts_of forms.table) forms.tc forms.action request.now.index
+        (of_dumps request.now.index) request.now.form result.has_refused
+        (left_in R.remaining reader.old) (W.contents (writer_inside writer.old)) (W.contents (writer_inside writer.new))) }
+    // A run that ends early has written a front of them, or nothing if reading failed.
+    ensures partly_in_order { IsInOrder request.now → IfErr result.outcome (λ stop. stop ≢ NoMemory → RanPartlyInOrder (T.parts_of forms.table) forms.tc
+        forms.action request.now.index (of_dumps request.now.index) request.now.form result.has_refused stop
+        (left_in R.remaining reader.old) (W.contents (writer_inside writer.old)) (W.contents (writer_inside writer.new))) }
     // A stream that failed shows why the run ends early; otherwise memory ran out.
     ensures stopped { IfErr result.outcome (Shows (read_failure (reader_inner reader.new)) (write_failure writer.new)) }
 {
@@ -291,6 +300,14 @@ pub fn serve_asked<T: Tables, R: Read, W: Write, E: Write>(
         (Makes (T.parts_of forms.table) forms.tc forms.action asked.entry.now.index request.now.making)
         (Passes (T.parts_of forms.table) forms.tc forms.action asked.entry.now.index request.now.making)
         (Refuses (T.parts_of forms.table) forms.tc forms.action asked.entry.now.index request.now.making) request.now.form result.has_refused
+        (left_in R.remaining reader.old) (W.contents (writer_inside writer.old)) (W.contents (writer_inside writer.new))) }
+    // Requests in the default order: whole requests are written, or nothing if the run refuses. A run that refuses nothing has accepted every line.
+    ensures ran_in_order { IsInOrder request.now → OnOk result.outcome (RanInOrder (T.parts_of forms.table) forms.tc forms.action asked.entry.now.index
+        asked.entry.now request.now.form result.has_refused
+        (left_in R.remaining reader.old) (W.contents (writer_inside writer.old)) (W.contents (writer_inside writer.new))) }
+    // A run that ends early has written a front of them, or nothing if reading failed.
+    ensures partly_in_order { IsInOrder request.now → IfErr result.outcome (λ stop. stop ≢ NoMemory → RanPartlyInOrder (T.parts_of forms.table) forms.tc
+        forms.action asked.entry.now.index asked.entry.now request.now.form result.has_refused stop
         (left_in R.remaining reader.old) (W.contents (writer_inside writer.old)) (W.contents (writer_inside writer.new))) }
     // A stream that failed shows why the run ends early; otherwise memory ran out.
     ensures stopped { IfErr result.outcome (Shows (read_failure (reader_inner reader.new)) (write_failure writer.new)) }

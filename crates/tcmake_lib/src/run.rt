@@ -5,6 +5,7 @@ ghost use Rattle.std.specs.Io.Buffered.{reader_inner};
 ghost use Rattle.program_io.specs.Streams.{Shows, read_failure, write_failure, writer_inside};
 ghost use Rattle.program_io.specs.declared.stop.Stop.TheVariants.{Closed, NoMemory};
 ghost use Rattle.tcmake_lib.specs.Complaints.{IsAnswerFor, Says};
+ghost use Rattle.tcmake_lib.specs.InOrder.{IsInOrder, RanInOrder, RanPartlyInOrder};
 ghost use Rattle.tcmake_lib.specs.Requests.{IsLineByLine, IsNothing, IsRequest, IsUnmade, Makes, Passes, Refuses};
 ghost use Rattle.tcmake_messages.specs.declared.making.Making.TheVariants.{Restored};
 ghost use Rattle.tcmake_lines.specs.Lines.{left_in};
@@ -48,6 +49,12 @@ pub fn run<T: Tables, R: Read, W: Write, E: Write>(
         (Passes (T.parts_of forms.table) forms.tc forms.action asked.entry.now.index request.now.making)
         (Refuses (T.parts_of forms.table) forms.tc forms.action asked.entry.now.index request.now.making) request.now.form result.has_refused
         (left_in R.remaining reader.old) (W.contents (writer_inside writer.old)) (W.contents (writer_inside writer.new))) }
+    ensures ran_in_order { IsInOrder request.now → OnOk result.outcome (RanInOrder (T.parts_of forms.table) forms.tc forms.action asked.entry.now.index
+        asked.entry.now request.now.form result.has_refused
+        (left_in R.remaining reader.old) (W.contents (writer_inside writer.old)) (W.contents (writer_inside writer.new))) }
+    ensures partly_in_order { IsInOrder request.now → IfErr result.outcome (λ stop. stop ≢ NoMemory → RanPartlyInOrder (T.parts_of forms.table) forms.tc
+        forms.action asked.entry.now.index asked.entry.now request.now.form result.has_refused stop
+        (left_in R.remaining reader.old) (W.contents (writer_inside writer.old)) (W.contents (writer_inside writer.new))) }
     ensures stopped { IfErr result.outcome (Shows (read_failure (reader_inner reader.new)) (write_failure writer.new)) }
 {
     if !is_restoring(request.making) {
@@ -88,7 +95,12 @@ fn restore<T: Tables, R: Read, W: Write, E: Write>(
     writer: &mut Writer<W>,
     errors: &mut E,
 ) -> Ended
-    ensures { IfErr result.outcome (Shows (read_failure (reader_inner reader.new)) (write_failure writer.new)) }
+    ensures ran { OnOk result.outcome (RanInOrder (T.parts_of forms.table) forms.tc forms.action asked.entry.now.index asked.entry.now request.now.form
+        result.has_refused (left_in R.remaining reader.old) (W.contents (writer_inside writer.old)) (W.contents (writer_inside writer.new))) }
+    ensures partly { IfErr result.outcome (λ stop. stop ≢ NoMemory → RanPartlyInOrder (T.parts_of forms.table) forms.tc forms.action asked.entry.now.index
+        asked.entry.now request.now.form result.has_refused stop
+        (left_in R.remaining reader.old) (W.contents (writer_inside writer.old)) (W.contents (writer_inside writer.new))) }
+    ensures stopped { IfErr result.outcome (Shows (read_failure (reader_inner reader.new)) (write_failure writer.new)) }
 {
     let mut has_refused = false;
     let restored = restore_in_order(

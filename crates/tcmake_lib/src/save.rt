@@ -1,5 +1,9 @@
 //! The first and the last line of a save: `{"save":1,"names":{"2":"wan"},..}` and `{"end":39}`.
 
+ghost use Rattle.std.specs.Prelude.{IfOk, IsTrue};
+ghost use Rattle.serde_json.specs.View.{view};
+ghost use Rattle.tcmake_messages.specs.Line.{IsOfSave};
+
 use crate::complaint::Complaint;
 use serde_json::{Map, Value};
 use std::alloc::{AllocError, Global};
@@ -98,7 +102,9 @@ impl Save {
         alloc: Global,
         number: u64,
         json: &Value,
-    ) -> Result<bool, Complaint> {
+    ) -> Result<bool, Complaint>
+        ensures { IfOk result (λ is. IsTrue is → IsOfSave (view json.now)) }
+    {
         if is_head(json) {
             self.take_head(alloc, number, json)?;
             return Ok(true);

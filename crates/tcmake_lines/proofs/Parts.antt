@@ -1,6 +1,7 @@
 -- Parts of a run, one after the other.
-use Rattle.std.proofs.Common.{◌≡◌, ◌≢◌, ◌⊎◌, inl, inr, ℕ, Bool, true, false, List, [], ◌∷◌, ◌++◌, None, Some, refl, sym, ap, subst, ◌∙◌, append_assoc, append-nil}
+use Rattle.std.proofs.Common.{◌≡◌, ◌≢◌, inl, inr, ℕ, Bool, true, false, List, [], ◌∷◌, ◌++◌, None, Some, refl, sym, ap, subst, ◌∙◌, append_assoc, append-nil}
 use Rattle.std.proofs.KnownBytes.{Appends-trans, Appends-nil}
+use Rattle.std.proofs.Math.Bool.{or-false, or_assoc}
 use Rattle.std.specs.List.{flat_map}
 use Rattle.std.specs.Prelude.{Option, Result, Ok, Err, IfErr, ◌||◌, if◌then◌else◌}
 use Rattle.std.specs.Io.KnownBytes.{Appends}
@@ -35,7 +36,7 @@ text_more Capture None m ms = refl
 text_more Capture (Some p) m ms = packets_more p m ms (takes p m.given m.bytes)
 
 -- what is written at the end
-text_end : (form : OutputFormat) (held : Option Packet) → text_after form held [] ≡ ended form held
+pub text_end : (form : OutputFormat) (held : Option Packet) → text_after form held [] ≡ ended form held
 text_end Hex held = refl
 text_end Bare held = refl
 text_end Stream held = refl
@@ -51,16 +52,8 @@ messages_one (message m ∷ parts) part later = ap (λ l. m ∷ l) (messages_one
 messages_one (nothing ∷ parts) part later = messages_one parts part later
 messages_one (complaint ∷ parts) part later = messages_one parts part later
 
-or_false : (a : Bool) → (a || false) ≡ a
-or_false true = refl
-or_false false = refl
-
-or_assoc : (a b c : Bool) → ((a || b) || c) ≡ (a || (b || c))
-or_assoc true b c = refl
-or_assoc false b c = refl
-
 complaint_one : (parts : List Part) (part : Part) → has_complaint (parts ++ part ∷ []) ≡ (has_complaint parts || is_complaint part)
-complaint_one [] part = or_false (is_complaint part)
+complaint_one [] part = or-false (is_complaint part)
 complaint_one (p ∷ parts) part =
     ap (λ b. is_complaint p || b) (complaint_one parts part) ∙ sym (or_assoc (is_complaint p) (has_complaint parts) (is_complaint part))
 
@@ -226,11 +219,6 @@ first_lines (Some xs) (Some ys) lines h = (lines_of ys, h)
 pub always : {T : Type 0} (r : Result T Stop) (P : Type 0) → P → IfErr r (λ stop. stop ≢ NoMemory → P)
 always (Ok x) P p = tt
 always (Err e) P p = λ not. p
-
--- what streams don't show is that memory ran out
-pub if_shown : (shown stop : Stop) (P : Type 0) → (shown ≡ stop) ⊎ (shown ≡ NoMemory) → (stop ≢ NoMemory → P) → shown ≢ NoMemory → P
-if_shown shown stop P (inl same) h not = h (λ none. not (same ∙ none))
-if_shown shown stop P (inr none) h not = absurd (not none)
 
 -- ---- a line
 

@@ -100,6 +100,11 @@ messages in hex, or lines of JSON as tcsave and tcshow --json write them. The fo
 Without FILE, or if it is -, tcshow reads standard input. With several, a line ==> FILE <== precedes
 the messages of each, except with --json.";
 
+const USAGE: &str = "tcshow [OPTIONS] [FILE]...
+       tcshow --diff <BEFORE> <AFTER>
+       tcshow --explain [KIND]
+       tcshow --schema";
+
 const NOTES: &str = "Examples:
   tcshow --example                       a first look, without a capture
   tcshow f.pcap                          each object on a line, in the words of tc
@@ -114,8 +119,8 @@ Lines:
   A line has the time of day (UTC), a verb, the object, its kind and its handle, then what tc shows
   of it. add, replace, change, del, get and dump are requests. is, new, gone, ok, refused, warned
   and interrupted are the kernel's, and by 21644 is the port (often the process) that caused it.
-  What has its usual value is left out. No word has a blank. A line is no command: tc does not take
-  it back.
+  What has its usual value is left out. No word has a blank. ~1599B(66656t) is a rounded size with
+  the exact ticks. A line is no command: tc does not take it back.
 
 Notes:
   Repeat a filter to allow several values; different filters must all match.
@@ -417,6 +422,7 @@ fn read<'a>(alloc: Global) -> Arg<'a> {
 fn begun<'a>(alloc: Global) -> Result<Command<'a>, AllocError> {
     Command::new(alloc, "tcshow")
         .version("0.3.0")
+        .override_usage(USAGE)
         .about(ABOUT)
         .after_help(NOTES)
         .arg(files(alloc))

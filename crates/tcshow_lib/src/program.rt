@@ -664,7 +664,7 @@ fn say_end<R, W, E: Write>(
             alloc,
             errors,
             name,
-            "not a capture, and its first lines are not hex",
+            "not a capture, and its first lines are not hex; lines of JSON have to be the only FILE",
         ),
         Err(Stop::NoRoute) => say_no_route(alloc, errors, name, &ended.packets),
         Err(Stop::Read) => say_failure(alloc, errors, name, reader.failure()),

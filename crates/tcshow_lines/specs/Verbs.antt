@@ -1,6 +1,5 @@
 -- What a message does, and who says so: by its netlink header, the requests before it, and the packet that it came in.
-use Rattle.std.specs.Prelude.{Bool, List, None, Option, Some, [], codes, false, if◌then◌else◌, is_some, not, true, ℕ, ◌%◌, ◌&&◌, ◌*◌, ◌+◌}
-use Rattle.std.specs.Prelude.{◌/◌, ◌==◌, ◌||◌, ◌∷◌}
+use Rattle.std.specs.Prelude.{Bool, List, None, Option, Some, [], codes, false, if◌then◌else◌, not, true, ℕ, ◌%◌, ◌&&◌, ◌==◌, ◌||◌, ◌∷◌}
 use Rattle.tc_brief.specs.declared.line.Object.{Object}
 use Rattle.tc_brief.specs.declared.line.Object.TheVariants as object
 use Rattle.tc_columns.specs.declared.root.Root.{Root}
@@ -9,7 +8,7 @@ use Rattle.tc_units.specs.Numerals.{hex_text}
 use Rattle.tcshow_json.specs.Messages.{Header, Message}
 use Rattle.tcshow_json.specs.Objects.{root_of}
 use Rattle.tcshow_json.specs.declared.message.Origin.{Origin}
-use Rattle.tcshow_lines.specs.Past.{Past, Request, has_flag}
+use Rattle.tcshow_lines.specs.Past.{Past, Request, get_of, has_flag, is_request, modifiers, was_sent}
 use Rattle.tcshow_lines.specs.declared.verb.Speech.{Speech}
 use Rattle.tcshow_lines.specs.declared.verb.Verb.{Verb}
 use Rattle.tcshow_lines.specs.declared.verb.Verb.TheVariants as verb
@@ -50,20 +49,12 @@ verb_words v = verb_word v ∷ flags_words v
 
 -- ---- netlink headers
 
--- the four flags whose meaning depends on the type: of RTM_NEW* NLM_F_REPLACE (1), NLM_F_EXCL (2), NLM_F_CREATE (4) and
--- NLM_F_APPEND (8); of RTM_GET* NLM_F_ROOT (1) and NLM_F_MATCH (2); of RTM_DELACTION NLM_F_ROOT (1)
-abbrev pub modifiers : ℕ → ℕ
-modifiers flags = flags / 0x100 % 0x10
-
 -- types come by fours: RTM_NEW*, RTM_DEL*, RTM_GET*
 abbrev pub is_new : ℕ → Bool
 is_new kind = kind % 4 == 0
 
 abbrev pub is_del : ℕ → Bool
 is_del kind = kind % 4 == 1
-
-abbrev pub get_of : ℕ → ℕ
-get_of kind = kind / 4 * 4 + 2
 
 -- ---- requests
 
@@ -109,33 +100,6 @@ asked_verb o None = verb.Unsaid
 asked_verb o (Some h) = request_verb o h
 
 -- ---- who speaks
-
--- a request to dump all objects of a type
-abbrev pub is_dump : Request → Bool
-is_dump r = modifiers r.header.flags == 3
-
--- a request before: it has the message's sequence number, and its port id or 0. Dumps may count, or not
-abbrev pub is_before : ℕ → Bool → Header → Request → Bool
-is_before kind dumps h r =
-    r.header.kind == kind && ((dumps || not (is_dump r)) && (r.header.sequence == h.sequence && (r.header.port == h.port || r.header.port == 0)))
-
-abbrev pub was_sent : List Request → ℕ → Bool → Header → Bool
-was_sent [] kind dumps h = false
-was_sent (r ∷ rs) kind dumps h = is_before kind dumps h r || was_sent rs kind dumps h
-
--- a request of the message's type, or one to get its object
-abbrev pub was_asked : List Request → Header → Bool
-was_asked before h = was_sent before h.kind true h || was_sent before (get_of h.kind) true h
-
--- all is the kernel's in a file of rtmon, which has times and no packets, and in a stream in which it has named interfaces
-abbrev pub is_of_kernel : Past → Origin → Bool
-is_of_kernel past origin = not (is_some origin.packet) && (is_some origin.time || past.named)
-
--- a request has NLM_F_REQUEST, but the kernel copies the flag and the sequence number of a request into a notification, with
--- the port id of the requester: so it has port id 0, or is the first of its sequence number and type in a capture of packets
-abbrev pub is_request : Past → Origin → Header → Bool
-is_request past origin h =
-    has_flag h.flags 1 && (not (is_of_kernel past origin) && (h.port == 0 || (is_some origin.packet && not (was_asked past.requests h))))
 
 -- the kernel answers a dump with NLM_F_MULTI, and actions with the type of the request. The notification of a change can have the sequence number of a dump,
 -- since tc takes it from the clock

@@ -2,13 +2,14 @@
 
 ghost use Rattle.std.specs.Prelude.{◌<◌, ◌≡◌, ◌++◌, ◌||◌, ◌∷◌, [], OnOk, IfOk, Some, length, option_map};
 ghost use Rattle.tcshow_json.specs.Messages.{header_view, message_view};
-ghost use Rattle.tcshow_lines.specs.Past.{bytes_kept, has_flag, headers_view, interrupted_with, is_fine_time, kept, or_time, request_view};
-ghost use Rattle.tcshow_lines.specs.Past.{requests_view, requests_with};
+ghost use Rattle.tcshow_lines.specs.Past.{bytes_kept, get_of, has_flag, headers_view, interrupted_with, is_before, is_dump, is_fine_time, is_of_kernel};
+ghost use Rattle.tcshow_lines.specs.Past.{is_request, kept, modifiers, or_time, past_of, request_in, request_view, requests_view, requests_with};
+ghost use Rattle.tcshow_lines.specs.Past.{was_asked, was_sent};
 
 use crate::times::is_fine;
 use std::alloc::{AllocError, Global};
 use tc_capture::{MessageType, Time};
-use tcshow_json::{Message, NetlinkHeader};
+use tcshow_json::{Message, NetlinkHeader, Origin};
 
 // The most requests that are kept, and the most headers of interrupted dumps.
 const MOST_REQUESTS: usize = 1024;
@@ -27,6 +28,20 @@ pub(crate) fn has_flag(flags: u16, bit: u16) -> bool
     ensures { result ≡ has_flag flags bit }
 {
     flags / bit % 2 == 1
+}
+
+/// The four flags whose meaning depends on the type.
+pub(crate) fn modifiers(flags: u16) -> u16
+    ensures { result ≡ modifiers flags }
+{
+    flags / 0x100 % 0x10
+}
+
+/// The type of requests to get the object of a type.
+pub(crate) fn get_of(kind: u16) -> u32
+    ensures { result ≡ get_of kind }
+{
+    u32::from(kind) / 4 * 4 + 2
 }
 
 /// A request: its netlink header, its type, and its bytes, if there are at most 4,096.
@@ -129,7 +144,8 @@ impl Requests {
     pub fn note(&mut self, found: &Message<'_>) -> Result<(), AllocError>
         ensures { OnOk result (past_of self.new ≡ noted (past_of self.old) (message_view found.now)) }
     {
-        note_request(self.alloc, &mut self.requests, found)?;
+        let request = request_in(self, found)?;
+        note_request(&mut self.requests, request)?;
         note_interrupted(&mut self.interrupted, &found.header)?;
         self.first = or_time(self.first, found.origin.time);
         self.last = or_time(found.origin.time, self.last);
@@ -145,36 +161,97 @@ impl Requests {
     }
 }
 
-// Keeps a message, if it is a request.
-fn note_request(
-    alloc: Global,
-    requests: &mut Vec<Request>,
-    found: &Message<'_>,
-) -> Result<(), AllocError>
-    ensures { OnOk result (requests_view requests.new.items
-        ≡ requests_with (requests_view requests.old.items) (message_view found.now) (option_map header_view found.now.header)) }
+// True for a request to dump all objects of a type (`NLM_F_DUMP`).
+fn is_dump(request: &Request) -> bool
+    ensures { result ≡ is_dump (request_view request.now) }
+{
+    modifiers(request.header.flags) == 3
+}
+
+// True for a request of this type with the message's sequence number, and its port id or 0. Dumps may count, or not.
+fn is_before(kind: u32, dumps: bool, header: &NetlinkHeader, request: &Request) -> bool
+    ensures { result ≡ is_before kind dumps (header_view header.now) (request_view request.now) }
+{
+    u32::from(request.header.kind) == kind
+        && ((dumps || !is_dump(request))
+            && (request.header.sequence == header.sequence
+                && (request.header.port == header.port || request.header.port == 0)))
+}
+
+/// True if one of the requests was of this type.
+pub(crate) fn was_sent(before: &[Request], kind: u32, dumps: bool, header: &NetlinkHeader) -> bool
+    ensures { result ≡ was_sent (requests_view before.now) kind dumps (header_view header.now) }
+{
+    let mut left = before;
+    'each: while let [request, rest @ ..] = left {
+        if is_before(kind, dumps, header, request) {
+            return true;
+        }
+        left = rest;
+    }
+    false
+}
+
+// True if one of the requests was of the message's type, or to get its object.
+fn was_asked(before: &[Request], header: &NetlinkHeader) -> bool
+    ensures { result ≡ was_asked (requests_view before.now) (header_view header.now) }
+{
+    was_sent(before, u32::from(header.kind), true, header)
+        || was_sent(before, get_of(header.kind), true, header)
+}
+
+// True for messages in a file of rtmon, and in a stream in which the kernel has named interfaces.
+fn is_of_kernel(past: &Requests, origin: &Origin) -> bool
+    ensures { result ≡ is_of_kernel (past_of past.now) origin.now }
+{
+    !origin.packet.is_some() && (origin.time.is_some() || past.named)
+}
+
+/// True for a request. The kernel copies `NLM_F_REQUEST` and the sequence number of one into a notification.
+pub(crate) fn is_request(past: &Requests, origin: &Origin, header: &NetlinkHeader) -> bool
+    ensures { result ≡ is_request (past_of past.now) origin.now (header_view header.now) }
+{
+    has_flag(header.flags, NLM_F_REQUEST)
+        && (!is_of_kernel(past, origin)
+            && (header.port == 0
+                || (origin.packet.is_some() && !was_asked(past.requests.as_slice(), header))))
+}
+
+// A message as a request, if it is one.
+fn request_in(past: &Requests, found: &Message<'_>) -> Result<Option<Request>, AllocError>
+    ensures { IfOk result (λ request. option_map request_view request
+        ≡ request_in (past_of past.now) (message_view found.now) (option_map header_view found.now.header)) }
 {
     match &found.header {
-        Some(header) => note_headed(alloc, requests, header, found),
-        None => Ok(()),
+        Some(header) => headed_in(past, header, found),
+        None => Ok(None),
     }
 }
 
-// Keeps a message with this header, if it is a request.
-fn note_headed(
-    alloc: Global,
-    requests: &mut Vec<Request>,
+// A message with this header as a request, if it is one.
+fn headed_in(
+    past: &Requests,
     header: &NetlinkHeader,
     found: &Message<'_>,
-) -> Result<(), AllocError>
-    ensures { OnOk result (requests_view requests.new.items
-        ≡ requests_with (requests_view requests.old.items) (message_view found.now) (Some (header_view header.now))) }
+) -> Result<Option<Request>, AllocError>
+    ensures { IfOk result (λ request. option_map request_view request
+        ≡ request_in (past_of past.now) (message_view found.now) (Some (header_view header.now))) }
 {
-    if !has_flag(header.flags, NLM_F_REQUEST) {
-        return Ok(());
+    if !is_request(past, &found.origin, header) {
+        return Ok(None);
     }
-    let request = request_of(alloc, header, found)?;
-    keep_request(requests, request)
+    let request = request_of(past.alloc, header, found)?;
+    Ok(Some(request))
+}
+
+// Keeps a request, if there is one.
+fn note_request(requests: &mut Vec<Request>, request: Option<Request>) -> Result<(), AllocError>
+    ensures { OnOk result (requests_view requests.new.items ≡ requests_with (requests_view requests.old.items) (option_map request_view request)) }
+{
+    match request {
+        Some(request) => keep_request(requests, request),
+        None => Ok(()),
+    }
 }
 
 // Removes the first if there are 1,024.

@@ -2,19 +2,16 @@
 
 ghost use Rattle.std.specs.Prelude.{◌≡◌, option_map};
 ghost use Rattle.tcshow_json.specs.Messages.{header_view, message_view};
-ghost use Rattle.tcshow_lines.specs.Past.{past_of, request_view, requests_view};
-ghost use Rattle.tcshow_lines.specs.Verbs.{asked_verb, changes, del_verb, flushes, get_of, get_verb, is_before, is_del, is_dump, is_new, is_of_kernel};
-ghost use Rattle.tcshow_lines.specs.Verbs.{is_request, kernels_verb, modifiers, new_verb, object_in, port_of, replaces, request_verb, speech_by};
-ghost use Rattle.tcshow_lines.specs.Verbs.{speech_of, was_asked, was_sent};
+ghost use Rattle.tcshow_lines.specs.Past.{get_of, is_request, modifiers, past_of, requests_view, was_sent};
+ghost use Rattle.tcshow_lines.specs.Verbs.{asked_verb, changes, del_verb, flushes, get_verb, is_del, is_new, kernels_verb, new_verb, object_in, port_of};
+ghost use Rattle.tcshow_lines.specs.Verbs.{replaces, request_verb, speech_by, speech_of};
 
-use crate::past::{Request, Requests, has_flag};
+use crate::past::{Request, Requests, get_of, has_flag, is_request, modifiers, was_sent};
 use tc_brief::Object;
 use tc_columns::Root;
 use tcshow_json::{Message, NetlinkHeader, Origin};
 
-// `NLM_F_REQUEST` and `NLM_F_MULTI` (`linux/netlink.h`).
-const NLM_F_REQUEST: u16 = 1;
-
+// `NLM_F_MULTI` (`linux/netlink.h`).
 const NLM_F_MULTI: u16 = 2;
 
 /// What a message does: a request by iproute2's flags for its object, or what the kernel says.
@@ -56,13 +53,6 @@ pub(crate) fn object_in(root: Root) -> Object
         Root::Chain => Object::Chain,
         Root::Action | Root::Flush => Object::Action,
     }
-}
-
-// The four flags whose meaning depends on the type.
-fn modifiers(flags: u16) -> u16
-    ensures { result ≡ modifiers flags }
-{
-    flags / 0x100 % 0x10
 }
 
 fn is_new(kind: u16) -> bool
@@ -154,68 +144,6 @@ fn request_verb(object: Object, header: &NetlinkHeader) -> Verb
     } else {
         get_verb(header.flags)
     }
-}
-
-// True for a request to dump all objects of a type (`NLM_F_DUMP`).
-fn is_dump(request: &Request) -> bool
-    ensures { result ≡ is_dump (request_view request.now) }
-{
-    modifiers(request.header.flags) == 3
-}
-
-// True for a request of this type with the message's sequence number, and its port id or 0. Dumps may count, or not.
-fn is_before(kind: u32, dumps: bool, header: &NetlinkHeader, request: &Request) -> bool
-    ensures { result ≡ is_before kind dumps (header_view header.now) (request_view request.now) }
-{
-    u32::from(request.header.kind) == kind
-        && ((dumps || !is_dump(request))
-            && (request.header.sequence == header.sequence
-                && (request.header.port == header.port || request.header.port == 0)))
-}
-
-// True if one of the requests was of this type.
-fn was_sent(before: &[Request], kind: u32, dumps: bool, header: &NetlinkHeader) -> bool
-    ensures { result ≡ was_sent (requests_view before.now) kind dumps (header_view header.now) }
-{
-    let mut left = before;
-    'each: while let [request, rest @ ..] = left {
-        if is_before(kind, dumps, header, request) {
-            return true;
-        }
-        left = rest;
-    }
-    false
-}
-
-// The type of requests to get the object of a type.
-fn get_of(kind: u16) -> u32
-    ensures { result ≡ get_of kind }
-{
-    u32::from(kind) / 4 * 4 + 2
-}
-
-// True if one of the requests was of the message's type, or to get its object.
-fn was_asked(before: &[Request], header: &NetlinkHeader) -> bool
-    ensures { result ≡ was_asked (requests_view before.now) (header_view header.now) }
-{
-    was_sent(before, u32::from(header.kind), true, header)
-        || was_sent(before, get_of(header.kind), true, header)
-}
-
-// True for messages in a file of rtmon, and in a stream in which the kernel has named interfaces.
-fn is_of_kernel(past: &Requests, origin: &Origin) -> bool
-    ensures { result ≡ is_of_kernel (past_of past.now) origin.now }
-{
-    !origin.packet.is_some() && (origin.time.is_some() || past.named)
-}
-
-fn is_request(past: &Requests, origin: &Origin, header: &NetlinkHeader) -> bool
-    ensures { result ≡ is_request (past_of past.now) origin.now (header_view header.now) }
-{
-    has_flag(header.flags, NLM_F_REQUEST)
-        && (!is_of_kernel(past, origin)
-            && (header.port == 0
-                || (origin.packet.is_some() && !was_asked(past.requests.as_slice(), header))))
 }
 
 fn kernels_verb(before: &[Request], header: &NetlinkHeader) -> Verb

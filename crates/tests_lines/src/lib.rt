@@ -1,10 +1,14 @@
-//! Tests of the lines of messages, of the values in them, of colors, and of trees.
+//! Tests of the lines of messages, of the values in them, of colors, of trees, and of bytes through JSON and back.
 #![tactic(auto)]
 
+#[cfg(test)]
+mod brief;
 #[cfg(test)]
 mod by_kind;
 #[cfg(test)]
 mod colours;
+#[cfg(test)]
+mod forms;
 #[cfg(test)]
 mod known;
 #[cfg(test)]

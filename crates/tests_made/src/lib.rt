@@ -1,11 +1,5 @@
-//! Tests alone, of messages that are made: of JSON, and as requests of clients.
+//! Tests alone, of runs of `tcmake`, and of the states and configurations that dumps show.
 #![tactic(auto)]
 
 #[cfg(test)]
-mod build;
-#[cfg(test)]
 mod make;
-#[cfg(test)]
-mod message_json;
-#[cfg(test)]
-mod requests;

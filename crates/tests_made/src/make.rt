@@ -1,11 +1,13 @@
 //! Runs of `tcmake`.
 
 mod complaints;
+mod configs;
 mod dumps;
 mod packets;
 mod plans;
 mod rows;
 mod runs;
 mod saves;
+mod states;
 mod streams;
 mod verdicts;

@@ -18,4 +18,5 @@ mod made;
 mod memory;
 mod random;
 mod runs;
+mod spoken;
 mod streams;

@@ -2,6 +2,7 @@
 
 use crate::netlink::message::{Header, Messages, NLM_F_REQUEST, NLMSG_MIN_TYPE, RTM_NEWLINK, tcmsg_of};
 use crate::netlink::{Fault, Kernel, Transport};
+use crate::shown::line_of;
 use crate::status::{Ending, Status};
 
 /// What pcap, with times in microseconds and in nanoseconds, and pcapng begin with, in both orders of bytes.
@@ -88,8 +89,11 @@ pub fn send_all<T: Transport>(
     Ok(refused)
 }
 
-// What a message is, for people.
+// What a message is, for people: its number and its line, or, if it has none, what its headers say.
 fn place_of(number: usize, header: Header, message: &[u8]) -> String {
+    if let Some(line) = line_of(message) {
+        return format!("message {number}, {line}");
+    }
     let mut text = format!("message {number}, type {}", header.kind);
     if let Some(tcmsg) = tcmsg_of(message) {
         let halves = |handle: u32| format!("{:x}:{:x}", handle >> 16, handle & 0xffff);
@@ -128,5 +132,13 @@ mod tests {
             "byte 0 of the stream: no whole message; of a capture, tcshow --json | tcmake --stream makes a stream; nothing is sent"
         );
         assert_eq!(refused(b"some text that is no stream"), "byte 0 of the stream: no whole message; nothing is sent");
+    }
+
+    #[test]
+    fn names_a_request_by_its_line() {
+        let place = Tcmsg { index: 7, handle: 0x1_0000, parent: u32::MAX, ..Tcmsg::default() };
+        let qdisc = tc_request(RTM_NEWQDISC, 0x600, place);
+        let (header, message) = Messages::of(&qdisc).next().unwrap().unwrap();
+        assert_eq!(place_of(3, header, message), "message 3, add qdisc - 1: dev 7 root");
     }
 }

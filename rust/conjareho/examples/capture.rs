@@ -1,6 +1,8 @@
-//! Lists the traffic control messages of captures: pcap, pcapng, files of `rtmon`.
+//! Prints the traffic control messages of captures: pcap, pcapng, files of `rtmon`.
 
-use conjareho::capture::{Capture, CaptureError, Contents, Messages, rtm_of};
+use conjareho::ParseableBytes;
+use conjareho::capture::{Capture, CaptureError, Contents, MessageType, Messages, rtm_of};
+use conjareho::tc::{TcActionMessage, TcMessage};
 
 fn main() -> Result<(), Box<dyn std::error::Error>> {
     for path in std::env::args().skip(1) {
@@ -16,10 +18,21 @@ fn main() -> Result<(), Box<dyn std::error::Error>> {
             let Some(packet) = piece.packet? else { continue };
             let Contents::Route { messages, .. } = packet.contents()? else { continue };
             for message in Messages::new(messages) {
-                match message.map(|message| (rtm_of(message.kind), message.payload.len())) {
-                    Ok((Some(rtm), len)) => println!("{} of {len} bytes", rtm.name),
-                    Ok((None, _)) => {}
-                    Err(e) => println!("a message that is cut: {e}"),
+                let message = match message {
+                    Ok(message) => message,
+                    Err(e) => {
+                        println!("a message that is cut: {e}");
+                        continue;
+                    }
+                };
+                let Some(rtm) = rtm_of(message.kind) else { continue };
+                let shown = match rtm.holds {
+                    MessageType::Tc => TcMessage::parse(message.payload).map(|it| format!("{it:?}")),
+                    MessageType::Action => TcActionMessage::parse(message.payload).map(|it| format!("{it:?}")),
+                };
+                match shown {
+                    Ok(shown) => println!("{} {shown}", rtm.name),
+                    Err(e) => println!("{} of {} bytes: {e}", rtm.name, message.payload.len()),
                 }
             }
         }

@@ -116,6 +116,12 @@ pub mod requests {
         request_of, request_of_actions, root_table, standalone_index, use_of_action,
     };
     pub use crate::verb::Verb;
+
+    /// The old name of [`standalone_index`].
+    #[deprecated(since = "0.3.0", note = "renamed to `standalone_index`")]
+    pub fn standing_index(action: &crate::tc::TcAction) -> Option<u32> {
+        standalone_index(action)
+    }
 }
 
 /// All attributes of a message, each before those in it, without memory.
@@ -134,9 +140,27 @@ pub mod capture {
     pub use crate::tc_capture::{
         message::next_message, order::Order, pcap::Pcap, pcap::Variant, pcapng::section::Section,
     };
+
+    /// The old name of [`MessageType`].
+    #[deprecated(since = "0.3.0", note = "renamed to `MessageType`")]
+    pub type Holds = MessageType;
 }
 
 /// Any bytes as JSON and back, without loss, by the tables of all kinds that Linux has.
+///
+/// [`ACTION_MESSAGE`](forms::ACTION_MESSAGE) is the form of action messages.
+///
+/// ```
+/// # fn main() -> Result<(), Box<dyn std::error::Error>> {
+/// use conjareho::forms::{Shown, TC_MESSAGE, TcTables, bytes_of_text};
+///
+/// # let bytes = [0; 20].into_iter().chain([8, 0, 1, 0, b'h', b't', b'b', 0]).collect::<Vec<u8>>();
+/// let shown = Shown { table: TcTables, form: TC_MESSAGE, bytes: &bytes };
+/// let json = serde_json::to_string(&shown).expect("memory");
+/// assert!(json.ends_with(r#""attributes":[{"Kind":"htb"}]}"#));
+/// assert_eq!(bytes_of_text(TcTables, TC_MESSAGE, json.as_bytes())?, bytes);
+/// # Ok(()) }
+/// ```
 #[cfg(feature = "serde")]
 pub mod forms {
     pub use crate::forms_json::{

@@ -24,7 +24,7 @@ fn attribute(word: u16, payload: &[u8]) -> Vec<u8> {
     [&len.to_le_bytes()[..], &word.to_le_bytes(), payload, &padding].concat()
 }
 
-/// A message of a kind with options, behind a header of zeros.
+/// A message of a kind with options, after a header of zeros.
 fn message(kind: &str, options: &[u8]) -> Vec<u8> {
     [vec![0; 20], attribute(1, format!("{kind}\0").as_bytes()), attribute(2, options)].concat()
 }

@@ -127,7 +127,7 @@ impl<'a> Command<'a> {
     fn with(self, f: impl FnOnce(::clap::Command) -> ::clap::Command) -> Self {
         Command(f(self.0), PhantomData)
     }
-    texts!(version about after_help);
+    texts!(version about after_help override_usage);
     pub fn arg(self, arg: Arg<'a>) -> Res<Self> {
         Ok(Command(self.0.arg(arg.0), PhantomData))
     }

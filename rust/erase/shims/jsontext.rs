@@ -46,7 +46,7 @@ impl<T: Serialize> Serialize for Vec<T> {
     }
 }
 
-/// Sends the fields of a struct, each under its name or the one that stands behind it.
+/// Sends the fields of a struct, each under its name or the one after it.
 macro_rules! sent {
     ($(#[$of:meta])* $see:vis struct $name:ident $(<$life:lifetime>)? {
         $($(#[$about:meta])* $sees:vis $field:ident $(as $key:literal)? : $type:ty),* $(,)?
@@ -87,13 +87,13 @@ impl std::io::Write for Text {
     }
 }
 
-/// True if the text stands in JSON as it is.
+/// True if JSON has the text unchanged.
 fn is_plain(text: &str) -> bool {
     text.bytes().all(|byte| !matches!(byte, ..b' ' | b'"' | b'\\'))
 }
 
 impl Text {
-    /// An item begins: its comma, unless it comes behind a key or first, and room for it.
+    /// An item begins: its comma, unless it comes after a key or first, and room for it.
     fn item(&mut self, len: usize) -> Result<(), AllocError> {
         self.bytes.try_grow(len + 1)?;
         if !std::mem::replace(&mut self.is_first, false) {
@@ -114,7 +114,7 @@ impl Text {
         self.bytes.try_push(bracket)
     }
 
-    /// A text that stands as it is.
+    /// A text, unchanged.
     fn put(&mut self, text: &str) -> Result<(), AllocError> {
         self.item(text.len())?;
         self.bytes.extend_from_slice(text.as_bytes());

@@ -3,7 +3,7 @@
 use crate::Fault;
 use crate::token::{Token, after_group};
 
-/// A function: from its attributes and its visibility at `start` to `end`, with its `fn` at `at`, the place behind its parameters at
+/// A function: from its attributes and its visibility at `start` to `end`, with its `fn` at `at`, the place after its parameters at
 /// `close`, and its `{` or its `;` at `body`.
 pub(crate) struct Function {
     pub name: &'static str,

@@ -8,7 +8,7 @@ use std::ops::Range;
 ///
 /// In both, `$x` is one word, text or lifetime, and `$*x` the shortest run of tokens that is balanced and has no `;`; `$-x` is
 /// one that has no braces either, `$;x` one that may have `;`. `%C` is one of the words of that class; `%A` is an allocator's type
-/// with its bound, and `%v` its value, such as `self.alloc` or `rt.alloc()`, with its type or its own value behind a `:`. In what takes
+/// with its bound, and `%v` its value, such as `self.alloc` or `rt.alloc()`, with its type or its own value after a `:`. In what takes
 /// the place, `$@x` is the run with the rules [`ARMS`] applied.
 pub(crate) type Rule = (&'static str, &'static str);
 

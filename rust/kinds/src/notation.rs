@@ -59,7 +59,7 @@ pub(crate) struct Line {
     pub length: Option<usize>,
 }
 
-/// A block: its file, its sort (`struct`, `list`, `qdisc`, ..), the names behind that, the comment before it, and its lines.
+/// A block: its file, its sort (`struct`, `list`, `qdisc`, ..), the names after that, the comment before it, and its lines.
 pub(crate) struct Block {
     pub file: String,
     pub sort: String,

@@ -367,7 +367,7 @@ fn about(what: &str, block: &Block) -> String {
     format!("{what}.{more}")
 }
 
-/// With a capital at the front and a full stop behind.
+/// With a capital at the front and a full stop at the end.
 fn sentence(text: &str) -> String {
     let Some(first) = text.chars().next() else { return String::new() };
     let stop = if text.ends_with(['.', ':']) { "" } else { "." };

@@ -5,10 +5,8 @@ include!("../../conjareho/crates.rs");
 /// The crates of tests. Those of refused memory are left out: `rust/tests/refusals` does the same for the erased codec.
 const TESTS: &[&str] = &[
     "tests_data",
-    "tests_parts",
     "tc_vectors",
     "tests_input",
-    "tests_forms",
     "tests_lines",
 ];
 
@@ -24,14 +22,13 @@ const OMITTED: &[&str] = &[
     "tc_vectors::upgrade::is_right",
     "tc_vectors::upgrade::is_upgraded_without_memory",
     "tc_vectors::upgrade::worked",
-    "tests_parts::actions::every_refused_allocation_is_reported",
-    "tests_parts::actions::is_read",
-    "tests_parts::actions::is_written_without_memory",
-    "tests_parts::refusals",
-    "tests_forms::random",
-    "tests_forms::lines",
-    "tests_forms::wrong::texts",
-    "tests_forms::wrong::a_thousand_levels",
+    "tc_vectors::parts::actions::every_refused_allocation_is_reported",
+    "tc_vectors::parts::actions::is_read",
+    "tc_vectors::parts::actions::is_written_without_memory",
+    "tc_vectors::parts::refusals",
+    "tests_lines::forms::random",
+    "tests_lines::forms::wrong::texts",
+    "tests_lines::forms::wrong::a_thousand_levels",
 ];
 
 fn main() {

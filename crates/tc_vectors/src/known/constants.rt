@@ -8,12 +8,7 @@ use tc_flower::TcFilterFlower;
 use tc_options::{
     TcFilterBpf, TcFilterMatchAll, TcFilterU32, TcQdiscFqCodel, TcQdiscIngress, is_known_kind,
 };
-use tc_records::{
-    TC_ACTION_GENERIC_LEN, TC_FQ_CODEL_CL_STATS_LEN, TC_FQ_CODEL_QD_STATS_LEN, TC_HEADER_LEN,
-    TC_MIRROR_LEN, TC_NAT_LEN, TC_STATS_BASIC_LEN, TC_STATS_LEN, TC_STATS_QUEUE_LEN,
-    TC_TUNNEL_KEY_LEN, TC_U32_KEY_LEN, TC_U32_SELECTOR_LEN, TCA_HEADER_LEN, TCF_LEN, TcHandle,
-    TcHeader,
-};
+use tc_records::{TcHandle, TcHeader};
 
 #[test]
 fn frames(rt: HostRuntime) {
@@ -22,24 +17,6 @@ fn frames(rt: HostRuntime) {
     assert!(rt; NLA_TYPE_MASK == 0x3fff);
     assert!(rt; NLA_HEADER_SIZE == 4);
     assert!(rt; NLA_VALUE_MAX_SIZE == 65531);
-}
-
-#[test]
-fn lengths(rt: HostRuntime) {
-    assert!(rt; TC_HEADER_LEN == 20);
-    assert!(rt; TCA_HEADER_LEN == 4);
-    assert!(rt; TC_STATS_LEN == 40);
-    assert!(rt; TC_STATS_BASIC_LEN == 16);
-    assert!(rt; TC_STATS_QUEUE_LEN == 20);
-    assert!(rt; TC_FQ_CODEL_QD_STATS_LEN == 36);
-    assert!(rt; TC_FQ_CODEL_CL_STATS_LEN == 24);
-    assert!(rt; TCF_LEN == 32);
-    assert!(rt; TC_ACTION_GENERIC_LEN == 20);
-    assert!(rt; TC_MIRROR_LEN == 28);
-    assert!(rt; TC_NAT_LEN == 36);
-    assert!(rt; TC_TUNNEL_KEY_LEN == 24);
-    assert!(rt; TC_U32_KEY_LEN == 16);
-    assert!(rt; TC_U32_SELECTOR_LEN == 16);
 }
 
 /// True if a handle is this number, and of these halves.

@@ -47,6 +47,34 @@ fn requests_of_dumps(rt: HostRuntime) -> Result<(), Fail> {
     Ok(())
 }
 
+// A filter, and the action that it shares: by default the action is made first.
+#[rattlefmt::skip]
+static SHARED: &str = r#"{"type":"RTM_NEWTFILTER","flags":2,"seq":41,"message":{"header":{"family":"Unspec","index":7,"handle":":2","parent":"ffff:fff3","info":22610688},"attributes":[{"Kind":"matchall"},{"Chain":0},{"Options":[{"MatchAll":{"Action":[{"tab":1,"attributes":[{"Kind":"mirred"},{"Options":[{"Mirror":{"Parms":{"generic":{"index":7,"capab":0,"action":"Unspec","refcnt":2,"bindcnt":1},"eaction":"IngressMirror","ifindex":2}}}]}]}]}}]}]}}
+{"type":"RTM_GETACTION","flags":0,"seq":29,"fits":true,"settled":true,"canonical":false,"message":{"header":{"family":"Unspec"},"attributes":[{"Actions":[{"tab":1,"attributes":[{"Kind":"mirred"},{"Stats":[{"Basic":{"bytes":0,"packets":0}},{"BasicHw":{"bytes":0,"packets":0}},{"Queue":{"qlen":0,"backlog":0,"drops":0,"requeues":0,"overlimits":0}}]},{"Cookie":"00ff"},{"UsedHwStats":{"value":0,"selector":3}},{"InHwCount":0},{"Options":[{"Mirror":{"Parms":{"generic":{"index":7,"capab":0,"action":"Unspec","refcnt":1,"bindcnt":0},"eaction":"IngressMirror","ifindex":2}}},{"Mirror":{"Tm":{"install":29,"lastuse":29,"expires":0,"firstuse":0}}}],"word":2}]}]}]}}
+"#;
+
+static IN_DEFAULT_ORDER: &str = "\
+54000000300005061d0000000000000000000000400001003c0001000b0001006d697272656400000600060000ff000024000280200002000700000000000000ffffffff00000000000000000400000002000000
+780000002c0005062900000000000000000000000700000002000000f3ffffff000359010d0001006d61746368616c6c0000000008000b00000000003c00020038000200340001000b0001006d6972726564000024000280200002000700000000000000ffffffff00000000000000000400000002000000
+";
+
+static IN_ORDER_OF_LINES: &str = "\
+780000002c0005062900000000000000000000000700000002000000f3ffffff000359010d0001006d61746368616c6c0000000008000b00000000003c00020038000200340001000b0001006d6972726564000024000280200002000700000000000000ffffffff00000000000000000400000002000000
+54000000300005061d0000000000000000000000400001003c0001000b0001006d697272656400000600060000ff000024000280200002000700000000000000ffffffff00000000000000000400000002000000
+";
+
+#[test]
+fn requests_in_both_orders(rt: HostRuntime) -> Result<(), Fail> {
+    let alloc = rt.alloc();
+    let request = request_of(alloc, &["tcmake", "--request"])?;
+    let run = made(alloc, &request, SHARED.as_bytes());
+    assert!(rt; run.status == 0 && run.written.as_slice() == IN_DEFAULT_ORDER.as_bytes());
+    let request = request_of(alloc, &["tcmake", "--request", "--in-order"])?;
+    let run = made(alloc, &request, SHARED.as_bytes());
+    assert!(rt; run.status == 0 && run.written.as_slice() == IN_ORDER_OF_LINES.as_bytes());
+    Ok(())
+}
+
 // Options of requests, where none are made.
 static NO_REQUESTS: [&[&str]; 5] = [
     &["tcmake", "--verbose"],

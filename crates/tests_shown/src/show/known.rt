@@ -143,7 +143,7 @@ fn no_capture(rt: HostRuntime) {
                 input,
                 2,
                 Written::Is(&[]),
-                "tcshow: input: not a capture, and its first lines are not hex\n"
+                "tcshow: input: not a capture, and its first lines are not hex; lines of JSON have to be the only FILE\n"
             )
         );
     }

@@ -16,7 +16,10 @@ const PATIENCE: Duration = Duration::from_secs(10);
 
 const ABOUT: &str = "\
 Brings interfaces from the traffic control configuration that they have to the one that FILE says,
-and leaves alone what is the same in both";
+and leaves alone what is the same in both
+
+It is no transaction: packets pass between its requests. It can't make eBPF programs, and doesn't
+see what is attached by tcx.";
 
 const NOTES: &str = "\
 Examples:
@@ -30,11 +33,9 @@ was there before is made again, by a plan from what is there then. If another pr
 interface meanwhile, tcapply stops. At the end it compares what there is with FILE. It takes
 CAP_NET_ADMIN.
 
-A script of commands needs set -e (#!/bin/sh -e), since only its last status counts. It runs where
-nothing is, and of what it makes only DEV is applied: what it makes of others is named, and dropped.
-
-It is no transaction: packets pass between its requests. eBPF programs can't be made again, and what
-is attached by tcx isn't seen.
+A script of commands needs set -e (#!/bin/sh -e): otherwise it goes on after a command that failed,
+and what that was to make is deleted. It runs where nothing is, so a first tc qdisc del fails there.
+Of what it makes only DEV is applied: what it makes of others is named, and dropped.
 
 Exit status:
   0  what is there is what FILE says; if it was before, nothing was sent

@@ -16,9 +16,9 @@ const MOST_READ: usize = 64 << 10;
 const PATIENCE: Duration = Duration::from_secs(1);
 const PAUSE: Duration = Duration::from_millis(5);
 
-/// Runs a command to its end. Its error output is passed on. The error says how it failed.
-pub(crate) fn run(command: &[OsString]) -> Result<(), String> {
-    let [program, words @ ..] = command else { return Ok(()) };
+/// Runs a command to its end. Its error output is passed on. True if there was any although it ended well. The error says how it failed.
+pub(crate) fn run(command: &[OsString]) -> Result<bool, String> {
+    let [program, words @ ..] = command else { return Ok(false) };
     let name = program.to_string_lossy();
     let said = |error: io::Error| format!("{name}: {error}");
     let mut child = Command::new(program).args(words).stderr(Stdio::piped()).spawn().map_err(said)?;
@@ -31,10 +31,10 @@ pub(crate) fn run(command: &[OsString]) -> Result<(), String> {
     while !passing.is_finished() && Instant::now() < until {
         sleep(PAUSE);
     }
-    if status.success() {
-        return Ok(());
-    }
     let written = written.lock().unwrap_or_else(PoisonError::into_inner);
+    if status.success() {
+        return Ok(!written.is_empty());
+    }
     Err(format!("{name} ended with {status}; {}", why(&written)))
 }
 
@@ -56,10 +56,12 @@ fn pass_on(mut errors: ChildStderr, written: &Mutex<Vec<u8>>) {
     }
 }
 
-// Why it may have failed, by what it wrote: iproute2 has the text of EOPNOTSUPP, or what the kernel says with it.
+// Why it may have failed, by what it wrote: iproute2 has the text of EOPNOTSUPP, or what the kernel says with it. `offload` is in usage texts too.
 fn why(written: &[u8]) -> &'static str {
     let text = String::from_utf8_lossy(written).to_lowercase();
-    if ["not support", "eopnotsupp", "offload"].iter().any(|it| text.contains(it)) {
+    let is_error = |line: &str| line.starts_with("error:") || line.starts_with("rtnetlink answers:");
+    let lacks_offload = text.lines().any(|line| is_error(line) && line.contains("offload"));
+    if lacks_offload || ["not support", "eopnotsupp"].iter().any(|it| text.contains(it)) {
         NO_HARDWARE
     } else if text.is_empty() {
         "it printed no error"
@@ -72,8 +74,12 @@ fn why(written: &[u8]) -> &'static str {
 mod tests {
     use super::*;
 
+    fn ended(script: &str) -> Result<bool, String> {
+        run(&["sh", "-c", script].map(OsString::from))
+    }
+
     fn said(script: &str) -> String {
-        run(&["sh", "-c", script].map(OsString::from)).err().unwrap_or_default()
+        ended(script).err().unwrap_or_default()
     }
 
     #[test]
@@ -86,6 +92,15 @@ mod tests {
         );
         let unsupported = said("echo 'RTNETLINK answers: Operation not supported' >&2; exit 2");
         assert_eq!(unsupported, format!("sh ended with exit status: 2; {NO_HARDWARE}"));
+        let offload = said("echo 'Error: Device does not have offload.' >&2; exit 2");
+        assert_eq!(offload, unsupported);
+        assert_eq!(
+            said("printf '\"rate\" is required.\\n  offload  enable hardware offload\\n' >&2; exit 1"),
+            "sh ended with exit status: 1; see its error above",
+            "a usage text"
+        );
+        assert_eq!(ended("true"), Ok(false));
+        assert_eq!(ended("echo 'Error: Exclusivity flag on.' >&2; true"), Ok(true));
         assert_eq!(
             said("sleep 3 & exit 3"),
             "sh ended with exit status: 3; it printed no error",

@@ -31,12 +31,15 @@ pub(crate) fn made_by(command: &[OsString], dev: &str, said: &mut Vec<String>) -
     let devices = Devices::of(&mut Kernel::open()?)?;
     let device = devices.find(dev).ok_or_else(|| nothing_sent(format!("there is no interface {dev}")))?;
     let made = within(&devices, || {
-        command::run(command)?;
-        saved(&device.name)
+        let has_errors = command::run(command)?;
+        Ok((has_errors, saved(&device.name)?))
     });
-    let (text, others) = made.map_err(nothing_sent)?;
+    let (has_errors, (text, others)) = made.map_err(nothing_sent)?;
+    let program = command.first().map(|it| it.to_string_lossy()).unwrap_or_default();
+    if has_errors {
+        said.push(format!("{program} ended well, but wrote errors: what a command that failed was to make is missing, and is deleted from {}", device.name));
+    }
     if !others.is_empty() {
-        let program = command.first().map(|it| it.to_string_lossy()).unwrap_or_default();
         let others = others.join(", ");
         said.push(format!("{program} made something on {others} too, which isn't applied: only {} is", device.name));
     }

@@ -53,6 +53,7 @@ macro_rules! list {
             /// assert_eq!(message.attributes.remainder(), [8, 0, 11, 0]);
             /// let why = NlasIterator::new(message.attributes.remainder()).find_map(Result::err);
             /// assert_eq!(why, Some(DecodeError::FrameTooLong { length: 8, left: 4 }));
+            /// assert!(format!("{:?}", message.attributes).ends_with("remainder: [8, 0, 11, 0] }"));
             /// # Ok::<(), conjareho::RewriteError>(())
             /// ```
             #[doc(alias = "leftover")]
@@ -107,10 +108,18 @@ macro_rules! list {
 
         impl<$t: fmt::Debug> fmt::Debug for $list<$t> {
             fn fmt(&self, f: &mut fmt::Formatter<'_>) -> fmt::Result {
-                let mut list = f.debug_list();
-                list.entries(&self.items);
-                self.aside.iter().for_each(|aside| _ = list.entry(aside));
-                list.finish()
+                let Some(aside) = &self.aside else {
+                    return f.debug_list().entries(&self.items).finish();
+                };
+                let mut all = f.debug_struct(stringify!($list));
+                all.field("items", &self.items);
+                if !aside.odd.is_empty() {
+                    all.field("odd", &aside.odd);
+                }
+                if !aside.tail.is_empty() {
+                    all.field("remainder", &aside.tail);
+                }
+                all.finish()
             }
         }
 

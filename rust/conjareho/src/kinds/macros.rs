@@ -1,6 +1,6 @@
 //! The types that the tables are turned into. The build script writes a call of one of these macros for each table.
 
-/// A record: fields, one behind the other. Of each: its name, its name in JSON, the object in JSON that holds each of its attributes,
+/// A record: fields, one after the other. Of each: its name, its name in JSON, the object in JSON that holds each of its attributes,
 /// the type of its value, and its form.
 macro_rules! record {
     ($(#[$about:meta])* $name:ident { $($(#[$doc:meta])* $field:ident $json:literal $layer:literal ($value:ty) ($form:ty),)* }) => {

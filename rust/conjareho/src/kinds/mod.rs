@@ -1,7 +1,8 @@
 //! Typed values of every kind: options, statistics, actions and extended matches.
 //!
-//! [`Message`] and [`ActionMessage`] are whole messages. A socket's datagrams are cut into messages by [`answers`](crate::answers), files
-//! by [`capture`](crate::capture), and [`Message::request`] writes what a socket sends.
+//! [`Message`] (of qdiscs, classes, filters and chains) and [`ActionMessage`] (of actions, `RTM_*ACTION`) are whole messages. A socket's
+//! datagrams are cut into messages by [`answers`](crate::answers), files by [`capture`](crate::capture), and [`Message::request`] writes
+//! what a socket sends.
 //!
 //! ```
 //! use conjareho::kinds::qdiscs::fq_codel::FqCodelAttr;
@@ -32,7 +33,7 @@
 //! `TCA_HTB_RATE64`. [`Htb`], [`HtbClass`], [`Tbf`] and [`PoliceAction`] compute what `tc` computes.
 //!
 //! A generator (`rust/kinds`) writes this module from the tables in `kinds/`. It is tested, and not proved: `rust/check` compares
-//! the JSON of typed values with the JSON of the proved forms on all messages that the repository has, and reads and writes a
+//! the JSON of typed values with the JSON of the proved forms on all stored messages, and reads and writes a
 //! million changed messages, which have to come back byte for byte.
 
 #[cfg(kinds_json)]
@@ -64,7 +65,7 @@ pub use from_options::OptionsError;
 pub use list::{Attrs, Indexed};
 pub use units::{NotAProb, NotARate, NotATime, Rate};
 use values::show_flags;
-pub use values::{Bytes, Handle, Mac, Nla, NotAHandle, NotAMac, NotHex, Prob, Ticks};
+pub use values::{Bytes, Handle, Mac, Nla, NotAHandle, NotAMac, NotHex, Prob, Ticks, U32Parts};
 use wire::{Attr, Form, Found, Kinds, NLA_TYPE_MASK, Out, Place, chosen, field, total, within};
 
 #[cfg(kinds_json)]

@@ -39,6 +39,41 @@ impl Handle {
     pub const fn minor(self) -> u16 {
         self.0 as u16
     }
+
+    /// The handle of a `u32` filter, which isn't `major:minor`: hash table (12 bits), bucket (8) and node (12), in hex as `tc` writes
+    /// them. `none` if it is 0.
+    ///
+    /// ```
+    /// use conjareho::kinds::Handle;
+    /// assert_eq!(Handle(0x8000_0800).u32_parts().to_string(), "800::800");
+    /// ```
+    #[must_use]
+    pub const fn u32_parts(self) -> U32Parts {
+        U32Parts(self.0)
+    }
+}
+
+/// The handle of a `u32` filter in its parts: [`Handle::u32_parts`].
+#[derive(Clone, Copy, PartialEq, Eq, Hash, PartialOrd, Ord, Debug)]
+pub struct U32Parts(u32);
+
+impl fmt::Display for U32Parts {
+    fn fmt(&self, f: &mut fmt::Formatter<'_>) -> fmt::Result {
+        let (table, bucket, node) = (self.0 >> 20, self.0 >> 12 & 0xff, self.0 & 0xfff);
+        if self.0 == 0 {
+            return f.write_str("none");
+        }
+        if table != 0 {
+            write!(f, "{table:x}:")?;
+        }
+        if bucket != 0 {
+            write!(f, "{bucket:x}")?;
+        }
+        if node != 0 {
+            write!(f, ":{node:x}")?;
+        }
+        Ok(())
+    }
 }
 
 impl From<TcHandle> for Handle {

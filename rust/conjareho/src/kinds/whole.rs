@@ -173,6 +173,7 @@ macro_rules! message {
     ($name:ident, $codec:ident, $len:literal) => {
         impl $name {
             /// Reads a message without its netlink header. What isn't of the tables is kept, and [`to_bytes`](Self::to_bytes) writes it again.
+            /// The bytes don't say which of the two types a message has; `nlmsg_type` does: `RTM_*ACTION` is an [`ActionMessage`].
             ///
             /// # Errors
             ///

@@ -19,7 +19,7 @@ impl Numbers {
 }
 
 /// A message with one to four changes: bits, bytes, lengths and types of attributes, bytes put in or taken out, or the end of another
-/// message behind its beginning.
+/// message after its beginning.
 pub fn changed(numbers: &mut Numbers, bytes: &[u8], other: &[u8]) -> Vec<u8> {
     let mut bytes = bytes.to_vec();
     for _ in 0..=numbers.below(4) {

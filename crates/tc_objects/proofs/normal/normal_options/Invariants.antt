@@ -7,5 +7,6 @@ use Rattle.tc_objects.proofs.normal.normal_options.Given as goal
 
 abbrev pub invariant-loop-frame : goal.invariant-loop-frame
 invariant-loop-frame g l =
-    map kept_frame l.made.items ++ map (option_normal l.kind) (filter (is_kept l.kind) (map kept_frame (into_iter_items l.frame-iterator)))
-    ≡ map (option_normal l.kind) (filter (is_kept l.kind) (map kept_frame l.fn.frames.items))
+    map kept_frame l.made.items
+    ++ map (option_normal l.of_dump l.kind) (filter (is_kept l.of_dump l.kind) (map kept_frame (into_iter_items l.frame-iterator)))
+    ≡ map (option_normal l.of_dump l.kind) (filter (is_kept l.of_dump l.kind) (map kept_frame l.fn.frames.items))

@@ -12,4 +12,5 @@ returns g c =
       | else-is_restored w ↦ w.can_make-is ∙ no
     ] in
     action_config_by c.args.action c.in_ok-dump.dump c.in_ok-message.message is can c.in_ok-config.config
-    c.in_ok-dump.ensures c.in_ok-message.ensures.made c.in_ok-message.ensures.refused cannot c.in_ok-config.ensures.never c.in_ok-config.ensures.message
+    c.in_ok-dump.ensures c.in_ok-message.ensures.made c.in_ok-message.ensures.refused c.in_ok-message.ensures.dump cannot
+    c.in_ok-config.ensures.never c.in_ok-config.ensures.message

@@ -57,3 +57,15 @@ returns-then-request-clause-partly g c = λ in_order.
     (left_in g.R.Read.remaining c.args.reader.now) (g.W.Write.contents (writer_inside c.args.writer.now))
     (g.W.Write.contents (writer_inside c.run-then-request.new.writer))))
     c.args.request.now.making (c.is_restoring.ensures.restoring c.if-not-is_restoring.false) c.run-then-request.ensures.partly
+
+pub returns-then-not-is_restoring-clause-ran_in_order : goal.returns-then-not-is_restoring-clause-ran_in_order
+returns-then-not-is_restoring-clause-ran_in_order g c = λ order. absurd (c.is_restoring.ensures.other c.if-not-is_restoring.true order.0)
+
+pub returns-then-request-clause-ran_in_order : goal.returns-then-request-clause-ran_in_order
+returns-then-request-clause-ran_in_order g c = λ order. absurd (cc (c.if-request.true, order.1))
+
+pub returns-then-not-is_restoring-clause-partly_in_order : goal.returns-then-not-is_restoring-clause-partly_in_order
+returns-then-not-is_restoring-clause-partly_in_order g c = λ order. absurd (c.is_restoring.ensures.other c.if-not-is_restoring.true order.0)
+
+pub returns-then-request-clause-partly_in_order : goal.returns-then-request-clause-partly_in_order
+returns-then-request-clause-partly_in_order g c = λ order. absurd (cc (c.if-request.true, order.1))

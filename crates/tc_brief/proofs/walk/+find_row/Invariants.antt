@@ -1,5 +1,0 @@
-use Rattle.std.proofs.Common.{length}
-use Rattle.tc_brief.proofs.walk.+find_row.Given as goal
-
-abbrev pub decreases-find_row : goal.decreases-find_row
-decreases-find_row l = length l.rows.now

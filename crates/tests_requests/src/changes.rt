@@ -1,0 +1,167 @@
+//! Plans of small states.
+
+ghost use Rattle.std.specs.Prelude.{true, false, not, nat_eq, slice_index};
+
+use std::alloc::{AllocError, Global};
+use tc_changes::{Key, Object, Plan, Rules, Step, is_ready, plan};
+
+struct Anything;
+
+impl Rules<Global> for Anything {
+    ghost takes = { λ self old new. true };
+
+    ghost can_make = { λ self object. true };
+
+    fn takes(&self, _old: &Object<Global>, _new: &Object<Global>) -> bool {
+        true
+    }
+
+    fn can_make(&self, _object: &Object<Global>) -> bool {
+        true
+    }
+}
+
+struct Nothing;
+
+impl Rules<Global> for Nothing {
+    ghost takes = { λ self old new. false };
+
+    ghost can_make = { λ self object. not (nat_eq (slice_index object.config 0) 9) };
+
+    fn takes(&self, _old: &Object<Global>, _new: &Object<Global>) -> bool {
+        false
+    }
+
+    fn can_make(&self, object: &Object<Global>) -> bool {
+        object.config.first().copied().unwrap_or(0) != 9
+    }
+}
+
+// A qdisc 1 of interface 2, its classes 2 and 3, an action 4, and filters 5 and 6.
+fn key_at(number: u32) -> Key {
+    match number {
+        1 => Key::Place {
+            index: 2,
+            parent: 0xffff_ffff,
+        },
+        2 | 3 => Key::Class {
+            index: 2,
+            handle: 0x1_0000 + number,
+        },
+        4 => Key::Action {
+            kind: *b"gact\0\0\0\0\0\0\0\0\0\0\0\0",
+            index: 1,
+        },
+        _ => Key::Filter {
+            index: 2,
+            parent: 0x1_0000,
+            number: 0,
+            priority: number,
+            handle: 1,
+        },
+    }
+}
+
+fn number_of(key: &Key) -> u32 {
+    (1..7).find(|number| key_at(*number) == *key).unwrap_or(0)
+}
+
+fn keys(alloc: Global, numbers: &[u32]) -> Result<Vec<Key>, AllocError> {
+    let mut made = Vec::new(alloc);
+    for number in numbers {
+        made.push(key_at(*number))?;
+    }
+    Ok(made)
+}
+
+fn object(
+    alloc: Global,
+    number: u32,
+    under: &[u32],
+    refers: &[u32],
+    config: u8,
+) -> Result<Object<Global>, AllocError> {
+    Ok(Object {
+        key: key_at(number),
+        under: keys(alloc, under)?,
+        refers: keys(alloc, refers)?,
+        config: vec![in alloc; config]?,
+    })
+}
+
+// These objects, with these configurations: class 3 is a child of 2, and filter 5 refers to 3 and 4.
+fn state(alloc: Global, configs: &[u8; 6]) -> Result<Vec<Object<Global>>, AllocError> {
+    let mut made = Vec::new(alloc);
+    made.push(object(alloc, 1, &[], &[], configs[0])?)?;
+    made.push(object(alloc, 2, &[1], &[], configs[1])?)?;
+    made.push(object(alloc, 3, &[1], &[2], configs[2])?)?;
+    made.push(object(alloc, 4, &[], &[], configs[3])?)?;
+    made.push(object(alloc, 5, &[1], &[3, 4], configs[4])?)?;
+    made.push(object(alloc, 6, &[1], &[], configs[5])?)?;
+    Ok(made)
+}
+
+fn shown<R: Rules<Global>>(
+    alloc: Global,
+    rules: &R,
+    state: &[Object<Global>],
+    want: Vec<Object<Global>>,
+) -> Result<String, AllocError> {
+    let mut made = String::new(alloc);
+    if !is_ready(alloc, state)? || !is_ready(alloc, &want)? {
+        made.push_str("not ready")?;
+        return Ok(made);
+    }
+    match plan(alloc, rules, state, want)? {
+        Plan::Steps(steps) => {
+            for step in &steps {
+                let text = match step {
+                    Step::Delete(key) => format!(in alloc; "-{}", number_of(key))?,
+                    Step::Change(object) => format!(in alloc; "~{}", number_of(&object.key))?,
+                    Step::Make(object) => format!(in alloc; "+{}", number_of(&object.key))?,
+                };
+                made.push_str(&text)?;
+            }
+        }
+        Plan::Refused(keys) => {
+            for key in &keys {
+                let text = format!(in alloc; "!{}", number_of(key))?;
+                made.push_str(&text)?;
+            }
+        }
+    }
+    Ok(made)
+}
+
+#[test]
+fn plans(rt: HostRuntime) -> Result<(), AllocError> {
+    let alloc = rt.alloc();
+    let now = state(alloc, &[0, 0, 0, 0, 0, 0])?;
+    let text = shown(alloc, &Nothing, &now, state(alloc, &[0, 0, 0, 0, 0, 0])?)?;
+    assert_eq!(rt; text.as_str(), "");
+    // a class that can be changed; one that can't, with its child and the filter that refers to the child
+    let text = shown(alloc, &Anything, &now, state(alloc, &[0, 1, 0, 0, 0, 0])?)?;
+    assert_eq!(rt; text.as_str(), "~2");
+    let text = shown(alloc, &Nothing, &now, state(alloc, &[0, 1, 0, 0, 0, 0])?)?;
+    assert_eq!(rt; text.as_str(), "-5-3-2+2+3+5");
+    // a qdisc takes along all but the action; an action that goes too waits for its filter
+    let text = shown(alloc, &Nothing, &now, state(alloc, &[1, 0, 0, 0, 0, 0])?)?;
+    assert_eq!(rt; text.as_str(), "-1+1+2+3+5+6");
+    let text = shown(alloc, &Nothing, &now, Vec::new(alloc))?;
+    assert_eq!(rt; text.as_str(), "-5-4-1");
+    // what can't be made: 9
+    let text = shown(alloc, &Nothing, &now, state(alloc, &[0, 9, 0, 9, 0, 0])?)?;
+    assert_eq!(rt; text.as_str(), "!2!4");
+    let text = shown(alloc, &Nothing, &[], state(alloc, &[0, 0, 0, 0, 0, 0])?)?;
+    assert_eq!(rt; text.as_str(), "+1+2+3+4+5+6");
+    // twice the same object, and one without its qdisc
+    let mut twice = state(alloc, &[0, 0, 0, 0, 0, 0])?;
+    twice.push(object(alloc, 6, &[1], &[], 0)?)?;
+    let text = shown(alloc, &Nothing, &now, twice)?;
+    assert_eq!(rt; text.as_str(), "not ready");
+    let mut alone = Vec::new(alloc);
+    alone.push(object(alloc, 6, &[1], &[], 0)?)?;
+    let text = shown(alloc, &Nothing, &now, alone)?;
+    assert_eq!(rt; text.as_str(), "not ready");
+    Ok(())
+}
