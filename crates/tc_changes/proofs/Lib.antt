@@ -14,3 +14,4 @@ pub mod Indexes
 pub mod Parted
 pub mod Steps
 pub mod Firsts
+pub mod Named

@@ -3,3 +3,5 @@ pub mod Requests
 pub mod Plans
 pub mod Planned
 pub mod Objects
+pub mod Promises
+pub mod Scope

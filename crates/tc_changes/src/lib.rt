@@ -18,14 +18,18 @@ pub mod object;
 pub mod order;
 mod parts;
 mod places;
+pub mod plan_error;
 pub mod planned;
 mod removed;
 pub mod rules;
+pub mod scope;
 pub mod step;
 
 pub use key::Key;
 pub use object::Object;
 pub use order::is_ready;
+pub use plan_error::PlanError;
 pub use planned::plan;
 pub use rules::Rules;
+pub use scope::plan_within;
 pub use step::{Plan, Step};

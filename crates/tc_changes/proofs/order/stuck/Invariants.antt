@@ -2,7 +2,7 @@ use Rattle.std.proofs.Common.{◌≡◌, [], true, take}
 use Rattle.tc_changes.specs.Model.{ready}
 use Rattle.tc_changes.specs.Objects.{things, same_key, IsSetOf}
 use Rattle.tc_changes.proofs.Wholes.{passed}
-use Rattle.tc_changes.proofs.order.is_ready.Given as goal
+use Rattle.tc_changes.proofs.order.stuck.Given as goal
 
 abbrev pub invariant-loop-object : goal.invariant-loop-object
 invariant-loop-object g l = record {

@@ -4,7 +4,7 @@ use Rattle.tc_changes.specs.Objects.{thing, things, same_key, IsSetOf}
 use Rattle.tc_changes.proofs.Wholes.{passed}
 use Rattle.tc_changes.proofs.Indexes.{set_more}
 use Rattle.tc_changes.proofs.Firsts.{not_ready, ready_more, passed-push, things_split, things_more}
-use Rattle.tc_changes.proofs.order.is_ready.Goals as goal
+use Rattle.tc_changes.proofs.order.stuck.Goals as goal
 
 pub returns-then-not-is_next : goal.returns-then-not-is_next
 returns-then-not-is_next g c =
