@@ -2,15 +2,16 @@
 use Rattle.std.proofs.Common.{◌≡◌, ℕ, ℤ, Bool, true, false, ◌&&◌, List, [], ◌∷◌, ◌++◌, Option, Some, None, refl, ap, sym, subst, ◌∙◌, take, drop, map}
 use Rattle.std.specs.List.{list_all, flat_map, AllByRecursion}
 use Rattle.tc_changes.specs.Requests.{Request, Make, Change, Delete}
-use Rattle.tc_changes.specs.Plans.{key_of, IsConfined}
-use Rattle.tc_changes.specs.Objects.{KernelThing, IfSteps, IsRefused, request}
+use Rattle.tc_changes.specs.Plans.{key_of}
+use Rattle.tc_changes.specs.Objects.{IfSteps, IsRefused, request}
+use Rattle.tc_changes.specs.Scope.{is_named, IsWithin}
 use Rattle.tc_changes.specs.declared.step.Plan.{Plan}
 use Rattle.tc_changes.specs.declared.step.Plan.TheVariants.{Steps, Refused}
 use Rattle.tc_changes.specs.declared.key.Key.{Key}
 use Rattle.tc_changes.specs.declared.key.Key.TheVariants as key
 use Rattle.tc_objects.specs.declared.requests.PlanRequest.{PlanRequest}
 use Rattle.tc_objects.specs.Sent.{Sent, seen, sent, sent_by, deleted, addressed}
-use Rattle.tc_objects.specs.Confined.{IsAt, IsForKey, AreConfined}
+use Rattle.tc_objects.specs.Confined.{IsAt, IsForKey, AreWithin}
 
 left_of : (a b : Bool) → (a && b) ≡ true → a ≡ true
 left_of true b is = refl
@@ -63,11 +64,11 @@ module _ (test : Key → Bool) where
       (of_step find r (left_of (test (key_of r)) _ is))
       (of_steps find rs (right_of (test (key_of r)) _ is))
 
--- the requests of a plan are confined, if its steps are
-pub confined_plan : {A : Type 0} (plan : Plan A) (state want : List KernelThing) (find : Key → Option ℕ) (requests : List (PlanRequest A))
-    → IfSteps plan (IsConfined state want) → IfSteps plan (λ steps. map seen requests ≡ flat_map (sent find) steps) → (IsRefused plan → requests ≡ [])
-    → AreConfined state want (map seen requests)
-confined_plan (Steps steps) state want find requests are is none = λ test now then.
-    subst (AllByRecursion (IsConfinedTo test)) (sym is) (of_steps test find (map request steps.items) (are test now then))
-confined_plan (Refused keys) state want find requests are is none = λ test now then.
-    subst (λ l. AllByRecursion (IsConfinedTo test) (map seen l)) (sym (none tt)) tt
+-- the requests of a plan are where something is named, if its steps are
+pub plan_within : {A : Type 0} (plan : Plan A) (named : List Key) (find : Key → Option ℕ) (requests : List (PlanRequest A))
+    → IfSteps plan (IsWithin named) → IfSteps plan (λ steps. map seen requests ≡ flat_map (sent find) steps) → (IsRefused plan → requests ≡ [])
+    → AreWithin named (map seen requests)
+plan_within (Steps steps) named find requests are is none =
+    subst (AllByRecursion (IsConfinedTo (is_named named))) (sym is) (of_steps (is_named named) find (map request steps.items) are)
+plan_within (Refused keys) named find requests are is none =
+    subst (λ l. AllByRecursion (IsConfinedTo (is_named named)) (map seen l)) (sym (none tt)) tt

@@ -1,9 +1,9 @@
--- Requests that are only about the objects of two states.
-use Rattle.std.specs.Prelude.{◌≡◌, ⊤, ℕ, ℤ, Bool, true, List, [], ◌∷◌, take, drop, nat_eq}
+-- Requests that are only about objects where something is named.
+use Rattle.std.specs.Prelude.{◌≡◌, ⊤, ℕ, ℤ, true, List, [], ◌∷◌, take, drop, nat_eq}
 use Rattle.std.specs.Int.{cast_unsigned, w32}
-use Rattle.std.specs.List.{list_any, list_all, AllByRecursion}
+use Rattle.std.specs.List.{list_any, AllByRecursion}
 use Rattle.nla_frames.specs.Value.{le_bytes}
-use Rattle.tc_changes.specs.Objects.{KernelThing}
+use Rattle.tc_changes.specs.Scope.{is_named}
 use Rattle.tc_changes.specs.declared.key.Key.{Key}
 use Rattle.tc_changes.specs.declared.key.Key.TheVariants as key
 use Rattle.tc_objects.specs.Sent.{Sent, action_bytes}
@@ -35,7 +35,6 @@ IsAtKey k message = ⊤
 abbrev pub IsForKey : Sent → Type 0
 IsForKey r = (list_any (nat_eq r.1) (types_of r.0) ≡ true) × IsAtKey r.0 r.3
 
--- each request is for its key, and its key passes each test that those of both states pass, such as to be of one interface
-abbrev pub AreConfined : List KernelThing → List KernelThing → List Sent → Type 0
-AreConfined state want sents = (test : Key → Bool) → list_all (λ o. test o.key) state ≡ true → list_all (λ o. test o.key) want ≡ true
-    → AllByRecursion (λ r. (test r.0 ≡ true) × IsForKey r) sents
+-- each request is for its key, and its object is where something is named
+abbrev pub AreWithin : List Key → List Sent → Type 0
+AreWithin named sents = AllByRecursion (λ r. (is_named named r.0 ≡ true) × IsForKey r) sents

@@ -44,12 +44,12 @@ steps_unless (Steps steps) P wrong some said none is = is
 steps_unless (Refused keys) P wrong some said none is = absurd (false≢true (sym none ∙ said some.0))
 
 -- a plan from a state is one from what shows it, unless something is wrong
-pub planned_from : {E : Type 0} (takes : KernelThing → KernelThing → Bool) (can_make : KernelThing → Bool) (r : Result (Vec LineRequest Global) E)
-    (state : State Global) (now want : List Message) (before after : Bool)
-    → IfOk r (λ made. after ≡ false → IsPlannedFrom takes can_make state want made.items) → IfOk r (λ made. after ≡ false → before ≡ false)
-    → (before ≡ false → ShownBy None now state) → IfOk r (λ made. after ≡ false → IsPlanned takes can_make now want made.items)
-planned_from takes can_make (Err e) state now want before after planned said shown = tt
-planned_from takes can_make (Ok made) state now want before after planned said shown = λ none.
+pub planned_from : {E : Type 0} (takes : KernelThing → KernelThing → Bool) (can_make : KernelThing → Bool) (keys : List Key)
+    (r : Result (Vec LineRequest Global) E) (state : State Global) (now want : List Message) (before after : Bool)
+    → IfOk r (λ made. after ≡ false → IsPlannedFrom takes can_make keys state want made.items) → IfOk r (λ made. after ≡ false → before ≡ false)
+    → (before ≡ false → ShownBy None now state) → IfOk r (λ made. after ≡ false → IsPlanned takes can_make keys now want made.items)
+planned_from takes can_make keys (Err e) state now want before after planned said shown = tt
+planned_from takes can_make keys (Ok made) state now want before after planned said shown = λ none.
     let by : ShownBy None now state = shown (said none) in
     record { dumps = by.0; are_dumps = by.1; state = state; is_state = by.2; planned = planned none }
 

@@ -5,14 +5,14 @@ use Rattle.std.specs.HashMap as hash
 use Rattle.std.specs.declared.alloc.Global.{Global}
 use Rattle.std.specs.declared.vec.Vec.{Vec}
 use Rattle.tc_action_messages.specs.ActionMessage.{action_message}
-use Rattle.tc_changes.specs.Model.{Same, ready, has, among}
-use Rattle.tc_changes.specs.Objects.{KernelThing, things, same_key, alike, IfSteps, IfRefused, IsNothing, IsRefused}
-use Rattle.tc_changes.specs.Plans.{fits, IsExact, IsLeftAlone, IsSpared, IsBarred, barred_keys}
-use Rattle.tc_changes.specs.Requests.{Leads, LeavesWhole}
+use Rattle.tc_changes.specs.Model.{ready, has, among}
+use Rattle.tc_changes.specs.Objects.{KernelThing, things, same_key, IfSteps, IsRefused}
+use Rattle.tc_changes.specs.Promises.{IsPlan}
+use Rattle.tc_changes.specs.Scope.{scopes, completed}
 use Rattle.tc_changes.specs.declared.key.Key.{Key}
 use Rattle.tc_meaning.specs.Whole.{ReadsAct, ReadsTc}
 use Rattle.tc_messages.specs.Message.{tc_message}
-use Rattle.tc_objects.specs.Confined.{AreConfined}
+use Rattle.tc_objects.specs.Confined.{AreWithin}
 use Rattle.tc_objects.specs.Contents.{AreShown}
 use Rattle.tc_objects.specs.Sent.{Sent, seen}
 use Rattle.tc_objects.specs.Sent as of_step
@@ -108,42 +108,32 @@ requested_as r = (r.given.kind, r.given.flags, r.bytes.items)
 abbrev pub AreRequestsOf : List (PlanRequest Global) → List LineRequest → Type 0
 AreRequestsOf planned requests = map requested_as requests ≡ map (λ r. planned_as (seen r)) planned
 
-module _ (takes : KernelThing → KernelThing → Bool) (can_make : KernelThing → Bool) where
-  -- what a plan from a state to another promises, by the changes that the kernel takes and the objects that it makes
-  pub record IsPlan (now want : State Global) (planned : Planned Global) : Type 0 where
-    -- the steps lead there
-    pub reaches : IfSteps planned.plan (λ steps. Leads same_key takes (things now.objects.items) steps (things want.objects.items))
-    -- each is about an object of either state, and no two do the same
-    pub exact : IfSteps planned.plan (λ steps. IsExact same_key (things now.objects.items) (things want.objects.items) steps)
-    -- none between equal states
-    pub idle : Same same_key (things now.objects.items) (things want.objects.items) → IsNothing planned.plan
-    -- what is as wanted isn't touched, and what can stay isn't deleted
-    pub keeps : IfSteps planned.plan
-        (λ steps. IsLeftAlone same_key (fits alike takes) (things now.objects.items) (things want.objects.items) steps)
-    pub spares : IfSteps planned.plan (λ steps. IsSpared same_key (fits alike takes) (things now.objects.items) (things want.objects.items) steps)
-    -- a state to plan from is left wherever they stop
-    pub resumes : IfSteps planned.plan (λ steps. LeavesWhole same_key takes (things now.objects.items) steps)
-    -- only what can be made is made, and only what can't be made is refused
-    pub sends : IfSteps planned.plan (λ steps. barred_keys can_make steps ≡ [])
-    pub refuses : IfRefused planned.plan (λ keys. (keys ≢ [])
-        × All (IsBarred same_key (fits alike takes) (things now.objects.items) (things want.objects.items) can_make) keys)
-    pub returns : All (λ o. can_make o ≡ true) (things want.objects.items) → IsRefused planned.plan → ⊥
-    -- the requests are those of the steps, each for an object of either state
+module _ (takes : KernelThing → KernelThing → Bool) (can_make : KernelThing → Bool) (keys : List Key) where
+  -- what a plan from a state to another promises, where an object is wanted or one of the keys is
+  pub record IsPlanBetween (now want : State Global) (planned : Planned Global) : Type 0 where
+    -- a plan to what is wanted there, and to all else as it is
+    pub plan : IsPlan takes can_make (things now.objects.items)
+        (completed (scopes keys (things want.objects.items)) (things now.objects.items) (things want.objects.items)) planned.plan
+    -- the requests are those of the steps, each for an object there
     pub sent : IfSteps planned.plan
         (λ steps. map seen planned.requests.items ≡ flat_map (of_step.sent (hash.get same_key now.handles)) steps)
     pub refused : IsRefused planned.plan → planned.requests.items ≡ []
-    pub confined : AreConfined (things now.objects.items) (things want.objects.items) (map seen planned.requests.items)
+    pub confined : AreWithin (scopes keys (things want.objects.items)) (map seen planned.requests.items)
 
-  -- the requests of a plan that has steps, from a state to what these messages show
+  -- the requests of such a plan that has steps
+  pub record ArePlanned (now want : State Global) (requests : List LineRequest) : Type 0 where
+    pub planned : Planned Global
+    pub plan : IsPlanBetween now want planned
+    pub has_steps : IsRefused planned.plan → ⊥
+    pub sent : AreRequestsOf planned.requests.items requests
+
+  -- the same from a state to what these messages show
   pub record IsPlannedFrom (now : State Global) (want : List Message) (requests : List LineRequest) : Type 0 where
     pub dumps : List (Dump Global)
     pub are_dumps : AreDumps want dumps
     pub state : State Global
     pub is_wanted : IsWanted now dumps state
-    pub planned : Planned Global
-    pub plan : IsPlan now state planned
-    pub has_steps : IsRefused planned.plan → ⊥
-    pub sent : AreRequestsOf planned.requests.items requests
+    pub planned : ArePlanned now state requests
 
   -- the same from what messages show that there is now
   pub record IsPlanned (now want : List Message) (requests : List LineRequest) : Type 0 where

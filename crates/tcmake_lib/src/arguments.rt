@@ -61,8 +61,9 @@ Checks:
   restored, and whatever depends on it, is reported and left out. A save, which begins with
   {\"save\":1, must be whole: its last line, {\"end\":N}, says how many lines are between them
   ({\"end\":true} if they were edited).
-  --plan needs whole dumps of the same interfaces, and makes no request at all if a line is wrong,
-  or if something can't be made that isn't there as it is wanted. What is the same isn't touched.
+  --plan needs whole dumps, and makes no request at all if a line is wrong, or if something can't
+  be made that isn't there as it is wanted. What is the same isn't touched, nor is any interface,
+  shared block or action that the wanted lines don't name. A save names its interfaces.
 
 Exit status:
   0  every line was built

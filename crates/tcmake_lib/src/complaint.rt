@@ -37,6 +37,8 @@ pub(crate) enum Complaint {
     Interrupted,
     /// This object can't be made, and isn't there as it is wanted.
     Unmade(Label),
+    /// This object isn't where something is wanted, and would have to be made again, or lacks what it needs.
+    Elsewhere(Label),
     /// It is of an interface that what there is now doesn't have.
     OtherInterface(i32),
     /// With `--in-order` it can't be checked that a save is whole.
@@ -163,6 +165,12 @@ impl fmt::Display for Complaint {
                 write!(
                     f,
                     "{object} can't be made from a dump, and isn't there as it is wanted, or has to be made again"
+                )
+            }
+            Complaint::Elsewhere(object) => {
+                write!(
+                    f,
+                    "{object} is where nothing is wanted, but lacks what it needs, or has to be made again"
                 )
             }
             Complaint::OtherInterface(index) => {

@@ -269,9 +269,35 @@ fn ended(alloc: Global, reading: Reading<'_>, save: Save, lines: Lines) -> Resul
     let mut lines = lines;
     end(alloc, reading, &save, &mut lines)?;
     let (names, devices) = save.into_interfaces();
+    lines.devices = match devices {
+        Some(devices) => Some(devices_now(alloc, reading, &names, &devices)?),
+        None => None,
+    };
     lines.names = names;
-    lines.devices = devices;
     Ok(lines)
+}
+
+// The present indices of interfaces that a save is of, without those that aren't there.
+fn devices_now(
+    alloc: Global,
+    reading: Reading<'_>,
+    names: &Option<Names>,
+    devices: &[i32],
+) -> Result<Vec<i32>, AllocError> {
+    let mut found = Vec::new(alloc);
+    for device in devices {
+        if let Some(index) = device_now(reading, names, *device) {
+            found.push(index)?;
+        }
+    }
+    Ok(found)
+}
+
+fn device_now(reading: Reading<'_>, names: &Option<Names>, device: i32) -> Option<i32> {
+    match (reading.names, names) {
+        (Some(now), Some(saved)) => Interfaces { saved, now }.present(device),
+        _ => Some(reading.index.unwrap_or(device)),
+    }
 }
 
 // What is wrong at the end of the input.

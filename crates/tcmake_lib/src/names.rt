@@ -30,12 +30,30 @@ impl<'a> Interfaces<'a> {
 
     // The index of the interface of this name.
     fn index_of(&self, alloc: Global, name: &str) -> Result<u32, Complaint> {
+        match self.named(name) {
+            Some(index) => Ok(index),
+            None => Err(Complaint::NoInterface(String::from_str(alloc, name)?)),
+        }
+    }
+
+    fn named(&self, name: &str) -> Option<u32> {
         for (index, known) in self.now {
             if *known == name {
-                return Ok(*index);
+                return Some(*index);
             }
         }
-        Err(Complaint::NoInterface(String::from_str(alloc, name)?))
+        None
+    }
+
+    /// The index of now of an interface that had this one, if it is there.
+    pub(crate) fn present(&self, index: i32) -> Option<i32> {
+        for (saved, name) in self.saved {
+            if i32::try_from(*saved) == Ok(index) {
+                let now = self.named(name.as_str())?;
+                return i32::try_from(now).ok();
+            }
+        }
+        None
     }
 }
 

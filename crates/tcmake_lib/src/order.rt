@@ -11,7 +11,7 @@ use crate::lines::{
     read_lines,
 };
 use crate::now::{Counts, Single, now_of, singles_of, unlisted_in};
-use crate::plans::{of_interfaces, plan_by, say_all};
+use crate::plans::{interfaces_named, of_interfaces, plan_by, say_all};
 use crate::restore::{Dump, dump_of, restored};
 use forms_json::Tables;
 use nla_frames::{NLA_TYPE_MASK, Nla, ParseableBytes};
@@ -347,7 +347,8 @@ fn requests_of_plan<T: Tables>(
 {
     let there = lines_of_now(alloc, forms, index, now)?;
     let wanted = of_interfaces(alloc, &there, lines)?;
-    plan_by(alloc, &KindRules, there, wanted)
+    let keys = interfaces_named(alloc, &wanted)?;
+    plan_by(alloc, &KindRules, &keys, there, wanted)
 }
 
 // The requests of what lines show, but of actions that are there already.

@@ -8,6 +8,7 @@ ghost use Rattle.tc_changes.specs.Objects.{same_key, things, IfRefused, IsRefuse
 ghost use Rattle.tc_objects.specs.Sent.{seen};
 ghost use Rattle.tcmake_lib.specs.Planned.{
   AreDumps,
+  ArePlanned,
   AreRequestsOf,
   IsDumpIn,
   IsPlanned,
@@ -37,7 +38,7 @@ use std::hash::{BuildHasherDefault, FoldHasher};
 use std::io::BufRead;
 use tc_action_messages::TcActionMessage;
 use tc_capture::{MessageType, Time};
-use tc_changes::{Key, Plan, Rules};
+use tc_changes::{Key, Plan, PlanError, Rules};
 use tc_messages::TcMessage;
 use tc_objects::{
     DELETE_FLAGS, Dump as Shown, Label, PlanRequest, Planned, State, StateError, plan_between,
@@ -58,15 +59,17 @@ struct Parsed {
 }
 
 /// The requests that lead from the present dumps to the wanted ones, each dump with its netlink header. Lines are numbered from 1. `rules` has
-/// the changes that the kernel makes in place. There are no requests if something is wrong with a dump, or if something can't be made.
+/// the changes that the kernel makes in place. Only the interfaces, the blocks and the actions change that a wanted dump or one of `keys` is of:
+/// all else stays. There are no requests if something is wrong with a dump, or if something can't be made.
 pub fn plan_of_dumps<R: Rules<Global>>(
     alloc: Global,
     rules: &R,
+    keys: &[Key],
     now: Vec<(NetlinkHeader, Vec<u8>)>,
     want: Vec<(NetlinkHeader, Vec<u8>)>,
 ) -> Result<Restored, Stop>
     // They are those of a plan between the states that the dumps show, which leads there and keeps all that `plan_between` promises.
-    ensures planned { IfOk result (λ r. r.is_void ≡ false → IsPlanned (R.takes rules.now) (R.can_make rules.now)
+    ensures planned { IfOk result (λ r. r.is_void ≡ false → IsPlanned (R.takes rules.now) (R.can_make rules.now) keys.now
         (map given_as now.items) (map given_as want.items) r.requests.items) }
     // If something is wrong, there are none, and a remark says what.
     ensures void { IfOk result (λ r. r.is_void ≡ true → r.requests.items ≡ []) }
@@ -74,7 +77,7 @@ pub fn plan_of_dumps<R: Rules<Global>>(
 {
     let now = lines_of(alloc, now)?;
     let want = lines_of(alloc, want)?;
-    plan_by(alloc, rules, now, want)
+    plan_by(alloc, rules, keys, now, want)
 }
 
 /// The wanted lines. One of an interface that the present lines aren't of is wrong, so that no other interface loses what it has.
@@ -116,6 +119,20 @@ fn interfaces_of(alloc: Global, lines: &Lines) -> Result<Vec<i32>, AllocError> {
     Ok(known)
 }
 
+/// The interfaces in the first line of a save, as keys.
+pub(crate) fn interfaces_named(alloc: Global, lines: &Lines) -> Result<Vec<Key>, AllocError> {
+    let mut keys = Vec::new(alloc);
+    if let Some(devices) = &lines.devices {
+        for device in devices {
+            keys.push(Key::Place {
+                index: *device,
+                parent: 0,
+            })?;
+        }
+    }
+    Ok(keys)
+}
+
 // The interface of a dump (`tcm_ifindex`). Actions have none, nor has what is in a block that interfaces share.
 fn interface_of(made: &Made) -> Option<i32> {
     match (made.given.holds, made.bytes.as_slice()) {
@@ -131,10 +148,11 @@ fn interface_of(made: &Made) -> Option<i32> {
 pub(crate) fn plan_by<R: Rules<Global>>(
     alloc: Global,
     rules: &R,
+    keys: &[Key],
     now: Lines,
     want: Lines,
 ) -> Result<Restored, Stop>
-    ensures planned { IfOk result (λ r. r.is_void ≡ false → IsPlanned (R.takes rules.now) (R.can_make rules.now)
+    ensures planned { IfOk result (λ r. r.is_void ≡ false → IsPlanned (R.takes rules.now) (R.can_make rules.now) keys.now
         (map shown_by now.dumps.items) (map shown_by want.dumps.items) r.requests.items) }
     ensures void { IfOk result (λ r. r.is_void ≡ true → r.requests.items ≡ []) }
     ensures told { IfOk result (λ r. r.is_void ≡ (has_complaint r.remarks.items || (now.is_void || want.is_void))) }
@@ -145,7 +163,7 @@ pub(crate) fn plan_by<R: Rules<Global>>(
 {
     let is_void = now.is_void || want.is_void;
     let mut remarks = Vec::new(alloc);
-    let requests = requests_between(alloc, rules, now, want, &mut remarks)?;
+    let requests = requests_between(alloc, rules, keys, now, want, &mut remarks)?;
     Ok(restored_by(alloc, requests, remarks, is_void))
 }
 
@@ -179,11 +197,12 @@ fn restored_by(
 fn requests_between<R: Rules<Global>>(
     alloc: Global,
     rules: &R,
+    keys: &[Key],
     now: Lines,
     want: Lines,
     remarks: &mut Vec<Remark>,
 ) -> Result<Vec<LineRequest>, Stop>
-    ensures planned { IfOk result (λ made. has_complaint remarks.new.items ≡ false → IsPlanned (R.takes rules.now) (R.can_make rules.now)
+    ensures planned { IfOk result (λ made. has_complaint remarks.new.items ≡ false → IsPlanned (R.takes rules.now) (R.can_make rules.now) keys.now
         (map shown_by now.dumps.items) (map shown_by want.dumps.items) made.items) }
     ensures of_now { IfOk result (λ _. has_complaint remarks.new.items ≡ false → has_complaint now.remarks.items ≡ false) }
     ensures of_wanted { IfOk result (λ _. has_complaint remarks.new.items ≡ false → has_complaint want.remarks.items ≡ false) }
@@ -191,7 +210,7 @@ fn requests_between<R: Rules<Global>>(
 {
     let found = state_in(alloc, Source::Now, None, now, remarks)?;
     match found {
-        Some(shown) => requests_after(alloc, rules, &shown.0, &shown.1, want, remarks),
+        Some(shown) => requests_after(alloc, rules, keys, &shown.0, &shown.1, want, remarks),
         None => {
             state_in(alloc, Source::Wanted, None, want, remarks)?;
             Ok(Vec::new(alloc))
@@ -203,13 +222,14 @@ fn requests_between<R: Rules<Global>>(
 fn requests_after<R: Rules<Global>>(
     alloc: Global,
     rules: &R,
+    keys: &[Key],
     now: &State<Global>,
     was: &Numbers,
     want: Lines,
     remarks: &mut Vec<Remark>,
 ) -> Result<Vec<LineRequest>, Stop>
     requires now_ready { ready same_key [] (things now.now.objects.items) ≡ true }
-    ensures planned { IfOk result (λ made. has_complaint remarks.new.items ≡ false → IsPlannedFrom (R.takes rules.now) (R.can_make rules.now)
+    ensures planned { IfOk result (λ made. has_complaint remarks.new.items ≡ false → IsPlannedFrom (R.takes rules.now) (R.can_make rules.now) keys.now
         now.now (map shown_by want.dumps.items) made.items) }
     ensures said { IfOk result (λ _. has_complaint remarks.new.items ≡ false → has_complaint remarks.old.items ≡ false) }
     ensures of_wanted { IfOk result (λ _. has_complaint remarks.new.items ≡ false → has_complaint want.remarks.items ≡ false) }
@@ -219,10 +239,37 @@ fn requests_after<R: Rules<Global>>(
     match found {
         Some(shown) => {
             let (want, is) = shown;
-            let planned = plan_between(alloc, rules, now, want)?;
-            Ok(line_requests(alloc, planned, was, &is, remarks)?)
+            Ok(requests_to(alloc, rules, keys, now, was, want, &is, remarks)?)
         }
         None => Ok(Vec::new(alloc)),
+    }
+}
+
+// The requests of a plan between states, with the numbers of lines. Why there is none is said.
+fn requests_to<R: Rules<Global>>(
+    alloc: Global,
+    rules: &R,
+    keys: &[Key],
+    now: &State<Global>,
+    was: &Numbers,
+    want: State<Global>,
+    is: &Numbers,
+    remarks: &mut Vec<Remark>,
+) -> Result<Vec<LineRequest>, AllocError>
+    requires now_ready { ready same_key [] (things now.now.objects.items) ≡ true }
+    ensures planned { IfOk result (λ made. has_complaint remarks.new.items ≡ false → ArePlanned (R.takes rules.now) (R.can_make rules.now) keys.now
+        now.now want made.items) }
+    ensures said { IfOk result (λ _. has_complaint remarks.new.items ≡ false → has_complaint remarks.old.items ≡ false) }
+{
+    match plan_between(alloc, rules, keys, now, want) {
+        Ok(planned) => line_requests(alloc, planned, was, is, remarks),
+        Err(PlanError::OutOfMemory) => Err(AllocError),
+        Err(PlanError::Elsewhere(key)) => {
+            let number = was.get(&key).copied().unwrap_or(0);
+            let complaint = Complaint::Elsewhere(Label(key));
+            complain(alloc, Source::Now, number, &complaint, remarks)?;
+            Ok(Vec::new(alloc))
+        }
     }
 }
 

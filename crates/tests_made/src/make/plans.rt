@@ -4,12 +4,17 @@
 
 use crate::make::runs::{FORMS, Outcome};
 use program_io::{Reader, Writer};
-use std::alloc::Global;
+use std::alloc::{AllocError, Global};
 use std::io::BufReader;
 use std::test::Fail;
+use tc_capture::{MessageType, Time};
+use tc_changes::Key;
+use tc_objects::KindRules;
 use tcmake_lib::arguments::{Request, arguments_of};
-use tcmake_lib::order::Asked;
+use tcmake_lib::order::{Asked, LineRequest};
+use tcmake_lib::plans::plan_of_dumps;
 use tcmake_lib::program::serve_asked;
+use tcmake_lines::{NetlinkHeader, packet_at};
 
 const CAKE_10: &str =
     r#"{"type":"RTM_NEWQDISC","flags":0,"message":{"header":{"family":"Unspec","index":1,"handle":"1:","parent":"root","info":2},"attributes":[{"Kind":"cake"},{"Options":[{"Cake":{"BaseRate64":1250000}},{"Cake":{"Autorate":0}}]}]}}
@@ -17,6 +22,16 @@ const CAKE_10: &str =
 
 const CAKE_20: &str =
     r#"{"type":"RTM_NEWQDISC","flags":0,"message":{"header":{"family":"Unspec","index":1,"handle":"1:","parent":"root","info":2},"attributes":[{"Kind":"cake"},{"Options":[{"Cake":{"BaseRate64":2500000}},{"Cake":{"Autorate":0}}]}]}}
+"#;
+
+// The same of another interface.
+const CAKE_OF_2: &str =
+    r#"{"type":"RTM_NEWQDISC","flags":0,"message":{"header":{"family":"Unspec","index":2,"handle":"1:","parent":"root","info":2},"attributes":[{"Kind":"cake"},{"Options":[{"Cake":{"BaseRate64":1250000}},{"Cake":{"Autorate":0}}]}]}}
+"#;
+
+// A save of an interface that has nothing.
+const NOTHING: &str = r#"{"save":1,"devs":{"lo":{"index":1}},"names":{"1":"lo"}}
+{"end":0}
 "#;
 
 const HTB: &str =
@@ -57,8 +72,16 @@ const DELETE_QDISC: &str =
 const DELETE_CHAIN: &str =
     "2c000000650005000000000000000000000000000100000000000000f2ffffff0000000008000b0007000000\n";
 
-const DELETE_ACTION: &str =
-    "30000000310005000000000000000000000000001c000100180001000900010067616374000000000800030005000000\n";
+// struct tcamsg; TCA_ACT_TAB { 1 { TCA_ACT_KIND "gact", TCA_ACT_OPTIONS { TCA_GACT_PARMS { index 5, capab 0, action 2, refcnt 1, bindcnt 0 } } } }
+const DUMPED_ACTION: [u8; 52] = [
+    0, 0, 0, 0, 48, 0, 1, 0, 44, 0, 1, 0, 9, 0, 1, 0, 103, 97, 99, 116, 0, 0, 0, 0, 28, 0, 2, 0,
+    24, 0, 2, 0, 5, 0, 0, 0, 0, 0, 0, 0, 2, 0, 0, 0, 1, 0, 0, 0, 0, 0, 0, 0,
+];
+
+const DELETED_ACTION: [u8; 32] = [
+    0, 0, 0, 0, 28, 0, 1, 0, 24, 0, 1, 0, 9, 0, 1, 0, 103, 97, 99, 116, 0, 0, 0, 0, 8, 0, 3, 0, 5,
+    0, 0, 0,
+];
 
 const ADD_HTB: &str = "\
 48000000240005060000000000000000000000000100000000000100ffffffff0000000008000100687462001c00020018000200030000000a00000030000000\
@@ -118,17 +141,65 @@ fn nothing_differs(rt: HostRuntime) -> Result<(), Fail> {
 #[test]
 fn deletes_and_makes(rt: HostRuntime) -> Result<(), Fail> {
     let alloc = rt.alloc();
-    assert!(rt; leads(alloc, HTB, "", DELETE_QDISC)?);
+    assert!(rt; leads(alloc, HTB, NOTHING, DELETE_QDISC)?);
     assert!(rt; leads(alloc, "", HTB, ADD_HTB)?);
-    assert!(rt; leads(alloc, ACTION, "", DELETE_ACTION)?);
     let with_class = format!(in alloc; "{HTB}{CLASS}")?;
     assert!(rt; leads(alloc, with_class.as_str(), HTB, DELETE_CLASS)?);
     // the class goes with its qdisc
-    assert!(rt; leads(alloc, with_class.as_str(), "", DELETE_QDISC)?);
+    assert!(rt; leads(alloc, with_class.as_str(), NOTHING, DELETE_QDISC)?);
     let with_chain = format!(in alloc; "{CHAIN}{CLSACT}")?;
     assert!(rt; leads(alloc, with_chain.as_str(), CLSACT, DELETE_CHAIN)?);
     let again = format!(in alloc; "{DELETE_QDISC}{ADD_HTB}")?;
     assert!(rt; leads(alloc, CAKE_10, HTB, again.as_str())?);
+    Ok(())
+}
+
+#[test]
+fn only_what_is_named(rt: HostRuntime) -> Result<(), Fail> {
+    let alloc = rt.alloc();
+    // nothing is
+    assert!(rt; leads(alloc, HTB, "", "")?);
+    // an interface is, and neither another one nor an action
+    let with_others = format!(in alloc; "{CAKE_10}{CAKE_OF_2}{ACTION}")?;
+    assert!(rt; leads(alloc, with_others.as_str(), CAKE_20, CHANGE_CAKE)?);
+    assert!(rt; leads(alloc, with_others.as_str(), NOTHING, DELETE_QDISC)?);
+    Ok(())
+}
+
+// The requests that lead from an action to nothing, if these keys are named.
+fn without_action(alloc: Global, keys: &[Key]) -> Result<Vec<LineRequest>, Fail> {
+    let header = NetlinkHeader {
+        holds: MessageType::Action,
+        kind: Some(48),
+        flags: 0,
+        sequence: 0,
+        port: 0,
+        packet: packet_at(Time {
+            seconds: 0,
+            nanoseconds: 0,
+        }),
+    };
+    let mut now = Vec::new(alloc);
+    now.push((header, Vec::from_slice(alloc, &DUMPED_ACTION)?))?;
+    match plan_of_dumps(alloc, &KindRules, keys, now, Vec::new(alloc)) {
+        Ok(planned) => Ok(planned.requests),
+        Err(_) => Err(Fail::from(AllocError)),
+    }
+}
+
+#[test]
+fn an_action_that_is_named(rt: HostRuntime) -> Result<(), Fail> {
+    let alloc = rt.alloc();
+    let mut kind = [0; 16];
+    kind[..4].copy_from_slice(b"gact");
+    let requests = without_action(alloc, &[Key::Action { kind, index: 5 }])?;
+    let is_delete = |request: &LineRequest| {
+        request.given.kind == Some(49)
+            && request.given.flags == 5
+            && request.bytes.as_slice() == DELETED_ACTION
+    };
+    assert!(rt; requests.len() == 1 && requests.iter().all(is_delete));
+    assert!(rt; without_action(alloc, &[Key::Action { kind, index: 6 }])?.is_empty());
     Ok(())
 }
 

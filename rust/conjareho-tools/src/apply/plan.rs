@@ -113,14 +113,20 @@ impl Rules for NoChanges {
 }
 
 fn plan_by(rules: &impl Rules, now: &[Vec<u8>], wanted: &[Vec<u8>], may_go: impl Fn(&Key) -> bool) -> Plan {
+    let keys = named(now, &may_go);
     let mut all = wanted.to_vec();
     all.extend(others(now, wanted, may_go));
-    requests(rules, &marked(now, wanted), &all)
+    requests(rules, &keys, &marked(now, wanted), &all)
         .unwrap_or_else(|_| Err(vec![Fault { is_of_now: true, place: None, text: "out of memory".to_string() }]))
 }
 
-fn requests(rules: &impl Rules, now: &[Vec<u8>], wanted: &[Vec<u8>]) -> Result<Plan, Stop> {
-    let planned = plan_of_dumps(rules, dumps_of(now), dumps_of(wanted))?;
+fn requests(
+    rules: &impl Rules,
+    keys: &[tc_changes::Key],
+    now: &[Vec<u8>],
+    wanted: &[Vec<u8>],
+) -> Result<Plan, Stop> {
+    let planned = plan_of_dumps(rules, keys, dumps_of(now), dumps_of(wanted))?;
     let complaints = planned.remarks.iter().filter(|remark| remark.kind == RemarkKind::Complaint);
     let faults: Vec<Fault> = complaints.map(|remark| Fault::of(remark, now, wanted)).collect();
     if planned.is_void || !faults.is_empty() {
@@ -197,6 +203,22 @@ fn ways(dumps: &[Vec<u8>]) -> BTreeMap<Way, usize> {
         (index, steps)
     };
     own.iter().map(|(key, (_, place))| (way(*key), *place)).collect()
+}
+
+// What may change although no wanted dump names it: the interfaces and blocks of now, and the actions that may go.
+fn named(now: &[Vec<u8>], may_go: impl Fn(&Key) -> bool) -> Vec<tc_changes::Key> {
+    let (actions, objects): (Vec<_>, Vec<_>) = now.iter().partition(|dump| is_action(type_of(dump)));
+    let places = objects.into_iter().filter_map(|dump| tcmsg_of(dump));
+    let places = places.map(|it| tc_changes::Key::Place { index: it.index, parent: it.parent });
+    let own = actions.into_iter().flat_map(|dump| actions_of(dump)).map(|action| action.key());
+    places.chain(own.filter(|key| may_go(key)).filter_map(|key| action_named(&key))).collect()
+}
+
+fn action_named(key: &Key) -> Option<tc_changes::Key> {
+    let Key::Action(name, index) = key else { return None };
+    let mut kind = [0; 16];
+    kind.get_mut(..name.len())?.copy_from_slice(name.as_bytes());
+    Some(tc_changes::Key::Action { kind, index: *index })
 }
 
 // The actions of now that stay although nobody wants them.
