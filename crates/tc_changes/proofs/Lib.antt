@@ -15,3 +15,4 @@ pub mod Parted
 pub mod Steps
 pub mod Firsts
 pub mod Named
+pub mod Elsewhere

@@ -1,12 +1,12 @@
 //! Plans for a part of a state: the interfaces, blocks and actions that are named.
 
-ghost use Rattle.std.specs.Prelude.{◌≡◌, ◌++◌, [], List, map, true, IfNone, IfOk};
+ghost use Rattle.std.specs.Prelude.{◌≡◌, ◌++◌, [], List, map, true, IfErr, IfNone, IfOk, IfSome};
 ghost use Rattle.std.specs.List.{list_all};
 ghost use Rattle.tc_changes.specs.Model.{ready};
 ghost use Rattle.tc_changes.specs.Objects.{thing, things, request, same_key, IfSteps, IsSetOf};
 ghost use Rattle.tc_changes.specs.Plans as plans;
 ghost use Rattle.tc_changes.specs.Promises.{IsPlan};
-ghost use Rattle.tc_changes.specs.Scope.{around, scope_of, scopes, is_named, completed, IsWithin};
+ghost use Rattle.tc_changes.specs.Scope.{around, scope_of, scopes, is_named, completed, AreFree, IsWithin};
 ghost use Rattle.tc_changes.specs.declared.key.Key.{Key as KeyModel};
 ghost use Rattle.tc_changes.specs.declared.plan_error.PlanError.TheVariants.{OutOfMemory};
 
@@ -37,6 +37,9 @@ pub fn plan_within<A: Allocator + Copy, R: Rules<A>>(
         (completed (scopes keys.now (things want.items)) (things state.now) (things want.items)) plan) }
     // Each is about an object there.
     ensures within { IfOk result (λ plan. IfSteps plan (IsWithin (scopes keys.now (things want.items)))) }
+    // There is a plan, unless memory runs out, if the wanted state is in order, and no object elsewhere needs one that is named.
+    ensures possible { ready same_key [] (things want.items) ≡ true → AreFree (scopes keys.now (things want.items)) (things state.now)
+        → IfErr result (λ e. e ≡ OutOfMemory) }
 {
     let named = named_by(alloc, keys, &want)?;
     let all = completed(alloc, &named, state, want)?;
@@ -150,7 +153,8 @@ fn copied<A: Allocator + Copy>(alloc: A, object: &Object<A>) -> Result<Object<A>
 
 // The key of the first step of a plan that is about an object elsewhere.
 fn first_elsewhere<A: Allocator>(named: &Keys<A>, plan: &Plan<A>) -> Option<Key>
-    ensures { IfNone result ((some : List KeyModel) → IsSetOf named.now some → IfSteps plan.now (IsWithin some)) }
+    ensures within { IfNone result ((some : List KeyModel) → IsSetOf named.now some → IfSteps plan.now (IsWithin some)) }
+    ensures elsewhere { IfSome result (λ _. (some : List KeyModel) → IsSetOf named.now some → ¬ IfSteps plan.now (IsWithin some)) }
 {
     match plan {
         Plan::Steps(steps) => first_step_elsewhere(named, steps),
@@ -159,7 +163,8 @@ fn first_elsewhere<A: Allocator>(named: &Keys<A>, plan: &Plan<A>) -> Option<Key>
 }
 
 fn first_step_elsewhere<A: Allocator>(named: &Keys<A>, steps: &[Step<A>]) -> Option<Key>
-    ensures { IfNone result ((some : List KeyModel) → IsSetOf named.now some → IsWithin some (map request steps.now)) }
+    ensures within { IfNone result ((some : List KeyModel) → IsSetOf named.now some → IsWithin some (map request steps.now)) }
+    ensures elsewhere { IfSome result (λ _. (some : List KeyModel) → IsSetOf named.now some → ¬ IsWithin some (map request steps.now)) }
 {
     for step in steps {
         let key = key_of(step);

@@ -1,7 +1,11 @@
-use Rattle.std.proofs.Common.{subst}
-use Rattle.tc_changes.specs.Objects.{things, IsSetOf}
+use Rattle.std.proofs.Common.{◌≡◌, [], Some, ap, subst, ◌∙◌}
+use Rattle.std.specs.Prelude.{is_none}
+use Rattle.tc_changes.specs.Model.{ready}
+use Rattle.tc_changes.specs.Objects.{things, same_key, alike, IfSteps, IsSetOf}
+use Rattle.tc_changes.specs.Plans.{fits, IsExact, IsLeftAlone}
 use Rattle.tc_changes.specs.Promises.{IsPlan}
 use Rattle.tc_changes.specs.Scope.{scopes}
+use Rattle.tc_changes.proofs.Named.{completed_ready, plan_is_within}
 use Rattle.tc_changes.proofs.scope.plan_within.Goals as goal
 
 pub returns-clause-planned : goal.returns-clause-planned
@@ -26,5 +30,29 @@ returns-clause-planned g c =
 
 pub returns-clause-within : goal.returns-clause-within
 returns-clause-within g c =
-    c.in-None.ensures (scopes c.args.keys.now (things c.args.want.items))
+    c.in-None.ensures.within (scopes c.args.keys.now (things c.args.want.items))
     (subst (λ l. IsSetOf c.in_ok-named.named (scopes c.args.keys.now (things l))) c.deref.ensures.value c.in_ok-named.ensures)
+
+pub returns-in-Some-clause-possible : goal.returns-in-Some-clause-possible
+returns-in-Some-clause-possible g c = λ wanted free.
+    let named = scopes c.args.keys.now (things c.args.want.items) in
+    let is_set = subst (λ l. IsSetOf c.in_ok-named.named (scopes c.args.keys.now (things l))) c.deref.ensures.value c.in_ok-named.ensures in
+    let stuck : is_none (Some c.in-Some.key) ≡ ready same_key [] (things c.in_ok-all.all.items) =
+    subst (λ k. is_none k ≡ ready same_key [] (things c.in_ok-all.all.items)) c.in-Some.is
+    (subst (λ l. is_none c.in_ok-key.field-0 ≡ ready same_key [] (things l)) c.deref-2.ensures.value c.in_ok-key.ensures) in
+    absurd (cc (stuck ∙ ap (ready same_key []) (c.in_ok-all.ensures named is_set)
+    ∙ completed_ready (g.R.Rules.takes c.args.rules.now) c.args.keys.now (things c.args.state.now)
+    (things c.args.want.items) c.requires.state_ready free wanted))
+
+pub returns-in-Some-first_elsewhere-clause-possible : goal.returns-in-Some-first_elsewhere-clause-possible
+returns-in-Some-first_elsewhere-clause-possible g c = λ wanted free.
+    let state = things c.args.state.now in
+    let named = scopes c.args.keys.now (things c.args.want.items) in
+    let takes = g.R.Rules.takes c.args.rules.now in
+    let is_set = subst (λ l. IsSetOf c.in_ok-named.named (scopes c.args.keys.now (things l))) c.deref.ensures.value c.in_ok-named.ensures in
+    let all = c.in_ok-all.ensures named is_set in
+    let is = c.in_ok-plan.ensures in
+    absurd (c.in-Some-first_elsewhere.ensures.elsewhere named is_set
+    (plan_is_within takes c.args.keys.now state (things c.args.want.items) c.requires.state_ready free c.in_ok-plan.plan
+    (subst (λ w. IfSteps c.in_ok-plan.plan (λ steps. IsExact same_key state w steps)) all is.exact)
+    (subst (λ w. IfSteps c.in_ok-plan.plan (λ steps. IsLeftAlone same_key (fits alike takes) state w steps)) all is.keeps)))
