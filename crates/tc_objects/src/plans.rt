@@ -1,12 +1,13 @@
 //! The plan that leads from one state to another, and its requests.
 
-ghost use Rattle.std.specs.Prelude.{◌≡◌, [], map, true, IfOk};
+ghost use Rattle.std.specs.Prelude.{◌≡◌, [], map, true, IfErr, IfOk};
 ghost use Rattle.std.specs.List.{flat_map};
 ghost use Rattle.std.specs.HashMap as hash;
 ghost use Rattle.tc_changes.specs.Model.{ready};
 ghost use Rattle.tc_changes.specs.Objects.{things, same_key, IfSteps, IsRefused};
 ghost use Rattle.tc_changes.specs.Promises.{IsPlan};
-ghost use Rattle.tc_changes.specs.Scope.{scopes, completed};
+ghost use Rattle.tc_changes.specs.Scope.{scopes, completed, AreFree};
+ghost use Rattle.tc_changes.specs.declared.plan_error.PlanError.TheVariants.{OutOfMemory};
 ghost use Rattle.tc_objects.specs.Sent.{seen, sent};
 ghost use Rattle.tc_objects.specs.Confined.{AreWithin};
 
@@ -42,6 +43,9 @@ pub fn plan_between<A: Allocator + Copy, R: Rules<A>>(
     ensures refused { IfOk result (λ p. IsRefused p.plan → p.requests.items ≡ []) }
     // Each request is for an object there: by its type, and by the interface in its bytes.
     ensures confined { IfOk result (λ p. AreWithin (scopes keys.now (things want.objects.items)) (map seen p.requests.items)) }
+    // There is a plan, unless memory runs out, if no object elsewhere needs one that is named.
+    ensures possible { ready same_key [] (things want.objects.items) ≡ true → AreFree (scopes keys.now (things want.objects.items))
+        (things now.now.objects.items) → IfErr result (λ e. e ≡ OutOfMemory) }
 {
     let State { objects, .. } = want;
     let plan = plan_within(alloc, rules, keys, &now.objects, objects)?;
