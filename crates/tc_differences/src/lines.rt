@@ -24,7 +24,7 @@ use std::str;
 use tc_brief::{Object as Words, Said, lines_of};
 use tc_changes::{Key, Object};
 use tc_columns::{KindColumns, Root};
-use tc_objects::message_of;
+use tc_configs::message_of;
 use tc_outline::{Layout, Page, outline};
 use tc_select::kind_of;
 use tc_words::TcWords;

@@ -4,4 +4,3 @@ pub mod Put
 pub mod Adds
 pub mod Chosen
 pub mod Kept
-mod Configs

@@ -38,14 +38,14 @@ use Rattle.tc_changes.specs.declared.key.Key.TheVariants as key
 use Rattle.tc_plan.specs.Now.{named_by}
 use Rattle.tc_plan.specs.declared.fate.Named.{Named}
 use Rattle.tc_changes.proofs.Equal.{key_is, key_sym}
+use Rattle.tc_configs.specs.declared.sort.Sort.{Sort}
+use Rattle.tc_configs.specs.declared.sort.Sort.TheVariants.{Qdisc, Class, Chain, Priority, Filter, Table, Action}
 use Rattle.tc_objects.specs.Needs.{key_of, key_by}
 use Rattle.tc_objects.specs.Put.{key_at, keys_read, IsRead, Puts}
 use Rattle.tc_objects.specs.States.{action_by}
 use Rattle.tc_objects.specs.declared.reading.Reading.{Reading}
 use Rattle.tc_objects.specs.declared.reading.Readings.{Readings}
 use Rattle.tc_objects.specs.declared.shown.Shown.{Shown}
-use Rattle.tc_objects.specs.declared.shown.Sort.{Sort}
-use Rattle.tc_objects.specs.declared.shown.Sort.TheVariants.{Qdisc, Class, Chain, Priority, Filter, Table, Action}
 
 or_assoc : (a b c : Bool) → ((a || b) || c) ≡ (a || (b || c))
 or_assoc true b c = refl

@@ -9,14 +9,14 @@ use Rattle.tc_restore.specs.RestoredMessages.{kind_of_message}
 use Rattle.tc_restore.specs.declared.restore_messages.Object.{Object}
 use Rattle.tc_restore.specs.declared.restore_messages.Object.TheVariants.{Qdisc, Class, Filter, Chain}
 use Rattle.tc_restore.specs.declared.root_tables.RootTable.{RootTable}
-use Rattle.tc_plan.specs.Needs.{parent_of, actions_in}
+use Rattle.tc_plan.specs.Needs.{parent_of}
 use Rattle.tc_plan.specs.declared.key.Key.{Key as PlanKey}
 use Rattle.tc_changes.specs.Model.{among, has}
 use Rattle.tc_changes.specs.Objects.{things, same_key}
 use Rattle.tc_changes.specs.declared.key.Key.{Key}
 use Rattle.tc_changes.specs.declared.object.Object.{Object as Thing}
-use Rattle.tc_objects.specs.Config.{making_in, message_in}
-use Rattle.tc_objects.specs.Configs.{IsConfigOf, IsActionConfigOf}
+use Rattle.tc_configs.specs.Config.{making_in, message_in}
+use Rattle.tc_configs.specs.Configs.{IsConfigOf, IsActionConfigOf, actions_in}
 use Rattle.tc_objects.specs.States.{root_in, ingress_in, is_filled, is_implied, is_by_kernel, key_named, handle_named, priority_named, action_named, keys_shown}
 use Rattle.tc_objects.specs.declared.dump.Dump.{Dump}
 use Rattle.tc_objects.specs.declared.dump.Dump.TheVariants.{Of, Actions}

@@ -1,10 +1,6 @@
 pub mod Names
-pub mod Parts
-pub mod Actions
-pub mod Normal
 pub mod Needs
-pub mod Config
-pub mod Configs
+pub mod Rules
 pub mod Sent
 pub mod Confined
 pub mod States

@@ -3,9 +3,9 @@ use Rattle.std.specs.Prelude.{List, [], ◌∷◌, Option, Some, None, ◌==◌,
 use Rattle.tc_changes.specs.Objects.{same_key}
 use Rattle.tc_changes.specs.declared.key.Key.{Key}
 use Rattle.tc_changes.specs.declared.key.Key.TheVariants as key
+use Rattle.tc_configs.specs.declared.sort.Sort.{Sort}
+use Rattle.tc_configs.specs.declared.sort.Sort.TheVariants.{Qdisc, Class, Chain}
 use Rattle.tc_objects.specs.declared.shown.Shown.{Shown}
-use Rattle.tc_objects.specs.declared.shown.Sort.{Sort}
-use Rattle.tc_objects.specs.declared.shown.Sort.TheVariants.{Qdisc, Class, Chain}
 
 -- a name, and the key of the object that has it: a handle is written as that of a class; the qdisc is at its place
 abbrev pub named_by : {A : Type 0} → Sort → Shown A → Option (Key × Key)

@@ -4,9 +4,9 @@ use Rattle.std.specs.List.{flat_map}
 use Rattle.std.specs.Ordering.{int_eq}
 use Rattle.tc_changes.specs.declared.key.Key.{Key}
 use Rattle.tc_changes.specs.declared.key.Key.TheVariants as key
+use Rattle.tc_configs.specs.declared.sort.Sort.{Sort}
+use Rattle.tc_configs.specs.declared.sort.Sort.TheVariants.{Qdisc, Class, Chain, Priority, Filter, Table, Action}
 use Rattle.tc_objects.specs.declared.shown.Shown.{Shown}
-use Rattle.tc_objects.specs.declared.shown.Sort.{Sort}
-use Rattle.tc_objects.specs.declared.shown.Sort.TheVariants.{Qdisc, Class, Chain, Priority, Filter, Table, Action}
 
 -- the priority that a filter has
 abbrev pub priority_of : {A : Type 0} → Shown A → Key

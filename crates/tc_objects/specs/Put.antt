@@ -7,7 +7,6 @@ use Rattle.tc_messages.specs.declared.message.TcMessage.{TcMessage}
 use Rattle.tc_action_messages.specs.declared.attribute.TcActionMessageAttribute.{TcActionMessageAttribute}
 use Rattle.tc_restore.specs.declared.restore_messages.Object.{Object as DumpObject}
 use Rattle.tc_restore.specs.declared.root_tables.RootTable.{RootTable}
-use Rattle.tc_plan.specs.Needs.{actions_in}
 use Rattle.tc_plan.specs.declared.key.Key.{Key as PlanKey}
 use Rattle.tc_changes.specs.Model.{among}
 use Rattle.tc_changes.specs.Objects.{same_key}
@@ -15,15 +14,16 @@ use Rattle.tc_changes.specs.declared.key.Key.{Key}
 use Rattle.tc_changes.specs.declared.key.Key.TheVariants as key
 use Rattle.tc_changes.specs.declared.object.Object.{Object}
 use Rattle.tc_order.specs.declared.order.Step.{Step}
+use Rattle.tc_configs.specs.Configs.{actions_in}
+use Rattle.tc_configs.specs.declared.sort.Sort.{Sort}
+use Rattle.tc_configs.specs.declared.sort.Sort.TheVariants.{Qdisc, Class, Chain, Priority, Filter, Table, Action}
 use Rattle.tc_objects.specs.Contents.{IsShownBy, IsPriority, IsPriorityConfig, IsAction}
 use Rattle.tc_objects.specs.Needs.{key_of}
 use Rattle.tc_objects.specs.declared.dump.Dump.{Dump}
 use Rattle.tc_objects.specs.declared.reading.Reading.{Reading}
 use Rattle.tc_objects.specs.declared.reading.Readings.{Readings}
 use Rattle.tc_objects.specs.declared.shown.Shown.{Shown}
-use Rattle.tc_objects.specs.declared.shown.Sort.{Sort}
 use Rattle.tc_objects.specs.declared.state.Item.{Item}
-use Rattle.tc_objects.specs.declared.shown.Sort.TheVariants.{Qdisc, Class, Chain, Priority, Filter, Table, Action}
 
 -- the key of an object of this type, at this interface, parent, chain and priority, with this handle
 abbrev pub key_at : Sort → ℤ → ℕ → ℕ → ℕ → ℕ → Key

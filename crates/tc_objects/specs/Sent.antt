@@ -1,16 +1,13 @@
 -- The requests of a plan, as bytes.
-use Rattle.std.specs.Prelude.{ℕ, ℤ, ◌+◌, ◌*◌, ◌%◌, ◌==◌, Bool, not, List, [], ◌∷◌, ◌++◌, drop, Option, Some, None, if◌then◌else◌, unwrap_or}
+use Rattle.std.specs.Prelude.{ℕ, ℤ, ◌+◌, ◌*◌, ◌%◌, ◌==◌, Bool, List, [], ◌∷◌, ◌++◌, drop, Option, Some, None, if◌then◌else◌, unwrap_or}
 use Rattle.std.specs.Int.{cast_unsigned, w32}
-use Rattle.std.specs.List.{filter}
-use Rattle.nla_frames.specs.DefaultNla.{kept_codec}
-use Rattle.nla_frames.specs.Emission.{list_bytes}
-use Rattle.nla_frames.specs.Frame.{Frame}
 use Rattle.nla_frames.specs.Value.{le_bytes}
 use Rattle.tc_changes.specs.Objects.{KernelThing}
 use Rattle.tc_changes.specs.Requests.{Request, Make, Change, Delete}
 use Rattle.tc_changes.specs.declared.key.Key.{Key}
 use Rattle.tc_changes.specs.declared.key.Key.TheVariants as key
-use Rattle.tc_objects.specs.Config.{message_in, changing_in}
+use Rattle.tc_configs.specs.Config.{message_in, changing_in}
+use Rattle.tc_configs.specs.Frames.{frame_bytes, name_in}
 use Rattle.tc_objects.specs.declared.requests.PlanRequest.{PlanRequest}
 
 -- the key of an object, the message type, the flags, and the message after the netlink header
@@ -38,15 +35,8 @@ chain_bytes number = (8 ∷ 0 ∷ 11 ∷ 0 ∷ []) ++ le_bytes 4 number
 abbrev pub chain_if : ℕ → List ℕ
 chain_if number = if number == 0 then [] else chain_bytes number
 
-abbrev pub frame_bytes : List Frame → List ℕ
-frame_bytes frames = list_bytes kept_codec.write frames
-
 abbrev pub in_frame : List ℕ → List ℕ
 in_frame value = frame_bytes (record { word = 1; value = value } ∷ [])
-
--- the name of a kind that is padded with zeros
-abbrev pub name_in : List ℕ → List ℕ
-name_in kind = filter (λ b. not (b == 0)) kind
 
 -- `struct tcamsg`, and in a list of one action (`TCA_ACT_TAB`) its kind and its index (`TCA_ACT_KIND`, `TCA_ACT_INDEX`)
 abbrev pub action_bytes : List ℕ → ℕ → List ℕ

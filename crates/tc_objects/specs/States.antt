@@ -42,10 +42,11 @@ use Rattle.tc_restore.specs.declared.restore_messages.Object.{Object}
 use Rattle.tc_restore.specs.declared.restore_messages.Object.TheVariants.{Qdisc, Class, Filter, Chain}
 use Rattle.tc_restore.specs.declared.root_tables.RootTable.{RootTable}
 use Rattle.tc_plan.specs.Fates as plan
-use Rattle.tc_plan.specs.Needs.{parent_of, ingress_of, in_chain, has_kind, name_of, actions_in}
+use Rattle.tc_plan.specs.Needs.{parent_of, ingress_of, in_chain, has_kind, name_of}
 use Rattle.tc_plan.specs.declared.key.Key.{Key as PlanKey}
 use Rattle.tc_changes.specs.declared.key.Key.{Key}
 use Rattle.tc_changes.specs.declared.key.Key.TheVariants as key
+use Rattle.tc_configs.specs.Configs.{actions_in}
 use Rattle.tc_objects.specs.declared.dump.Dump.{Dump}
 use Rattle.tc_objects.specs.declared.dump.Dump.TheVariants.{Of, Actions}
 

@@ -1,8 +1,8 @@
 //! The classes that a filter names.
 
-use crate::frames::{frames_of, type_of};
 use nla_frames::DefaultNla;
 use std::alloc::{AllocError, Allocator};
+use tc_configs::frames::{frames_of, type_of};
 use tc_flower::TcFilterFlowerOption;
 use tc_messages::{TcAttribute, TcMessage};
 use tc_options::{TcFilterBpfOption, TcFilterMatchAllOption, TcFilterU32Option, TcOption};

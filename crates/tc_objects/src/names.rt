@@ -6,11 +6,12 @@ ghost use Rattle.tc_changes.specs.Objects.{same_key};
 ghost use Rattle.tc_changes.specs.declared.key.Key.{Key as KeyModel};
 ghost use Rattle.tc_objects.specs.Names.{named, with_name, holder};
 
-use crate::shown::{Shown, Sort};
+use crate::shown::Shown;
 use std::alloc::{AllocError, Allocator};
 use std::collections::HashMap;
 use std::hash::{BuildHasherDefault, FoldHasher};
 use tc_changes::Key;
+use tc_configs::Sort;
 
 /// The objects of a state by key: the qdisc or class of each handle, under a class's key, and each chain.
 pub type Names<A> = HashMap<Key, Key, BuildHasherDefault<FoldHasher>, A>;

@@ -8,9 +8,10 @@ ghost use Rattle.tc_changes.specs.Objects.{same_key};
 ghost use Rattle.tc_objects.specs.Needs.{key_of, priority_of, under, refers, major, above, owner, parent_class, class_named};
 
 use crate::names::Names;
-use crate::shown::{Shown, Sort};
+use crate::shown::Shown;
 use std::alloc::{AllocError, Allocator};
 use tc_changes::{Key, Object};
+use tc_configs::Sort;
 
 /// An object among those with these names. A need that is in no dump has a name that no object has, so a state with it has no
 /// order (`is_ready`).

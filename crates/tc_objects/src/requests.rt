@@ -6,16 +6,17 @@ ghost use Rattle.std.specs.HashMap as hash;
 ghost use Rattle.nla_frames.specs.Value.{le_bytes};
 ghost use Rattle.tc_changes.specs.Objects.{request, same_key};
 ghost use Rattle.tc_changes.specs.declared.key.Key.{Key as KeyModel};
+ghost use Rattle.tc_configs.specs.Frames.{frame_bytes};
 ghost use Rattle.tc_objects.specs.Sent.{seen, sent, sent_by, new_type, message_by, addressed, front, header_bytes, chain_bytes, chain_if, deleted};
-ghost use Rattle.tc_objects.specs.Sent.{action_bytes, frame_bytes, name_in};
+ghost use Rattle.tc_objects.specs.Sent.{action_bytes};
 
-use crate::config::{changing, read};
-use crate::frames::{after, framed};
 use nla_frames::{DefaultNla, i32_bytes, u32_bytes};
 use std::alloc::{AllocError, Allocator};
 use std::collections::HashMap;
 use std::hash::{BuildHasherDefault, FoldHasher};
 use tc_changes::{Key, Step};
+use tc_configs::config::{changing, read};
+use tc_configs::frames::{after, framed, name_in};
 use tc_restore::NEW_FLAGS;
 
 /// A request of a plan.
@@ -298,17 +299,4 @@ fn in_frame<A: Allocator + Copy>(alloc: A, value: Vec<u8, A>) -> Result<Vec<u8, 
     let mut frames = Vec::with_capacity(alloc, 1)?;
     frames.push(DefaultNla::new(1, value))?;
     framed(alloc, &frames)
-}
-
-/// A kind without the zeros in it.
-pub(crate) fn name_in<A: Allocator>(alloc: A, kind: &[u8]) -> Result<Vec<u8, A>, AllocError>
-    ensures { IfOk result (λ made. made.items ≡ name_in kind.now) }
-{
-    let mut name = Vec::new(alloc);
-    for byte in kind {
-        if *byte != 0 {
-            name.push(*byte)?;
-        }
-    }
-    Ok(name)
 }

@@ -3,11 +3,11 @@
 ghost use Rattle.std.specs.Prelude.{◌≡◌, nat_eq};
 ghost use Rattle.std.specs.List.{list_all, list_any};
 ghost use Rattle.tc_changes.specs.Objects.{same_key, thing};
-ghost use Rattle.tc_objects.specs.Config.{takes, configs_fit, fits_by, needs_fit, can_make, shares, is_action};
+ghost use Rattle.tc_objects.specs.Rules.{takes, configs_fit, fits_by, needs_fit, can_make, shares, is_action};
 
-use crate::config::{CHANGED, MADE, read};
 use std::alloc::Allocator;
 use tc_changes::{Key, Object, Rules};
+use tc_configs::config::{CHANGED, MADE, read};
 
 /// The objects that a kernel makes, and the changes that it makes in place, for each kind.
 #[derive(Clone, Copy, Drop, Debug)]
@@ -39,7 +39,7 @@ fn configs_fit(old: &[u8], new: &[u8]) -> bool
 }
 
 // The same of the parts of configurations.
-#[tactic(auto, unfolding(crate::specs::Config::fits_by))]
+#[tactic(auto, unfolding(crate::specs::Rules::fits_by))]
 fn fits_by(
     was: u8,
     is: u8,

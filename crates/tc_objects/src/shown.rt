@@ -2,25 +2,7 @@
 
 use std::alloc::Allocator;
 use tc_changes::Key;
-
-/// The type of a dumped object.
-#[derive(Clone, Copy, PartialEq, Eq, Drop, Debug)]
-pub enum Sort {
-    /// A qdisc.
-    Qdisc,
-    /// A class.
-    Class,
-    /// A chain of filters.
-    Chain,
-    /// A priority of a chain, which has one kind of filters and one protocol.
-    Priority,
-    /// A filter.
-    Filter,
-    /// A hash table of u32.
-    Table,
-    /// An action of this kind, padded with zeros.
-    Action([u8; 16]),
-}
+use tc_configs::Sort;
 
 /// An object as its dump shows it: itself, and the numbers by which it names others.
 #[derive(Drop, Debug)]

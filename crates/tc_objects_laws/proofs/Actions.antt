@@ -12,10 +12,10 @@ use Rattle.tc_restore.specs.Numbers.{number_at}
 use Rattle.tc_restore.specs.RestoredTrees.{among}
 use Rattle.tc_restore.specs.Uses.{parameters, use_at, goes_to_chain, is_private}
 use Rattle.tc_restore.specs.declared.uses.Use.{Use}
-use Rattle.tc_objects.specs.Actions.{is_none_of, kind_in, kind_among, counts_of_action, times_of_action, index_normal, record_normal, parameters_normal}
-use Rattle.tc_objects.specs.Actions.{options_normal, attribute_normal, attributes_normal, action_normal, actions_normal, list_normal}
-use Rattle.tc_objects.specs.Parts.{put, with_value}
-use Rattle.tc_objects.specs.Sent.{name_in}
+use Rattle.tc_configs.specs.Actions.{is_none_of, kind_in, kind_among, counts_of_action, times_of_action, index_normal, record_normal, parameters_normal}
+use Rattle.tc_configs.specs.Actions.{options_normal, attribute_normal, attributes_normal, action_normal, actions_normal, list_normal}
+use Rattle.tc_configs.specs.Parts.{put, with_value}
+use Rattle.tc_configs.specs.Frames.{name_in}
 use Rattle.tc_objects_laws.proofs.Changes.{IsValueChange, IsFrameChange, IsListChange, no-change, one-of, of-values, of-each, of-kept, of-frames}
 use Rattle.tc_objects_laws.proofs.Values.{either, length-put, put-again, IsBytes-put, zeros4, more-zeros}
 

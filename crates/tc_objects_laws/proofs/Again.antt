@@ -7,12 +7,12 @@ use Rattle.nla_frames.specs.Value.{IsBytes}
 use Rattle.nla_frames.specs.Frame.{Frame, type_of}
 use Rattle.nla_frames.proofs.Bytes.{IsBytes-drop}
 use Rattle.tc_restore.specs.RestoredTrees.{among}
-use Rattle.tc_objects.specs.Actions.{actions_normal, list_normal}
-use Rattle.tc_objects.specs.Normal.{value_normal, is_list, is_schedule, schedule_normal, value_by, option_normal}
-use Rattle.tc_objects.specs.Normal.{is_padding, counts_of, is_kept, before_options, options_normal}
-use Rattle.tc_objects.specs.Normal.{has_such, has_list, attribute_normal, counts_of_message, is_set, normal_by, action_dump_normal}
-use Rattle.tc_objects.specs.Parts.{frames_in}
-use Rattle.tc_objects.specs.Sent.{frame_bytes}
+use Rattle.tc_configs.specs.Actions.{actions_normal, list_normal}
+use Rattle.tc_configs.specs.Normal.{value_normal, is_list, is_schedule, schedule_normal, value_by, option_normal}
+use Rattle.tc_configs.specs.Normal.{is_padding, counts_of, is_kept, before_options, options_normal}
+use Rattle.tc_configs.specs.Normal.{has_such, has_list, attribute_normal, counts_of_message, is_set, normal_by, action_dump_normal}
+use Rattle.tc_configs.specs.Parts.{frames_in}
+use Rattle.tc_configs.specs.Frames.{frame_bytes}
 use Rattle.tc_objects_laws.proofs.Actions.{of-actions, of-list}
 use Rattle.tc_objects_laws.proofs.Changes.{IsValueChange, IsFrameChange, IsListChange, no-change, one-of, of-values, of-each, of-kept, of-filter, of-frames, again-in}
 use Rattle.tc_objects_laws.proofs.Frames.{length-frames_in, with_changed}

@@ -10,8 +10,8 @@ use Rattle.nla_frames.specs.Frame.{Frame, IsWireFrame, padding, frame_length}
 use Rattle.nla_frames.specs.DefaultNla.{kept_codec}
 use Rattle.nla_frames.proofs.Bytes.{IsBytes-append, IsBytes-take, IsBytes-drop}
 use Rattle.nla_frames.proofs.CutFrames.{IsBytes-list_bytes}
-use Rattle.tc_objects.specs.Parts.{frames_in, with_value}
-use Rattle.tc_objects.specs.Sent.{frame_bytes}
+use Rattle.tc_configs.specs.Parts.{frames_in, with_value}
+use Rattle.tc_configs.specs.Frames.{frame_bytes}
 use Rattle.tc_objects_laws.proofs.Frames.{AreWire, AreWire-frames_in, length-frames, length-frames_in, frame_bytes-nil, drop-short, frames_in-nil}
 use Rattle.tc_objects_laws.proofs.Frames.{with_changed, with_changed-again}
 

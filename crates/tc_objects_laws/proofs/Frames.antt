@@ -18,8 +18,8 @@ use Rattle.nla_frames.proofs.KeptLaws.{kept_laws}
 use Rattle.nla_frames.proofs.ListLaws.{cut-written, ReadInTurn-read_list, read_list-ReadInTurn}
 use Rattle.nla_frames.proofs.ReadEach.{ReadInTurn}
 use Rattle.tc_restore.specs.FilterActions.{or_none}
-use Rattle.tc_objects.specs.Parts.{frames_in}
-use Rattle.tc_objects.specs.Sent.{frame_bytes}
+use Rattle.tc_configs.specs.Parts.{frames_in}
+use Rattle.tc_configs.specs.Frames.{frame_bytes}
 
 abbrev pub AreWire : List Frame → Type 0
 AreWire fs = AllByRecursion IsWireFrame fs

@@ -5,8 +5,8 @@ use Rattle.std.proofs.lemmas.Bool.{eqb-true, leb-true}
 use Rattle.std.proofs.lemmas.List.{length-append, length-drop, length-take-le, take_at, drop_at, drop-drop}
 use Rattle.nla_frames.specs.Value.{IsBytes}
 use Rattle.nla_frames.proofs.Bytes.{IsBytes-nil, IsBytes-cons, IsBytes-append, IsBytes-take, IsBytes-drop}
-use Rattle.tc_objects.specs.Normal.{is_inner, value_normal}
-use Rattle.tc_objects.specs.Parts.{put}
+use Rattle.tc_configs.specs.Normal.{is_inner, value_normal}
+use Rattle.tc_configs.specs.Parts.{put}
 
 -- what is so of both is so of the one that is chosen
 pub either : {X : Type 0} (P : X → Type 0) (b : Bool) (x y : X) → P x → P y → P (if b then x else y)

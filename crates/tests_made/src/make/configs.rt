@@ -4,8 +4,8 @@ use nla_frames::ParseableBytes;
 use std::alloc::Global;
 use std::test::Fail;
 use tc_action_messages::{TcActionMessage, TcActionMessageAttribute};
-use tc_objects::requested::config_of_action;
-use tc_objects::{Sort, config_of, message_of};
+use tc_configs::requested::config_of_action;
+use tc_configs::{Sort, config_of, message_of};
 use tc_restore::Object;
 use tc_wire::TcMessage;
 

@@ -1,7 +1,7 @@
 use Rattle.std.proofs.Common.{◌≡◌, ◌||◌, sym, subst, ◌∙◌}
 use Rattle.std.specs.HashSet as bag
 use Rattle.tc_plan.specs.Fates as plan
-use Rattle.tc_objects.specs.Configs.{IsConfigOf}
+use Rattle.tc_configs.specs.Configs.{IsConfigOf}
 use Rattle.tc_objects.specs.States.{handle_named, is_implied, is_by_kernel}
 use Rattle.tc_objects.proofs.Adds.{adds_priority, adds_itself}
 use Rattle.tc_objects.proofs.Put.{puts_without, puts_with}

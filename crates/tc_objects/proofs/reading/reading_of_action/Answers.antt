@@ -1,6 +1,6 @@
 use Rattle.std.proofs.Common.{sym, subst}
 use Rattle.std.specs.Prelude.{IfSome}
-use Rattle.tc_objects.specs.Configs.{IsActionConfigOf}
+use Rattle.tc_configs.specs.Configs.{IsActionConfigOf}
 use Rattle.tc_objects.proofs.reading.reading_of_action.Goals as goal
 
 pub returns-clause-config : goal.returns-clause-config

@@ -1,6 +1,6 @@
 use Rattle.std.proofs.Common.{◌≡◌, sym, ap, subst, ◌∙◌}
 use Rattle.std.specs.Prelude.{IfSome}
-use Rattle.tc_objects.specs.Configs.{IsConfigOf}
+use Rattle.tc_configs.specs.Configs.{IsConfigOf}
 use Rattle.tc_objects.specs.States.{handle_named}
 use Rattle.tc_objects.proofs.Put.{of_parts}
 use Rattle.tc_objects.proofs.reading.shown_of.Goals as goal

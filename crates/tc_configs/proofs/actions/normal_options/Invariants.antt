@@ -1,0 +1,12 @@
+use Rattle.std.proofs.Common.{◌≡◌, ◌++◌, map}
+use Rattle.std.specs.List.{filter}
+use Rattle.std.specs.Vec.Iter.{into_iter_items}
+use Rattle.nla_frames.specs.DefaultNla.{kept_frame}
+use Rattle.tc_configs.specs.Actions.{option_normal, times_of_action, is_none_of}
+use Rattle.tc_configs.proofs.actions.normal_options.Given as goal
+
+abbrev pub invariant-loop-frame : goal.invariant-loop-frame
+invariant-loop-frame g l =
+    map kept_frame l.made.items
+    ++ map (option_normal l.kind) (filter (is_none_of (times_of_action l.kind)) (map kept_frame (into_iter_items l.frame-iterator)))
+    ≡ map (option_normal l.kind) (filter (is_none_of (times_of_action l.kind)) (map kept_frame l.fn.frames.items))

@@ -1,0 +1,11 @@
+use Rattle.std.proofs.Common.{◌≡◌, ◌∷◌, ◌++◌, [], map}
+use Rattle.std.specs.List.{filter}
+use Rattle.std.specs.Vec.Iter.{into_iter_items}
+use Rattle.nla_frames.specs.DefaultNla.{kept_frame}
+use Rattle.tc_configs.specs.Actions.{is_none_of}
+use Rattle.tc_configs.proofs.normal.without_padding.Given as goal
+
+abbrev pub invariant-loop-frame : goal.invariant-loop-frame
+invariant-loop-frame g l =
+    map kept_frame l.made.items ++ filter (is_none_of (6 ∷ [])) (map kept_frame (into_iter_items l.frame-iterator))
+    ≡ filter (is_none_of (6 ∷ [])) (map kept_frame l.fn.frames.items)
