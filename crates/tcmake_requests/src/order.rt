@@ -15,7 +15,7 @@ use forms_json::Tables;
 use nla_frames::{NLA_TYPE_MASK, Nla, ParseableBytes};
 use program_io::{Stop, write_text};
 use std::alloc::{AllocError, Global};
-use std::io::{BufRead, Write};
+use std::io::Write;
 use tc_action_messages::{TcActionMessage, TcActionMessageAttribute};
 use tc_actions::{TcAction, TcActionAttribute};
 use tc_messages::TcMessage;
