@@ -1,4 +1,3 @@
-mod Complaints
 mod Planned
 mod Runs
 mod InOrder

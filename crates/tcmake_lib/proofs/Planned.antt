@@ -16,9 +16,10 @@ use Rattle.tc_objects.specs.Contents.{IsStateOf}
 use Rattle.tc_objects.specs.States.{IsOfNow, IsRenaming, dump_renamed}
 use Rattle.tc_objects.specs.declared.dump.Dump.{Dump}
 use Rattle.tc_objects.specs.declared.state.State.{State}
-use Rattle.tcmake_lib.specs.Planned.{IsPlanned, IsPlannedFrom, IsWanted, Message, ShownBy, has_complaint, is_complaint}
-use Rattle.tcmake_lib.specs.declared.lines.Remark.{Remark}
-use Rattle.tcmake_lib.specs.declared.order.LineRequest.{LineRequest}
+use Rattle.tcmake_lib.specs.Planned.{IsPlanned, IsPlannedFrom, IsWanted, ShownBy}
+use Rattle.tcmake_requests.specs.Dumps.{Message, has_complaint, is_complaint}
+use Rattle.tcmake_requests.specs.declared.lines.Remark.{Remark}
+use Rattle.tcmake_requests.specs.declared.order.LineRequest.{LineRequest}
 
 pub neither : (a b : Bool) → (a || b) ≡ false → (a ≡ false) × (b ≡ false)
 neither true b none = absurd (false≢true (sym none))

@@ -3,7 +3,7 @@ use Rattle.std.proofs.Common.{◌≡◌, ◌≢◌, List, ℕ, refl}
 use Rattle.std.specs.Prelude.{Option, ℤ}
 use Rattle.forms_values.specs.declared.form.Form.{Form}
 use Rattle.forms_values.specs.Tables.{Table}
-use Rattle.tcmake_lib.specs.Requests.{IsNothing, IsRequest, IsUnmade, Makes, Passes, Refuses}
+use Rattle.tcmake_requests.specs.Requests.{IsNothing, IsRequest, IsUnmade, Makes, Passes, Refuses}
 use Rattle.tcmake_lines.specs.declared.netlink.NetlinkHeader.{NetlinkHeader}
 use Rattle.tcmake_messages.specs.Answer.{IsAnswer, IsMessage, IsRefused}
 use Rattle.tcmake_messages.specs.declared.making.Making.{Making}

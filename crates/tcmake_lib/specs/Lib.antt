@@ -1,6 +1,2 @@
-pub mod Complaints
-pub mod Written
-pub mod Restored
-pub mod Requests
 pub mod Planned
 pub mod InOrder

@@ -1,9 +1,8 @@
 -- The requests of a plan between what dumps show now and what dumps show that is wanted.
-use Rattle.std.specs.Prelude.{◌≡◌, ◌≢◌, ℕ, ℤ, Bool, true, false, List, [], map, Option, Some, None, All, bit_and}
-use Rattle.std.specs.List.{AllZip, flat_map, list_any}
+use Rattle.std.specs.Prelude.{◌≡◌, ℕ, ℤ, Bool, true, List, [], map, Option, Some, None, bit_and}
+use Rattle.std.specs.List.{AllZip, flat_map}
 use Rattle.std.specs.HashMap as hash
 use Rattle.std.specs.declared.alloc.Global.{Global}
-use Rattle.std.specs.declared.vec.Vec.{Vec}
 use Rattle.tc_action_messages.specs.ActionMessage.{action_message}
 use Rattle.tc_changes.specs.Model.{ready, has, among}
 use Rattle.tc_changes.specs.Objects.{KernelThing, things, same_key, IfSteps, IsRefused}
@@ -22,37 +21,12 @@ use Rattle.tc_objects.specs.declared.dump.Dump.TheVariants.{Of, Actions}
 use Rattle.tc_objects.specs.declared.plans.Planned.{Planned}
 use Rattle.tc_objects.specs.declared.requests.PlanRequest.{PlanRequest}
 use Rattle.tc_objects.specs.declared.state.State.{State}
-use Rattle.tcmake_lib.specs.Restored.{IsDumpOf}
-use Rattle.tcmake_lib.specs.declared.lines.Dumped.{Dumped}
-use Rattle.tcmake_lib.specs.declared.lines.Remark.{Remark}
-use Rattle.tcmake_lib.specs.declared.lines.RemarkKind.{RemarkKind}
-use Rattle.tcmake_lib.specs.declared.lines.RemarkKind.TheVariants.{Complaint}
-use Rattle.tcmake_lib.specs.declared.order.LineRequest.{LineRequest}
-use Rattle.tcmake_lib.specs.declared.restore.Dump.TheVariants as types
-use Rattle.tcmake_lines.specs.declared.netlink.NetlinkHeader.{NetlinkHeader}
-
--- ---- complaints
-
-abbrev pub is_complaint : RemarkKind → Bool
-is_complaint Complaint = true
-is_complaint kind = false
-
-abbrev pub has_complaint : List Remark → Bool
-has_complaint remarks = list_any (λ r. is_complaint r.kind) remarks
+use Rattle.tcmake_requests.specs.Dumps.{Message}
+use Rattle.tcmake_requests.specs.Restored.{IsDumpOf}
+use Rattle.tcmake_requests.specs.declared.order.LineRequest.{LineRequest}
+use Rattle.tcmake_requests.specs.declared.restore.Dump.TheVariants as types
 
 -- ---- dumps
-
--- a netlink message: its header, and the bytes after that
-abbrev pub Message : Type 0
-Message = NetlinkHeader × List ℕ
-
--- what was given as a header and bytes
-abbrev pub given_as : NetlinkHeader × Vec ℕ Global → Message
-given_as m = (m.0, m.1.items)
-
--- what a line shows
-abbrev pub shown_by : Dumped → Message
-shown_by line = (line.made.given, line.made.bytes.items)
 
 -- a message is of the type of this dump, and its bytes read as that
 abbrev pub Reads : Message → Dump Global → Type 0

@@ -9,14 +9,8 @@
 #![tactic(auto)]
 
 pub mod arguments;
-mod complaint;
-pub mod interfaces;
-pub mod lines;
-mod names;
-mod now;
 pub mod order;
+mod plan_complaint;
 pub mod plans;
 pub mod program;
-mod restore;
 pub mod run;
-mod save;

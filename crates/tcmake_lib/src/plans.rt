@@ -13,22 +13,14 @@ ghost use Rattle.tcmake_lib.specs.Planned.{
   IsDumpIn,
   IsPlanned,
   IsPlannedFrom,
-  Message,
   ShownBy,
   Shows,
-  given_as,
-  has_complaint,
   planned_as,
   requested_as,
-  shown_by,
 };
+ghost use Rattle.tcmake_requests.specs.Dumps.{Message, given_as, has_complaint, shown_by};
 
-use crate::complaint::Complaint;
-use crate::lines::{
-    Dumped, Lines, Reading, Remark, Source, complain, has_complaint, lines_of, read_lines,
-};
-use crate::order::{LineRequest, Restored};
-use crate::restore::{Dump, dump_of};
+use crate::plan_complaint::PlanComplaint;
 use forms_json::Tables;
 use nla_frames::ParseableBytes;
 use program_io::Stop;
@@ -47,6 +39,12 @@ use tc_objects::{
 use tc_restore::RTM_NEWACTION;
 use tcmake_lines::{NetlinkHeader, packet_at};
 use tcmake_messages::{Forms, Made};
+use tcmake_requests::complaint::Complaint;
+use tcmake_requests::lines::{
+    Dumped, Lines, Reading, Remark, Source, complain, has_complaint, lines_of, read_lines, say_all,
+};
+use tcmake_requests::order::{LineRequest, Restored};
+use tcmake_requests::restore::{Dump, dump_of};
 
 // The number of the line of each object.
 type Numbers = HashMap<Key, u64, BuildHasherDefault<FoldHasher>, Global>;
@@ -266,7 +264,7 @@ fn requests_to<R: Rules<Global>>(
         Err(PlanError::OutOfMemory) => Err(AllocError),
         Err(PlanError::Elsewhere(key)) => {
             let number = was.get(&key).copied().unwrap_or(0);
-            let complaint = Complaint::Elsewhere(Label(key));
+            let complaint = PlanComplaint::Elsewhere(Label(key));
             complain(alloc, Source::Now, number, &complaint, remarks)?;
             Ok(Vec::new(alloc))
         }
@@ -347,16 +345,6 @@ fn state_in(
     state_by(alloc, source, there, parsed, remarks)
 }
 
-/// More remarks.
-pub(crate) fn say_all(said: Vec<Remark>, remarks: &mut Vec<Remark>) -> Result<(), AllocError>
-    ensures { IfOk result (λ _. remarks.new.items ≡ remarks.old.items ++ said.items) }
-{
-    for remark in said {
-        remarks.push(remark)?;
-    }
-    Ok(())
-}
-
 // The dumps of lines. A line that has none is wrong.
 fn parsed_dumps(
     alloc: Global,
@@ -429,7 +417,7 @@ fn state_by(
         Err(StateError::OutOfMemory) => Err(AllocError),
         Err(error) => {
             let number = number_at(&numbers, error.place());
-            complain(alloc, source, number, &Complaint::State(error), remarks)?;
+            complain(alloc, source, number, &PlanComplaint::State(error), remarks)?;
             Ok(None)
         }
     }
@@ -523,7 +511,7 @@ fn say_unmade(
 {
     for key in keys {
         let number = is.get(key).copied().unwrap_or(0);
-        let complaint = Complaint::Unmade(Label(*key));
+        let complaint = PlanComplaint::Unmade(Label(*key));
         complain(alloc, Source::Wanted, number, &complaint, remarks)?;
     }
     Ok(())

@@ -4,8 +4,8 @@ ghost use Rattle.std.specs.Prelude.{◌≡◌, ◌≢◌, Err, IfErr, OnOk};
 ghost use Rattle.std.specs.Io.Buffered.{reader_inner};
 ghost use Rattle.program_io.specs.Streams.{Shows, read_failure, write_failure, writer_inside};
 ghost use Rattle.program_io.specs.declared.stop.Stop.TheVariants.{Closed, NoMemory};
-ghost use Rattle.tcmake_lib.specs.InOrder.{IsInOrder, RanInOrder, RanPartlyInOrder, of_dumps};
-ghost use Rattle.tcmake_lib.specs.Requests.{IsLineByLine, Makes, Passes, Refuses};
+ghost use Rattle.tcmake_lib.specs.InOrder.{IsInOrder, IsLineByLine, RanInOrder, RanPartlyInOrder, of_dumps};
+ghost use Rattle.tcmake_requests.specs.Requests.{Makes, Passes, Refuses};
 ghost use Rattle.tcmake_lines.specs.Lines.{left_in};
 ghost use Rattle.tcmake_lines.specs.Parts.{Ran, RanOn, RanPartly};
 

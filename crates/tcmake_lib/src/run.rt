@@ -4,18 +4,15 @@ ghost use Rattle.std.specs.Prelude.{◌≡◌, ◌≢◌, Err, IfErr, IfOk, IsTr
 ghost use Rattle.std.specs.Io.Buffered.{reader_inner};
 ghost use Rattle.program_io.specs.Streams.{Shows, read_failure, write_failure, writer_inside};
 ghost use Rattle.program_io.specs.declared.stop.Stop.TheVariants.{Closed, NoMemory};
-ghost use Rattle.tcmake_lib.specs.Complaints.{IsAnswerFor, Says};
-ghost use Rattle.tcmake_lib.specs.InOrder.{IsInOrder, RanInOrder, RanPartlyInOrder};
-ghost use Rattle.tcmake_lib.specs.Requests.{IsLineByLine, IsNothing, IsRequest, IsUnmade, Makes, Passes, Refuses};
+ghost use Rattle.tcmake_lib.specs.InOrder.{IsInOrder, IsLineByLine, RanInOrder, RanPartlyInOrder};
 ghost use Rattle.tcmake_messages.specs.declared.making.Making.TheVariants.{Restored};
+ghost use Rattle.tcmake_requests.specs.Complaints.{IsAnswerFor, Says};
+ghost use Rattle.tcmake_requests.specs.Requests.{IsNothing, IsRequest, IsUnmade, Makes, Passes, Refuses};
 ghost use Rattle.tcmake_lines.specs.Lines.{left_in};
 ghost use Rattle.tcmake_lines.specs.Parts.{Ran, RanOn, RanPartly};
 
 use crate::arguments::Request;
-use crate::complaint::Complaint;
-use crate::lines::dump_in_line;
-use crate::order::{Asked, MADE_BY_ANOTHER, restore_in_order};
-use crate::restore::restored;
+use crate::order::{Asked, restore_in_order};
 use forms_json::Tables;
 use program_io::{Ended, Reader, Writer, shown_reason};
 use std::alloc::{AllocError, Global};
@@ -23,6 +20,10 @@ use std::io::{BufReader, Read, Write};
 use tcmake_lines::run::run as run_lines;
 use tcmake_lines::{Answer, Maker};
 use tcmake_messages::{Forms, Made, Making, MessageMaker, notices_of};
+use tcmake_requests::complaint::Complaint;
+use tcmake_requests::lines::dump_in_line;
+use tcmake_requests::order::MADE_BY_ANOTHER;
+use tcmake_requests::restore::restored;
 
 /// Makes messages of all lines of an input. Complaints, and what was settled, are written to `errors`.
 pub fn run<T: Tables, R: Read, W: Write, E: Write>(

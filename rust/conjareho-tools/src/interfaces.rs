@@ -3,7 +3,7 @@
 
 use crate::tc_columns::{KindColumns, Root};
 use crate::tc_lines::{Column, Columns, Display};
-use crate::tcmake_lib::interfaces::{META_NUMBER, OF_META, Side};
+use crate::tcmake_requests::interfaces::{META_NUMBER, OF_META, Side};
 use ::serde_json::Value;
 use std::collections::BTreeSet;
 

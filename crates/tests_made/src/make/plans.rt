@@ -11,10 +11,11 @@ use tc_capture::{MessageType, Time};
 use tc_changes::Key;
 use tc_objects::KindRules;
 use tcmake_lib::arguments::{Request, arguments_of};
-use tcmake_lib::order::{Asked, LineRequest};
+use tcmake_lib::order::Asked;
 use tcmake_lib::plans::plan_of_dumps;
 use tcmake_lib::program::serve_asked;
 use tcmake_lines::{NetlinkHeader, packet_at};
+use tcmake_requests::order::LineRequest;
 
 const CAKE_10: &str =
     r#"{"type":"RTM_NEWQDISC","flags":0,"message":{"header":{"family":"Unspec","index":1,"handle":"1:","parent":"root","info":2},"attributes":[{"Kind":"cake"},{"Options":[{"Cake":{"BaseRate64":1250000}},{"Cake":{"Autorate":0}}]}]}}

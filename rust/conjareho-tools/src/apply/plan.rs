@@ -12,8 +12,8 @@ use crate::tc_changes::{self, Rules};
 use crate::tc_messages::TcMessage;
 use crate::tc_objects::KindRules;
 use crate::tc_restore::{Object, request_of, request_of_actions};
-use crate::tcmake_lib::lines::{Remark, RemarkKind, Source};
 use crate::tcmake_lib::plans::plan_of_dumps;
+use crate::tcmake_requests::lines::{Remark, RemarkKind, Source};
 use std::collections::{BTreeMap, BTreeSet};
 
 const RTM_DELTFILTER: u16 = RTM_NEWTFILTER + 1;

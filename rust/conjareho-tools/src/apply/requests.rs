@@ -5,10 +5,11 @@ use crate::forms_kinds::{ACTION_MESSAGE, TC_MESSAGE, TcTables};
 use crate::netlink::message::{Header, header_of, is_action};
 use crate::program_io::Stop;
 use crate::tc_capture::{MessageType, Time};
-use crate::tcmake_lib::lines::RemarkKind;
-use crate::tcmake_lib::order::{Asked as Lines, Restored, requests_of, requests_of_dumps};
+use crate::tcmake_lib::order::{Asked as Lines, requests_of};
 use crate::tcmake_lines::{NetlinkHeader, packet_at};
 use crate::tcmake_messages::Forms;
+use crate::tcmake_requests::lines::RemarkKind;
+use crate::tcmake_requests::order::{Restored, requests_of_dumps};
 use std::collections::BTreeSet;
 
 /// The head of a save, a line before those that complaints number.

@@ -2,8 +2,8 @@ use Rattle.std.proofs.Common.{◌∙◌, ◌||◌, ap, subst}
 use Rattle.std.proofs.lemmas.Result.{err_from_is_err_and, on_ok_weaker}
 use Rattle.std.specs.Prelude.{◌≢◌, IfErr, OnOk}
 use Rattle.program_io.specs.declared.stop.Stop.TheVariants.{NoMemory}
-use Rattle.tcmake_lib.specs.InOrder.{WritesAll, WritesSome}
-use Rattle.tcmake_lib.specs.Planned.{has_complaint}
+use Rattle.tcmake_requests.specs.Written.{WritesAll, WritesSome}
+use Rattle.tcmake_requests.specs.Dumps.{has_complaint}
 use Rattle.tcmake_lib.proofs.InOrder.{if_err_weaker, run_all, run_none, run_some, run_void}
 use Rattle.tcmake_lib.proofs.order.restore_in_order.Goals as goal
 

@@ -1,6 +1,7 @@
 use Rattle.std.proofs.Common.{◌≡◌, ◌∷◌, ◌++◌, ◌+◌, ◌∙◌, [], map, take, ap, sym, subst}
 use Rattle.std.proofs.lemmas.List.{take_more, map-append}
-use Rattle.tcmake_lib.specs.Planned.{AreDumps, shown_by}
+use Rattle.tcmake_lib.specs.Planned.{AreDumps}
+use Rattle.tcmake_requests.specs.Dumps.{shown_by}
 use Rattle.tcmake_lib.proofs.plans.parsed_dumps.Goals as goal
 
 pub loop-dump-preserved : goal.loop-dump-preserved

@@ -1,5 +1,6 @@
 use Rattle.std.proofs.Common.{◌≡◌, false, map, take}
-use Rattle.tcmake_lib.specs.Planned.{AreDumps, has_complaint, shown_by}
+use Rattle.tcmake_lib.specs.Planned.{AreDumps}
+use Rattle.tcmake_requests.specs.Dumps.{has_complaint, shown_by}
 use Rattle.tcmake_lib.proofs.plans.parsed_dumps.Given as goal
 
 abbrev pub invariant-loop-dump : goal.invariant-loop-dump

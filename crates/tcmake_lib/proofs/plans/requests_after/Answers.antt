@@ -1,5 +1,6 @@
 use Rattle.std.proofs.Common.{Some, map}
-use Rattle.tcmake_lib.specs.Planned.{ShownBy, shown_by}
+use Rattle.tcmake_lib.specs.Planned.{ShownBy}
+use Rattle.tcmake_requests.specs.Dumps.{shown_by}
 use Rattle.tcmake_lib.proofs.plans.requests_after.Goals as goal
 
 pub returns-in_ok-requests_to-in-Some-clause-planned : goal.returns-in_ok-requests_to-in-Some-clause-planned

@@ -1,5 +1,5 @@
 use Rattle.std.proofs.Common.{map}
-use Rattle.tcmake_lib.specs.Planned.{has_complaint, shown_by}
+use Rattle.tcmake_requests.specs.Dumps.{has_complaint, shown_by}
 use Rattle.tcmake_lib.proofs.Planned.{planned_from}
 use Rattle.tcmake_lib.proofs.plans.requests_between.Goals as goal
 

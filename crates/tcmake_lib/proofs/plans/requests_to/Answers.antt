@@ -1,5 +1,5 @@
 use Rattle.tc_changes.specs.Objects.{IsRefused}
-use Rattle.tcmake_lib.specs.Planned.{has_complaint}
+use Rattle.tcmake_requests.specs.Dumps.{has_complaint}
 use Rattle.tcmake_lib.proofs.Planned.{steps_unless}
 use Rattle.tcmake_lib.proofs.plans.requests_to.Goals as goal
 

@@ -1,5 +1,5 @@
 use Rattle.std.proofs.Common.{◌≡◌, ◌<◌, false, true}
-use Rattle.tcmake_lib.specs.Planned.{has_complaint}
+use Rattle.tcmake_requests.specs.Dumps.{has_complaint}
 use Rattle.tcmake_lib.proofs.plans.say_unmade.Given as goal
 
 abbrev pub invariant-loop-key : goal.invariant-loop-key

@@ -1,6 +1,6 @@
 use Rattle.std.proofs.Common.{◌∙◌, ap, sym}
 use Rattle.std.proofs.lemmas.Result.{IfOk-weaker}
-use Rattle.tcmake_lib.specs.Planned.{has_complaint}
+use Rattle.tcmake_requests.specs.Dumps.{has_complaint}
 use Rattle.tcmake_lib.proofs.Planned.{none_of_both}
 use Rattle.tcmake_lib.proofs.plans.state_in.Goals as goal
 

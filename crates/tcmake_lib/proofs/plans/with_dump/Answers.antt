@@ -1,6 +1,7 @@
 use Rattle.std.proofs.Common.{◌∷◌, ◌++◌, [], sym, subst}
 use Rattle.std.proofs.lemmas.Result.{IfOk-weaker}
-use Rattle.tcmake_lib.specs.Planned.{AreDumps, IsDumpIn, shown_by}
+use Rattle.tcmake_lib.specs.Planned.{AreDumps, IsDumpIn}
+use Rattle.tcmake_requests.specs.Dumps.{shown_by}
 use Rattle.tcmake_lib.proofs.Planned.{AllZip-more}
 use Rattle.tcmake_lib.proofs.plans.with_dump.Goals as goal
 

@@ -1,7 +1,7 @@
 use Rattle.std.proofs.Common.{inl}
 use Rattle.std.proofs.lemmas.Result.{err_from_is_err_and}
-use Rattle.tcmake_lib.specs.Requests.{IsNothing, IsUnmade, ShowsNone}
-use Rattle.tcmake_lib.proofs.Complaints.{says_more}
+use Rattle.tcmake_requests.specs.Requests.{IsNothing, IsUnmade, ShowsNone}
+use Rattle.tcmake_requests.proofs.Complaints.{says_more}
 use Rattle.tcmake_lib.proofs.run.request_in.Goals as goal
 
 pub returns-in_err-dump-clause-refused : goal.returns-in_err-dump-clause-refused

@@ -1,6 +1,6 @@
 use Rattle.std.proofs.lemmas.Result.{IfOk-weaker}
-use Rattle.tcmake_lib.specs.Requests.{IsNothing, IsRequest, IsUnmade}
-use Rattle.tcmake_lib.proofs.Complaints.{answers_line}
+use Rattle.tcmake_requests.specs.Requests.{IsNothing, IsRequest, IsUnmade}
+use Rattle.tcmake_requests.proofs.Complaints.{answers_line}
 use Rattle.tcmake_lib.proofs.run.RequestMakerMaker.make.Goals as goal
 
 pub returns-in-Err : goal.returns-in-Err

@@ -1,0 +1,3 @@
+pub mod Complaints
+mod Dumps
+pub mod Written

@@ -1,0 +1,5 @@
+pub mod Complaints
+pub mod Written
+pub mod Restored
+pub mod Requests
+pub mod Dumps

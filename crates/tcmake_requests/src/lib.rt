@@ -1,0 +1,11 @@
+//! Requests that restore what lines of dumps show.
+#![tactic(auto)]
+
+pub mod complaint;
+pub mod interfaces;
+pub mod lines;
+mod names;
+mod now;
+pub mod order;
+pub mod restore;
+pub mod save;

@@ -1,0 +1,756 @@
+//! Requests in order: each after all that it needs.
+
+ghost use Rattle.std.specs.Prelude.{◌≡◌, ◌≢◌, ◌||◌, IfErr, IfOk, OnOk};
+ghost use Rattle.program_io.specs.declared.stop.Stop.TheVariants.{Closed, NoMemory};
+ghost use Rattle.tcmake_requests.specs.Dumps.{IsQuiet};
+ghost use Rattle.tcmake_requests.specs.Written.{WritesAll, WritesSome};
+
+use crate::complaint::Complaint;
+use crate::lines::{
+    Dumped, Lines, Reading, Remark, RemarkKind, Source, complain, lines_of, read_lines, say_all,
+};
+use crate::now::{Counts, Single, now_of, singles_of, unlisted_in};
+use crate::restore::{Dump, dump_of, restored};
+use forms_json::Tables;
+use nla_frames::{NLA_TYPE_MASK, Nla, ParseableBytes};
+use program_io::{Stop, write_text};
+use std::alloc::{AllocError, Global};
+use std::io::Write;
+use tc_action_messages::{TcActionMessage, TcActionMessageAttribute};
+use tc_actions::{TcAction, TcActionAttribute};
+use tc_messages::TcMessage;
+use tc_plan::{
+    Entry, Fate, Item, Key, Named, Now, Order, Reason, Step, circle, entry_of, entry_of_actions,
+    fate_of_action, has_action, ingress_of, made_by_filters, name_of_action, newest_first,
+    offloaded_by, plan, shared_action,
+};
+use tc_restore::{Object, RestoreError, RootTable, actions_of_filter, notice_of, root_table};
+use tcmake_lines::run::put_message;
+use tcmake_lines::{NetlinkHeader, Output, OutputFormat};
+use tcmake_messages::{Forms, Made};
+
+/// The request for what a line shows.
+#[derive(Drop)]
+pub struct LineRequest {
+    /// The number of the line, from 1.
+    pub number: u64,
+    /// The values of its netlink header.
+    pub given: NetlinkHeader,
+    /// The message after that.
+    pub bytes: Vec<u8>,
+}
+
+impl LineRequest {
+    /// The netlink message, with zeros up to a multiple of four. Fails if memory runs out, or with `Stop::Write` if it is too long.
+    pub fn netlink(&self, alloc: Global) -> Result<Vec<u8>, Stop> {
+        let mut output = Output::new(alloc, OutputFormat::Stream);
+        let mut errors = Vec::new(alloc);
+        if put_message(
+            alloc,
+            &self.given,
+            &self.bytes,
+            &[],
+            self.number,
+            &mut output,
+            &mut errors,
+        )? {
+            return Err(Stop::Write);
+        }
+        let mut bytes = Vec::new(alloc);
+        output.write(&mut bytes)?;
+        Ok(bytes)
+    }
+}
+
+/// The requests that lines become.
+#[derive(Drop)]
+pub struct Restored {
+    /// The requests, each after the requests that it needs.
+    pub requests: Vec<LineRequest>,
+    /// Remarks on the lines.
+    pub remarks: Vec<Remark>,
+    /// True if something is wrong with all of them, so that there are no requests.
+    pub is_void: bool,
+}
+
+// The dumps of lines, and the requests that restore them.
+#[derive(Drop)]
+struct Requests {
+    // What a plan has to know of each dump; its place is an index of `lines`.
+    entries: Vec<Entry<Global>>,
+    // The line of each dump, and its request if there is one.
+    lines: Vec<Planned>,
+    // Where the last filter of basic or bpf is among the entries, of each chain and priority.
+    last: Vec<(Key, usize)>,
+    // What isn't restored although there is a request, by the numbers of the lines.
+    notices: Vec<(u64, String)>,
+}
+
+// A dump of a line.
+#[derive(Drop)]
+struct Planned {
+    // The number of the line.
+    number: u64,
+    // Its request.
+    made: Option<Made>,
+}
+
+// What all dumps show, and what there is now.
+#[derive(Clone, Copy)]
+struct Known<'a> {
+    // The root tables of u32.
+    roots: &'a [RootTable],
+    // The interfaces that have ingress.
+    ingress: &'a [i32],
+    // The actions that dumps have by themselves.
+    listed: &'a [Named],
+    // The actions that only their filters can make.
+    by_filters: &'a [Key],
+    now: Option<&'a Now<Global>>,
+    replaces_actions: bool,
+}
+
+impl Requests {
+    // None.
+    fn new(alloc: Global) -> Requests {
+        Requests {
+            entries: Vec::new(alloc),
+            lines: Vec::new(alloc),
+            last: Vec::new(alloc),
+            notices: Vec::new(alloc),
+        }
+    }
+
+    // Keeps the request of a dump, or of each of its actions.
+    fn keep(&mut self, alloc: Global, known: Known<'_>, dump: &Dumped) -> Result<(), Complaint> {
+        let kind = dump_of(dump.made.given.kind)?;
+        if kind == Dump::Actions {
+            let singles = singles_of(alloc, &dump.made, Counts::Kept)?;
+            if !singles.is_empty() {
+                return self.keep_actions(alloc, known, dump.number, &singles);
+            }
+        }
+        let (fate, made) = fate_of(restored(alloc, known.roots, &dump.made))?;
+        let fate = fate_by_actions(alloc, known, kind, &dump.made, fate)?;
+        self.put(alloc, known, kind, dump.number, &dump.made, fate, made)
+    }
+
+    fn keep_actions(
+        &mut self,
+        alloc: Global,
+        known: Known<'_>,
+        number: u64,
+        singles: &[Single],
+    ) -> Result<(), Complaint> {
+        for single in singles {
+            let (fate, made) = fate_of(restored(alloc, known.roots, &single.made))?;
+            let (fate, made) = fate_of_single(known, single, fate, made);
+            self.put(
+                alloc,
+                known,
+                Dump::Actions,
+                number,
+                &single.made,
+                fate,
+                made,
+            )?;
+        }
+        Ok(())
+    }
+
+    fn put(
+        &mut self,
+        alloc: Global,
+        known: Known<'_>,
+        kind: Dump,
+        number: u64,
+        dump: &Made,
+        fate: Fate,
+        made: Option<Made>,
+    ) -> Result<(), Complaint> {
+        let place = self.lines.len();
+        self.lines.push(Planned { number, made })?;
+        match kind {
+            Dump::Of(object) => {
+                let message = TcMessage::parse(alloc, &dump.bytes)?;
+                if let (Fate::Request, Some(notice)) = (&fate, notice_of(object, &message)) {
+                    self.notices.push((number, format!(in alloc; "{notice}")?))?;
+                }
+                let group = newest_first(object, known.ingress, &message);
+                let entry = entry_of(alloc, place, fate, object, known.ingress, &message)?;
+                Ok(self.put_ranked(entry, group)?)
+            }
+            Dump::Actions => {
+                let message = TcActionMessage::parse(alloc, &dump.bytes)?;
+                let entry = entry_of_actions(alloc, place, fate, &message)?;
+                Ok(self.entries.push(entry)?)
+            }
+        }
+    }
+
+    // Puts a dump. Of filters that the kernel keeps newest first the one dumped before waits for this one.
+    fn put_ranked(&mut self, entry: Entry<Global>, group: Option<Key>) -> Result<(), AllocError> {
+        let mut entry = entry;
+        if let (Some(group), Fate::Request) = (group, &entry.fate) {
+            let place = self.entries.len();
+            if let Some(before) = self.rank(group, place)? {
+                if let Some(newer) = self.entries.get_mut(before) {
+                    newer.needs.extend_from_slice(&entry.objects)?;
+                }
+            }
+            entry.provides.extend_from_slice(&entry.objects)?;
+        }
+        self.entries.push(entry)?;
+        Ok(())
+    }
+
+    // Makes this the last entry of a group, and returns the last one before.
+    fn rank(&mut self, group: Key, place: usize) -> Result<Option<usize>, AllocError> {
+        for (known, last) in self.last.iter_mut() {
+            if *known == group {
+                let before = *last;
+                *last = place;
+                return Ok(Some(before));
+            }
+        }
+        self.last.push((group, place))?;
+        Ok(None)
+    }
+}
+
+// The flags of a request that changes what is there: `NLM_F_REQUEST`, `NLM_F_ACK`, `NLM_F_REPLACE` and `NLM_F_CREATE` of `linux/netlink.h`.
+const CHANGE_FLAGS: u16 = 0x505;
+
+// What becomes of an action by what there is now, and its request.
+fn fate_of_single(
+    known: Known<'_>,
+    single: &Single,
+    fate: Fate,
+    made: Option<Made>,
+) -> (Fate, Option<Made>) {
+    match (fate, made) {
+        (Fate::Request, Some(made)) => {
+            let (fate, made) = fate_by_now(known, single.name, made);
+            (fate_by_filters(known, single.name, fate), made)
+        }
+        (fate, made) => (fate, made),
+    }
+}
+
+fn fate_by_now(known: Known<'_>, name: Option<Named>, made: Made) -> (Fate, Option<Made>) {
+    match (known.now, name) {
+        (Some(now), Some(name)) => {
+            let mut made = made;
+            let fate = fate_of_action(now, known.replaces_actions, name, &made.bytes);
+            if fate == Fate::Change {
+                made.given.flags = CHANGE_FLAGS;
+            }
+            (fate, Some(made))
+        }
+        _ => (Fate::Request, Some(made)),
+    }
+}
+
+// The fate of an action that is to be made or changed, or is there already. An action that only its filters can make is refused: one that is
+// there has the offload flag of its filter, and Linux refuses it in a filter without the flag.
+fn fate_by_filters(known: Known<'_>, name: Option<Named>, fate: Fate) -> Fate {
+    match name {
+        Some(name) if has_action(known.by_filters, name) => Fate::Refused(Reason::Offload(name)),
+        _ => fate,
+    }
+}
+
+// What becomes of a filter by the actions that it shares.
+fn fate_by_actions(
+    alloc: Global,
+    known: Known<'_>,
+    kind: Dump,
+    dump: &Made,
+    fate: Fate,
+) -> Result<Fate, Complaint> {
+    match (known.now, kind, &fate) {
+        (Some(now), Dump::Of(Object::Filter), Fate::Request) => {
+            let filter = TcMessage::parse(alloc, &dump.bytes)?;
+            match unlisted_in(alloc, now, known.listed, &dump.given, filter)? {
+                Some(name) => Ok(Fate::Refused(Reason::NoDump(name))),
+                None => Ok(fate),
+            }
+        }
+        _ => Ok(fate),
+    }
+}
+
+// What becomes of a dump by itself, and its request.
+fn fate_of(made: Result<Made, Complaint>) -> Result<(Fate, Option<Made>), Complaint> {
+    match made {
+        Ok(made) => Ok((Fate::Request, Some(made))),
+        Err(Complaint::Restore(RestoreError::MadeByKernel)) => Ok((Fate::Made, None)),
+        Err(Complaint::Restore(error)) => Ok((Fate::Refused(Reason::Restore(error)), None)),
+        Err(complaint) => Err(complaint),
+    }
+}
+
+/// The requests of what lines show, but of actions that are there already.
+pub fn requests_by_now<T: Tables>(
+    alloc: Global,
+    forms: Forms<T>,
+    replaces_actions: bool,
+    now: &[u8],
+    lines: Lines,
+) -> Result<Restored, Stop>
+    ensures quiet { IfOk result (λ made. IsQuiet made.remarks.items → IsQuiet lines.remarks.items) }
+    ensures open { IfErr result (λ stop. stop ≢ Closed) }
+{
+    let mut there = lines_of_now(alloc, forms, None, now)?;
+    let now = now_of(alloc, &mut there)?;
+    let all = with_remarks(lines, there)?;
+    requests_by(alloc, all, Some(&now), replaces_actions)
+}
+
+/// The requests of dumps, each with its netlink header, as `requests_of` makes them from lines. Lines are numbered from 1.
+pub fn requests_of_dumps(
+    alloc: Global,
+    dumps: Vec<(NetlinkHeader, Vec<u8>)>,
+) -> Result<Restored, Stop> {
+    let lines = lines_of(alloc, dumps)?;
+    requests_by(alloc, lines, None, false)
+}
+
+/// The lines of what there is now.
+pub fn lines_of_now<T: Tables>(
+    alloc: Global,
+    forms: Forms<T>,
+    index: Option<i32>,
+    text: &[u8],
+) -> Result<Lines, Stop>
+    ensures { IfErr result (λ stop. stop ≢ Closed) }
+{
+    let reading = Reading {
+        source: Source::Now,
+        index,
+        names: None,
+    };
+    let mut reader = text;
+    read_lines(alloc, forms, reading, &mut reader)
+}
+
+// Lines, with what is said of others.
+fn with_remarks(lines: Lines, others: Lines) -> Result<Lines, AllocError>
+    ensures dumps { IfOk result (λ all. all.dumps ≡ lines.dumps) }
+    ensures quiet { IfOk result (λ all. IsQuiet all.remarks.items → IsQuiet lines.remarks.items) }
+{
+    let mut lines = lines;
+    lines.is_void = either(lines.is_void, others.is_void);
+    say_all(others.remarks, &mut lines.remarks)?;
+    Ok(lines)
+}
+
+/// The requests of what lines hold.
+pub fn requests_by(
+    alloc: Global,
+    lines: Lines,
+    now: Option<&Now<Global>>,
+    replaces_actions: bool,
+) -> Result<Restored, Stop>
+    ensures quiet { IfOk result (λ made. IsQuiet made.remarks.items → IsQuiet lines.remarks.items) }
+    ensures open { IfErr result (λ stop. stop ≢ Closed) }
+{
+    let Lines {
+        dumps,
+        mut remarks,
+        is_void,
+        ..
+    } = lines;
+    let mut requests = Requests::new(alloc);
+    keep_all(
+        alloc,
+        &dumps,
+        now,
+        replaces_actions,
+        &mut requests,
+        &mut remarks,
+    )?;
+    let Requests {
+        entries,
+        lines,
+        notices,
+        ..
+    } = requests;
+    for (number, notice) in notices {
+        say(&mut remarks, number, RemarkKind::Notice, notice)?;
+    }
+    let plan = plan(alloc, entries)?;
+    let is_void = say_left(alloc, &lines, &plan.unordered, &mut remarks)? || is_void;
+    let mut requests = requests_in_order(alloc, lines, &plan.sorted, &mut remarks)?;
+    if is_void {
+        requests.clear();
+    }
+    Ok(Restored {
+        requests,
+        remarks,
+        is_void,
+    })
+}
+
+// Keeps the request of each dump.
+fn keep_all(
+    alloc: Global,
+    dumps: &[Dumped],
+    now: Option<&Now<Global>>,
+    replaces_actions: bool,
+    requests: &mut Requests,
+    remarks: &mut Vec<Remark>,
+) -> Result<(), AllocError>
+    ensures quiet { OnOk result (IsQuiet remarks.new.items → IsQuiet remarks.old.items) }
+{
+    let Shown {
+        roots,
+        ingress,
+        listed,
+        shared,
+        offloaded,
+    } = shown_by(alloc, dumps, remarks)?;
+    let by_filters = made_by_filters(shared, &offloaded);
+    let known = Known {
+        roots: &roots,
+        ingress: &ingress,
+        listed: &listed,
+        by_filters: &by_filters,
+        now,
+        replaces_actions,
+    };
+    for dump in dumps {
+        if let Err(complaint) = requests.keep(alloc, known, dump) {
+            complain(alloc, Source::Wanted, dump.number, &complaint, remarks)?;
+        }
+    }
+    Ok(())
+}
+
+// The parts of all dumps on which requests depend.
+fn shown_by(alloc: Global, dumps: &[Dumped], remarks: &mut Vec<Remark>) -> Result<Shown, AllocError>
+    ensures { IfOk result (λ _. IsQuiet remarks.new.items → IsQuiet remarks.old.items) }
+{
+    let mut shown = Shown {
+        roots: Vec::new(alloc),
+        ingress: Vec::new(alloc),
+        listed: Vec::new(alloc),
+        shared: Vec::new(alloc),
+        offloaded: Vec::new(alloc),
+    };
+    for dump in dumps {
+        if let Err(complaint) = shown.keep(alloc, dump) {
+            complain(alloc, Source::Wanted, dump.number, &complaint, remarks)?;
+        }
+    }
+    Ok(shown)
+}
+
+// Parts of all dumps on which requests depend.
+#[derive(Drop)]
+struct Shown {
+    // The root tables of u32.
+    roots: Vec<RootTable>,
+    // The interfaces that have ingress.
+    ingress: Vec<i32>,
+    // The actions that dumps have by themselves.
+    listed: Vec<Named>,
+    // Those of them that filters share and nothing else holds.
+    shared: Vec<Key>,
+    // The actions of filters with an offload flag, and those that filters have and that have one themselves.
+    offloaded: Vec<Key>,
+}
+
+impl Shown {
+    // Keeps the parts of a dump. A line that isn't a dump has its complaint where its request is made.
+    fn keep(&mut self, alloc: Global, dump: &Dumped) -> Result<(), Complaint> {
+        match dump_of(dump.made.given.kind) {
+            Ok(Dump::Of(object)) => {
+                let message = TcMessage::parse(alloc, &dump.made.bytes)?;
+                if let Some(root) = root_table(object, &message) {
+                    self.roots.push(root)?;
+                }
+                if let Some(index) = ingress_of(object, &message) {
+                    self.ingress.push(index)?;
+                }
+                if object == Object::Filter {
+                    let offloaded = offloaded_by(alloc, message)?;
+                    self.offloaded.extend_from_slice(&offloaded)?;
+                    let filter = TcMessage::parse(alloc, &dump.made.bytes)?;
+                    self.keep_flagged(alloc, filter)?;
+                }
+                Ok(())
+            }
+            Ok(Dump::Actions) => self.keep_actions(alloc, &dump.made.bytes),
+            Err(_) => Ok(()),
+        }
+    }
+
+    // An action takes the offload flag of a filter that has it, even of another interface's.
+    fn keep_flagged(&mut self, alloc: Global, filter: TcMessage) -> Result<(), Complaint> {
+        for action in &actions_of_filter(alloc, filter)? {
+            if let (true, Some(key)) = (has_offload_flag(action), shared_action(action)) {
+                self.offloaded.push(key)?;
+            }
+        }
+        Ok(())
+    }
+
+    fn keep_actions(&mut self, alloc: Global, bytes: &[u8]) -> Result<(), Complaint> {
+        for attribute in &TcActionMessage::parse(alloc, bytes)?.attributes {
+            if let TcActionMessageAttribute::Actions(actions) = attribute {
+                for action in actions {
+                    if let Some(name) = name_of_action(action) {
+                        self.listed.push(name)?;
+                    }
+                    if let Some(key) = shared_action(action) {
+                        self.shared.push(key)?;
+                    }
+                }
+            }
+        }
+        Ok(())
+    }
+}
+
+// `TCA_ACT_FLAGS`, a bitfield, and `TCA_ACT_FLAGS_SKIP_HW` with `TCA_ACT_FLAGS_SKIP_SW` in its value.
+const ACTION_FLAGS: u16 = 7;
+
+const OFFLOAD_FLAGS: u8 = 6;
+
+fn has_offload_flag(action: &TcAction) -> bool {
+    action
+        .attributes
+        .iter()
+        .any(|attribute| is_offload_flag(attribute))
+}
+
+fn is_offload_flag(attribute: &TcActionAttribute) -> bool {
+    match attribute {
+        TcActionAttribute::Other(nla) => {
+            nla.kind() & NLA_TYPE_MASK == ACTION_FLAGS && begins_with_offload_flag(nla.value())
+        }
+        _ => false,
+    }
+}
+
+fn begins_with_offload_flag(value: &[u8]) -> bool {
+    match value.split_first() {
+        Some((first, _)) => *first & OFFLOAD_FLAGS != 0,
+        None => false,
+    }
+}
+
+fn say(
+    remarks: &mut Vec<Remark>,
+    number: u64,
+    kind: RemarkKind,
+    text: String,
+) -> Result<(), AllocError>
+    ensures { OnOk result (IsQuiet remarks.new.items → IsQuiet remarks.old.items) }
+{
+    remarks.push(Remark {
+        source: Source::Wanted,
+        number,
+        kind,
+        text,
+    })?;
+    Ok(())
+}
+
+// Says why each of these isn't made. True if nothing may be made then.
+fn say_left(
+    alloc: Global,
+    lines: &[Planned],
+    left: &[Step<Item, Key, Global>],
+    remarks: &mut Vec<Remark>,
+) -> Result<bool, AllocError>
+    ensures { IfOk result (λ _. IsQuiet remarks.new.items → IsQuiet remarks.old.items) }
+{
+    let mut is_void = false;
+    if !left.is_empty() {
+        let around = circle(alloc, left)?;
+        for step in left {
+            let reason = reason_of(&step.item, &around.unordered);
+            is_void = is_void || is_of_all(reason);
+            say_reason(alloc, lines, step.item.place, reason, remarks)?;
+        }
+    }
+    Ok(is_void)
+}
+
+// True for a reason for which no request at all is made: an action can't be changed, or not be made by its own request.
+fn is_of_all(reason: &Reason) -> bool {
+    matches!(
+        reason,
+        Reason::Held(_) | Reason::NoDump(_) | Reason::Offload(_)
+    )
+}
+
+fn say_reason(
+    alloc: Global,
+    lines: &[Planned],
+    place: usize,
+    reason: &Reason,
+    remarks: &mut Vec<Remark>,
+) -> Result<(), AllocError>
+    ensures { OnOk result (IsQuiet remarks.new.items → IsQuiet remarks.old.items) }
+{
+    if let Some(planned) = lines.get(place) {
+        let text = format!(in alloc; "{reason}")?;
+        say(remarks, planned.number, RemarkKind::Complaint, text)?;
+    }
+    Ok(())
+}
+
+// Why a dump isn't made: a reason of its own, or that what it needs isn't, which may need the dump in turn.
+fn reason_of<'a>(item: &'a Item, around: &[Step<usize, Key, Global>]) -> &'a Reason {
+    match &item.fate {
+        Fate::Refused(reason) => reason,
+        _ => if is_around(item.place, around) {
+            &Reason::Circle
+        } else {
+            &Reason::Needs
+        },
+    }
+}
+
+fn is_around(place: usize, around: &[Step<usize, Key, Global>]) -> bool {
+    for step in around {
+        if step.item == place {
+            return true;
+        }
+    }
+    false
+}
+
+/// The notice on a dump that another request makes.
+pub const MADE_BY_ANOTHER: &str = "made by another request";
+
+// The notice on an action that is there as it is wanted.
+const THERE: &str = "there already";
+
+// The requests in their order, and notices on what needs none.
+fn requests_in_order(
+    alloc: Global,
+    lines: Vec<Planned>,
+    order: &[Step<Item, Key, Global>],
+    remarks: &mut Vec<Remark>,
+) -> Result<Vec<LineRequest>, AllocError>
+    ensures quiet { IfOk result (λ _. IsQuiet remarks.new.items → IsQuiet remarks.old.items) }
+{
+    let mut lines = lines;
+    let mut requests = Vec::new(alloc);
+    for step in order {
+        if let Some(planned) = lines.get_mut(step.item.place) {
+            match &step.item.fate {
+                Fate::Request | Fate::Change => put_request(planned, &mut requests)?,
+                Fate::There => say_made(alloc, planned.number, THERE, remarks)?,
+                Fate::Made | Fate::Refused(_) => {
+                    say_made(alloc, planned.number, MADE_BY_ANOTHER, remarks)?
+                }
+            }
+        }
+    }
+    Ok(requests)
+}
+
+fn say_made(
+    alloc: Global,
+    number: u64,
+    text: &str,
+    remarks: &mut Vec<Remark>,
+) -> Result<(), AllocError>
+    ensures { OnOk result (IsQuiet remarks.new.items → IsQuiet remarks.old.items) }
+{
+    say(
+        remarks,
+        number,
+        RemarkKind::Made,
+        String::from_str(alloc, text)?,
+    )
+}
+
+// Puts the request of a line.
+fn put_request(planned: &mut Planned, requests: &mut Vec<LineRequest>) -> Result<(), AllocError> {
+    if let Some(made) = planned.made.take() {
+        requests.push(LineRequest {
+            number: planned.number,
+            given: made.given,
+            bytes: made.bytes,
+        })?;
+    }
+    Ok(())
+}
+
+/// True if at least one is true.
+pub fn either(one: bool, other: bool) -> bool
+    ensures { result ≡ (one || other) }
+{
+    one || other
+}
+
+/// Writes the remarks on lines. That a dump needs no request is written with `verbose` only.
+pub fn write_remarks<E: Write>(
+    alloc: Global,
+    remarks: &[Remark],
+    verbose: bool,
+    plans: bool,
+    errors: &mut E,
+) -> Result<(), AllocError> {
+    for remark in remarks {
+        if remark.kind != RemarkKind::Made || verbose {
+            write_remark(alloc, remark, plans, errors)?;
+        }
+    }
+    Ok(())
+}
+
+fn write_remark<E: Write>(
+    alloc: Global,
+    remark: &Remark,
+    plans: bool,
+    errors: &mut E,
+) -> Result<(), AllocError> {
+    let place = match remark.source {
+        Source::Wanted => "line",
+        Source::Now if plans => "--plan, line",
+        Source::Now => "--now, line",
+    };
+    let (number, said) = (remark.number, remark.text.as_str());
+    let text = format!(in alloc; "tcmake: {place} {number}: {said}\n")?;
+    let _ = write_text(alloc, errors, text.as_str());
+    Ok(())
+}
+
+/// Writes requests in order, and complaints about those that can't be written.
+pub fn write_requests<W: Write, E: Write>(
+    alloc: Global,
+    form: OutputFormat,
+    requests: &[LineRequest],
+    writer: &mut W,
+    errors: &mut E,
+    has_refused: &mut bool,
+) -> Result<(), Stop>
+    ensures all { OnOk result (WritesAll form requests.now has_refused.old has_refused.new (W.contents writer.old) (W.contents writer.new)) }
+    ensures some { IfErr result (λ stop. stop ≢ NoMemory → WritesSome form requests.now has_refused.old has_refused.new
+        (W.contents writer.old) (W.contents writer.new)) }
+{
+    let mut output = Output::new(alloc, form);
+    output.begin()?;
+    for request in requests {
+        let is_wrong = put_message(
+            alloc,
+            &request.given,
+            &request.bytes,
+            &[],
+            request.number,
+            &mut output,
+            errors,
+        )?;
+        *has_refused = either(*has_refused, is_wrong);
+        output.write(writer)?;
+    }
+    output.end()?;
+    output.write(writer)
+}
