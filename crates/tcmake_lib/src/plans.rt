@@ -260,7 +260,7 @@ fn requests_to<R: Rules<Global>>(
     ensures said { IfOk result (λ _. has_complaint remarks.new.items ≡ false → has_complaint remarks.old.items ≡ false) }
 {
     match plan_between(alloc, rules, keys, now, want) {
-        Ok(planned) => line_requests(alloc, planned, was, is, remarks),
+        Ok(planned) => Ok(line_requests(alloc, planned, was, is, remarks)?),
         Err(PlanError::OutOfMemory) => Err(AllocError),
         Err(PlanError::Elsewhere(key)) => {
             let number = was.get(&key).copied().unwrap_or(0);
