@@ -193,7 +193,9 @@ mod tests {
 
     #[test]
     fn reads_words_in_their_order() {
-        let of = |words: &[&'static str]| objects_and_interface(words).map(|(objects, device)| (objects.classes, objects.qdiscs, device));
+        let of = |words: &[&'static str]| {
+            objects_and_interface(words).map(|(objects, device)| (objects.classes, objects.qdiscs, device))
+        };
         assert_eq!(of(&[]), Ok((true, true, None)));
         assert_eq!(of(&["dev", "wan"]), Ok((true, true, Some("wan"))));
         assert_eq!(of(&["class"]), Ok((true, false, None)));
