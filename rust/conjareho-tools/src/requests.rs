@@ -1,9 +1,14 @@
 //! Streams of requests, and sending them.
 
-use crate::netlink::message::{Header, Messages, NLM_F_REQUEST, NLMSG_MIN_TYPE, RTM_NEWLINK, tcmsg_of};
-use crate::netlink::{Fault, Kernel, Transport};
+use crate::netlink::fault::Located;
+use crate::netlink::message::{
+    HEADER, Header, Messages, NLM_F_REQUEST, NLMSG_MIN_TYPE, RTM_NEWLINK, is_action, is_tc, tcmsg_of,
+};
+use crate::netlink::{Fault, Kernel, Refusal, Transport};
 use crate::shown::line_of;
 use crate::status::{Ending, Status};
+use crate::tc_capture::MessageType;
+use crate::tcshow_json::Message;
 
 /// What pcap, with times in microseconds and in nanoseconds, and pcapng begin with, in both orders of bytes.
 const CAPTURES: [[u8; 4]; 5] = [
@@ -75,7 +80,9 @@ pub fn send_all<T: Transport>(
             Ok(_) => {}
             Err(Fault::Refused(refusal)) => {
                 refused += 1;
-                hear(format!("{}: {refusal}", place_of(*number, *header, message)));
+                let path = path_of(*header, message, &refusal);
+                let said = Located { refusal: &refusal, path: path.as_deref() };
+                hear(format!("{}: {said}", place_of(*number, *header, message)));
             }
             Err(fault) => {
                 let text = format!(
@@ -87,6 +94,19 @@ pub fn send_all<T: Transport>(
         }
     }
     Ok(refused)
+}
+
+// The path of the attribute that a refusal names, as in lines of `tcshow`. `None` if the message isn't one of traffic control, or none begins there.
+fn path_of(header: Header, message: &[u8], refusal: &Refusal) -> Option<String> {
+    let holds = match header.kind {
+        kind if is_action(kind) => MessageType::Action,
+        kind if is_tc(kind) => MessageType::Tc,
+        _ => return None,
+    };
+    // The codec counts bytes after the netlink header.
+    let offset = u64::from(refusal.offset?).checked_sub(HEADER as u64)?;
+    let path = Message::without_header(holds, message.get(HEADER..)?).path_at(offset).ok()??;
+    Some(path.names)
 }
 
 // What a message is, for people: its number and its line, or, if it has none, what its headers say.
@@ -110,7 +130,8 @@ fn place_of(number: usize, header: Header, message: &[u8]) -> String {
 #[cfg(test)]
 mod tests {
     use super::*;
-    use crate::netlink::message::{RTM_NEWQDISC, Tcmsg, tc_request};
+    use crate::netlink::attributes::put;
+    use crate::netlink::message::{RTM_NEWACTION, RTM_NEWQDISC, TCMSG, Tcmsg, request, tc_request};
 
     fn refused(bytes: &[u8]) -> String {
         Stream::of(bytes, 1 << 16, false).err().map(|ending| ending.text).unwrap_or_default()
@@ -132,6 +153,29 @@ mod tests {
             "byte 0 of the stream: no whole message; of a capture, tcshow --json | tcmake --stream makes a stream; nothing is sent"
         );
         assert_eq!(refused(b"some text that is no stream"), "byte 0 of the stream: no whole message; nothing is sent");
+    }
+
+    #[test]
+    fn names_the_attribute_that_is_refused() {
+        let said = |kind, fixed: usize, offset| {
+            let mut body = vec![0; fixed];
+            put(&mut body, 1, b"fq_codel\0");
+            put(&mut body, 2, &[8, 0, 2, 0, 1, 0, 0, 0]);
+            let sent = request(kind, 0x600, &body);
+            let (header, message) = Messages::of(&sent).next().unwrap().unwrap();
+            let refusal = Refusal { errno: 22, text: "no".to_string(), offset };
+            let path = path_of(header, message, &refusal);
+            Located { refusal: &refusal, path: path.as_deref() }.to_string()
+        };
+        let of_qdisc = |offset| said(RTM_NEWQDISC, TCMSG, offset);
+        assert_eq!(of_qdisc(Some(56)), "EINVAL: no at Options/FqCodel/Limit (byte 56 of the netlink message)");
+        assert_eq!(of_qdisc(Some(36)), "EINVAL: no at Kind (byte 36 of the netlink message)");
+        for offset in [0, 16, 37, 60, 64, u32::MAX] {
+            assert_eq!(of_qdisc(Some(offset)), format!("EINVAL: no (byte {offset} of the netlink message)"));
+        }
+        assert_eq!(of_qdisc(None), "EINVAL: no");
+        assert_eq!(said(20, TCMSG, Some(36)), "EINVAL: no (byte 36 of the netlink message)");
+        assert_eq!(said(RTM_NEWACTION, 4, Some(20)), "EINVAL: no at Actions (byte 20 of the netlink message)");
     }
 
     #[test]

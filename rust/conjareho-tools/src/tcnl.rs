@@ -1,6 +1,7 @@
 //! The program tcnl.
 
 use crate::netlink::devices::links;
+use crate::netlink::fault::Printable;
 use crate::netlink::{Devices, Fault, Kernel, Listener, Objects, clear, dump_of};
 use crate::requests::{Stream, send_all};
 use crate::shown::stream_of;
@@ -90,15 +91,24 @@ fn obey(words: &ArgMatches) -> Result<ExitCode, Ending> {
     }
 }
 
-// What words say as iproute2's: an object, if any, and `dev DEV`, if any.
-fn objects_and_interface<'a>(words: &[&'a str]) -> Option<(Objects, Option<&'a str>)> {
+// What words say as iproute2's: an object, if any, and `dev DEV`, if any. The error is what is wrong with them.
+fn objects_and_interface<'a>(words: &[&'a str]) -> Result<(Objects, Option<&'a str>), String> {
     let named = |name: &str| OBJECTS.iter().find(|(object, _)| *object == name).map(|(_, objects)| *objects);
+    let (objects, rest) = match words {
+        [object, rest @ ..] if named(object).is_some() => (named(object), rest),
+        all => (None, all),
+    };
+    let device = if rest.is_empty() { None } else { Some(interface_in(rest)?) };
+    Ok((objects.unwrap_or(Objects::ALL), device))
+}
+
+// The interface of `dev DEV`. The error is what is wrong with these words.
+fn interface_in<'a>(words: &[&'a str]) -> Result<&'a str, String> {
     match words {
-        [] => Some((Objects::ALL, None)),
-        ["dev", device] => Some((Objects::ALL, Some(device))),
-        [object] => Some((named(object)?, None)),
-        [object, "dev", device] => Some((named(object)?, Some(device))),
-        _ => None,
+        ["dev", device] => Ok(device),
+        ["dev"] => Err("the interface after dev is missing".to_string()),
+        ["dev", _, other, ..] | [other, ..] => Err(format!("the word {} isn't understood", Printable(other))),
+        [] => Err("dev and the interface are missing".to_string()),
     }
 }
 
@@ -106,11 +116,11 @@ fn texts(words: &ArgMatches) -> Vec<&str> {
     words.get_many::<String>("WORDS").into_iter().flatten().map(String::as_str).collect()
 }
 
-// Says how a subcommand is to be used.
-fn misused(name: &str) -> ExitCode {
+// Says what is wrong with words, and how the subcommand is to be used.
+fn misused(name: &str, why: &str) -> ExitCode {
     let mut command = command();
     if let Some(it) = command.find_subcommand_mut(name) {
-        let _ = it.error(ErrorKind::UnknownArgument, "these words aren't understood").print();
+        let _ = it.error(ErrorKind::UnknownArgument, why).print();
     }
     ExitCode::from(Status::Usage as u8)
 }
@@ -127,8 +137,9 @@ fn write(bytes: &[u8]) -> Result<(), Ending> {
 }
 
 fn dump(words: &ArgMatches) -> Result<ExitCode, Ending> {
-    let Some((objects, device)) = objects_and_interface(&texts(words)) else {
-        return Ok(misused("dump"));
+    let (objects, device) = match objects_and_interface(&texts(words)) {
+        Ok(said) => said,
+        Err(why) => return Ok(misused("dump", &why)),
     };
     let mut kernel = Kernel::open()?;
     let mut listener = Listener::open()?;
@@ -166,11 +177,40 @@ fn send(words: &ArgMatches) -> Result<ExitCode, Ending> {
 }
 
 fn clear_interface(words: &ArgMatches) -> Result<ExitCode, Ending> {
-    let ["dev", device] = texts(words)[..] else {
-        return Ok(misused("clear"));
+    let device = match interface_in(&texts(words)) {
+        Ok(device) => device,
+        Err(why) => return Ok(misused("clear", &why)),
     };
     let mut kernel = Kernel::open()?;
     let index = index_of(&mut kernel, device)?;
     clear(&mut kernel, index)?;
     Ok(ExitCode::SUCCESS)
+}
+
+#[cfg(test)]
+mod tests {
+    use super::*;
+
+    #[test]
+    fn reads_words_in_their_order() {
+        let of = |words: &[&'static str]| {
+            objects_and_interface(words).map(|(objects, device)| (objects.classes, objects.qdiscs, device))
+        };
+        assert_eq!(of(&[]), Ok((true, true, None)));
+        assert_eq!(of(&["dev", "wan"]), Ok((true, true, Some("wan"))));
+        assert_eq!(of(&["class"]), Ok((true, false, None)));
+        assert_eq!(of(&["class", "dev", "dev"]), Ok((true, false, Some("dev"))));
+        for (words, wrong) in [
+            (&["dev", "wan", "class"][..], "the word class isn't understood"),
+            (&["class", "wan"], "the word wan isn't understood"),
+            (&["class", "qdisc", "wan"], "the word qdisc isn't understood"),
+            (&["wan", "dev", "class"], "the word wan isn't understood"),
+            (&["class", "dev"], "the interface after dev is missing"),
+            (&["dev"], "the interface after dev is missing"),
+        ] {
+            assert_eq!(of(words), Err(wrong.to_string()), "{words:?}");
+        }
+        assert_eq!(interface_in(&["wan"]), Err("the word wan isn't understood".to_string()));
+        assert_eq!(interface_in(&[]), Err("dev and the interface are missing".to_string()));
+    }
 }

@@ -34,8 +34,9 @@ interface meanwhile, tcapply stops. At the end it compares what there is with FI
 CAP_NET_ADMIN.
 
 A script of commands needs set -e (#!/bin/sh -e): otherwise it goes on after a command that failed,
-and what that was to make is deleted. It runs where nothing is, so a first tc qdisc del fails there.
-Of what it makes only DEV is applied: what it makes of others is named, and dropped.
+and what that was to make is deleted. It runs where nothing is, so a first tc qdisc del fails there:
+leave it out, or write || true after it. Of what it makes only DEV is applied: what it makes of
+others is named, and dropped.
 
 Exit status:
   0  what is there is what FILE says; if it was before, nothing was sent

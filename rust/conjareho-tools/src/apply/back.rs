@@ -47,18 +47,18 @@ impl Before {
             said.push("nothing was sent".to_string());
             return Status::NothingSent;
         };
-        let is_left = is_left || matches!(stop, Stop::Other { .. } | Stop::Moved(_));
-        let back = if is_left { Err(None) } else { self.made_again(wanted, sending).map_err(Some) };
-        match back {
+        if is_left || matches!(stop, Stop::Other { .. } | Stop::Moved(_)) {
+            let far = if sending.is_carried_out() { "as applied" } else { "as far as it was applied" };
+            said.push(left(far, stop, kept));
+            return Status::Lost;
+        }
+        match self.made_again(wanted, sending) {
             Ok(()) => {
                 said.push(format!("what was there before is there again; {kept} has a copy"));
                 Status::Back
             }
             Err(why) => {
-                said.extend(why.map(|why| format!("on the way back: {why}")));
-                said.push(format!(
-                    "what was there before isn't there again; it is in {kept} (tcapply {kept} makes it)"
-                ));
+                said.extend([format!("on the way back: {why}"), left("as far as the way back got", &why, kept)]);
                 Status::Lost
             }
         }
@@ -91,6 +91,15 @@ impl Before {
             (Err(_), Some(stop)) | (Err(stop), None) => Err(stop),
         }
     }
+}
+
+// What is there, if that isn't what was there before: how far it is left, and what the file that has that would do.
+fn left(far: &str, stop: &Stop, kept: &str) -> String {
+    let (with, so) = match stop {
+        Stop::Other { .. } => (", with the other's change", "would undo the other's change too"),
+        _ => ("", "makes it"),
+    };
+    format!("it is left {far}{with}; {kept} has what was there before, and tcapply {kept} {so}")
 }
 
 fn unplanned(place: &Place, faults: &[Fault]) -> Stop {

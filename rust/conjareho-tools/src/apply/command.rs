@@ -10,6 +10,9 @@ use std::time::{Duration, Instant};
 /// What a command finds.
 pub(crate) const NO_HARDWARE: &str = "where it ran no interface has hardware, and what depends on it can't be made";
 
+/// What it means that there is no qdisc to delete.
+const NOTHING_THERE: &str = "see its error above; where it ran nothing is, so a first tc qdisc del fails: leave it out, or write || true after it";
+
 /// How many bytes of its error output are looked at, the last ones.
 const MOST_READ: usize = 64 << 10;
 /// How long its error output is waited for after its end. What it started may go on, and write there.
@@ -63,6 +66,8 @@ fn why(written: &[u8]) -> &'static str {
     let lacks_offload = text.lines().any(|line| is_error(line) && line.contains("offload"));
     if lacks_offload || ["not support", "eopnotsupp"].iter().any(|it| text.contains(it)) {
         NO_HARDWARE
+    } else if text.contains("cannot delete qdisc with handle of zero") {
+        NOTHING_THERE
     } else if text.is_empty() {
         "it printed no error"
     } else {
@@ -98,6 +103,10 @@ mod tests {
             said("printf '\"rate\" is required.\\n  offload  enable hardware offload\\n' >&2; exit 1"),
             "sh ended with exit status: 1; see its error above",
             "a usage text"
+        );
+        assert_eq!(
+            said("echo 'Error: Cannot delete qdisc with handle of zero.' >&2; exit 2"),
+            format!("sh ended with exit status: 2; {NOTHING_THERE}")
         );
         assert_eq!(ended("true"), Ok(false));
         assert_eq!(ended("echo 'Error: Exclusivity flag on.' >&2; true"), Ok(true));

@@ -16,17 +16,19 @@ const PAUSE: i32 = 100;
 /// How often it is looked whether a question is printed.
 const SHORT_PAUSE: Duration = Duration::from_millis(10);
 
-/// Prints a question, and waits for an empty line of an input. The error is why what was there before is to be made again.
+/// Prints these lines and a question, and waits for an empty line of an input. The error is why what was there before is to be made again.
 pub(crate) fn hold<I: Read + AsFd>(
     input: &mut I,
     time: Duration,
     signal: &dyn Fn() -> Option<&'static str>,
-    print: impl Fn(String) + Clone + Send + 'static,
+    first: Vec<String>,
+    print: impl Fn(Vec<String>) + Clone + Send + 'static,
 ) -> Result<(), Stop> {
     let until = Instant::now() + time;
     let seconds = time.as_secs();
     let mut asked = Asked { terminal: terminal_of(input), print, printing: None, is_blank: true, is_stale: false };
-    asked.ask(format!("the plan is applied; press Enter within {seconds} seconds, or it goes back"));
+    let question = format!("the plan is applied; press Enter within {seconds} seconds, or it goes back");
+    asked.ask(first.into_iter().chain([question]).collect());
     while Instant::now() < until {
         if let Some(name) = signal() {
             return Err(Stop::Signal(name));
@@ -39,7 +41,10 @@ pub(crate) fn hold<I: Read + AsFd>(
             continue;
         }
         match asked.read(input)? {
-            Answer::Yes => return Ok(()),
+            Answer::Yes => {
+                asked.finish(until);
+                return Ok(());
+            }
             Answer::Other => asked.ask_again(until.saturating_duration_since(Instant::now())),
             Answer::None => {}
         }
@@ -70,20 +75,29 @@ struct Asked<P> {
     is_stale: bool,
 }
 
-impl<P: Fn(String) + Clone + Send + 'static> Asked<P> {
-    fn ask(&mut self, question: String) {
+impl<P: Fn(Vec<String>) + Clone + Send + 'static> Asked<P> {
+    fn ask(&mut self, lines: Vec<String>) {
         let (print, terminal) = (self.print.clone(), self.terminal.clone());
         self.printing = Some(thread::spawn(move || {
-            print(question);
+            print(lines);
             // What was typed before is no answer.
             terminal.iter().filter(|it| is_ours(it)).for_each(|it| forget(it));
         }));
         self.is_blank = true;
     }
 
+    // Waits until the question is printed: it may be answered before, through a pipe.
+    fn finish(&self, until: Instant) {
+        while self.printing.as_ref().is_some_and(|it| !it.is_finished()) && Instant::now() < until {
+            sleep(SHORT_PAUSE);
+        }
+    }
+
     fn ask_again(&mut self, left: Duration) {
         let seconds = left.as_secs();
-        self.ask(format!("only an empty line keeps it: press Enter alone within {seconds} seconds, or it goes back"));
+        let question =
+            format!("only an empty line keeps it: press Enter alone within {seconds} seconds, or it goes back");
+        self.ask(vec![question]);
     }
 
     // True if the question can be answered. Reading or emptying the terminal of another job would stop this one.
@@ -172,7 +186,7 @@ mod tests {
         let (mut input, mut other) = UnixStream::pair().expect("a pair");
         other.write_all(written).expect("written");
         let kept = is_open.then_some(other);
-        let held = hold(&mut input, SHORT, &move || signal, drop);
+        let held = hold(&mut input, SHORT, &move || signal, Vec::new(), drop);
         drop(kept);
         text(held)
     }
@@ -220,14 +234,16 @@ mod tests {
             }
             questions
         });
-        let held = hold(&mut input, Duration::from_secs(2), &|| None, move |question| drop(asking.send(question)));
+        let first = vec!["1 request".to_string()];
+        let print = move |lines: Vec<String>| drop(asking.send(lines.join("; ")));
+        let held = hold(&mut input, Duration::from_secs(2), &|| None, first, print);
         (text(held), typing.join().expect("typed"))
     }
 
     #[test]
     fn a_terminal_takes_what_is_typed_after_the_question() {
         let late = "nobody pressed Enter within 2 seconds";
-        let question = "the plan is applied; press Enter within 2 seconds, or it goes back";
+        let question = "1 request; the plan is applied; press Enter within 2 seconds, or it goes back";
         assert_eq!(typed("\n\n", &[]), (late.to_string(), vec![question.to_string()]));
         assert_eq!(typed("no", &["\n"]).0, "", "what was typed before isn't in the line");
         let (held, questions) = typed("", &["no\n\n"]);

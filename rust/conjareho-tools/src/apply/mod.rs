@@ -40,6 +40,7 @@ use prepare::{Planned, Prepared, planned, prepare};
 use sending::Sending;
 use signals::Signals;
 use status::{Ended, Status};
+use trial::{Given, doubt};
 use wanted::{Wanted, wanted_of};
 use world::{Stop, World};
 
@@ -51,12 +52,13 @@ use std::fs::{self, File};
 use std::io::{self, Read as _, Write as _};
 use std::os::fd::AsFd as _;
 use std::process::ExitCode;
+use std::time::Duration;
 
 /// How often it is planned anew, if another program changes something before the first request.
 const MOST_PLANS: u32 = 3;
 
-/// Waits for somebody to say that what is there now is to stay. The error is why it isn't.
-type Hold<'h> = &'h mut dyn FnMut() -> Result<(), Stop>;
+/// Prints lines, and waits this long for somebody to say that what is there now is to stay. The error is why it isn't.
+type Hold<'h> = &'h mut dyn FnMut(Vec<String>, Duration) -> Result<(), Stop>;
 
 /// The whole program.
 pub fn tcapply() -> ExitCode {
@@ -94,9 +96,12 @@ fn failed(why: String) -> Ended {
 
 // Reads the file, or runs the command, and does what is asked for.
 fn opened(name: &'static str, arguments: &Arguments, said: &mut Vec<String>) -> Result<Status, Ended> {
-    let file = match (&arguments.command, &arguments.dev) {
+    let given = match (&arguments.command, &arguments.dev) {
         (Some(command), Some(dev)) => trial::made_by(command, dev, said)?,
-        _ => read(arguments).map_err(|error| failed(format!("{}: {error}", arguments.file_name())))?,
+        _ => {
+            let bytes = read(arguments).map_err(|error| failed(format!("{}: {error}", arguments.file_name())))?;
+            Given { bytes, doubted: None }
+        }
     };
     // Until here nothing was asked for that a signal shouldn't end.
     let signals = Signals::catch().map_err(failed)?;
@@ -104,20 +109,19 @@ fn opened(name: &'static str, arguments: &Arguments, said: &mut Vec<String>) -> 
     let (kernel, [dumps, watch]) = open_kernel().map_err(failed)?;
     let mut world = World::new(kernel, dumps, watch, &signal);
     if arguments.dry_run {
-        return dry_run(arguments, file, &mut world, said);
+        return dry_run(arguments, given, &mut world, said);
     }
     if arguments.check {
-        return trial::check(arguments, file, &mut world, said);
+        return trial::check(arguments, given, &mut world, said);
     }
     let _lock = lock::lock(arguments.patience, &signal)?;
-    let mut hold = || {
-        let Some(time) = arguments.trial else { return Ok(()) };
+    let mut hold = |first: Vec<String>, time| {
         // Not through a buffer, which would keep what isn't asked for yet.
         let input = io::stdin().as_fd().try_clone_to_owned();
         let mut input = File::from(input.map_err(|error| Stop::Unconfirmed(format!("standard input: {error}")))?);
-        hold::hold(&mut input, time, &signal, move |question| say_all(name, &[question]))
+        hold::hold(&mut input, time, &signal, first, move |lines| say_all(name, &lines))
     };
-    Ok(apply(arguments, file, &mut world, &mut hold, said))
+    Ok(apply(arguments, given, &mut world, &mut hold, said))
 }
 
 /// The kernel of this network namespace, and two that hear what changes in it.
@@ -147,12 +151,14 @@ pub(crate) fn say_all(program: &str, said: &[String]) {
 // Prints the plan.
 fn dry_run(
     arguments: &Arguments,
-    file: Vec<u8>,
+    given: Given,
     world: &mut World<'_, Socket, Socket>,
     said: &mut Vec<String>,
 ) -> Result<Status, Ended> {
-    let mut wanted = wanted_of(arguments, file, world, said)?;
+    let Given { bytes, doubted } = given;
+    let mut wanted = wanted_of(arguments, bytes, world, said)?;
     let Planned { dump, before, steps, .. } = planned(arguments, world, &mut wanted)?;
+    said.extend(doubt(doubted.as_deref(), &steps));
     let text: String = outline::lines(&steps, &before, &wanted.messages, &dump.devices)
         .iter()
         .map(|line| format!("{}\n", Printable(line)))
@@ -165,12 +171,13 @@ fn dry_run(
 /// Brings interfaces to what a file says. What is to be said is added to `said`.
 fn apply<T: Transport, L: Transport>(
     arguments: &Arguments,
-    file: Vec<u8>,
+    given: Given,
     world: &mut World<'_, T, L>,
     hold: Hold<'_>,
     said: &mut Vec<String>,
 ) -> Status {
-    let begun = wanted_of(arguments, file, world, said).and_then(|wanted| begun(arguments, wanted, world));
+    let Given { bytes, doubted } = given;
+    let begun = wanted_of(arguments, bytes, world, said).and_then(|wanted| begun(arguments, wanted, world));
     let prepared = match begun {
         Ok(prepared) => prepared,
         Err(ended) => {
@@ -179,13 +186,15 @@ fn apply<T: Transport, L: Transport>(
             return ended.status;
         }
     };
+    said.extend(doubt(doubted.as_deref(), &prepared.steps));
     let mut sending = Sending::new(world, &prepared.place, arguments.way != Way::Beside);
-    match carried_out(arguments.way, &prepared, &mut sending, hold, said) {
+    match carried_out(arguments, &prepared, &mut sending, hold, said) {
         Ok(()) if prepared.wanted.is_partial => Status::Otherwise,
         Ok(()) => {
-            said.extend(prepared.summary.clone());
             let is_kept = arguments.trial.is_some() && !prepared.steps.is_empty();
-            said.extend(is_kept.then(|| "Enter was pressed, so it stays".to_string()));
+            // The summary was printed with the question.
+            let kept = || Some("Enter was pressed, so it stays".to_string());
+            said.extend(if is_kept { kept() } else { prepared.summary.clone() });
             Status::Restored
         }
         Err(stop) => {
@@ -217,15 +226,15 @@ fn begun<T: Transport, L: Transport>(
     Err(Ended::because(Status::NothingSent, Vec::new()))
 }
 
-// Sends all, compares, and waits.
+// Sends all, compares, and waits. What was said until then is printed with the question.
 fn carried_out<T: Transport, L: Transport>(
-    way: Way,
+    arguments: &Arguments,
     prepared: &Prepared,
     sending: &mut Sending<'_, '_, T, L>,
     hold: Hold<'_>,
     said: &mut Vec<String>,
 ) -> Result<(), Stop> {
-    let wanted = &prepared.wanted;
+    let (way, wanted) = (arguments.way, &prepared.wanted);
     sending.carry_out(&prepared.steps)?;
     let after = match reached(way, prepared, sending) {
         Err(stop @ Stop::Differs(_)) if way != Way::Beside => {
@@ -240,7 +249,10 @@ fn carried_out<T: Transport, L: Transport>(
     if prepared.steps.is_empty() {
         return Ok(());
     }
-    hold()?;
+    if let Some(time) = arguments.trial {
+        let first = std::mem::take(said).into_iter().chain(prepared.summary.clone());
+        hold(first.collect(), time)?;
+    }
     // While Enter was waited for, others may have changed something.
     sending.world.look(sending.place)
 }

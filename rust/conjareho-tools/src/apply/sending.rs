@@ -20,6 +20,8 @@ pub(crate) struct Sending<'w, 's, T, L> {
     waits: bool,
     // A request was sent.
     has_sent: bool,
+    // The last plan was sent to its end.
+    is_carried_out: bool,
     // The way back goes on whatever signals come.
     minds_signals: bool,
 }
@@ -27,13 +29,14 @@ pub(crate) struct Sending<'w, 's, T, L> {
 impl<'w, 's, T: Transport, L: Transport> Sending<'w, 's, T, L> {
     /// Nothing is sent yet. If it `waits`, what is refused since something else was deleted shortly before is tried again.
     pub(crate) fn new(world: &'w mut World<'s, T, L>, place: &'w Place, waits: bool) -> Self {
-        Sending { world, place, waits, has_sent: false, minds_signals: true }
+        Sending { world, place, waits, has_sent: false, is_carried_out: false, minds_signals: true }
     }
 
     /// Sends the requests of a plan. What is to be deleted and isn't there is deleted; the kernel makes chains by itself.
     pub(crate) fn carry_out(&mut self, steps: &[Vec<u8>]) -> Result<(), Stop> {
         // While somebody was asked whether it is to stay, others may have changed something.
         self.look()?;
+        self.is_carried_out = false;
         let mut has_deleted = false;
         for step in steps {
             if deletes(step) {
@@ -46,7 +49,13 @@ impl<'w, 's, T: Transport, L: Transport> Sending<'w, 's, T, L> {
                 self.make(step)?;
             }
         }
+        self.is_carried_out = true;
         Ok(())
+    }
+
+    /// True if the last plan was sent to its end.
+    pub(crate) fn is_carried_out(&self) -> bool {
+        self.is_carried_out
     }
 
     /// True if a request was sent.

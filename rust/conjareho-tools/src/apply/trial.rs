@@ -4,7 +4,7 @@ use super::arguments::Arguments;
 use super::check_after;
 use super::command;
 use super::compare::by_place;
-use super::messages::blocks_of;
+use super::messages::{blocks_of, deletes};
 use super::plan::plan;
 use super::prepare::{Planned, planned};
 use super::requests::requests_of_dump;
@@ -26,8 +26,23 @@ fn nothing_sent(why: String) -> Ended {
 
 // ---- A command
 
+/// What is wanted, as it is given: a file, or the save of what a command made.
+pub(crate) struct Given {
+    pub(crate) bytes: Vec<u8>,
+    /// The command, if it wrote to standard error although it ended well.
+    pub(crate) doubted: Option<String>,
+}
+
+/// What is said of a command that wrote to standard error, if the plan deletes something.
+pub(crate) fn doubt(command: Option<&str>, steps: &[Vec<u8>]) -> Option<String> {
+    let command = command.filter(|_| steps.iter().any(|step| deletes(step)))?;
+    Some(format!(
+        "{command} wrote to standard error (above); if a command of it failed, what that was to make is missing, and the plan deletes it"
+    ))
+}
+
 /// The save of what a command makes of an interface. What it makes of others is named in `said`.
-pub(crate) fn made_by(command: &[OsString], dev: &str, said: &mut Vec<String>) -> Result<Vec<u8>, Ended> {
+pub(crate) fn made_by(command: &[OsString], dev: &str, said: &mut Vec<String>) -> Result<Given, Ended> {
     let devices = Devices::of(&mut Kernel::open()?)?;
     let device = devices.find(dev).ok_or_else(|| nothing_sent(format!("there is no interface {dev}")))?;
     let made = within(&devices, || {
@@ -36,14 +51,11 @@ pub(crate) fn made_by(command: &[OsString], dev: &str, said: &mut Vec<String>) -
     });
     let (has_errors, (text, others)) = made.map_err(nothing_sent)?;
     let program = command.first().map(|it| it.to_string_lossy()).unwrap_or_default();
-    if has_errors {
-        said.push(format!("{program} ended well, but wrote errors: what a command that failed was to make is missing, and is deleted from {}", device.name));
-    }
     if !others.is_empty() {
         let others = others.join(", ");
         said.push(format!("{program} made something on {others} too, which isn't applied: only {} is", device.name));
     }
-    Ok(text.into_bytes())
+    Ok(Given { bytes: text.into_bytes(), doubted: has_errors.then(|| program.into_owned()) })
 }
 
 // The save of an interface of this namespace, and the others on which there are qdiscs that somebody made.
@@ -71,12 +83,14 @@ fn saved(name: &str) -> Result<(String, Vec<String>), String> {
 /// Makes what is there now in a new network namespace, and carries the plan out there.
 pub(crate) fn check<T: Transport, L: Transport>(
     arguments: &Arguments,
-    file: Vec<u8>,
+    given: Given,
     world: &mut World<'_, T, L>,
     said: &mut Vec<String>,
 ) -> Result<Status, Ended> {
-    let mut wanted = wanted_of(arguments, file, world, said)?;
-    let Planned { dump, before, others, .. } = planned(arguments, world, &mut wanted)?;
+    let Given { bytes, doubted } = given;
+    let mut wanted = wanted_of(arguments, bytes, world, said)?;
+    let Planned { dump, before, others, steps } = planned(arguments, world, &mut wanted)?;
+    said.extend(doubt(doubted.as_deref(), &steps));
     wanted.objects.retain(|key, _| key.block().is_none_or(|block| !others.contains_key(&block)));
     let now = requests_of_dump(&before);
     if now.is_void || !now.complaints.is_empty() {
@@ -121,4 +135,23 @@ fn made_there<T: Transport, L: Transport>(
     sending.carry_out(&steps)?;
     check_after(&same(sending, &wanted.objects, by_place, |key, _| key.is_action())?, wanted, sending.place)?;
     Ok(steps.len())
+}
+
+#[cfg(test)]
+mod tests {
+    use super::*;
+    use crate::netlink::message::{RTM_NEWQDISC, Tcmsg, tc_request};
+
+    #[test]
+    fn doubts_a_command_only_if_something_is_deleted() {
+        let step = |kind| tc_request(kind, 0, Tcmsg::default());
+        let (made, deleted) = (vec![step(RTM_NEWQDISC)], vec![step(RTM_NEWQDISC + 1), step(RTM_NEWQDISC)]);
+        let text = "./shaper.sh wrote to standard error (above); if a command of it failed, what that was to make is missing, \
+                    and the plan deletes it";
+        assert_eq!(doubt(Some("./shaper.sh"), &deleted).as_deref(), Some(text));
+        assert_eq!(
+            [doubt(Some("./shaper.sh"), &made), doubt(Some("./shaper.sh"), &[]), doubt(None, &deleted)],
+            [None, None, None]
+        );
+    }
 }

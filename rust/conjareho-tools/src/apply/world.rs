@@ -1,9 +1,11 @@
 //! The kernel, what is heard of others' changes, and signals.
 
 use super::compare::key_of;
-use super::messages::{as_new, deletes, replaces, type_of};
+use super::messages::{as_new, deletes, kind_of, replaces, type_of};
 use super::named::named;
-use crate::netlink::message::{NLM_F_DUMP, RTM_GETQDISC, Tcmsg, tc_request};
+use crate::netlink::message::{
+    NLM_F_DUMP, RTM_GETQDISC, RTM_NEWQDISC, RTM_NEWTCLASS, RTM_NEWTFILTER, Tcmsg, tc_request,
+};
 use crate::netlink::{Device, Devices, Dump, Fault, Kernel, Listener, Notice, Refusal, Transport, state_of};
 use crate::save::save_of;
 use crate::shown::lines_of;
@@ -87,7 +89,7 @@ impl Place {
         format!("{verb}{}", self.object_of(message))
     }
 
-    /// What a request asks for: `make class 1:10 dev wan parent 1:1`.
+    /// What a request asks for: `make class htb 1:10 dev wan parent 1:1`.
     pub(crate) fn asked_by(&self, request: &[u8]) -> String {
         let verb = match (deletes(request), replaces(request)) {
             (true, _) => "delete",
@@ -98,9 +100,14 @@ impl Place {
     }
 
     fn object_of(&self, message: &[u8]) -> String {
-        match key_of(&as_new(message)) {
-            Some(key) => named(&self.devices, key),
-            None => format!("a message of type {}", type_of(message)),
+        let new = as_new(message);
+        let Some(key) = key_of(&new) else { return format!("a message of type {}", type_of(message)) };
+        let text = named(&self.devices, key);
+        let has_kind = matches!(type_of(&new), RTM_NEWQDISC | RTM_NEWTCLASS | RTM_NEWTFILTER);
+        // As in lines, the kind is the second word.
+        match (kind_of(message).filter(|kind| has_kind && !kind.is_empty()), text.split_once(' ')) {
+            (Some(kind), Some((object, rest))) => format!("{object} {} {rest}", String::from_utf8_lossy(kind)),
+            _ => text,
         }
     }
 }

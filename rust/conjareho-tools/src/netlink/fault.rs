@@ -55,14 +55,29 @@ impl Refusal {
 
 impl fmt::Display for Refusal {
     fn fmt(&self, to: &mut fmt::Formatter<'_>) -> fmt::Result {
-        to.write_str(&self.name())?;
-        if !self.text.is_empty() {
-            write!(to, ": {}", Printable(&self.text))?;
+        Located { refusal: self, path: None }.fmt(to)
+    }
+}
+
+/// A refusal, with the path of the attribute that it names, if that was found.
+pub struct Located<'a> {
+    pub refusal: &'a Refusal,
+    /// As in lines of `tcshow`: `Options/Htb/Rate64`.
+    pub path: Option<&'a str>,
+}
+
+impl fmt::Display for Located<'_> {
+    fn fmt(&self, to: &mut fmt::Formatter<'_>) -> fmt::Result {
+        let Located { refusal, path } = self;
+        to.write_str(&refusal.name())?;
+        if !refusal.text.is_empty() {
+            write!(to, ": {}", Printable(&refusal.text))?;
         }
-        match self.offset {
-            Some(offset) => write!(to, " (byte {offset} of the netlink message)"),
-            None => Ok(()),
+        let Some(offset) = refusal.offset else { return Ok(()) };
+        if let Some(path) = path {
+            write!(to, " at {}", Printable(path))?;
         }
+        write!(to, " (byte {offset} of the netlink message)")
     }
 }
 

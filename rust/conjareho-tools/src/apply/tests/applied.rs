@@ -7,18 +7,16 @@ use crate::apply::messages::replaces;
 use crate::apply::status::Status;
 use crate::netlink::message::*;
 
-fn run_held(
-    words: &[&str],
-    file: &str,
-    objects: Vec<Vec<u8>>,
-    fake: &Fake,
-    held: impl Fn() -> Result<(), &'static str>,
-) -> Ran {
-    run_by(|words| arguments_of(words), words, file, objects, fake, held)
+fn run_held(file: &str, objects: Vec<Vec<u8>>, fake: &Fake, held: impl Fn() -> Result<(), &'static str>) -> Ran {
+    run_by(|words| arguments_of(words), &[], file, objects, fake, Some(&held))
+}
+
+fn run_with(words: &[&str], file: &str, objects: Vec<Vec<u8>>, fake: &Fake) -> Ran {
+    run_by(|words| arguments_of(words), words, file, objects, fake, None)
 }
 
 fn run(file: &str, objects: Vec<Vec<u8>>, fake: &Fake) -> Ran {
-    run_held(&[], file, objects, fake, || Ok(()))
+    run_with(&[], file, objects, fake)
 }
 
 // The tree with another filter.
@@ -34,7 +32,7 @@ fn what_is_there_already_takes_no_request() {
     let ran = run(&saved(tree(1000)), tree(1000), &Fake::new(taking()));
     let said = "nothing to do: what is there is what standard input says";
     assert_eq!((ran.status, ran.said.as_str(), ran.sent.len(), ran.kept), (Status::Restored, said, 0, 0));
-    let ran = run_held(&["-q"], &saved(tree(1000)), tree(1000), &Fake::new(taking()), || Ok(()));
+    let ran = run_with(&["-q"], &saved(tree(1000)), tree(1000), &Fake::new(taking()));
     assert_eq!((ran.status, ran.said.as_str()), (Status::Restored, ""));
 }
 
@@ -47,7 +45,7 @@ fn a_save_without_a_head_is_taken_for_the_interface_that_is_named() {
     let ran = run(&old, tree(2000), &Fake::new(taking()));
     assert_eq!((ran.status, ran.sent.len()), (Status::NothingSent, 0));
     assert!(ran.said.contains("--dev DEV"), "{}", ran.said);
-    let ran = run_held(&["--dev", "wan"], &old, tree(2000), &Fake::new(taking()), || Ok(()));
+    let ran = run_with(&["--dev", "wan"], &old, tree(2000), &Fake::new(taking()));
     assert_eq!((ran.status, plain(&ran.objects)), (Status::Restored, plain(&tree(1000))), "{}", ran.said);
 }
 
@@ -101,7 +99,7 @@ fn a_refusal_brings_back_what_was_there() {
         assert_eq!(plain(&ran.objects), plain(&before), "request {at}: {}", ran.said);
     }
     let refusing: Hook = Box::new(move |_, number, _| (number == count).then_some(22));
-    let ran = run_held(&["--no-rollback"], &file, before.clone(), &Fake::new(refusing), || Ok(()));
+    let ran = run_with(&["--no-rollback"], &file, before.clone(), &Fake::new(refusing));
     assert_eq!(ran.status, Status::Lost, "{}", ran.said);
     assert!(ran.said.contains("before-") && ran.sent.len() == count, "{}", ran.said);
 }
@@ -127,10 +125,13 @@ fn a_signal_brings_back_what_was_there() {
 
 #[test]
 fn without_enter_it_goes_back() {
-    let ran = run_held(&[], &saved(otherwise()), tree(2000), &Fake::new(taking()), || Err("SIGHUP"));
+    let ran = run_held(&saved(otherwise()), tree(2000), &Fake::new(taking()), || Err("SIGHUP"));
     assert_eq!((ran.status, plain(&ran.objects)), (Status::Back, plain(&tree(2000))), "{}", ran.said);
     assert!(ran.said.starts_with("SIGHUP came"), "{}", ran.said);
-    let ran = run_held(&[], &saved(tree(1000)), tree(1000), &Fake::new(taking()), || Err("SIGHUP"));
+    let ran = run_held(&saved(otherwise()), tree(2000), &Fake::new(taking()), || Ok(()));
+    assert!(ran.asked.contains(" requests: ") && !ran.asked.contains('\n'), "{}", ran.asked);
+    assert_eq!((ran.status, ran.said.as_str()), (Status::Restored, "Enter was pressed, so it stays"));
+    let ran = run_held(&saved(tree(1000)), tree(1000), &Fake::new(taking()), || Err("SIGHUP"));
     assert_eq!((ran.status, ran.sent.len()), (Status::Restored, 0), "nothing to try");
 }
 
@@ -146,9 +147,12 @@ fn what_others_make_while_enter_is_waited_for_is_left() {
             state.tell(&theirs, OTHER);
             answer
         };
-        let ran = run_held(&[], &saved(otherwise()), tree(2000), &fake, held);
+        let ran = run_held(&saved(otherwise()), tree(2000), &fake, held);
         assert_eq!((ran.status, ran.sent.len()), (Status::Lost, count), "{answer:?}: {}", ran.said);
         assert!(ran.said.contains("netlink port 4242") && ran.said.contains("before-"), "{}", ran.said);
+        let left = if answer.is_ok() { "as applied" } else { "as far as the way back got" };
+        assert!(ran.said.contains(&format!("it is left {left}, with the other's change; ")), "{}", ran.said);
+        assert!(ran.said.ends_with(" would undo the other's change too"), "{}", ran.said);
     }
 }
 
@@ -165,6 +169,7 @@ fn what_others_make_is_left() {
     let ran = run(&saved(otherwise()), tree(2000), &Fake::new(other));
     assert_eq!((ran.status, ran.sent.len()), (Status::Lost, 2), "{}", ran.said);
     assert!(ran.said.contains("netlink port 4242") && ran.said.contains("before-"), "{}", ran.said);
+    assert!(ran.said.contains("it is left as far as it was applied, with the other's change; "), "{}", ran.said);
     assert!(plain(&ran.objects).contains(&plain(&[theirs()])[0]));
 }
 

@@ -8,6 +8,7 @@ use super::apply;
 use super::arguments::Arguments;
 use super::messages::type_of;
 use super::status::Status;
+use super::trial::Given;
 use super::world::{Stop, World, text_of};
 use crate::netlink::message::*;
 use crate::netlink::state_of;
@@ -15,6 +16,7 @@ use ::clap::Error;
 use fake::{Fake, Hook, object};
 use std::ffi::OsString;
 use std::sync::atomic::{AtomicUsize, Ordering};
+use std::time::Duration;
 
 const WAN: i32 = 7;
 
@@ -53,6 +55,8 @@ fn saved(objects: Vec<Vec<u8>>) -> String {
 
 struct Ran {
     status: Status,
+    /// What was printed before the question.
+    asked: String,
     said: String,
     objects: Vec<Vec<u8>>,
     sent: Vec<Vec<u8>>,
@@ -63,30 +67,40 @@ struct Ran {
 /// What reads the arguments of a program.
 type Reader = fn(Vec<OsString>) -> Result<Arguments, Error>;
 
-/// Runs a program with a file at its standard input where these objects are; `held` says how a trial ends.
+/// How a trial ends.
+type Held<'h> = &'h dyn Fn() -> Result<(), &'static str>;
+
+/// Runs a program with a file at its standard input where these objects are; if it is `held`, with a trial that ends so.
 fn run_by(
     reader: Reader,
     words: &[&str],
     file: &str,
     objects: Vec<Vec<u8>>,
     fake: &Fake,
-    held: impl Fn() -> Result<(), &'static str>,
+    held: Option<Held<'_>>,
 ) -> Ran {
     static COUNT: AtomicUsize = AtomicUsize::new(0);
     let number = COUNT.fetch_add(1, Ordering::Relaxed);
     let folder = std::env::temp_dir().join(format!("conjareho-apply-{}-{number}", std::process::id()));
     let first = ["program", "--state", &folder.display().to_string(), "-"].map(OsString::from);
-    let arguments = reader(first.into_iter().chain(words.iter().map(OsString::from)).collect()).expect("arguments");
+    let mut arguments = reader(first.into_iter().chain(words.iter().map(OsString::from)).collect()).expect("arguments");
+    arguments.trial = held.map(|_| Duration::from_secs(1));
     fake.state.borrow_mut().objects = objects;
     let signal = || fake.state.borrow().signal;
     let mut world = World::new(fake.kernel(), fake.listener(1), fake.listener(2), &signal);
     let mut said = Vec::new();
-    let mut hold = || held().map_err(Stop::Signal);
-    let status = apply(&arguments, file.as_bytes().to_vec(), &mut world, &mut hold, &mut said);
+    let mut asked = Vec::new();
+    let mut hold = |first: Vec<String>, _| {
+        asked = first;
+        held.map_or(Ok(()), |held| held().map_err(Stop::Signal))
+    };
+    let given = Given { bytes: file.as_bytes().to_vec(), doubted: None };
+    let status = apply(&arguments, given, &mut world, &mut hold, &mut said);
     let kept = std::fs::read_dir(&arguments.state).map_or(0, Iterator::count);
     let _ = std::fs::remove_dir_all(&arguments.state);
     let state = fake.state.borrow();
-    Ran { status, said: said.join("\n"), objects: state.objects.clone(), sent: state.sent.clone(), kept }
+    let (asked, said) = (asked.join("\n"), said.join("\n"));
+    Ran { status, asked, said, objects: state.objects.clone(), sent: state.sent.clone(), kept }
 }
 
 /// Objects without the flags, the numbers and the ports of their messages, in an order of their own.
