@@ -97,6 +97,7 @@ macro_rules! attrs {
                             let word = $number | $flags | <$form as Form>::flags(&value);
                             return Found { item: $name::$variant(value), word, rest };
                         }
+                        at.is_broken.set(true);
                     })*
                     _ => {}
                 }
@@ -295,14 +296,19 @@ macro_rules! choice {
             type Value = Self;
             const WIDTH: Option<usize> = None;
 
-            #[allow(unused_variables)] // no choice
+            #[allow(unused_variables, clippy::const_is_empty)] // no choice, and no start
             fn read<'b>(bytes: &'b [u8], at: Place<'b>) -> Option<(Self, &'b [u8])> {
                 $(
                     if let Some(held) = chosen(bytes, &[$($start),*], $len) {
                         let found = within::<$form>(held, at).map(|(value, rest)| ($name::$variant(value), rest));
-                        return Some(found.unwrap_or(($name::Other(bytes.into()), &[])));
+                        return Some(found.unwrap_or_else(|| {
+                            at.is_broken.set(true);
+                            ($name::Other(bytes.into()), &[])
+                        }));
                     }
                 )*
+                // Forms that only lengths tell apart have no other one.
+                at.is_broken.set(at.is_broken.get() $(|| <[u8]>::is_empty(&[$($start),*]))*);
                 Some(($name::Other(bytes.into()), &[]))
             }
 
@@ -367,6 +373,7 @@ macro_rules! by_kind {
                     $($first $(| $kind)* => {
                         // Statistics are in an object of their own, a level of its own.
                         let found = if $json.is_empty() { <$form as Form>::read(bytes, at) } else { within::<$form>(bytes, at) };
+                        at.is_broken.set(at.is_broken.get() || found.is_none());
                         found.map(|(value, rest)| ($name::$variant(value), rest))
                     })*
                     _ => None,
