@@ -42,11 +42,12 @@ macro_rules! record {
 }
 
 /// A list of attributes, and how it treats kinds. Of each attribute: its variant, its getter and setter, its name in JSON, the object
-/// in JSON that holds each of its own attributes, its type and flags, the type of its value, its form, and what its setter takes.
+/// in JSON that holds each of its own attributes, its type and flags, the type of its value, its form, what its setter takes, and its
+/// unit, after a comma.
 macro_rules! attrs {
     ($(#[$about:meta])* $name:ident $kinds:ident { $(
         $(#[$doc:meta])*
-        $variant:ident $get:ident $with:ident $json:literal $layer:literal $number:literal $flags:literal ($value:ty) ($form:ty) ($taken:ty),
+        $variant:ident $get:ident $with:ident $json:literal $layer:literal $number:literal $flags:literal ($value:ty) ($form:ty) ($taken:ty) $unit:literal,
     )* }) => {
         $(#[$about])*
         #[derive(Clone, PartialEq, Eq, Hash, Debug)]
@@ -68,14 +69,14 @@ macro_rules! attrs {
 
         impl Attrs<$name> {
             $(
-                #[doc = concat!("The last [`", stringify!($name), "::", stringify!($variant), "`]. The kernel uses the last one as well.")]
+                #[doc = concat!("The last [`", stringify!($name), "::", stringify!($variant), "`]", $unit, ". The kernel uses the last one as well.")]
                 #[inline]
                 #[must_use]
                 pub fn $get(&self) -> Option<&$value> {
                     self.iter().rev().find_map(|it| if let $name::$variant(value) = it { Some(value) } else { None })
                 }
 
-                #[doc = concat!("Appends a [`", stringify!($name), "::", stringify!($variant), "`].")]
+                #[doc = concat!("Appends a [`", stringify!($name), "::", stringify!($variant), "`]", $unit, ".")]
                 #[inline]
                 #[must_use]
                 #[allow(clippy::useless_conversion)] // numbers
