@@ -278,6 +278,30 @@ fn a_handle_is_the_text_of_tc() {
     }
 }
 
+#[test]
+fn a_handle_of_u32_is_the_text_of_tc() {
+    use conjareho::kinds::U32Parts;
+    for (text, handle) in [
+        ("800:", 0x8000_0000),
+        ("800::800", 0x8000_0800),
+        ("fff:ff:fff", u32::MAX),
+        ("2:1:3", 0x0020_1003),
+        ("2:a", 0x0020_a000),
+        ("none", 0),
+    ] {
+        assert_eq!(text.parse::<U32Parts>().map(Handle::from), Ok(Handle(handle)), "{text}");
+        assert_eq!(Handle(handle).u32_parts().to_string(), text);
+    }
+    assert_eq!(
+        ("0:0:0".parse::<U32Parts>(), "::801".parse()),
+        (Ok(Handle(0).u32_parts()), Ok(Handle(0x801).u32_parts()))
+    );
+    for text in ["", "800", "1000:", "800:100", "800::1000", "800:::1", "1:x", "+1:", "1: 2", "800::-1", "root"] {
+        assert!(text.parse::<U32Parts>().is_err(), "{text}");
+    }
+    assert!("800::800".parse::<Handle>().is_err());
+}
+
 /// The stored messages that iproute2 sent: a mode, `tc` or `action`, and the bytes.
 fn sent() -> Vec<(String, Vec<u8>)> {
     let path = std::path::Path::new(env!("CARGO_MANIFEST_DIR")).join("../../model/labelled");

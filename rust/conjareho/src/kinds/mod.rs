@@ -65,7 +65,7 @@ pub use from_options::OptionsError;
 pub use list::{Attrs, Indexed};
 pub use units::{NotAProb, NotARate, NotATime, Rate};
 use values::show_flags;
-pub use values::{Bytes, Handle, Mac, Nla, NotAHandle, NotAMac, NotHex, Prob, Ticks, U32Parts};
+pub use values::{Bytes, Handle, Mac, Nla, NotAHandle, NotAMac, NotHex, NotU32Parts, Prob, Ticks, U32Parts};
 use wire::{Attr, Form, Found, Kinds, NLA_TYPE_MASK, Out, Place, chosen, field, total, within};
 
 #[cfg(kinds_json)]
