@@ -94,8 +94,8 @@ impl fmt::Display for U32Parts {
 impl FromStr for U32Parts {
     type Err = NotU32Parts;
 
-    /// Reads `TABLE:BUCKET:NODE` in hex, where each may be left out, with the second colon only before a node, and `none`. It reads what it
-    /// writes of every handle with a table, as the kernel's are. (`tc` writes bucket 1 of no table as `1`.)
+    /// Reads `TABLE:BUCKET:NODE` in hex, where each number and the second colon may be left out, and `none`. The text of a handle with a
+    /// table, such as the kernel's, is read as that handle. (`tc` writes bucket 1 of table 0 as `1`.)
     fn from_str(text: &str) -> Result<Self, NotU32Parts> {
         if text == "none" {
             return Ok(U32Parts(0));
