@@ -1,29 +1,70 @@
 //! Answers of the kernel.
 //!
 //! The kernel says why it refuses a request, and at which byte, to sockets with the option `NETLINK_EXT_ACK`:
-//! `setsockopt(fd, SOL_NETLINK, 11, &1)`. [`AnswerError::Refused`] has the answer, with text, offset and path.
+//! `setsockopt(fd, SOL_NETLINK, 11, &1)`. The crate `rust/netlink-options` of this repository turns it on for a socket of netlink-sys, and
+//! `rust/shaper` is a program with such a socket. [`AnswerError::Refused`] has the answer, with text and offset, and with the feature
+//! `serde` the path.
 //!
 //! ```
-//! use conjareho::answers::Answers;
-//! use conjareho::constants::{NLM_F_DUMP, NLM_F_REQUEST, RTM_GETQDISC};
+//! # #[cfg(feature = "kinds")]
+//! # fn main() -> Result<(), Box<dyn std::error::Error>> {
+//! use conjareho::answers::{AnswerError, Answers};
+//! use conjareho::kinds::filters::flower::FlowerAttr;
+//! use conjareho::kinds::{Handle, Message, shared::eth_p};
+//! use conjareho::requests::{Object, Verb};
+//! use std::error::Error;
 //!
-//! # let mut request = vec![36, 0, 0, 0, 38, 0, 1, 3, 7, 0, 0, 0, 0, 0, 0, 0];
-//! # request.extend([0; 20]);
-//! # let received = vec![vec![20, 0, 0, 0, 3, 0, 2, 0, 7, 0, 0, 0, 0, 0, 0, 0, 0, 0, 0, 0]];
-//! # let mut datagrams = received.into_iter();
-//! # let mut receive = || datagrams.next().unwrap();
-//! let mut answers = Answers::to(&request);
-//! while !answers.is_done() {
-//!     let datagram = receive();
-//!     for message in answers.read(&datagram)? {
-//!         println!("{} bytes of type {}", message.payload.len(), message.kind);
+//! /// Reads the messages that answer a request, which was sent. `receive` returns a datagram that came from port 0, the kernel's.
+//! fn answers_to(request: &[u8], mut receive: impl FnMut() -> Vec<u8>) -> Result<Vec<Message>, Box<dyn Error>> {
+//!     let (mut answers, mut found) = (Answers::to(request), Vec::new());
+//!     while !answers.is_done() {
+//!         let datagram = receive();
+//!         match answers.read(&datagram) {
+//!             Ok(messages) => {
+//!                 for message in messages {
+//!                     found.push(Message::parse(message.payload)?);
+//!                 }
+//!             }
+//!             Err(AnswerError::Refused(answer)) => {
+//!                 // The kernel has no text for some errors, and names an attribute for fewer.
+//!                 let text = answer.text.as_deref().unwrap_or("no text");
+//!                 eprintln!("{}: {text}", answer.name().unwrap_or("an error without a name"));
+//!                 if let Some(path) = &answer.path {
+//!                     eprintln!("the attribute is {path}");
+//!                 }
+//!                 return Err(answer.into());
+//!             }
+//!             Err(broken) => return Err(broken.into()),
+//!         }
 //!     }
+//!     if let Some(warning) = answers.acknowledgement().and_then(|answer| answer.text.as_ref()) {
+//!         eprintln!("warning: {warning}");
+//!     }
+//!     Ok(found)
 //! }
-//! assert!(!answers.is_interrupted());
-//! # Ok::<(), conjareho::answers::AnswerError>(())
+//!
+//! // A filter of TCP ports, from a larger one to a smaller one.
+//! let ports = FlowerAttr::list().with_eth_type(eth_p::IP).with_ip_proto(6).with_port_src_min(2000).with_port_src_max(1000);
+//! let filter = Message::on(2).parent(Handle::INGRESS).filter(10, eth_p::IP).of(ports);
+//! let request = filter.request(Object::Filter, Verb::Add, 7)?;
+//! # let words = |words: &[u32]| words.iter().flat_map(|word| word.to_le_bytes()).collect::<Vec<u8>>();
+//! # let mut datagram = words(&[0, 0x0200_0002, 7, 0, 22u32.wrapping_neg()]);
+//! # datagram.extend(&request);
+//! # datagram.extend([&[70, 0, 1, 0][..], b"Invalid source port range (min must be strictly smaller than max)\0\0\0"].concat());
+//! # datagram.extend(words(&[0x0002_0008, 68]));
+//! # datagram[0] = datagram.len() as u8;
+//! # let receive = || datagram.clone();
+//! let refused = answers_to(&request, receive).expect_err("the ports are reversed");
+//! let text = "EINVAL: Invalid source port range (min must be strictly smaller than max), offset 68";
+//! # #[cfg(feature = "serde")]
+//! assert_eq!(refused.to_string(), format!("{text}, path /attributes/1/Options/2/Flower/PortSrcMin"));
+//! # assert!(refused.to_string().starts_with(text));
+//! # Ok(()) }
+//! # #[cfg(not(feature = "kinds"))]
+//! # fn main() {}
 //! ```
 //!
-//! The payload is what `Message::parse` of [`kinds`](crate#every-kind-typed), or [`TcMessage`](crate::tc::TcMessage), reads.
+//! After a dump, [`Answers::is_interrupted`] says whether it should be made again. A payload is what `Message::parse` of [`kinds`](crate#every-kind-typed), or [`TcMessage`](crate::tc::TcMessage), reads.
 
 use crate::NlasIterator;
 use crate::capture::{CaptureError, Messages, NetlinkMessage, answer_in, errno_name};
@@ -42,7 +83,7 @@ const TEXT: u16 = 1;
 pub struct Answer {
     /// The number of the error, such as 22 for `EINVAL`, or 0 of an acknowledgement.
     pub errno: u32,
-    /// The text of the extended acknowledgement.
+    /// The text of the extended acknowledgement: of an error its cause, of an acknowledgement a warning.
     pub text: Option<String>,
     /// The offset in the request of the attribute that the kernel refused, in bytes, the netlink header among them.
     pub offset: Option<usize>,
@@ -144,6 +185,7 @@ impl core::error::Error for AnswerError {}
 #[derive(Clone, Debug)]
 pub struct Answers<'r> {
     request: &'r [u8],
+    acknowledgement: Option<Answer>,
     is_done: bool,
     is_interrupted: bool,
 }
@@ -152,13 +194,19 @@ impl<'r> Answers<'r> {
     /// The answers to this request, of which nothing was read.
     #[must_use]
     pub fn to(request: &'r [u8]) -> Self {
-        Answers { request, is_done: false, is_interrupted: false }
+        Answers { request, acknowledgement: None, is_done: false, is_interrupted: false }
     }
 
     /// Whether the last answer was read: an acknowledgement, an error, `NLMSG_DONE`, or the answer to a request that asks for one object.
     #[must_use]
     pub fn is_done(&self) -> bool {
         self.is_done
+    }
+
+    /// The acknowledgement, or the end of a dump, if it was read. Its text is a warning: the kernel did what was asked.
+    #[must_use]
+    pub fn acknowledgement(&self) -> Option<&Answer> {
+        self.acknowledgement.as_ref()
     }
 
     /// Whether what was dumped changed meanwhile (`NLM_F_DUMP_INTR`), so that the dump should be made again.
@@ -172,7 +220,8 @@ impl<'r> Answers<'r> {
         bytes.map_or(0, |bytes| u32::from_le_bytes(*bytes))
     }
 
-    /// Reads a datagram: the messages with the sequence number of the request, without acknowledgement and `NLMSG_DONE`.
+    /// Reads a datagram: the messages with the sequence number of the request, without [`acknowledgement`](Self::acknowledgement) and
+    /// `NLMSG_DONE`.
     ///
     /// # Errors
     ///
@@ -191,6 +240,7 @@ impl<'r> Answers<'r> {
                 if answer.errno != 0 {
                     return Err(AnswerError::Refused(answer));
                 }
+                self.acknowledgement = Some(answer);
                 continue;
             }
             let is_dump = flags & NLM_F_DUMP == NLM_F_DUMP && is_get((self.number(4) & 0xffff) as u16);

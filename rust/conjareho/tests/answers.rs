@@ -68,6 +68,31 @@ fn an_acknowledgement_ends_a_request() {
 }
 
 #[test]
+fn an_acknowledgement_can_have_a_warning() {
+    let (add, dump) = (request(Verb::Add), request(Verb::Dump));
+    let text = attribute(1, b"Warning: offload is off\0");
+    for is_capped in [false, true] {
+        let mut answers = Answers::to(&add);
+        assert_eq!((answers.acknowledgement(), answers.is_done()), (None, false));
+        assert_eq!(answers.read(&answer(0, &add, is_capped, &text)).map(|found| found.len()), Ok(0));
+        let told = answers.acknowledgement().expect("an acknowledgement");
+        assert_eq!((told.errno, told.text.as_deref(), told.offset), (0, Some("Warning: offload is off"), None));
+        assert_eq!(told.to_string(), "done: Warning: offload is off");
+    }
+    // One without a text, and the end of a dump.
+    let mut answers = Answers::to(&add);
+    assert!(answers.read(&answer(0, &add, true, &[])).is_ok());
+    assert_eq!(answers.acknowledgement(), Some(&Answer::default()));
+    let mut answers = Answers::to(&dump);
+    assert!(answers.read(&netlink(3, 0x202, 7, &[&[0; 4][..], &text].concat())).is_ok());
+    assert_eq!(answers.acknowledgement().and_then(|it| it.text.as_deref()), Some("Warning: offload is off"));
+    // None if the request is refused.
+    let mut answers = Answers::to(&add);
+    assert!(answers.read(&answer(22, &add, true, &text)).is_err());
+    assert_eq!((answers.acknowledgement(), answers.is_done()), (None, true));
+}
+
+#[test]
 fn a_dump_has_several_datagrams() {
     let request = request(Verb::Dump);
     let part = netlink(36, 2, 7, &[0; 20]);

@@ -144,6 +144,62 @@ fn what_is_not_of_a_table_is_kept() {
 }
 
 #[test]
+fn a_message_that_is_cut_or_broken_is_not_whole() {
+    let limit = |word: u16| attribute(word, &10240u32.to_le_bytes());
+    let wholes = [
+        vec![0; 20],
+        message("fq_codel", &limit(2)),
+        message("fq_codel", &limit(0x8002)),       // NLA_F_NESTED at a number
+        message("fq_codel", &attribute(99, &[1])), // an attribute without a table
+        message("pfifo", &[1; 6]),                 // two bytes after a record
+        message("sfq", &[1; 20]),
+        message("unknown", &[1, 2, 3]), // a kind without a table
+        [vec![0; 20], attribute(1, b"fq_codel"), attribute(2, &limit(2))].concat(), // a kind without NUL
+        [vec![0; 20], vec![5, 0, 12, 0, 1, 9, 9, 9]].concat(), // padding that isn't zero
+    ];
+    for bytes in &wholes {
+        assert!(parsed(bytes).is_whole(), "{bytes:?}");
+    }
+    let broken = [
+        message("fq_codel", &attribute(2, &[1, 2, 3])), // a number of three bytes
+        message("fq_codel", &[limit(2), vec![3, 0, 1]].concat()), // a broken attribute at the end of options
+        message("netem", &[1; 23]),                     // a record that is cut
+        message("sfq", &[1; 24]),                       // a record of neither length
+        [vec![0; 20], attribute(1, b"\xff\xff\0")].concat(), // a kind that is no text
+        message("flower", &attribute(3, &attribute(1, &[9, 0, 1, 0]))), // in an action
+    ];
+    for bytes in &broken {
+        assert!(!parsed(bytes).is_whole(), "{bytes:?}");
+    }
+    // Cut after each byte: it is whole between attributes, and with less padding.
+    let bytes = message("fq_codel", &[limit(2), limit(3)].concat());
+    for len in 20..bytes.len() {
+        let is_between = len == 20 || (33..=36).contains(&len);
+        assert_eq!(parsed(&bytes[..len]).is_whole(), is_between, "{len}");
+    }
+    for (mode, bytes) in sent() {
+        let is_whole = match &*mode {
+            "action" => ActionMessage::parse(&bytes).expect("a header").is_whole(),
+            _ => parsed(&bytes).is_whole(),
+        };
+        assert!(is_whole, "{mode} {bytes:?}");
+    }
+    assert!(ActionMessage::of([ActionOptions::from(TcAct::Shot)]).is_whole());
+    assert!(!ActionMessage::parse(&[0, 0, 0, 0, 8, 0, 1, 0]).expect("a header").is_whole());
+    assert!(!Message::on(2).with_kind(&"x".repeat(65531)).is_whole());
+}
+
+#[test]
+fn a_filter_has_its_priority_and_its_protocol() {
+    let filter = Message::on(2).filter(10, 0x0800);
+    assert_eq!((filter.header.info, filter.priority(), filter.protocol()), (0x000a_0008, 10, 0x0800));
+    // As Linux has it: TC_H_MAKE(prio << 16, htons(ETH_P_ALL)).
+    let read = parsed(&[&[0; 16][..], &[0x00, 0x03, 0x00, 0xc0]].concat());
+    assert_eq!((read.priority(), read.protocol()), (0xc000, 3));
+    assert_eq!(Message::default().filter(read.priority(), read.protocol()).header.info, read.header.info);
+}
+
+#[test]
 fn a_changed_list_keeps_what_is_beside_its_attributes() {
     let options =
         [attribute(1, &[5, 0, 0, 0]), attribute(0x8002, &[6, 0, 0, 0]), attribute(9, &[7, 0, 0, 0]), vec![9, 9]]
@@ -220,6 +276,30 @@ fn a_handle_is_the_text_of_tc() {
     for text in ["", "1", "1:2:3", "1:x", "10000:1", "+1:2", " 1:2", "Root"] {
         assert!(text.parse::<Handle>().is_err(), "{text}");
     }
+}
+
+#[test]
+fn a_handle_of_u32_is_the_text_of_tc() {
+    use conjareho::kinds::U32Parts;
+    for (text, handle) in [
+        ("800:", 0x8000_0000),
+        ("800::800", 0x8000_0800),
+        ("fff:ff:fff", u32::MAX),
+        ("2:1:3", 0x0020_1003),
+        ("2:a", 0x0020_a000),
+        ("none", 0),
+    ] {
+        assert_eq!(text.parse::<U32Parts>().map(Handle::from), Ok(Handle(handle)), "{text}");
+        assert_eq!(Handle(handle).u32_parts().to_string(), text);
+    }
+    assert_eq!(
+        ("0:0:0".parse::<U32Parts>(), "::801".parse()),
+        (Ok(Handle(0).u32_parts()), Ok(Handle(0x801).u32_parts()))
+    );
+    for text in ["", "800", "1000:", "800:100", "800::1000", "800:::1", "1:x", "+1:", "1: 2", "800::-1", "root"] {
+        assert!(text.parse::<U32Parts>().is_err(), "{text}");
+    }
+    assert!("800::800".parse::<Handle>().is_err());
 }
 
 /// The stored messages that iproute2 sent: a mode, `tc` or `action`, and the bytes.

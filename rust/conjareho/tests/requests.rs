@@ -274,8 +274,7 @@ fn flower() {
 fn u32() {
     let rule = |handle: u32| Message::on(1).handle(Handle(handle)).parent(Handle::new(1, 0)).filter(5, eth_p::IP);
     let key = |val, mask, off| U32Key { mask, val, off, ..U32Key::default() };
-    let selector = |keys: Vec<U32Key>| U32Sel { nkeys: keys.len() as u8, keys, ..U32Sel::default() };
-    let terminal = |keys| U32Sel { flags: TcU32Bits::TERMINAL, ..selector(keys) };
+    let terminal = |keys: Vec<U32Key>| U32Sel { flags: TcU32Bits::TERMINAL, ..U32Sel::of(keys) };
     let web = terminal(vec![key(0x0a00_0000, 0xff00_0000, 16), key(80, 0xffff, 20)]);
     filter(
         "tc filter add dev lo parent 1: protocol ip prio 5 u32 match ip dst 10.0.0.0/8 match ip dport 80 0xffff flowid 1:10",
@@ -294,7 +293,7 @@ fn u32() {
         Verb::Add,
         rule(2 << 20).of(U32Attr::list().with_divisor(256)),
     );
-    let hashed = U32Sel { hoff: 12, hmask: 0xff, ..selector(vec![key(0xc0a8_0000, 0xffff_ff00, 12)]) };
+    let hashed = U32Sel { hoff: 12, hmask: 0xff, ..U32Sel::of([key(0xc0a8_0000, 0xffff_ff00, 12)]) };
     filter(
         "tc filter add dev lo parent 1: protocol ip prio 5 u32 ht 800:: link 2: hashkey mask 0x000000ff at 12 match ip src 192.168.0.0/24",
         Verb::Add,

@@ -12,6 +12,26 @@ const BUILT: &[(&str, &str)] = &[
     ("tbf", "[`Tbf`](crate::kinds::Tbf) builds these lists, and reads them"),
     ("police", "[`PoliceAction`](crate::kinds::PoliceAction) builds these lists, and reads them"),
 ];
+/// What the page of a field says besides: the record, the field, and the text.
+const REMARKS: &[(&str, &str, &str)] = &[
+    (
+        "tc_u32_sel",
+        "nkeys",
+        " It has to be the number of `keys`, which [`of`](crate::kinds::filters::u32::U32Sel::of) counts: the kernel drops keys after so many, \
+         and a filter of 0 keys matches every packet.",
+    ),
+    (
+        "tc_pedit_sel",
+        "nkeys",
+        " It has to be the number of `keys`: the kernel refuses 0, and drops keys after so many.",
+    ),
+    (
+        "tc_ratespec",
+        "rate",
+        " It is 4294967295 if the rate is larger, which is then in an attribute of 64 bits, such as \
+         [`HtbAttr::Rate64`](crate::kinds::qdiscs::htb::HtbAttr::Rate64). The builders, such as [`HtbClass`](crate::kinds::HtbClass), read and write both.",
+    ),
+];
 /// The most attributes, or fields, that an example sets.
 const MOST: usize = 2;
 /// The most places that a page names.
@@ -55,6 +75,11 @@ impl Value {
         self.uses.insert((module.to_string(), name.to_string()));
         self
     }
+}
+
+/// What the page of a field says besides, after a space. Empty for most.
+pub(crate) fn remark(record: &str, field: &str) -> &'static str {
+    REMARKS.iter().find(|(of, name, _)| (*of, *name) == (record, field)).map_or("", |(_, _, text)| text)
 }
 
 /// What the page of a block says about its use. Empty if nothing has it.

@@ -3,7 +3,7 @@
 use crate::Fault;
 use crate::names::{constant, ident, snake, type_name, variant};
 use crate::notation::{Block, ByKind, Form, KINDS, Line, List, Tables};
-use crate::usage::usage;
+use crate::usage::{remark, usage};
 use crate::uses::{Uses, bits_of, rust_number};
 use std::collections::{BTreeMap, BTreeSet};
 use std::fmt::Write as _;
@@ -143,7 +143,7 @@ impl Writer<'_> {
     fn record(&self, block: &Block, name: &str) -> String {
         let fields = block.lines.iter().filter_map(|line| {
             let (form, field) = (line.form.as_ref()?, ident(&line.name));
-            let doc = if matches!(form, Form::Pad(_)) { "Padding.".to_string() } else { self.doc_of(line) };
+            let doc = if matches!(form, Form::Pad(_)) { "Padding.".to_string() } else { self.doc_of(line) + remark(name, &line.name) };
             let Type { value, layout, .. } = self.form(form, &line.unit);
             let alias = if snake(&line.name) == line.name { "" } else { &line.name };
             Some(format!("{}{field} {:?} {:?} ({value}) ({layout}),\n", attributes(&doc, alias), line.name, layer(form)))
@@ -162,7 +162,8 @@ impl Writer<'_> {
             let Type { value, layout, taken } = self.form(form, &line.unit);
             let doc = self.numbered_doc_of(line);
             let front = format!("{}{} {} with_{method}", attributes(&doc, &line.kernel), variant(&line.name), ident(&method));
-            Some(format!("{front} {:?} {:?} {} {} ({value}) ({layout}) ({taken}),\n", line.name, layer(form), line.number, flags_of(form)))
+            let types = format!("({value}) ({layout}) ({taken}) {:?}", unit_of(line).map_or(String::new(), |unit| format!(", {unit}")));
+            Some(format!("{front} {:?} {:?} {} {} {types},\n", line.name, layer(form), line.number, flags_of(form)))
         });
         let type_name = type_name("list", name);
         let getters = format!("A list of them is an [`Attrs`]`<{type_name}>`, which has a getter for each, and a method `with_..` that appends it.");
@@ -301,7 +302,7 @@ impl Writer<'_> {
 
     fn doc_with(&self, line: &Line, kernel: Option<String>) -> String {
         let mut parts: Vec<String> = kernel.into_iter().collect();
-        parts.extend(UNITS.iter().find(|(unit, _)| *unit == line.unit).map(|(_, text)| text.to_string()));
+        parts.extend(unit_of(line).map(str::to_string));
         if matches!(&line.form, Some(Form::Number(number) | Form::Enum(number, _) | Form::Bits(number, _)) if number.starts_with("be")) {
             parts.push("big-endian in the message".to_string());
         }
@@ -313,6 +314,11 @@ impl Writer<'_> {
         }
         sentence(&parts.join(", "))
     }
+}
+
+/// The unit of a line, as docs say it.
+fn unit_of(line: &Line) -> Option<&'static str> {
+    UNITS.iter().find(|(unit, _)| *unit == line.unit).map(|(_, text)| *text)
 }
 
 fn with_value(value: String, layout: impl Fn(&str) -> String) -> (String, String) {

@@ -63,7 +63,9 @@ fn the_tables_of_the_repository_are_written() {
     let types = types(&Path::new(env!("CARGO_MANIFEST_DIR")).join("../../kinds")).expect("types");
     for part in [
         "Htb \"\" \"Htb\" 0 (Attrs<HtbAttr>) (List<HtbAttr>) = \"htb\"",
-        "Rate64 rate64 with_rate64 \"Rate64\" \"\" 6 0 (u64) (u64) (u64)",
+        "Rate64 rate64 with_rate64 \"Rate64\" \"\" 6 0 (u64) (u64) (u64) \", in bytes per second\",",
+        "It has to be the number of `keys`, which [`of`](crate::kinds::filters::u32::U32Sel::of) counts",
+        "\"In bytes per second. It is 4294967295 if the rate is larger",
         "#[doc(alias = \"TCA_HTB_RATE64\")]",
         "linklayer \"linklayer\" \"\" (TcLinklayer) (Coded<TcLinklayer, u8>)",
         "latency \"latency\" \"\" (Ticks) (Coded<Ticks, u32>)",

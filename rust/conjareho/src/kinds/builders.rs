@@ -3,6 +3,7 @@
 use super::action::{Gen, TcAct};
 use super::actions::gact::{Gact, GactAttr};
 use super::actions::police::{Police, PoliceAttr};
+use super::filters::u32::{U32Key, U32Sel};
 use super::qdiscs::htb::{HtbAttr, HtbGlob, HtbOpt};
 use super::qdiscs::tbf::{TbfAttr, TbfQopt};
 use super::shared::{Ratespec, TcLinklayer};
@@ -59,6 +60,34 @@ impl Ratespec {
     }
 }
 
+impl U32Sel {
+    /// A selector of these keys, all of them for a packet to match, with their number in `nkeys`: the kernel drops keys after so many, and a
+    /// filter of 0 keys matches every packet. If `keys` is changed later, `nkeys` has to be, too.
+    ///
+    /// ```
+    /// use conjareho::kinds::filters::u32::{TcU32Bits, U32Attr, U32Key, U32Sel};
+    /// use conjareho::kinds::{Handle, Message, shared::eth_p};
+    ///
+    /// // `tc filter add dev .. parent 1: protocol ip prio 5 u32 match ip dst 10.0.0.0/8 flowid 1:10`. An IPv4 header has the
+    /// // destination at byte 16. `TERMINAL` ends the search, and a filter without it needs a `link`.
+    /// let key = U32Key { val: 0x0a00_0000, mask: 0xff00_0000, off: 16, ..U32Key::default() };
+    /// let selector = U32Sel { flags: TcU32Bits::TERMINAL, ..U32Sel::of([key]) };
+    /// let options = U32Attr::list().with_class_id(Handle::new(1, 0x10)).with_selector(selector);
+    /// let message = Message::on(2).parent(Handle::new(1, 0)).filter(5, eth_p::IP).of(options);
+    /// # assert!(message.is_whole());
+    /// ```
+    ///
+    /// # Panics
+    ///
+    /// If there are more than 255 keys. `tc` sends at most 128.
+    #[must_use]
+    pub fn of(keys: impl Into<Vec<U32Key>>) -> Self {
+        let keys = keys.into();
+        let nkeys = u8::try_from(keys.len()).expect("a selector has at most 255 keys");
+        U32Sel { nkeys, keys, ..U32Sel::default() }
+    }
+}
+
 /// The qdisc htb as `tc qdisc add .. htb` makes it.
 #[derive(Clone, Copy, PartialEq, Eq, Hash, Debug)]
 pub struct Htb {
@@ -90,7 +119,8 @@ impl From<Htb> for Options {
 
 /// A class of htb as `tc class add .. htb` makes it.
 ///
-/// It can be had from options that were read, to be changed and sent again. So can [`Htb`], [`Tbf`] and [`PoliceAction`].
+/// It can be had from options that were read, to be changed and sent again. So can [`Htb`], [`Tbf`] and [`PoliceAction`]. `try_from` takes
+/// a rate from [`HtbAttr::Rate64`] or [`HtbAttr::Ceil64`] if it is there: [`Ratespec::rate`] has at most 4294967295 bytes per second.
 ///
 /// ```
 /// use conjareho::kinds::{HtbClass, Message};

@@ -97,13 +97,21 @@ macro_rules! codes {
         impl From<u32> for $code {
             fn from(number: u32) -> Self { $code(number) }
         }
+    )* };
+}
+
+codes! { Handle Ticks Prob }
+
+// Not of ticks: most numbers that are times have another unit.
+macro_rules! numbers_of {
+    ($($code:ident)*) => { $(
         impl From<$code> for u32 {
             fn from(value: $code) -> u32 { value.0 }
         }
     )* };
 }
 
-codes! { Handle Ticks Prob }
+numbers_of! { Handle Prob }
 
 /// A form whose values take all bytes: its name with its parameters, the type of its values, its width, how a value is read and
 /// written, and the value of zeros or of nothing.

@@ -311,7 +311,7 @@ macro_rules! by_kind_json {
                     $(($name::Other(bytes), $($kind)|+) => (name, unread::<$form>(bytes, $json)),)*
                     ($name::Other(bytes), kind) => {
                         let levels = super::wire::DEEPEST;
-                        let shown = within::<$other_form>(bytes, Place { kind, levels }).map(|(value, _)| <$other_form as Json>::json(&value, seen));
+                        let shown = within::<$other_form>(bytes, Place { kind, levels, is_broken: &Default::default() }).map(|(value, _)| <$other_form as Json>::json(&value, seen));
                         (if stringify!($shown) == "hex" { $other } else { name }, shown.unwrap_or_else(|| raw(bytes)))
                     }
                 }

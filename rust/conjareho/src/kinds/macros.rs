@@ -42,11 +42,12 @@ macro_rules! record {
 }
 
 /// A list of attributes, and how it treats kinds. Of each attribute: its variant, its getter and setter, its name in JSON, the object
-/// in JSON that holds each of its own attributes, its type and flags, the type of its value, its form, and what its setter takes.
+/// in JSON that holds each of its own attributes, its type and flags, the type of its value, its form, what its setter takes, and its
+/// unit, after a comma.
 macro_rules! attrs {
     ($(#[$about:meta])* $name:ident $kinds:ident { $(
         $(#[$doc:meta])*
-        $variant:ident $get:ident $with:ident $json:literal $layer:literal $number:literal $flags:literal ($value:ty) ($form:ty) ($taken:ty),
+        $variant:ident $get:ident $with:ident $json:literal $layer:literal $number:literal $flags:literal ($value:ty) ($form:ty) ($taken:ty) $unit:literal,
     )* }) => {
         $(#[$about])*
         #[derive(Clone, PartialEq, Eq, Hash, Debug)]
@@ -68,14 +69,14 @@ macro_rules! attrs {
 
         impl Attrs<$name> {
             $(
-                #[doc = concat!("The last [`", stringify!($name), "::", stringify!($variant), "`]. The kernel uses the last one as well.")]
+                #[doc = concat!("The last [`", stringify!($name), "::", stringify!($variant), "`]", $unit, ". The kernel uses the last one as well.")]
                 #[inline]
                 #[must_use]
                 pub fn $get(&self) -> Option<&$value> {
                     self.iter().rev().find_map(|it| if let $name::$variant(value) = it { Some(value) } else { None })
                 }
 
-                #[doc = concat!("Appends a [`", stringify!($name), "::", stringify!($variant), "`].")]
+                #[doc = concat!("Appends a [`", stringify!($name), "::", stringify!($variant), "`]", $unit, ".")]
                 #[inline]
                 #[must_use]
                 #[allow(clippy::useless_conversion)] // numbers
@@ -97,6 +98,7 @@ macro_rules! attrs {
                             let word = $number | $flags | <$form as Form>::flags(&value);
                             return Found { item: $name::$variant(value), word, rest };
                         }
+                        at.is_broken.set(true);
                     })*
                     _ => {}
                 }
@@ -295,14 +297,19 @@ macro_rules! choice {
             type Value = Self;
             const WIDTH: Option<usize> = None;
 
-            #[allow(unused_variables)] // no choice
+            #[allow(unused_variables, clippy::const_is_empty)] // no choice, and no start
             fn read<'b>(bytes: &'b [u8], at: Place<'b>) -> Option<(Self, &'b [u8])> {
                 $(
                     if let Some(held) = chosen(bytes, &[$($start),*], $len) {
                         let found = within::<$form>(held, at).map(|(value, rest)| ($name::$variant(value), rest));
-                        return Some(found.unwrap_or(($name::Other(bytes.into()), &[])));
+                        return Some(found.unwrap_or_else(|| {
+                            at.is_broken.set(true);
+                            ($name::Other(bytes.into()), &[])
+                        }));
                     }
                 )*
+                // Forms that only lengths tell apart have no other one.
+                at.is_broken.set(at.is_broken.get() $(|| <[u8]>::is_empty(&[$($start),*]))*);
                 Some(($name::Other(bytes.into()), &[]))
             }
 
@@ -367,6 +374,7 @@ macro_rules! by_kind {
                     $($first $(| $kind)* => {
                         // Statistics are in an object of their own, a level of its own.
                         let found = if $json.is_empty() { <$form as Form>::read(bytes, at) } else { within::<$form>(bytes, at) };
+                        at.is_broken.set(at.is_broken.get() || found.is_none());
                         found.map(|(value, rest)| ($name::$variant(value), rest))
                     })*
                     _ => None,

@@ -32,6 +32,10 @@
 //! [`table`] lists all kinds with their types. Names are the kernel's in Rust's case, and the search finds the kernel's own, such as
 //! `TCA_HTB_RATE64`. [`Htb`], [`HtbClass`], [`Tbf`] and [`PoliceAction`] compute what `tc` computes.
 //!
+//! What tables don't say, the types don't check: `nkeys` of a u32 selector has to be the number of its keys, as
+//! [`U32Sel::of`](filters::u32::U32Sel::of) makes it, and a number has the unit that its documentation has. [`Message::is_whole`] tells
+//! cut and broken messages, which [`Message::parse`] takes.
+//!
 //! A generator (`rust/kinds`) writes this module from the tables in `kinds/`. It is tested, and not proved: `rust/check` compares
 //! the JSON of typed values with the JSON of the proved forms on all stored messages, and reads and writes a
 //! million changed messages, which have to come back byte for byte.
@@ -65,7 +69,7 @@ pub use from_options::OptionsError;
 pub use list::{Attrs, Indexed};
 pub use units::{NotAProb, NotARate, NotATime, Rate};
 use values::show_flags;
-pub use values::{Bytes, Handle, Mac, Nla, NotAHandle, NotAMac, NotHex, Prob, Ticks, U32Parts};
+pub use values::{Bytes, Handle, Mac, Nla, NotAHandle, NotAMac, NotHex, NotU32Parts, Prob, Ticks, U32Parts};
 use wire::{Attr, Form, Found, Kinds, NLA_TYPE_MASK, Out, Place, chosen, field, total, within};
 
 #[cfg(kinds_json)]

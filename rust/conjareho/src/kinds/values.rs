@@ -9,6 +9,9 @@ use core::ops::Deref;
 use core::str::FromStr;
 
 /// A handle of a qdisc, class or filter, in hex as `tc` writes it: `1:10` is 0x10010.
+///
+/// The handles and hash tables of `u32` have three parts, and are read as [`U32Parts`]: `800::800` is no `Handle`, and `800:` another
+/// number than the table that `tc` means.
 #[derive(Clone, Copy, PartialEq, Eq, Hash, PartialOrd, Ord, Default)]
 pub struct Handle(pub u32);
 
@@ -53,7 +56,19 @@ impl Handle {
     }
 }
 
-/// The handle of a `u32` filter in its parts: [`Handle::u32_parts`].
+/// The handle of a `u32` filter, or of a hash table, in its parts: [`Handle::u32_parts`].
+///
+/// ```
+/// use conjareho::kinds::filters::u32::U32Attr;
+/// use conjareho::kinds::{Handle, U32Parts};
+///
+/// let handle = Handle::from("800::801".parse::<U32Parts>()?);
+/// assert_eq!(handle, Handle(0x8000_0801));
+/// // `link 2:` of `tc`.
+/// let options = U32Attr::list().with_link(Handle::from("2:".parse::<U32Parts>()?).0);
+/// assert_eq!(options.link(), Some(&0x20_0000));
+/// # Ok::<(), conjareho::kinds::NotU32Parts>(())
+/// ```
 #[derive(Clone, Copy, PartialEq, Eq, Hash, PartialOrd, Ord, Debug)]
 pub struct U32Parts(u32);
 
@@ -73,6 +88,33 @@ impl fmt::Display for U32Parts {
             write!(f, ":{node:x}")?;
         }
         Ok(())
+    }
+}
+
+impl FromStr for U32Parts {
+    type Err = NotU32Parts;
+
+    /// Reads `TABLE:BUCKET:NODE` in hex, where each number and the second colon may be left out, and `none`. The text of a handle with a
+    /// table, such as the kernel's, is read as that handle. (`tc` writes bucket 1 of table 0 as `1`.)
+    fn from_str(text: &str) -> Result<Self, NotU32Parts> {
+        if text == "none" {
+            return Ok(U32Parts(0));
+        }
+        let part = |text: &str, bits: u32| match text {
+            "" => Ok(0),
+            // A sign is none of a handle.
+            _ if text.starts_with('+') => Err(NotU32Parts),
+            _ => u32::from_str_radix(text, 16).ok().filter(|part| part >> bits == 0).ok_or(NotU32Parts),
+        };
+        let (table, after) = text.split_once(':').ok_or(NotU32Parts)?;
+        let (bucket, node) = after.split_once(':').unwrap_or((after, ""));
+        Ok(U32Parts(part(table, 12)? << 20 | part(bucket, 8)? << 12 | part(node, 12)?))
+    }
+}
+
+impl From<U32Parts> for Handle {
+    fn from(parts: U32Parts) -> Self {
+        Handle(parts.0)
     }
 }
 
@@ -107,13 +149,14 @@ impl fmt::Debug for Handle {
 }
 
 not_a! { NotAHandle, "a handle, such as 1:10 or root" }
+not_a! { NotU32Parts, "a handle of u32, such as 800::800" }
 not_a! { NotAMac, "a MAC address, such as 02:00:00:00:00:01" }
 not_a! { NotHex, "bytes in hex" }
 
 impl FromStr for Handle {
     type Err = NotAHandle;
 
-    /// Reads `MAJOR:MINOR` in hex, where either may be left out, and `root`.
+    /// Reads `MAJOR:MINOR` in hex, where either may be left out, and `root`. Handles of `u32` filters are [`U32Parts`].
     fn from_str(text: &str) -> Result<Self, NotAHandle> {
         if text == "root" {
             return Ok(Handle::ROOT);
@@ -130,6 +173,24 @@ impl FromStr for Handle {
 }
 
 /// A time in ticks of the packet scheduler, 64 ns each.
+///
+/// Only the fields and attributes of this type are in ticks, such as netem's `latency`. The times of fq_codel and of most other kinds are
+/// numbers in the unit that their documentation has, often microseconds, and no `Ticks` are converted into them:
+///
+/// ```
+/// use conjareho::kinds::{Ticks, qdiscs::fq_codel::FqCodelAttr};
+/// use std::time::Duration;
+///
+/// let time = Duration::from("5ms".parse::<Ticks>()?);
+/// let options = FqCodelAttr::list().with_target(u32::try_from(time.as_micros())?);
+/// assert_eq!(options.target(), Some(&5000));
+/// # Ok::<(), Box<dyn std::error::Error>>(())
+/// ```
+///
+/// ```compile_fail,E0277
+/// # use conjareho::kinds::{Ticks, qdiscs::fq_codel::FqCodelAttr};
+/// let options = FqCodelAttr::list().with_target("5ms".parse::<Ticks>().unwrap().into());
+/// ```
 #[derive(Clone, Copy, PartialEq, Eq, Hash, PartialOrd, Ord, Debug, Default)]
 pub struct Ticks(pub u32);
 

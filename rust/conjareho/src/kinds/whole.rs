@@ -10,6 +10,7 @@ use crate::requests::{Object, Verb};
 use crate::tc::{TcActionMessage, TcMessage};
 use crate::{DecodeError, ParseableBytes, RewriteError};
 use alloc::vec::Vec;
+use core::cell::Cell;
 
 impl Message {
     /// The kind: the last `TCA_KIND`, or nothing.
@@ -79,6 +80,18 @@ impl Message {
         self
     }
 
+    /// The priority of a filter, which [`filter`](Self::filter) sets. 0 lets the kernel choose one.
+    #[must_use]
+    pub fn priority(&self) -> u16 {
+        (self.header.info >> 16) as u16
+    }
+
+    /// The protocol that a filter matches, which [`filter`](Self::filter) sets, such as [`eth_p::IP`](super::shared::eth_p::IP).
+    #[must_use]
+    pub fn protocol(&self) -> u16 {
+        (self.header.info as u16).swap_bytes()
+    }
+
     /// Appends an attribute, such as `TcAttr::Chain(7)`.
     #[must_use]
     pub fn with(mut self, attribute: TcAttr) -> Self {
@@ -93,7 +106,7 @@ impl Message {
         self
     }
 
-    /// Appends options. The kind has to be before them.
+    /// Appends options. The kind before them has to be theirs: the kernel, and `parse`, read options by the kind. [`of`](Self::of) appends both.
     #[must_use]
     pub fn with_options(mut self, options: impl Into<Options>) -> Self {
         self.attributes.push(TcAttr::Options(options.into()));
@@ -158,9 +171,13 @@ impl ActionMessage {
     }
 }
 
+/// Reads a message, and sets `is_broken` if a part isn't of its form.
+fn read<M: Form>(bytes: &[u8], is_broken: &Cell<bool>) -> Option<M::Value> {
+    within::<M>(bytes, Place { kind: "", levels: DEEPEST, is_broken }).map(|(message, _)| message)
+}
+
 fn parse<M: Form>(bytes: &[u8], needed: usize) -> Result<M::Value, DecodeError> {
-    let found = within::<M>(bytes, Place { kind: "", levels: DEEPEST });
-    found.map(|(message, _)| message).ok_or(DecodeError::BufferTooSmall { len: bytes.len(), needed })
+    read::<M>(bytes, &Cell::new(false)).ok_or(DecodeError::BufferTooSmall { len: bytes.len(), needed })
 }
 
 fn bytes_of<M: Form>(message: &M::Value) -> Result<Vec<u8>, RewriteError> {
@@ -173,13 +190,29 @@ macro_rules! message {
     ($name:ident, $codec:ident, $len:literal) => {
         impl $name {
             /// Reads a message without its netlink header. What isn't of the tables is kept, and [`to_bytes`](Self::to_bytes) writes it again.
-            /// The bytes don't say which of the two types a message has; `nlmsg_type` does: `RTM_*ACTION` is an [`ActionMessage`].
+            /// The bytes don't say which of the two types a message has, but `nlmsg_type` does: `RTM_*ACTION` is an [`ActionMessage`].
             ///
+            /// **A cut or broken message isn't refused.** An attribute whose length doesn't fit is the [`remainder`](Attrs::remainder) of its
+            /// list, a payload that isn't of its form is `Other`, and [`is_whole`](Self::is_whole) returns false. Where a message was cut
+            /// between two attributes only the length in the netlink header says so: [`Answers`](crate::answers::Answers) and
+            /// [`Messages`](crate::capture::Messages) compare it with the datagram.
             /// # Errors
             ///
             #[doc = concat!("`BufferTooSmall` if there are fewer bytes than the ", $len, " of the header.")]
             pub fn parse(bytes: &[u8]) -> Result<Self, DecodeError> {
                 parse::<Self>(bytes, $len)
+            }
+
+            /// Whether no attribute is cut or broken, and each payload is of its form, if the tables have one: no list has a
+            /// [`remainder`](Attrs::remainder), and only kinds, attributes and forms that the tables lack are `Other`.
+            ///
+            /// Bytes after a record, which newer kernels send, other flags and padding are whole. Attributes over 16 levels deep aren't, nor is
+            /// a message that doesn't fit ([`to_bytes`](Self::to_bytes)). The message is written and read again, which takes time and memory.
+            #[must_use]
+            pub fn is_whole(&self) -> bool {
+                let is_broken = Cell::new(false);
+                let read = self.to_bytes().map(|bytes| read::<Self>(&bytes, &is_broken).is_some());
+                read == Ok(true) && !is_broken.get()
             }
 
             /// The bytes of the message, without a netlink header.

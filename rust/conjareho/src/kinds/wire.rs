@@ -2,6 +2,7 @@
 
 use alloc::boxed::Box;
 use alloc::vec::Vec;
+use core::cell::Cell;
 
 /// The levels of forms that are read. Deeper attributes are kept as bytes, as `forms_json` does.
 pub const DEEPEST: u8 = 16;
@@ -17,6 +18,8 @@ pub struct Place<'b> {
     pub kind: &'b str,
     /// The levels of forms left.
     pub levels: u8,
+    /// Set if bytes aren't of their form, which are then kept as they are.
+    pub is_broken: &'b Cell<bool>,
 }
 
 /// A layout of bytes.
@@ -235,6 +238,7 @@ pub fn read_frames<'b>(
         }
         count += 1;
     }
+    at.is_broken.set(at.is_broken.get() || !bytes.is_empty());
     aside.tail = bytes.to_vec();
     Some((aside != Aside::default()).then(|| Box::new(aside)))
 }
