@@ -197,7 +197,7 @@ fn an_action_that_is_named(rt: HostRuntime) -> Result<(), Fail> {
     let is_delete = |request: &LineRequest| {
         request.given.kind == Some(49)
             && request.given.flags == 5
-            && request.bytes.as_slice() == DELETED_ACTION
+            && request.bytes.as_slice() == DELETED_ACTION.as_slice()
     };
     assert!(rt; requests.len() == 1 && requests.iter().all(is_delete));
     assert!(rt; without_action(alloc, &[Key::Action { kind, index: 6 }])?.is_empty());
