@@ -5,7 +5,7 @@ ghost use Rattle.program_io.specs.declared.stop.Stop.TheVariants.{Closed, NoMemo
 ghost use Rattle.tcmake_lib.specs.InOrder.{AreMade, RanInOrder, RanPartlyInOrder};
 
 use crate::arguments::Request;
-use crate::plans::{interfaces_named, of_interfaces, plan_by};
+use crate::plans::{named_by, of_interfaces, plan_by};
 use forms_json::Tables;
 use program_io::Stop;
 use std::alloc::Global;
@@ -71,7 +71,7 @@ fn requests_of_plan<T: Tables>(
 {
     let there = lines_of_now(alloc, forms, index, now)?;
     let wanted = of_interfaces(alloc, &there, lines)?;
-    let keys = interfaces_named(alloc, &wanted)?;
+    let keys = named_by(alloc, &there, &wanted)?;
     plan_by(alloc, &KindRules, &keys, there, wanted)
 }
 

@@ -22,7 +22,7 @@ ghost use Rattle.tcmake_requests.specs.Dumps.{Message, given_as, has_complaint, 
 
 use crate::plan_complaint::PlanComplaint;
 use forms_json::Tables;
-use nla_frames::ParseableBytes;
+use nla_frames::{NLA_TYPE_MASK, Nla, ParseableBytes};
 use program_io::Stop;
 use std::alloc::{AllocError, Global};
 use std::collections::HashMap;
@@ -31,7 +31,7 @@ use std::io::BufRead;
 use tc_action_messages::TcActionMessage;
 use tc_capture::{MessageType, Time};
 use tc_changes::{Key, Plan, PlanError, Rules};
-use tc_messages::TcMessage;
+use tc_messages::{TcAttribute, TcMessage};
 use tc_objects::{
     DELETE_FLAGS, Dump as Shown, Label, PlanRequest, Planned, State, StateError, plan_between,
     state_after, state_of,
@@ -117,19 +117,69 @@ fn interfaces_of(alloc: Global, lines: &Lines) -> Result<Vec<i32>, AllocError> {
     Ok(known)
 }
 
-/// The interfaces in the first line of a save, as keys.
-pub(crate) fn interfaces_named(alloc: Global, lines: &Lines) -> Result<Vec<Key>, AllocError> {
+/// The interfaces of which something is wanted, or that are in the first line of the save, and the blocks that only these have now, as keys.
+pub(crate) fn named_by(alloc: Global, now: &Lines, want: &Lines) -> Result<Vec<Key>, AllocError> {
+    let named = interfaces_of(alloc, want)?;
     let mut keys = Vec::new(alloc);
-    if let Some(devices) = &lines.devices {
-        for device in devices {
-            keys.push(Key::Place {
-                index: *device,
-                parent: 0,
-            })?;
+    for index in &named {
+        keys.push(Key::Place {
+            index: *index,
+            parent: 0,
+        })?;
+    }
+    let mut own = Vec::new(alloc);
+    let mut others = Vec::new(alloc);
+    for dump in &now.dumps {
+        if let Some(index) = interface_of(&dump.made) {
+            let blocks = blocks_of(alloc, &dump.made)?;
+            if named.contains(&index) {
+                own.extend_from_slice(&blocks)?;
+            } else {
+                others.extend_from_slice(&blocks)?;
+            }
+        }
+    }
+    for number in own {
+        if !others.contains(&number) {
+            keys.push(Key::Block { number })?;
         }
     }
     Ok(keys)
 }
+
+// The blocks of a qdisc's dump: `TCA_INGRESS_BLOCK` and `TCA_EGRESS_BLOCK`. One that can't be read has none.
+fn blocks_of(alloc: Global, made: &Made) -> Result<Vec<u32>, AllocError> {
+    let mut blocks = Vec::new(alloc);
+    if made.given.kind != Some(RTM_NEWQDISC) {
+        return Ok(blocks);
+    }
+    if let Ok(message) = TcMessage::parse(alloc, &made.bytes) {
+        for attribute in &message.attributes {
+            if let Some(number) = block_in(attribute) {
+                blocks.push(number)?;
+            }
+        }
+    }
+    Ok(blocks)
+}
+
+fn block_in(attribute: &TcAttribute<Global>) -> Option<u32> {
+    match attribute {
+        TcAttribute::Other(nla) => {
+            let kind = nla.kind() & NLA_TYPE_MASK;
+            match nla.value() {
+                [a, b, c, d] if kind == 13 || kind == 14 => Some(u32::from_le_bytes([
+                    *a, *b, *c, *d,
+                ])),
+                _ => None,
+            }
+        }
+        _ => None,
+    }
+}
+
+// `RTM_NEWQDISC` of `linux/rtnetlink.h`.
+const RTM_NEWQDISC: u16 = 36;
 
 // The interface of a dump (`tcm_ifindex`). Actions have none, nor has what is in a block that interfaces share.
 fn interface_of(made: &Made) -> Option<i32> {
