@@ -273,7 +273,8 @@ def check_all():
 
 def read_all():
     paths = sorted(os.path.relpath(os.path.join(folder, name), HERE) for folder, _, names in os.walk(HERE) for name in names)
-    for path in [p for p in paths if p not in ('generate', 'notation.py', 'prove', 'columns', 'words', 'changes', 'interfaces', 'wireshark', 'README.md')]:
+    own = [p for p in paths if not (os.path.basename(p).startswith('.') or p.endswith('~'))]  # no files that editors leave
+    for path in [p for p in own if p not in ('generate', 'notation.py', 'prove', 'columns', 'words', 'changes', 'interfaces', 'wireshark', 'README.md')]:
         read(path)
     if not faults:
         check_all()
