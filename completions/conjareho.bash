@@ -31,7 +31,7 @@ _conjareho() {
             -r|--read) _filedir; return ;;
             --no-header) _conjareho_words tc action; return ;;
             --names) _filedir; return ;;
-            --time) _conjareho_words date epoch delta relative; return ;;
+            --time) _conjareho_words local date epoch delta relative; return ;;
             --color) _conjareho_words auto always never; return ;;
             --kind) _conjareho_words $_conjareho_kinds; return ;;
             --type) _conjareho_words $_conjareho_types; return ;;

@@ -136,6 +136,13 @@ counts s ls =
 abbrev pub statistics : Around → Section → List Leaf → List (List ℕ)
 statistics c s ls = counts s ls ++ section_words c s 0 None ls
 
+-- the words of a kind's statistics, and of the older ones unless these are the same
+abbrev pub unless_same : List (List ℕ) → List (List ℕ) → List (List ℕ)
+unless_same newer older = if bytes_eq (written newer) (written older) then newer else newer ++ older
+
+abbrev pub kind_statistics : Around → List Leaf → List (List ℕ)
+kind_statistics c ls = unless_same (section_words c section.KindStatistics 0 None ls) (section_words c section.OlderStatistics 0 None ls)
+
 -- true if a leaf of the section isn't left out
 abbrev pub has_any : Section → List Leaf → Bool
 has_any s [] = false
@@ -238,8 +245,20 @@ protocol_of (Some l) = protocol_in (unwrap_or (number_in l.value) 0)
 abbrev pub around : List Leaf → Around
 around ls = record { leaves = ls; protocol = protocol_of (in_head ls (codes "info")) }
 
-abbrev pub after_semicolon : Bool → Around → Section → List (List ℕ)
-after_semicolon stats c s = if stats && has_any s c.leaves then codes ";" ∷ statistics c s c.leaves else []
+abbrev pub has_statistics : List Leaf → Bool
+has_statistics ls = has_any section.Statistics ls || has_any section.KindStatistics ls || has_any section.OlderStatistics ls
+
+abbrev pub all_statistics : Around → List Leaf → List (List ℕ)
+all_statistics c ls = statistics c section.Statistics ls ++ kind_statistics c ls
+
+-- the statistics of an object, after a semicolon
+abbrev pub object_statistics : Bool → Around → List (List ℕ)
+object_statistics stats c = if stats && has_statistics c.leaves then codes ";" ∷ all_statistics c c.leaves else []
+
+-- those of an action that has a line of its own
+abbrev pub own_statistics : Bool → Around → List (List ℕ)
+own_statistics stats c =
+    if stats && has_any section.ActionStatistics c.leaves then codes ";" ∷ statistics c section.ActionStatistics c.leaves else []
 
 -- the members of the head that have a place of their own
 abbrev pub is_placed : List ℕ → Bool
@@ -269,7 +288,7 @@ body stats c ls =
 abbrev pub object_words : Said → List Leaf → List (List ℕ)
 object_words said ls =
     head said.statistics said.object (around ls) ++ (body said.statistics (around ls) ls ++ (by_words said.port
-    ++ after_semicolon said.statistics (around ls) section.Statistics))
+    ++ object_statistics said.statistics (around ls)))
 
 -- an action has no handle
 abbrev pub own_head : Bool → List Leaf → Leaf → Around → List (List ℕ)
@@ -279,7 +298,7 @@ own_head stats all l c = codes "action" ∷ (action_kind l c ++ (codes "-" ∷ (
 abbrev pub own_action_words : Said → List Leaf → Leaf → Around → List (List ℕ)
 own_action_words said all l c =
     own_head said.statistics all l c ++ (action_words c ++ (section_words c section.Words 0 None all ++ (by_words said.port
-    ++ after_semicolon said.statistics c section.ActionStatistics)))
+    ++ own_statistics said.statistics c)))
 
 -- a line: its words, a blank before each, between its begin and its end, and a line feed
 abbrev pub line : Said → List (List ℕ) → List ℕ

@@ -38,6 +38,8 @@ number_of_section section.Control = 5
 number_of_section section.ActionStatistics = 6
 number_of_section section.Begin = 7
 number_of_section section.Kind = 8
+number_of_section section.KindStatistics = 9
+number_of_section section.OlderStatistics = 10
 
 abbrev pub is_in : Section → Leaf → Bool
 is_in s l = number_of_section l.section == number_of_section s

@@ -91,8 +91,19 @@ displayed (display.SameLine p) s = section.Head
 displayed display.Kind s = if is_of_action s then section.Kind else section.Head
 displayed h s = s
 
-abbrev pub section_in : Frame → Display → Style → Section
-section_in f h st = if f.inside then f.section else displayed h (styled st f.section)
+-- the section of statistics of this name: those of a kind stand in two attributes, `TCA_STATS_APP` and the older `TCA_XSTATS`
+abbrev pub named_statistics : List ℕ → Section
+named_statistics key =
+    if bytes_eq key (codes "App") then section.KindStatistics
+    else if bytes_eq key (codes "Xstats") then section.OlderStatistics
+    else section.Statistics
+
+abbrev pub of_kind : List ℕ → Section → Section
+of_kind key section.Statistics = named_statistics key
+of_kind key s = s
+
+abbrev pub section_in : Frame → Display → Row → Section
+section_in f h r = if f.inside then f.section else displayed h (of_kind r.key (styled r.style f.section))
 
 abbrev pub is_silent : Shape → Bool
 is_silent Silent = true
@@ -204,7 +215,7 @@ within list shape s f =
     record {
       place = place_within s.display;
       base = place_within s.display;
-      section = section_in f s.display s.row.style;
+      section = section_in f s.display s.row;
       shape = shape;
       list = list;
       inside = f.inside || (if is_silent shape then false else true);
@@ -214,7 +225,7 @@ within list shape s f =
 abbrev pub opened : Bool → Shape → State → Frame → State
 opened list shape s f =
     record s {
-      out = s.out ++ opening (is_actions s.row.style) (key_in f s.key) s (section_in f s.display s.row.style) shape;
+      out = s.out ++ opening (is_actions s.row.style) (key_in f s.key) s (section_in f s.display s.row) shape;
       frames = within list shape s f ∷ s.frames;
     }
 
@@ -282,7 +293,7 @@ module _ (t : Table) where
 
   abbrev pub leaf_of : State → Frame → Value → Leaf
   leaf_of s f v =
-      record { key = key_in f s.key; row = s.row; display = s.display; names = names_in s.display; section = section_in f s.display s.row.style; value = v }
+      record { key = key_in f s.key; row = s.row; display = s.display; names = names_in s.display; section = section_in f s.display s.row; value = v }
 
   -- a kind selects the columns of the items after it
   abbrev pub note : Event → Display → Frame → Frame

@@ -13,7 +13,7 @@ pub(crate) enum Section {
     Words,
     /// Hardware flags.
     Hardware,
-    /// Statistics of the object.
+    /// Statistics of the object, beside its kind's own.
     Statistics,
     /// The words of an action's kind.
     Actions,
@@ -25,6 +25,10 @@ pub(crate) enum Section {
     Begin,
     /// The kind of an action.
     Kind,
+    /// Statistics of the object's kind.
+    KindStatistics,
+    /// The same in the older attribute.
+    OlderStatistics,
 }
 
 /// How a list or a record is written.

@@ -1,10 +1,12 @@
 //! The line of an object.
 
-ghost use Rattle.std.specs.Prelude.{IfOk, List, None, OnOk, Some, [], codes, decimal, option_map, unwrap_or, ◌++◌, ◌∷◌, ◌≡◌};
+ghost use Rattle.std.specs.Prelude.{IfOk, List, None, OnOk, Some, [], bytes_eq, codes, decimal, drop, length, option_map, take, unwrap_or};
+ghost use Rattle.std.specs.Prelude.{◌++◌, ◌∷◌, ◌≡◌, ◌≤◌};
 ghost use Rattle.forms_json.specs.Shown.{shown_of};
 ghost use Rattle.forms_values.specs.Sent.{events};
 ghost use Rattle.tc_brief.specs.Leaves.{Leaf as LeafView, leaf_view, leaves_view, value_view};
-ghost use Rattle.tc_brief.specs.Lines.{action_kind, action_of, action_words, actions, after_semicolon, body, chain_words, counted, counted_action};
+ghost use Rattle.tc_brief.specs.Lines.{action_kind, action_of, action_words, actions, all_statistics, body, chain_words, counted, counted_action};
+ghost use Rattle.tc_brief.specs.Lines.{has_statistics, kind_statistics, object_statistics, own_statistics};
 ghost use Rattle.tc_brief.specs.Lines.{counted_bare, counts, dev_words, family_words, handle_in};
 ghost use Rattle.tc_brief.specs.Lines.{handle_value, handle_word, has_action, has_any, head, in_head, info_in, info_words, is_of_actions, is_other, is_placed};
 ghost use Rattle.tc_brief.specs.Lines.{kind_words, message_lines, named_or_hex, object_text, object_words, of_leaf, one_action, other_words};
@@ -507,22 +509,64 @@ impl Line {
         Ok(())
     }
 
-    // Writes statistics after a semicolon.
-    #[tactic(auto, using(crate::proofs::Written::written_append))]
-    fn after_semicolon(
+    // Writes the statistics of an object's kind, once if the older ones are the same.
+    #[tactic(auto, using(crate::proofs::Written::written_append, crate::proofs::Repeats::kept))]
+    fn kind_statistics(
         &mut self,
-        counted: bool,
         scope: &Scope<'_, '_>,
-        section: Section,
+        leaves: &[Leaf<'_>],
     ) -> Result<(), BriefError>
         ensures { OnOk result (self.new.text.items ≡ self.old.text.items
-            ++ written (after_semicolon counted (scope_view scope.now) section)) }
+            ++ written (kind_statistics (scope_view scope.now) (leaves_view leaves.now))) }
     {
-        if !counted || !has_any(section, scope.leaves) {
+        let begin = self.text.len();
+        self.section(scope, Section::KindStatistics, leaves)?;
+        let middle = self.text.len();
+        self.section(scope, Section::OlderStatistics, leaves)?;
+        if repeats(&self.text, begin, middle) {
+            self.text.truncate(middle);
+        }
+        Ok(())
+    }
+
+    // Writes all statistics of an object.
+    #[tactic(auto, using(crate::proofs::Written::written_append))]
+    fn all_statistics(
+        &mut self,
+        scope: &Scope<'_, '_>,
+        leaves: &[Leaf<'_>],
+    ) -> Result<(), BriefError>
+        ensures { OnOk result (self.new.text.items ≡ self.old.text.items
+            ++ written (all_statistics (scope_view scope.now) (leaves_view leaves.now))) }
+    {
+        self.statistics(scope, Section::Statistics, leaves)?;
+        self.kind_statistics(scope, leaves)
+    }
+
+    // Writes the statistics of an object after a semicolon.
+    #[tactic(auto, using(crate::proofs::Written::written_append))]
+    fn object_statistics(&mut self, counted: bool, scope: &Scope<'_, '_>) -> Result<(), BriefError>
+        ensures { OnOk result (self.new.text.items ≡ self.old.text.items
+            ++ written (object_statistics counted (scope_view scope.now))) }
+    {
+        if !counted || !has_statistics(scope.leaves) {
             return Ok(());
         }
         self.word(b";")?;
-        self.statistics(scope, section, scope.leaves)
+        self.all_statistics(scope, scope.leaves)
+    }
+
+    // Writes the statistics of an action after a semicolon.
+    #[tactic(auto, using(crate::proofs::Written::written_append))]
+    fn own_statistics(&mut self, counted: bool, scope: &Scope<'_, '_>) -> Result<(), BriefError>
+        ensures { OnOk result (self.new.text.items ≡ self.old.text.items
+            ++ written (own_statistics counted (scope_view scope.now))) }
+    {
+        if !counted || !has_any(Section::ActionStatistics, scope.leaves) {
+            return Ok(());
+        }
+        self.word(b";")?;
+        self.statistics(scope, Section::ActionStatistics, scope.leaves)
     }
 
     // Writes where the object is, and what it is.
@@ -594,7 +638,7 @@ impl Line {
         self.head(said.statistics, said.object, &scope)?;
         self.body(said.statistics, &scope, leaves)?;
         self.numbered(b"by", said.port)?;
-        self.after_semicolon(said.statistics, &scope, Section::Statistics)
+        self.object_statistics(said.statistics, &scope)
     }
 
     // Writes the kind of an action, and where its message is.
@@ -632,7 +676,7 @@ impl Line {
         self.action(scope)?;
         self.section(scope, Section::Words, all)?;
         self.numbered(b"by", said.port)?;
-        self.after_semicolon(said.statistics, scope, Section::ActionStatistics)
+        self.own_statistics(said.statistics, scope)
     }
 
     // Writes a line for each action, and its end.
@@ -672,6 +716,15 @@ impl Line {
     }
 }
 
+// True if the bytes from `middle` on are those from `begin` to `middle`.
+fn repeats(text: &[u8], begin: usize, middle: usize) -> bool
+    requires begin { begin ≤ middle }
+    requires middle { middle ≤ length text.now }
+    ensures { result ≡ bytes_eq (drop begin (take middle text.now)) (drop middle text.now) }
+{
+    text[..middle][begin..] == text[middle..]
+}
+
 // True if a leaf of the section isn't left out.
 fn has_any(section: Section, leaves: &[Leaf<'_>]) -> bool
     ensures { result ≡ has_any section (leaves_view leaves.now) }
@@ -698,6 +751,14 @@ fn has_action(leaves: &[Leaf<'_>]) -> bool
         left = rest;
     }
     false
+}
+
+// True if the object has statistics that aren't left out.
+fn has_statistics(leaves: &[Leaf<'_>]) -> bool
+    ensures { result ≡ has_statistics (leaves_view leaves.now) }
+{
+    has_any(Section::Statistics, leaves)
+        || (has_any(Section::KindStatistics, leaves) || has_any(Section::OlderStatistics, leaves))
 }
 
 fn is_of_actions(object: Object) -> bool

@@ -750,6 +750,8 @@ fn number_of_section(section: Section) -> u8
         Section::ActionStatistics => 6,
         Section::Begin => 7,
         Section::Kind => 8,
+        Section::KindStatistics => 9,
+        Section::OlderStatistics => 10,
     }
 }
 

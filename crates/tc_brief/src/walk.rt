@@ -9,7 +9,7 @@ ghost use Rattle.tc_brief.specs.Rows.{find_row, or_row, plain_row, row_view, row
 ghost use Rattle.tc_brief.specs.Tape.{event_of, events_of};
 ghost use Rattle.tc_brief.specs.Walk.{close_map, close_seq, closing, displayed, frame_view, is_actions, is_enum, is_flat, is_head, is_of_action, is_other};
 ghost use Rattle.tc_brief.specs.Walk.{is_silent, is_stand_in, is_through, is_transparent, item_shape, leaf_of, leaves, list_shape, names_in, note};
-ghost use Rattle.tc_brief.specs.Walk.{begin_row, number_value};
+ghost use Rattle.tc_brief.specs.Walk.{begin_row, named_statistics, number_value, of_kind};
 ghost use Rattle.tc_brief.specs.Walk.{open_map, open_seq, opened, opening, option_list, other_leaf, place_within, plain_leaf, rated, record_shape};
 ghost use Rattle.tc_brief.specs.Walk.{rest_of, section_in, stack_of, start, state_of, step, styled, take_key, take_leaf, text_number, IsOwn};
 ghost use Rattle.tc_brief.specs.Walk.{text_value, value_of};
@@ -264,13 +264,35 @@ fn displayed(display: &Display, section: Section) -> Section
     }
 }
 
-fn section_in(frame: &Frame<'_>, display: &Display, style: Style) -> Section
-    ensures { result ≡ section_in (frame_view frame.now) display.now style }
+// The section of statistics of this name.
+fn named_statistics(key: &str) -> Section
+    ensures { result ≡ named_statistics key.now }
+{
+    if is_same(key, "App") {
+        return Section::KindStatistics;
+    }
+    if is_same(key, "Xstats") {
+        return Section::OlderStatistics;
+    }
+    Section::Statistics
+}
+
+fn of_kind(key: &str, section: Section) -> Section
+    ensures { result ≡ of_kind key.now section }
+{
+    match section {
+        Section::Statistics => named_statistics(key),
+        _ => section,
+    }
+}
+
+fn section_in(frame: &Frame<'_>, display: &Display, row: &Row<'_>) -> Section
+    ensures { result ≡ section_in (frame_view frame.now) display.now (row_view row.now) }
 {
     if frame.inside {
         return frame.section;
     }
-    displayed(display, styled(style, frame.section))
+    displayed(display, of_kind(row.key, styled(row.style, frame.section)))
 }
 
 fn is_silent(shape: Shape) -> bool
@@ -565,7 +587,7 @@ impl<'t> Walk<'t> {
             row: self.row,
             display: self.display,
             names: names_in(columns, &self.display),
-            section: section_in(&self.top, &self.display, self.row.style),
+            section: section_in(&self.top, &self.display, &self.row),
             value,
         }
     }
@@ -689,7 +711,7 @@ impl<'t> Walk<'t> {
     fn open(&mut self, list: bool, shape: Shape) -> Result<(), AllocError>
         ensures { OnOk result (state_of self.new ≡ opened list shape (state_of self.old) (frame_view self.old.top)) }
     {
-        let section = section_in(&self.top, &self.display, self.row.style);
+        let section = section_in(&self.top, &self.display, &self.row);
         let key = if self.top.list { "" } else { self.key };
         let actions = is_actions(self.row.style);
         let leaf = self.opening(actions, key, section, shape);

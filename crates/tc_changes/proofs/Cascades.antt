@@ -6,7 +6,7 @@ use Rattle.std.proofs.lemmas.List.Folds.{list_any-append}
 use Rattle.tc_changes.specs.Model.{Thing, needs, among, ready}
 use Rattle.tc_changes.specs.Requests.{Delete, Sends}
 use Rattle.tc_changes.proofs.Lookups.{or_left, or_right, all_append, all_by, differ, has_one}
-use Rattle.tc_changes.proofs.Apart.{Apart, apart_front}
+use Rattle.tc_changes.proofs.Unrelated.{Unrelated, unrelated_front}
 
 module _ {X : Type 0} (P : X → Type 0) where
   pub all_left : (xs ys : List X) → AllByRecursion P (xs ++ ys) → AllByRecursion P xs
@@ -55,31 +55,31 @@ module _ {K : Type 0} (eq : K → K → Bool) (sound : (a b : K) → eq a b ≡ 
       ap (λ b. (b || false) || list_any (among eq (j ∷ [])) ns) (differ eq sound same j n (or_left (eq j n) _ is)) ∙ none_one j ns (or_right (eq j n) _ is)
 
 module _ {K C : Type 0} (eq : K → K → Bool) (sound : (a b : K) → eq a b ≡ true → a ≡ b) (same : (a : K) → eq a a ≡ true) where
-  -- an object is apart from those behind it: they have other keys, and it needs none of them
-  abbrev Behind : Thing K C → List (Thing K C) → Type 0
-  Behind p rest = AllByRecursion (λ q. Apart eq sound same q.key p) rest
+  -- an object is unrelated to those after it: they have other keys, and it needs none of them
+  abbrev After : Thing K C → List (Thing K C) → Type 0
+  After p rest = AllByRecursion (λ q. Unrelated eq sound same q.key p) rest
 
-  abbrev pub Apartly : List (Thing K C) → Type 0
-  Apartly [] = Unit {0}
-  Apartly (p ∷ rest) = (among eq (needs p) p.key ≡ false) × Behind p rest × Apartly rest
+  abbrev pub AreUnrelated : List (Thing K C) → Type 0
+  AreUnrelated [] = Unit {0}
+  AreUnrelated (p ∷ rest) = (among eq (needs p) p.key ≡ false) × After p rest × AreUnrelated rest
 
   abbrev Across : List (Thing K C) → List (Thing K C) → Type 0
-  Across front rest = AllByRecursion (λ q. AllByRecursion (Apart eq sound same q.key) front) rest
+  Across front rest = AllByRecursion (λ q. AllByRecursion (Unrelated eq sound same q.key) front) rest
 
-  across_one : (q : Thing K C) (front rest : List (Thing K C)) → Across (front ++ q ∷ []) rest → Across front rest × Behind q rest
+  across_one : (q : Thing K C) (front rest : List (Thing K C)) → Across (front ++ q ∷ []) rest → Across front rest × After q rest
   across_one q front [] all = (tt, tt)
   across_one q front (r ∷ rest) all =
       let more = across_one q front rest all.1 in (
-        (all_left (Apart eq sound same r.key) front (q ∷ []) all.0, more.0),
-        ((all_right (Apart eq sound same r.key) front (q ∷ []) all.0).0, more.1),
+        (all_left (Unrelated eq sound same r.key) front (q ∷ []) all.0, more.0),
+        ((all_right (Unrelated eq sound same r.key) front (q ∷ []) all.0).0, more.1),
       )
 
-  -- objects in order are apart from those behind them
-  pub apartly : (front rest : List (Thing K C)) → ready eq [] (front ++ rest) ≡ true → Across front rest × Apartly rest
-  apartly front [] is = (tt, tt)
-  apartly front (q ∷ rest) is =
-      let here = apart_front eq sound same [] front q rest is in
-      let more = apartly (front ++ q ∷ []) rest (ap (ready eq []) (append_assoc front (q ∷ []) rest) ∙ is) in
+  -- objects in order are unrelated to those after them
+  pub are_unrelated : (front rest : List (Thing K C)) → ready eq [] (front ++ rest) ≡ true → Across front rest × AreUnrelated rest
+  are_unrelated front [] is = (tt, tt)
+  are_unrelated front (q ∷ rest) is =
+      let here = unrelated_front eq sound same [] front q rest is in
+      let more = are_unrelated (front ++ q ∷ []) rest (ap (ready eq []) (append_assoc front (q ∷ []) rest) ∙ is) in
       let two = across_one q front rest more.0 in
       ((here.0, two.0), (here.2, two.1, more.1))
 
@@ -126,7 +126,7 @@ module _ {K C : Type 0} (eq : K → K → Bool) (sound : (a b : K) → eq a b �
   refers_free : (p : Thing K C) (j : K) → among eq (needs p) j ≡ false → among eq p.refers j ≡ false
   refers_free p j is = or_right (among eq p.under j) _ (sym (list_any-append (eq j) p.under p.refers) ∙ is)
 
-  module _ (p : Thing K C) (keys : List K) (rest : List (Thing K C)) (own : among eq (needs p) p.key ≡ false) (behind : Behind p rest)
+  module _ (p : Thing K C) (keys : List K) (rest : List (Thing K C)) (own : among eq (needs p) p.key ≡ false) (after : After p rest)
       (fresh : among eq keys p.key ≡ false) where
     abbrev away_p : K → Bool
     away_p = among eq (along (cond (list_any (among eq keys) p.under) (p.key ∷ keys) keys) rest)
@@ -134,44 +134,44 @@ module _ {K C : Type 0} (eq : K → K → Bool) (sound : (a b : K) → eq a b �
     away_is : away_p p.key ≡ list_any (among eq keys) p.under
     away_is =
         along_key (cond (list_any (among eq keys) p.under) (p.key ∷ keys) keys) rest p.key
-        (all_by (λ q. Apart eq sound same q.key p) (λ q. eq p.key q.key ≡ false) (λ q a. differ eq sound same q.key p.key a.0) rest behind)
+        (all_by (λ q. Unrelated eq sound same q.key p) (λ q. eq p.key q.key ≡ false) (λ q a. differ eq sound same q.key p.key a.0) rest after)
         ∙ self_key eq sound same (list_any (among eq keys) p.under) p.key keys fresh
 
     under_is : list_any away_p p.under ≡ list_any (among eq keys) p.under
     under_is =
         along_keys (cond (list_any (among eq keys) p.under) (p.key ∷ keys) keys) rest p.under
-        (all_by (λ q. Apart eq sound same q.key p) (λ q. among eq p.under q.key ≡ false) (λ q a. under_free p q.key a.1) rest behind)
+        (all_by (λ q. Unrelated eq sound same q.key p) (λ q. among eq p.under q.key ≡ false) (λ q a. under_free p q.key a.1) rest after)
         ∙ one_keys eq sound same (list_any (among eq keys) p.under) p.key keys p.under (under_free p p.key own)
 
     refers_is : list_any away_p p.refers ≡ list_any (among eq keys) p.refers
     refers_is =
         along_keys (cond (list_any (among eq keys) p.under) (p.key ∷ keys) keys) rest p.refers
-        (all_by (λ q. Apart eq sound same q.key p) (λ q. among eq p.refers q.key ≡ false) (λ q a. refers_free p q.key a.1) rest behind)
+        (all_by (λ q. Unrelated eq sound same q.key p) (λ q. among eq p.refers q.key ≡ false) (λ q a. refers_free p q.key a.1) rest after)
         ∙ one_keys eq sound same (list_any (among eq keys) p.under) p.key keys p.refers (refers_free p p.key own)
 
   -- none of these keys is one of these objects
   abbrev Fresh : List K → List (Thing K C) → Type 0
   Fresh keys rest = AllByRecursion (λ q. among eq keys q.key ≡ false) rest
 
-  fresh_more : (b : Bool) (p : Thing K C) (keys : List K) (rest : List (Thing K C)) → Behind p rest → Fresh keys rest → Fresh (cond b (p.key ∷ keys) keys) rest
-  fresh_more false p keys rest behind fresh = fresh
-  fresh_more true p keys [] behind fresh = tt
-  fresh_more true p keys (q ∷ rest) behind fresh =
-      (ap (λ b. b || among eq keys q.key) behind.0.0 ∙ fresh.0, fresh_more true p keys rest behind.1 fresh.1)
+  fresh_more : (b : Bool) (p : Thing K C) (keys : List K) (rest : List (Thing K C)) → After p rest → Fresh keys rest → Fresh (cond b (p.key ∷ keys) keys) rest
+  fresh_more false p keys rest after fresh = fresh
+  fresh_more true p keys [] after fresh = tt
+  fresh_more true p keys (q ∷ rest) after fresh =
+      (ap (λ b. b || among eq keys q.key) after.0.0 ∙ fresh.0, fresh_more true p keys rest after.1 fresh.1)
 
   -- one pass finds what goes along
-  along_all : (keys : List K) (rest : List (Thing K C)) → Apartly rest → Fresh keys rest → Free keys rest
+  along_all : (keys : List K) (rest : List (Thing K C)) → AreUnrelated rest → Fresh keys rest → Free keys rest
       → AllByRecursion (λ p. among eq (along keys rest) p.key ≡ list_any (among eq (along keys rest)) p.under) rest
       × AllByRecursion (λ p. among eq (along keys rest) p.key ≡ false → list_any (among eq (along keys rest)) p.refers ≡ false) rest
       × (filter (λ p. not (among eq (along keys rest) p.key)) rest ≡ stay keys rest)
-  along_all keys [] apart fresh free = (tt, tt, refl)
-  along_all keys (p ∷ rest) apart fresh free =
+  along_all keys [] unrelated fresh free = (tt, tt, refl)
+  along_all keys (p ∷ rest) unrelated fresh free =
       let b = list_any (among eq keys) p.under in
       let more : List K = cond b (p.key ∷ keys) keys in
-      let after = along_all more rest apart.2 (fresh_more b p keys rest apart.1 fresh.1) free.1 in
-      let is = away_is p keys rest apart.0 apart.1 fresh.0 in (
-        (is ∙ sym (under_is p keys rest apart.0 apart.1 fresh.0), after.0),
-        ((λ stays. refers_is p keys rest apart.0 apart.1 fresh.0 ∙ free.0 (sym is ∙ stays)), after.1),
+      let after = along_all more rest unrelated.2 (fresh_more b p keys rest unrelated.1 fresh.1) free.1 in
+      let is = away_is p keys rest unrelated.0 unrelated.1 fresh.0 in (
+        (is ∙ sym (under_is p keys rest unrelated.0 unrelated.1 fresh.0), after.0),
+        ((λ stays. refers_is p keys rest unrelated.0 unrelated.1 fresh.0 ∙ free.0 (sym is ∙ stays)), after.1),
         ap (λ c. cond (not c) (p ∷ filter (λ q. not (among eq (along more rest) q.key)) rest) (filter (λ q. not (among eq (along more rest) q.key)) rest)) is
             ∙ filter_by b p keys rest after.2,
       )
@@ -184,18 +184,18 @@ module _ {K C : Type 0} (eq : K → K → Bool) (sound : (a b : K) → eq a b �
       filter_by true p keys rest is = is
       filter_by false p keys rest is = ap (λ l. p ∷ l) is
 
-  -- a delete of an object takes along what one pass finds behind it
+  -- a delete of an object takes along what one pass finds after it
   pub cascade : (takes : Thing K C → Thing K C → Bool) (front : List (Thing K C)) (o : Thing K C) (rest : List (Thing K C)) → Across front (o ∷ rest)
-      → Apartly (o ∷ rest) → Free (o.key ∷ []) rest
+      → AreUnrelated (o ∷ rest) → Free (o.key ∷ []) rest
       → Sends eq takes (front ++ o ∷ rest) (Delete o.key) (front ++ stay (o.key ∷ []) rest)
-  cascade takes front o rest across apart free =
+  cascade takes front o rest across unrelated free =
       let away : K → Bool = among eq (along (o.key ∷ []) rest) in
-      let fresh : Fresh (o.key ∷ []) rest = all_by (λ q. Apart eq sound same q.key o) (λ q. among eq (o.key ∷ []) q.key ≡ false)
-      (λ q a. ap (λ b. b || false) a.0) rest apart.1 in
-      let all = along_all (o.key ∷ []) rest apart.2 fresh free in
+      let fresh : Fresh (o.key ∷ []) rest = all_by (λ q. Unrelated eq sound same q.key o) (λ q. among eq (o.key ∷ []) q.key ≡ false)
+      (λ q a. ap (λ b. b || false) a.0) rest unrelated.1 in
+      let all = along_all (o.key ∷ []) rest unrelated.2 fresh free in
       let own : away o.key ≡ true =
       along_key (o.key ∷ []) rest o.key
-      (all_by (λ q. Apart eq sound same q.key o) (λ q. eq o.key q.key ≡ false) (λ q a. differ eq sound same q.key o.key a.0) rest apart.1)
+      (all_by (λ q. Unrelated eq sound same q.key o) (λ q. eq o.key q.key ≡ false) (λ q a. differ eq sound same q.key o.key a.0) rest unrelated.1)
       ∙ ap (λ b. b || false) (same o.key) in
       let before = in_front front rest o across.0 across.1 in (
         has_one eq o front rest (same o.key),
@@ -205,7 +205,7 @@ module _ {K C : Type 0} (eq : K → K → Bool) (sound : (a b : K) → eq a b �
               (all_by (λ p. (away p.key ≡ false) × (list_any away p.under ≡ false) × (list_any away p.refers ≡ false)
               × (eq o.key p.key ≡ false)) (λ p. away p.key ≡ (eq o.key p.key || list_any away p.under))
               (λ p f. f.0 ∙ sym (ap (λ b. b || list_any away p.under) f.3 ∙ f.1)) front before)
-              (own ∙ sym (ap (λ b. b || list_any away o.under) (same o.key)), behind_is rest away o apart.1 all.0),
+              (own ∙ sym (ap (λ b. b || list_any away o.under) (same o.key)), after_is rest away o unrelated.1 all.0),
           all_append (λ p. away p.key ≡ false → list_any away p.refers ≡ false) front (o ∷ rest)
               (all_by (λ p. (away p.key ≡ false) × (list_any away p.under ≡ false) × (list_any away p.refers ≡ false)
               × (eq o.key p.key ≡ false)) (λ p. away p.key ≡ false → list_any away p.refers ≡ false)
@@ -220,32 +220,32 @@ module _ {K C : Type 0} (eq : K → K → Bool) (sound : (a b : K) → eq a b �
         ),
       )
     where
-      in_front : (front rest : List (Thing K C)) (o : Thing K C) → AllByRecursion (Apart eq sound same o.key) front → Across front rest
+      in_front : (front rest : List (Thing K C)) (o : Thing K C) → AllByRecursion (Unrelated eq sound same o.key) front → Across front rest
           → AllByRecursion (λ p. (among eq (along (o.key ∷ []) rest) p.key ≡ false) × (list_any (among eq (along (o.key ∷ []) rest)) p.under ≡ false)
           × (list_any (among eq (along (o.key ∷ []) rest)) p.refers ≡ false) × (eq o.key p.key ≡ false)) front
       in_front [] rest o one all = tt
       in_front (p ∷ front) rest o one all =
-          let behind : Behind p rest = all_by (λ q. AllByRecursion (Apart eq sound same q.key) (p ∷ front)) (λ q. Apart eq sound same q.key p)
+          let after : After p rest = all_by (λ q. AllByRecursion (Unrelated eq sound same q.key) (p ∷ front)) (λ q. Unrelated eq sound same q.key p)
           (λ q a. a.0) rest all in
-          let others : Across front rest = all_by (λ q. AllByRecursion (Apart eq sound same q.key) (p ∷ front))
-          (λ q. AllByRecursion (Apart eq sound same q.key) front) (λ q a. a.1) rest all in (
+          let others : Across front rest = all_by (λ q. AllByRecursion (Unrelated eq sound same q.key) (p ∷ front))
+          (λ q. AllByRecursion (Unrelated eq sound same q.key) front) (λ q a. a.1) rest all in (
             (
               along_key (o.key ∷ []) rest p.key
-                  (all_by (λ q. Apart eq sound same q.key p) (λ q. eq p.key q.key ≡ false) (λ q a. differ eq sound same q.key p.key a.0) rest behind)
+                  (all_by (λ q. Unrelated eq sound same q.key p) (λ q. eq p.key q.key ≡ false) (λ q a. differ eq sound same q.key p.key a.0) rest after)
                   ∙ ap (λ b. b || false) (differ eq sound same o.key p.key one.0.0),
               along_keys (o.key ∷ []) rest p.under
-                  (all_by (λ q. Apart eq sound same q.key p) (λ q. among eq p.under q.key ≡ false) (λ q a. under_free p q.key a.1) rest behind)
+                  (all_by (λ q. Unrelated eq sound same q.key p) (λ q. among eq p.under q.key ≡ false) (λ q a. under_free p q.key a.1) rest after)
                   ∙ none_one eq sound same o.key p.under (under_free p o.key one.0.1),
               along_keys (o.key ∷ []) rest p.refers
-                  (all_by (λ q. Apart eq sound same q.key p) (λ q. among eq p.refers q.key ≡ false) (λ q a. refers_free p q.key a.1) rest behind)
+                  (all_by (λ q. Unrelated eq sound same q.key p) (λ q. among eq p.refers q.key ≡ false) (λ q a. refers_free p q.key a.1) rest after)
                   ∙ none_one eq sound same o.key p.refers (refers_free p o.key one.0.1),
               one.0.0,
             ),
             in_front front rest o one.1 others,
           )
 
-      behind_is : (rest : List (Thing K C)) (away : K → Bool) (o : Thing K C) → Behind o rest → AllByRecursion (λ p. away p.key ≡ list_any away p.under) rest
+      after_is : (rest : List (Thing K C)) (away : K → Bool) (o : Thing K C) → After o rest → AllByRecursion (λ p. away p.key ≡ list_any away p.under) rest
           → AllByRecursion (λ p. away p.key ≡ (eq o.key p.key || list_any away p.under)) rest
-      behind_is [] away o behind all = tt
-      behind_is (p ∷ rest) away o behind all =
-          (all.0 ∙ sym (ap (λ b. b || list_any away p.under) (differ eq sound same p.key o.key behind.0.0)), behind_is rest away o behind.1 all.1)
+      after_is [] away o after all = tt
+      after_is (p ∷ rest) away o after all =
+          (all.0 ∙ sym (ap (λ b. b || list_any away p.under) (differ eq sound same p.key o.key after.0.0)), after_is rest away o after.1 all.1)

@@ -110,7 +110,8 @@ module _ {K C : Type 0} (eq : K → K → Bool) (sound : (a b : K) → eq a b �
           own,
           needs_stay (o.key ∷ before) rest more here.1 free.1 (λ k off there.
               by_cases (Stays k) (eq k o.key)
-              (λ is_o. subst Stays (sym (sound k o.key is_o)) (one_stays o here.0 (sym (ap test (sound k o.key is_o)) ∙ off) (own (sym (ap test (sound k o.key is_o)) ∙ off))))
+              (λ is_o. subst Stays (sym (sound k o.key is_o)) (one_stays o here.0 (sym (ap test (sound k o.key is_o)) ∙ off)
+              (own (sym (ap test (sound k o.key is_o)) ∙ off))))
               (λ other. earlier k off (sym (ap (λ b. b || among eq before k) other) ∙ there))),
         )
 

@@ -7,7 +7,7 @@ use Rattle.tc_changes.specs.Requests.{Request, Make, Change, Delete}
 use Rattle.tc_changes.specs.Plans.{fits, key_of, is_repeated, IsAbout, IsConfined}
 use Rattle.tc_changes.specs.Planned.{keys_of, remover, remover_of, add, goes, kept, asked, request_of, makes, planned}
 use Rattle.tc_changes.proofs.Lookups.{and_left, and_right, all_append, all_by, differ}
-use Rattle.tc_changes.proofs.Apart.{pick, all_kept, ready_rest}
+use Rattle.tc_changes.proofs.Unrelated.{pick, all_kept, ready_rest}
 use Rattle.tc_changes.proofs.Makes.{found_in}
 use Rattle.tc_changes.proofs.Keeps.{all_found}
 
@@ -16,8 +16,8 @@ module _ {X : Type 0} (eq : X → X → Bool) where
   distinct_append : (xs ys : List X) → IsDistinct eq xs → IsDistinct eq ys → AllByRecursion (λ x. AllByRecursion (λ y. eq x y ≡ false) ys) xs
       → IsDistinct eq (xs ++ ys)
   unfolding IsDistinct
-  distinct_append [] ys one two apart = two
-  distinct_append (x ∷ xs) ys one two apart = (all_append (λ y. eq x y ≡ false) xs ys one.0 apart.0, distinct_append xs ys one.1 two apart.1)
+  distinct_append [] ys one two across = two
+  distinct_append (x ∷ xs) ys one two across = (all_append (λ y. eq x y ≡ false) xs ys one.0 across.0, distinct_append xs ys one.1 two across.1)
 
 all_map : {X Y : Type 0} (f : X → Y) (P : Y → Type 0) (xs : List X) → AllByRecursion (λ x. P (f x)) xs → AllByRecursion P (map f xs)
 all_map f P [] all = tt
@@ -30,9 +30,9 @@ module _ {K C : Type 0} (eq : K → K → Bool) (sound : (a b : K) → eq a b �
   fit = fits alike takes
 
   -- what comes after an object in order has another key
-  rest_apart : (before : List K) (o : Thing K C) (rest : List (Thing K C)) → ready eq before (o ∷ rest) ≡ true
+  rest_distinct : (before : List K) (o : Thing K C) (rest : List (Thing K C)) → ready eq before (o ∷ rest) ≡ true
       → AllByRecursion (λ p. eq o.key p.key ≡ false) rest
-  rest_apart before o rest is = ready_rest eq sound same before [] o rest is
+  rest_distinct before o rest is = ready_rest eq sound same before [] o rest is
 
   module _ (want : List (Thing K C)) where
     -- what is true for the keys of objects is true for those that are asked for
@@ -57,12 +57,12 @@ module _ {K C : Type 0} (eq : K → K → Bool) (sound : (a b : K) → eq a b �
         (λ away. pick (λ l. IsDistinct eq (asked eq fit want (add eq removed o) state ++ l)) (is_some (remover_of eq (remover eq removed) o)) [] (o.key ∷ [])
         (λ _. distinct_append eq (asked eq fit want (add eq removed o) state) [] (once_asked (o.key ∷ before) (add eq removed o) state rest) tt
         (all_asked (λ k. AllByRecursion (λ y. eq k y ≡ false) []) (add eq removed o) state (all_by (λ p. eq o.key p.key
-        ≡ false) (λ p. Unit {0}) (λ p _. tt) state (rest_apart before o state is))))
+        ≡ false) (λ p. Unit {0}) (λ p _. tt) state (rest_distinct before o state is))))
         (λ _. distinct_append eq (asked eq fit want (add eq removed o) state) (o.key ∷ []) (once_asked (o.key ∷ before) (add eq removed o) state rest) (tt, tt)
         (all_asked (λ k. AllByRecursion (λ y. eq k y ≡ false) (o.key ∷ [])) (add eq removed o) state
         (all_by (λ p. eq o.key p.key
         ≡ false) (λ p. AllByRecursion (λ y. eq p.key y ≡ false) (o.key ∷ [])) (λ p other.
-        (differ eq sound same o.key p.key other, tt)) state (rest_apart before o state is)))))
+        (differ eq sound same o.key p.key other, tt)) state (rest_distinct before o state is)))))
         (λ stays. once_asked (o.key ∷ before) removed state rest)
 
     module _ (stay : List (Thing K C)) where
@@ -96,7 +96,7 @@ module _ {K C : Type 0} (eq : K → K → Bool) (sound : (a b : K) → eq a b �
             all_makes (λ s. is_repeated eq (Make w) s ≡ false) rest
                 (all_by (λ p. eq w.key p.key ≡ false) (λ p. (eq w.key p.key ≡ false)
                 × ((o : Thing K C) → found eq stay p.key ≡ Some o → eq w.key p.key ≡ false)) (λ p other. (other, λ o _. other)) rest
-                (rest_apart before w rest is)),
+                (rest_distinct before w rest is)),
             tt,
           )
           others (Some o) = pick (AllByRecursion (λ r. AllByRecursion (λ s. is_repeated eq r s ≡ false) (makes eq alike stay rest))) (alike o w) []
@@ -105,7 +105,7 @@ module _ {K C : Type 0} (eq : K → K → Bool) (sound : (a b : K) → eq a b �
                 all_makes (λ s. is_repeated eq (Change w) s ≡ false) rest
                     (all_by (λ p. eq w.key p.key ≡ false) (λ p. (eq w.key p.key ≡ false)
                     × ((o : Thing K C) → found eq stay p.key ≡ Some o → eq w.key p.key ≡ false)) (λ p other. (other, λ o _. other)) rest
-                    (rest_apart before w rest is)),
+                    (rest_distinct before w rest is)),
                 tt,
               ))
 

@@ -4,23 +4,16 @@ use Rattle.std.proofs.lemmas.List.{map-append, take-append-drop, drop_more, take
 use Rattle.tc_changes.specs.Model.{Thing, is_next, ready}
 use Rattle.tc_changes.specs.Objects.{thing, things}
 use Rattle.tc_changes.specs.declared.object.Object.{Object}
+use Rattle.tc_changes.proofs.Lookups.{and_false, and_true}
 use Rattle.tc_changes.proofs.Wholes.{passed, ready-append}
 
-and_false : (a b : Bool) → (a && (false && b)) ≡ false
-and_false true b = refl
-and_false false b = refl
-
-and_true : (a : Bool) → (a && true) ≡ a
-and_true true = refl
-and_true false = refl
-
 module _ {K C : Type 0} (eq : K → K → Bool) where
-  -- one that can't stand behind those before it
+  -- one that can't come after those before it
   pub not_ready : (front : List (Thing K C)) (x : Thing K C) (rest : List (Thing K C)) → is_next eq (passed [] front) x ≡ false
       → ready eq [] (front ++ x ∷ rest) ≡ false
   not_ready front x rest is =
       ready-append eq [] front (x ∷ rest) ∙ ap (λ b. ready eq [] front && (b && ready eq (x.key ∷ passed [] front) rest)) is
-      ∙ and_false (ready eq [] front) (ready eq (x.key ∷ passed [] front) rest)
+      ∙ and_false (ready eq [] front)
 
   -- one that can
   pub ready_more : (front : List (Thing K C)) (x : Thing K C) → ready eq [] front ≡ true → is_next eq (passed [] front) x ≡ true

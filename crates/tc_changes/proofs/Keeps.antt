@@ -10,7 +10,7 @@ use Rattle.tc_changes.specs.Requests.{Change, Delete}
 use Rattle.tc_changes.specs.Plans.{fits, key_of, deletes, barred_by, barred_keys, IsUntouched, CanStay, can_stay, IsLeftAlone, IsSpared, IsBarred}
 use Rattle.tc_changes.specs.Planned.{keys_of, remover, remover_of, add, goes, stays_by, kept, asked, request_of, makes, planned}
 use Rattle.tc_changes.proofs.Lookups.{by_cases, or_left, or_right, or_true, or_else_none, all_append}
-use Rattle.tc_changes.proofs.Apart.{pick}
+use Rattle.tc_changes.proofs.Unrelated.{pick}
 use Rattle.tc_changes.proofs.Makes.{found_self, found_in}
 
 module _ {K C : Type 0} (eq : K → K → Bool) (sound : (a b : K) → eq a b ≡ true → a ≡ b) (same : (a : K) → eq a a ≡ true)

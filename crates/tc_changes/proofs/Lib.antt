@@ -1,5 +1,5 @@
 pub mod Lookups
-pub mod Apart
+pub mod Unrelated
 pub mod Runs
 pub mod Wholes
 pub mod Makes

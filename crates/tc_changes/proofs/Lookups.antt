@@ -13,6 +13,14 @@ pub and_right : (a b : Bool) → (a && b) ≡ true → b ≡ true
 and_right true b is = is
 and_right false b is = absurd (cc is)
 
+pub and_false : (a : Bool) → (a && false) ≡ false
+and_false true = refl
+and_false false = refl
+
+pub and_true : (a : Bool) → (a && true) ≡ a
+and_true true = refl
+and_true false = refl
+
 pub or_left : (a b : Bool) → (a || b) ≡ false → a ≡ false
 or_left false b is = refl
 or_left true b is = absurd (cc is)

@@ -9,7 +9,7 @@ use Rattle.tc_changes.specs.Plans.{fits}
 use Rattle.tc_changes.specs.Planned.{goes, stays_by, kept, request_of, makes}
 use Rattle.tc_changes.proofs.Lookups.{and_left, and_right, or_left, by_cases, found-append, found-push, found-without}
 use Rattle.tc_changes.proofs.Wholes.{all_weaker, ready-append, kept_ready, whole_done}
-use Rattle.tc_changes.proofs.Apart.{pick, Apart, apart_front, ready_rest}
+use Rattle.tc_changes.proofs.Unrelated.{pick, Unrelated, unrelated_front, ready_rest}
 use Rattle.tc_changes.proofs.Runs.{taken, sent, run, run_first, Wholly}
 
 some_or_else : {X : Type 0} (a b : Option X) → is_some a ≡ true → is_some (or_else a b) ≡ true
@@ -97,11 +97,11 @@ module _ {K C : Type 0} (eq : K → K → Bool) (sound : (a b : K) → eq a b �
         (order : ready eq [] (done ++ w ∷ rest) ≡ true)
         (so_far : Same eq state (stay ++ done)) where
       not_done : found eq done w.key ≡ None
-      not_done = not_found eq w.key done (all_apart done (apart_front eq sound same [] done w rest order).0)
+      not_done = not_found eq w.key done (all_unrelated done (unrelated_front eq sound same [] done w rest order).0)
         where
-          all_apart : (s : List (Thing K C)) → AllByRecursion (Apart eq sound same w.key) s → AllByRecursion (λ p. eq w.key p.key ≡ false) s
-          all_apart [] all = tt
-          all_apart (p ∷ s) all = (all.0.0, all_apart s all.1)
+          all_unrelated : (s : List (Thing K C)) → AllByRecursion (Unrelated eq sound same w.key) s → AllByRecursion (λ p. eq w.key p.key ≡ false) s
+          all_unrelated [] all = tt
+          all_unrelated (p ∷ s) all = (all.0.0, all_unrelated s all.1)
 
       whole_now : IsWhole eq state
       whole_now = whole_done eq sound same done stay state stay_order (and_left _ _ (sym (ready-append eq [] done (w ∷ rest)) ∙ order)) so_far

@@ -15,7 +15,7 @@ use Rattle.tc_changes.specs.declared.key.Key.{Key}
 use Rattle.tc_changes.specs.declared.object.Object.{Object}
 use Rattle.tc_changes.specs.declared.step.Plan.{Plan}
 use Rattle.tc_changes.specs.declared.step.Plan.TheVariants.{Steps, Refused}
-use Rattle.tc_changes.proofs.Lookups.{or_true}
+use Rattle.tc_changes.proofs.Lookups.{and_false, or_true}
 use Rattle.tc_changes.proofs.Equal.{key_is, key_same, alike_is, alike_same}
 use Rattle.tc_changes.proofs.Elsewhere.{ready_completed, steps_within}
 use Rattle.tc_changes.proofs.Firsts.{things_more}
@@ -56,10 +56,6 @@ map_split f xs i x within is =
     ∙ ap (λ y. map f (take i xs ++ y ∷ drop (i + 1) xs)) is
     ∙ ap (λ l. map f (take i xs ++ l)) (sym (drop_more xs i x within))
     ∙ ap (map f) (take-append-drop i xs)
-
-and_false : (a : Bool) → (a && false) ≡ false
-and_false true = refl
-and_false false = refl
 
 not_all : {X : Type 0} (p : X → Bool) (front : List X) (x : X) (rest : List X) → p x ≡ false → list_all p (front ++ x ∷ rest) ≡ false
 not_all p [] x rest off = ap (λ b. b && list_all p rest) off

@@ -10,8 +10,8 @@ use Rattle.tc_changes.specs.Requests.{Delete, Sends, Leads, LeavesWhole}
 use Rattle.tc_changes.specs.Plans.{fits}
 use Rattle.tc_changes.specs.Planned.{goes, kept, makes, remover, keys_of, first_by, is_all_by, only_by, remover_of, add, asked, planned}
 use Rattle.tc_changes.proofs.Lookups.{and_left, and_right, or_left, or_right, or_true, not_true, by_cases, differ}
-use Rattle.tc_changes.proofs.Apart.{pick, Apart}
-use Rattle.tc_changes.proofs.Cascades.{Apartly, apartly, stay, Free, cascade}
+use Rattle.tc_changes.proofs.Unrelated.{pick, Unrelated}
+use Rattle.tc_changes.proofs.Cascades.{AreUnrelated, are_unrelated, stay, Free, cascade}
 use Rattle.tc_changes.proofs.Runs.{RunsWhole, none, next, runs-append, runs_of, cut_of, simulated}
 use Rattle.tc_changes.proofs.Wholes.{passed, ready-append, ready_one, whole_ready, and_both, fresh_by, free_needs}
 use Rattle.tc_changes.proofs.Makes.{leads, leads_same}
@@ -307,25 +307,29 @@ module _ {K C : Type 0} (eq : K → K → Bool) (sound : (a b : K) → eq a b �
         (λ is. (all.0, all_left_of P (add eq removed o) dead state all.1)) (λ is. all_left_of P (add eq removed o) (o.key ∷ dead) state all.1))
         (λ stays. (all.0, all_left_of P removed dead state all.1))
 
-    apartly_left : (removed : List (K × K)) (dead : List K) (state : List (Thing K C)) → Apartly eq sound same state
-        → Apartly eq sound same (left removed dead state)
-    apartly_left removed dead [] all = tt
-    apartly_left removed dead (o ∷ state) all =
-        pick (Apartly eq sound same) (goes eq fit want (keys_of removed) o) _ _
-        (λ away. pick (Apartly eq sound same) (remains removed dead o) _ _
-        (λ is. (all.0, all_left_of (λ q. Apart eq sound same q.key o) (add eq removed o) dead state all.1, apartly_left (add eq removed o) dead state all.2))
-        (λ is. apartly_left (add eq removed o) (o.key ∷ dead) state all.2))
-        (λ stays. (all.0, all_left_of (λ q. Apart eq sound same q.key o) removed dead state all.1, apartly_left removed dead state all.2))
+    unrelated_left : (removed : List (K × K)) (dead : List K) (state : List (Thing K C)) → AreUnrelated eq sound same state
+        → AreUnrelated eq sound same (left removed dead state)
+    unrelated_left removed dead [] all = tt
+    unrelated_left removed dead (o ∷ state) all =
+        pick (AreUnrelated eq sound same) (goes eq fit want (keys_of removed) o) _ _
+        (λ away. pick (AreUnrelated eq sound same) (remains removed dead o) _ _
+        (λ is. (
+          all.0,
+          all_left_of (λ q. Unrelated eq sound same q.key o) (add eq removed o) dead state all.1,
+          unrelated_left (add eq removed o) dead state all.2,
+        ))
+        (λ is. unrelated_left (add eq removed o) (o.key ∷ dead) state all.2))
+        (λ stays. (all.0, all_left_of (λ q. Unrelated eq sound same q.key o) removed dead state all.1, unrelated_left removed dead state all.2))
 
     -- none of these objects has gone
     abbrev Fresh : List (K × K) → List (Thing K C) → Type 0
     Fresh removed state = AllByRecursion (λ p. remover eq removed p.key ≡ None) state
 
-    fresh_add : (removed : List (K × K)) (o : Thing K C) (x : K) (state : List (Thing K C)) → AllByRecursion (λ q. Apart eq sound same q.key o) state
+    fresh_add : (removed : List (K × K)) (o : Thing K C) (x : K) (state : List (Thing K C)) → AllByRecursion (λ q. Unrelated eq sound same q.key o) state
         → Fresh removed state → Fresh ((o.key, x) ∷ removed) state
-    fresh_add removed o x [] behind fresh = tt
-    fresh_add removed o x (p ∷ state) behind fresh =
-        (ap (λ b. cond b (Some x) (remover eq removed p.key)) behind.0.0 ∙ fresh.0, fresh_add removed o x state behind.1 fresh.1)
+    fresh_add removed o x [] after fresh = tt
+    fresh_add removed o x (p ∷ state) after fresh =
+        (ap (λ b. cond b (Some x) (remover eq removed p.key)) after.0.0 ∙ fresh.0, fresh_add removed o x state after.1 fresh.1)
 
     removed_is : (P : K → Bool) (removed : List (K × K)) (dead : List K) (o : Thing K C) → Marks eq sound same P removed dead → P o.key ≡ true
         → not (remains removed dead o) ≡ P (unwrap_or (remover_of eq (remover eq removed) o) o.key)
@@ -354,12 +358,13 @@ module _ {K C : Type 0} (eq : K → K → Bool) (sound : (a b : K) → eq a b �
     -- nothing that is left and stays refers to what goes along
     free_left : (P Q : K → Bool) (removed : List (K × K)) (dead lost : List K) (state : List (Thing K C)) → ((j : K) → P j ≡ true → Q j ≡ false)
         → Marks eq sound same P removed dead → Marks eq sound same Q removed lost
-        → Fresh removed state → Apartly eq sound same state → AllByRecursion (λ p. P p.key ≡ true) state → Free eq sound same lost (left removed dead state)
-    free_left P Q removed dead lost [] apart_ p q fresh apart later = tt
-    free_left P Q removed dead lost (o ∷ state) apart_ p q fresh apart later =
+        → Fresh removed state → AreUnrelated eq sound same state → AllByRecursion (λ p. P p.key ≡ true) state
+        → Free eq sound same lost (left removed dead state)
+    free_left P Q removed dead lost [] disjoint p q fresh unrelated later = tt
+    free_left P Q removed dead lost (o ∷ state) disjoint p q fresh unrelated later =
         let x = unwrap_or (remover_of eq (remover eq removed) o) o.key in
         let is_out = removed_is P removed dead o p later.0 in
-        let more = fresh_add removed o x state apart.1 fresh.1 in
+        let more = fresh_add removed o x state unrelated.1 fresh.1 in
         pick (Free eq sound same lost) (goes eq fit want (keys_of removed) o) _ _
         (λ away. pick (Free eq sound same lost) (remains removed dead o) _ _
         (λ is.
@@ -367,19 +372,19 @@ module _ {K C : Type 0} (eq : K → K → Bool) (sound : (a b : K) → eq a b �
         let under_is : list_any (among eq lost) o.under ≡ Q x = under_marked removed o some.0 some.1 Q lost q
         ∙ ap (λ t. Q (unwrap_or t o.key)) (sym some.1) in (
           refers_marked removed o some.0 some.1 Q lost q,
-          free_left P Q (add eq removed o) dead (cond (list_any (among eq lost) o.under) (o.key ∷ lost) lost) state apart_
+          free_left P Q (add eq removed o) dead (cond (list_any (among eq lost) o.under) (o.key ∷ lost) lost) state disjoint
               (marks_more P removed dead o false p fresh.0 (sym (ap not is) ∙ is_out))
-              (marks_more Q removed lost o (list_any (among eq lost) o.under) q fresh.0 under_is) more apart.2 later.1,
+              (marks_more Q removed lost o (list_any (among eq lost) o.under) q fresh.0 under_is) more unrelated.2 later.1,
         ))
         (λ gone_.
-        free_left P Q (add eq removed o) (o.key ∷ dead) lost state apart_
+        free_left P Q (add eq removed o) (o.key ∷ dead) lost state disjoint
         (marks_more P removed dead o true p fresh.0 (sym (ap not gone_) ∙ is_out))
-        (marks_more Q removed lost o false q fresh.0 (sym (apart_ x (sym is_out ∙ ap not gone_)))) more apart.2 later.1))
+        (marks_more Q removed lost o false q fresh.0 (sym (disjoint x (sym is_out ∙ ap not gone_)))) more unrelated.2 later.1))
         (λ stays.
         let two = none_marked Q removed lost o q stays in (
           (λ _. two.1),
           subst (λ b. Free eq sound same (cond b (o.key ∷ lost) lost) (left removed dead state)) (sym two.0)
-              (free_left P Q removed dead lost state apart_ p q fresh.1 apart.2 later.1),
+              (free_left P Q removed dead lost state disjoint p q fresh.1 unrelated.2 later.1),
         ))
 
     abbrev Within : List K → List K → Type 0
@@ -417,25 +422,25 @@ module _ {K C : Type 0} (eq : K → K → Bool) (sound : (a b : K) → eq a b �
 
     -- what is left of an order is an order, also without the keys that are gone
     left_ready : (P : K → Bool) (before there : List K) (removed : List (K × K)) (dead : List K) (state : List (Thing K C)) → ready eq before state ≡ true
-        → Marks eq sound same P removed dead → Fresh removed state → Apartly eq sound same state → AllByRecursion (λ p. P p.key ≡ true) state
+        → Marks eq sound same P removed dead → Fresh removed state → AreUnrelated eq sound same state → AllByRecursion (λ p. P p.key ≡ true) state
         → ((k : K) → among eq there k ≡ true → among eq before k ≡ true)
         → ((k : K) → among eq before k ≡ true → among eq dead k ≡ false → among eq there k ≡ true)
         → ready eq there (left removed dead state) ≡ true
-    left_ready P before there removed dead [] is p fresh apart later back turn = refl
-    left_ready P before there removed dead (o ∷ state) is p fresh apart later back turn =
+    left_ready P before there removed dead [] is p fresh unrelated later back turn = refl
+    left_ready P before there removed dead (o ∷ state) is p fresh unrelated later back turn =
         let first = and_left (is_next eq before o) (ready eq (o.key ∷ before) state) is in
         let rest = and_right (is_next eq before o) (ready eq (o.key ∷ before) state) is in
         let new = not_true (among eq before o.key) (and_left _ _ first) in
         let all = and_right (not (among eq before o.key)) _ first in
         let x = unwrap_or (remover_of eq (remover eq removed) o) o.key in
         let is_out = removed_is P removed dead o p later.0 in
-        let more = fresh_add removed o x state apart.1 fresh.1 in
+        let more = fresh_add removed o x state unrelated.1 fresh.1 in
         let stays : (ks : List (K × K)) → Marks eq sound same P ks dead → Fresh ks state → list_any (among eq dead) (needs o) ≡ false
         → ready eq there (o ∷ left ks dead state) ≡ true =
         λ ks marks fresh_ks free. ready_one eq there o (left ks dead state)
         (fresh_by (among eq there o.key) (among eq before o.key) (back o.key) new)
         (free_needs eq sound same fit want before there dead (needs o) turn all free)
-        (left_ready P (o.key ∷ before) (o.key ∷ there) ks dead state rest marks fresh_ks apart.2 later.1
+        (left_ready P (o.key ∷ before) (o.key ∷ there) ks dead state rest marks fresh_ks unrelated.2 later.1
         (λ k at. or_turn (eq k o.key) (among eq there k) (among eq before k) (back k) at)
         (λ k at free_k. or_turn (eq k o.key) (among eq before k) (among eq there k) (λ b. turn k b free_k) at)) in
         pick (λ s. ready eq there s ≡ true) (goes eq fit want (keys_of removed) o) _ _
@@ -447,7 +452,7 @@ module _ {K C : Type 0} (eq : K → K → Bool) (sound : (a b : K) → eq a b �
         (list_any-append (among eq dead) o.under o.refers ∙ ap (λ b. b || list_any (among eq dead) o.refers) none_under
         ∙ refers_marked removed o some.0 some.1 P dead p none_under))
         (λ gone_. left_ready P (o.key ∷ before) there (add eq removed o) (o.key ∷ dead) state rest
-        (marks_more P removed dead o true p fresh.0 (sym (ap not gone_) ∙ is_out)) more apart.2 later.1
+        (marks_more P removed dead o true p fresh.0 (sym (ap not gone_) ∙ is_out)) more unrelated.2 later.1
         (λ k at. ap (λ b. eq k o.key || b) (back k at) ∙ or_true (eq k o.key))
         (λ k at free_k. turn k (ap (λ b. b || among eq before k) (sym (or_left (eq k o.key) _ free_k)) ∙ at) (or_right (eq k o.key) _ free_k))))
         (λ kept_. stays removed p fresh.1
@@ -541,15 +546,15 @@ module _ {K C : Type 0} (eq : K → K → Bool) (sound : (a b : K) → eq a b �
           λ ks in_ks fresh_ks. subst (λ s. RunsWhole eq takes s (map Delete (asked eq fit want ks state)) (front ++ o ∷ left ks [] state)) (shift state)
           (subst (RunsWhole eq takes ((front ++ o ∷ []) ++ state) (map Delete (asked eq fit want ks state))) (shift (left ks [] state))
           (least_deleted (front ++ o ∷ []) state ks order in_ks fresh_ks)) in
-          let apart = apartly eq sound same front (o ∷ state) is in
+          let unrelated = are_unrelated eq sound same front (o ∷ state) is in
           let in_more : In more = in_add removed o inside in
-          let fresh_more : Fresh more state = fresh_add removed o (unwrap_or (remover_of eq (remover eq removed) o) o.key) state apart.1.1 fresh.1 in
+          let fresh_more : Fresh more state = fresh_add removed o (unwrap_or (remover_of eq (remover eq removed) o) o.key) state unrelated.1.1 fresh.1 in
           let passed_front : List K = passed [] front in
           let split : (ready eq [] front && ready eq passed_front (o ∷ state)) ≡ true = sym (ready-append eq [] front (o ∷ state)) ∙ is in
           let in_front = and_left _ _ split in
-          let behind = and_right (ready eq [] front) _ split in
-          let own = and_left (is_next eq passed_front o) (ready eq (o.key ∷ passed_front) state) behind in
-          let rest = and_right (is_next eq passed_front o) (ready eq (o.key ∷ passed_front) state) behind in
+          let after = and_right (ready eq [] front) _ split in
+          let own = and_left (is_next eq passed_front o) (ready eq (o.key ∷ passed_front) state) after in
+          let rest = and_right (is_next eq passed_front o) (ready eq (o.key ∷ passed_front) state) after in
           let P : K → Bool = λ j. not (among eq (keys_of more) j) in
           let P' : K → Bool = λ j. not (among eq (keys_of removed) j) in
           let Q : K → Bool = λ j. eq o.key j in
@@ -565,14 +570,14 @@ module _ {K C : Type 0} (eq : K → K → Bool) (sound : (a b : K) → eq a b �
           fresh.0 (sym (ap (λ t. Q (unwrap_or t o.key)) no_remover ∙ same o.key)) in
           let marks_p' : Marks eq sound same P' more (o.key ∷ []) =
           marks_more P' removed [] o true (marks_none removed inside) fresh.0 (sym (ap (λ t. P' (unwrap_or t o.key)) no_remover ∙ ap not unknown)) in
-          let apart_pq : (j : K) → P j ≡ true → Q j ≡ false = λ j passes. differ eq sound same j o.key (or_left (eq j o.key) _ (not_true _ passes)) in
+          let disjoint_pq : (j : K) → P j ≡ true → Q j ≡ false = λ j passes. differ eq sound same j o.key (or_left (eq j o.key) _ (not_true _ passes)) in
           let one_in : Within (o.key ∷ []) (keys_of more) = λ k there. or_turn (eq k o.key) false (among eq (keys_of removed) k) (λ f. absurd (cc f)) there in
           let with : ready eq [] (front ++ o ∷ left more [] state) ≡ true =
           ready-append eq [] front (o ∷ left more [] state) ∙ and_both _ _ in_front (and_both _ _ own
-          (left_ready P (o.key ∷ passed_front) (o.key ∷ passed_front) more [] state rest marks_p fresh_more apart.1.2 later (λ k t. t) (λ k t u. t))) in
+          (left_ready P (o.key ∷ passed_front) (o.key ∷ passed_front) more [] state rest marks_p fresh_more unrelated.1.2 later (λ k t. t) (λ k t u. t))) in
           let without_it : ready eq [] (front ++ left more (o.key ∷ []) state) ≡ true =
           ready-append eq [] front (left more (o.key ∷ []) state) ∙ and_both _ _ in_front
-          (left_ready P' (o.key ∷ passed_front) passed_front more (o.key ∷ []) state rest marks_p' fresh_more apart.1.2 (later_of removed state fresh.1)
+          (left_ready P' (o.key ∷ passed_front) passed_front more (o.key ∷ []) state rest marks_p' fresh_more unrelated.1.2 (later_of removed state fresh.1)
           (λ k there. ap (λ b. eq k o.key || b) there ∙ or_true (eq k o.key))
           (λ k there free. ap (λ b. b || among eq passed_front k) (sym (or_left (eq k o.key) _ free)) ∙ there)) in
           next (front ++ o ∷ left more [] state) (Delete o.key) (front ++ left more (o.key ∷ []) state) [] (front ++ left more (o.key ∷ []) state)
@@ -580,9 +585,9 @@ module _ {K C : Type 0} (eq : K → K → Bool) (sound : (a b : K) → eq a b �
           (subst (λ l. Sends eq takes (front ++ o ∷ left more [] state) (Delete o.key) (front ++ l))
           (stay_left more [] (o.key ∷ []) (o.key ∷ []) state (λ k. refl) one_in)
           (cascade eq sound same takes front o (left more [] state)
-          (apart.0.0, all_left_of (λ q. AllByRecursion (Apart eq sound same q.key) front) more [] state apart.0.1)
-          (apart.1.0, all_left_of (λ q. Apart eq sound same q.key o) more [] state apart.1.1, apartly_left more [] state apart.1.2)
-          (free_left P Q more [] (o.key ∷ []) state apart_pq marks_p marks_q fresh_more apart.1.2 later)))
+          (unrelated.0.0, all_left_of (λ q. AllByRecursion (Unrelated eq sound same q.key) front) more [] state unrelated.0.1)
+          (unrelated.1.0, all_left_of (λ q. Unrelated eq sound same q.key o) more [] state unrelated.1.1, unrelated_left more [] state unrelated.1.2)
+          (free_left P Q more [] (o.key ∷ []) state disjoint_pq marks_p marks_q fresh_more unrelated.1.2 later)))
           (none (front ++ left more (o.key ∷ []) state) (whole_ready eq sound same (front ++ left more (o.key ∷ []) state) without_it)) in
           subst (λ b. RunsWhole eq takes (front ++ o ∷ state) (map Delete (asked eq fit want removed (o ∷ state)))
           (front ++ cond (goes eq fit want (keys_of removed) o)

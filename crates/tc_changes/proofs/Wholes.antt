@@ -5,7 +5,7 @@ use Rattle.std.specs.List.{list_any, list_all}
 use Rattle.tc_changes.specs.Model.{Thing, needs, or_else, among, found, has, ready, Same, IsWhole}
 use Rattle.tc_changes.specs.Planned.{goes, kept}
 use Rattle.tc_changes.proofs.Lookups.{and_left, and_right, or_left, or_right, or_true, not_true, by_cases, found-append, found-filter}
-use Rattle.tc_changes.proofs.Apart.{pick}
+use Rattle.tc_changes.proofs.Unrelated.{pick}
 
 pub all_weaker : {K : Type 0} (p q : K → Bool) → ((k : K) → p k ≡ true → q k ≡ true) → (ks : List K) → list_all p ks ≡ true → list_all q ks ≡ true
 all_weaker p q turn [] all = refl
@@ -69,7 +69,7 @@ module _ {K C : Type 0} (eq : K → K → Bool) where
       ap (λ r. (not (among eq before o.key) && list_all (among eq before) (needs o)) && r) (ready-append (o.key ∷ before) a b)
       ∙ and_assoc (not (among eq before o.key) && list_all (among eq before) (needs o)) (ready eq (o.key ∷ before) a) (ready eq (passed (o.key ∷ before) a) b)
 
-  -- one object behind others
+  -- one object after others
   pub ready_one : (before : List K) (o : Thing K C) (rest : List (Thing K C)) → among eq before o.key ≡ false → list_all (among eq before) (needs o) ≡ true
       → ready eq (o.key ∷ before) rest ≡ true
       → ready eq before (o ∷ rest) ≡ true

@@ -17,7 +17,7 @@ pub mod laws;
 pub mod object;
 pub mod order;
 mod parts;
-mod places;
+pub mod places;
 pub mod plan_error;
 pub mod planned;
 mod removed;

@@ -10,11 +10,11 @@ use std::alloc::{AllocError, Allocator};
 use std::collections::HashMap;
 use std::hash::{BuildHasherDefault, FoldHasher};
 
-// A place for each key.
-pub(crate) type Index<A> = HashMap<Key, usize, BuildHasherDefault<FoldHasher>, A>;
+/// A place for each key.
+pub type Index<A> = HashMap<Key, usize, BuildHasherDefault<FoldHasher>, A>;
 
-// The places of objects.
-pub(crate) fn index_of<A: Allocator + Copy>(
+/// Finds the place of each object's key.
+pub fn index_of<A: Allocator + Copy>(
     alloc: A,
     objects: &[Object<A>],
 ) -> Result<Index<A>, AllocError>
@@ -27,8 +27,8 @@ pub(crate) fn index_of<A: Allocator + Copy>(
     Ok(index)
 }
 
-// The object of a key.
-pub(crate) fn look_up<'a, A: Allocator>(
+/// Looks up the object of a key.
+pub fn look_up<'a, A: Allocator>(
     objects: &'a [Object<A>],
     index: &Index<A>,
     key: Key,

@@ -7,7 +7,7 @@ use Rattle.tc_changes.specs.Objects.{KernelThing, same_key, alike}
 use Rattle.tc_changes.specs.declared.key.Key.{Key}
 use Rattle.tc_changes.proofs.Lookups.{and_right, all_append, all_by, by_cases, not_true}
 use Rattle.tc_changes.proofs.Equal.{key_is, key_same, alike_is, alike_same}
-use Rattle.tc_changes.proofs.Apart.{pick, ready_rest}
+use Rattle.tc_changes.proofs.Unrelated.{pick, ready_rest}
 use Rattle.tc_changes.proofs.Keeps.{all_found}
 use Rattle.tc_differences.specs.Differences.{change_at, keys, keys_of_both, with_change, differences_in, differences}
 use Rattle.tc_differences.specs.declared.difference.Change.{Change}

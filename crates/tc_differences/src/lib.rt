@@ -7,7 +7,6 @@
 mod difference;
 mod laws;
 pub mod lines;
-mod places;
 mod priorities;
 pub mod program;
 mod states;

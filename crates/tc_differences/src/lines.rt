@@ -12,7 +12,6 @@ ghost use Rattle.tc_changes.specs.Objects.{things};
 ghost use Rattle.tc_differences.specs.Differences.{IsSame};
 
 use crate::difference::Difference;
-use crate::places::{index_of, look_up};
 use crate::priorities::{filter_of_priority, with_filters};
 use crate::states::differences;
 use crate::values::put_values;
@@ -22,6 +21,7 @@ use program_io::Stop;
 use std::alloc::{AllocError, Global};
 use std::str;
 use tc_brief::{Object as Words, Said, lines_of};
+use tc_changes::places::{index_of, look_up};
 use tc_changes::{Key, Object};
 use tc_columns::{KindColumns, Root};
 use tc_configs::message_of;

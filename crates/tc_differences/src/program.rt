@@ -16,7 +16,7 @@ use tcmake_requests::lines::RemarkKind;
 use tcshow_input::Stop;
 use tcshow_lib::arguments::Arguments;
 use tcshow_lib::names::names_in;
-use tcshow_lib::options::options_of;
+use tcshow_lib::options::{TimeZone, options_of};
 use tcshow_lib::program::{Differ, put_json};
 use tcshow_lib::run::Ended;
 
@@ -93,7 +93,7 @@ fn diff_with<R: AllocGlobal + Files + Input + Print, E: Write>(
 
 // The state that a file shows, and the names of interfaces that it has.
 #[derive(Drop)]
-struct Shown {
+struct NamedState {
     state: State<Global>,
     names: Vec<(u32, String)>,
 }
@@ -137,7 +137,7 @@ fn state_of_file<R: AllocGlobal + Files + Input, E: Write>(
     name: &str,
     there: Option<&State<Global>>,
     errors: &mut E,
-) -> Result<Shown, Stop> {
+) -> Result<NamedState, Stop> {
     let alloc = rt.alloc();
     if name == "-" {
         return state_of_reader(
@@ -162,7 +162,7 @@ fn state_of_reader<I: Read + Drop, E: Write>(
     reader: I,
     there: Option<&State<Global>>,
     errors: &mut E,
-) -> Result<Shown, Stop> {
+) -> Result<NamedState, Stop> {
     let mut reader = Reader::new(reader);
     match Begun::begin(alloc, &mut reader) {
         Ok(input) => {
@@ -185,7 +185,7 @@ fn state_of_json<I: Read + Drop, E: Write>(
     reader: I,
     there: Option<&State<Global>>,
     errors: &mut E,
-) -> Result<Shown, Stop> {
+) -> Result<NamedState, Stop> {
     let mut reader = match BufReader::new(alloc, Reader::new(reader)) {
         Ok(reader) => reader,
         Err(_) => return Err(Stop::NoMemory),
@@ -210,8 +210,8 @@ fn state_of_capture<I: Read + Drop, E: Write>(
     reader: I,
     there: Option<&State<Global>>,
     errors: &mut E,
-) -> Result<Shown, Stop> {
-    let options = options_of(arguments, Filter::ALL, &[]);
+) -> Result<NamedState, Stop> {
+    let options = options_of(arguments, TimeZone::UTC, Filter::ALL, &[]);
     let mut lines = Vec::new(alloc);
     let ended = put_json(alloc, &options, name, reader, &mut lines, errors);
     ended.outcome?;
@@ -232,7 +232,7 @@ fn state_found<E: Write>(
     name: &str,
     found: LineState,
     errors: &mut E,
-) -> Result<Shown, Stop> {
+) -> Result<NamedState, Stop> {
     let LineState {
         state,
         names,
@@ -246,7 +246,7 @@ fn state_found<E: Write>(
         }
     }
     match state {
-        Some(state) => Ok(Shown { state, names }),
+        Some(state) => Ok(NamedState { state, names }),
         None => Err(Stop::Read),
     }
 }

@@ -18,8 +18,8 @@ ghost use Rattle.tc_differences.specs.Differences.{
 };
 
 use crate::difference::{Change, Difference};
-use crate::places::{Index, index_of, look_up};
 use std::alloc::{AllocError, Allocator};
+use tc_changes::places::{Index, index_of, look_up};
 use tc_changes::{Key, Object};
 
 /// The differences between two states: first those in the objects of the first one, in its order, then what only the second one has, in its

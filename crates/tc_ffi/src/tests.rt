@@ -180,3 +180,92 @@ fn not_made(rt: HostRuntime) {
     assert!(rt; &why[..why_length] == b"/attributes: found 7, wanted a list".as_slice());
     assert!(rt; buffer == [7u8; 64]);
 }
+
+// Bytes that can't be read: the status of their first fault, and an unchanged buffer.
+#[test]
+fn not_read(rt: HostRuntime) {
+    let (mut verdict, mut fault) = (NO_VERDICT, NO_FAULT);
+    let (mut buffer, mut length, mut rewrites) = ([7u8; 64], 0, 9);
+    // `VTC_FRAME_TOO_LONG`: 15 bytes are left for an attribute of 16.
+    assert!(rt; vtc_action_check(rt.alloc(), &NAT[..19], &mut verdict, &mut fault) == 3);
+    assert!(rt; fault.first == 16 && fault.second == 15 && fault.offset == 4);
+    assert!(rt; verdict.fits == 9);
+    assert!(rt; vtc_rewrite(rt.alloc(), &FQ_CODEL[..19], &mut buffer, &mut length) == 1);
+    assert!(rt; vtc_action_rewrite(rt.alloc(), &NAT[..19], &mut buffer, &mut length) == 3);
+    assert!(rt;
+        vtc_settle(
+            rt.alloc(),
+            &FQ_CODEL[..19],
+            &mut buffer,
+            &mut length,
+            &mut rewrites
+        ) == 1
+    );
+    assert!(rt;
+        vtc_action_settle(
+            rt.alloc(),
+            &NAT[..19],
+            &mut buffer,
+            &mut length,
+            &mut rewrites
+        ) == 3
+    );
+    assert!(rt; buffer == [7u8; 64]);
+}
+
+// `VTC_NO_ROOM`: the length that is needed, and an unchanged buffer.
+#[test]
+fn no_room(rt: HostRuntime) {
+    let (mut buffer, mut length, mut rewrites) = ([7u8; 19], 0, 9);
+    assert!(rt; vtc_rewrite(rt.alloc(), &FQ_CODEL, &mut buffer, &mut length) == 13);
+    assert!(rt; length == 48);
+    assert!(rt; vtc_action_rewrite(rt.alloc(), &NAT, &mut buffer, &mut length) == 13);
+    assert!(rt; length == 20);
+    assert!(rt;
+        vtc_settle(
+            rt.alloc(),
+            &FQ_CODEL,
+            &mut buffer,
+            &mut length,
+            &mut rewrites
+        ) == 13
+            && rewrites == 0
+    );
+    assert!(rt; length == 48);
+    assert!(rt; vtc_action_settle(rt.alloc(), &NAT, &mut buffer, &mut length, &mut rewrites) == 13);
+    assert!(rt; length == 20);
+    assert!(rt; vtc_json(rt.alloc(), &FQ_CODEL, &mut buffer, &mut length) == 13);
+    assert!(rt; length == FQ_CODEL_JSON.len());
+    assert!(rt; vtc_action_json(rt.alloc(), &NAT, &mut buffer, &mut length) == 13);
+    assert!(rt; length == NAT_JSON.len());
+    assert!(rt; buffer == [7u8; 19]);
+}
+
+#[test]
+fn not_made_as_given(rt: HostRuntime) {
+    let (mut buffer, mut length) = ([7u8; 64], 0);
+    let (mut why, mut why_length) = ([0u8; 64], 9);
+    assert!(rt;
+        vtc_make_as_given(
+            rt.alloc(),
+            b"{",
+            &mut buffer,
+            &mut length,
+            &mut why,
+            &mut why_length
+        ) == 15
+            && why_length > 0
+    );
+    assert!(rt;
+        vtc_action_make_as_given(
+            rt.alloc(),
+            br#"{"raw":7}"#,
+            &mut buffer,
+            &mut length,
+            &mut why,
+            &mut why_length
+        ) == 16
+    );
+    assert!(rt; &why[..why_length] == b"/raw: found 7, wanted bytes in lower-case hex".as_slice());
+    assert!(rt; buffer == [7u8; 64]);
+}

@@ -61,3 +61,14 @@ fn next_attributes(rt: HostRuntime) {
     at = 48;
     assert!(rt; vtc_next(&FQ_CODEL, &mut at, &mut attr) == 14);
 }
+
+// Bytes that are no message: not canonical, and shorter than the header no attribute either.
+#[test]
+fn no_message(rt: HostRuntime) {
+    let mut slots = [EMPTY; 4];
+    assert!(rt; vtc_is_canonical(&FQ_CODEL[..47]) == 0);
+    assert!(rt; vtc_action_is_canonical(&NAT[..19]) == 0);
+    assert!(rt; vtc_index(&FQ_CODEL[..19], &mut slots) == 0);
+    assert!(rt; vtc_action_index(&NAT[..3], &mut slots) == 0);
+    assert!(rt; slots[0].table == 255);
+}

@@ -2,10 +2,10 @@
 use Rattle.std.proofs.Common.{◌≡◌, cond, List, [], ◌∷◌, ◌++◌, Option, Some, None, refl, ap}
 use Rattle.tc_changes.specs.Objects.{same_key}
 use Rattle.tc_changes.specs.declared.key.Key.{Key}
-use Rattle.tc_objects.specs.declared.shown.Shown.{Shown}
+use Rattle.tc_objects.specs.declared.dumped_object.DumpedObject.{DumpedObject}
 use Rattle.tc_objects.specs.Names.{named, with_name, holder_by}
 
-pub holder-push : {A : Type 0} (find : Key → Option Key) (shown : List (Shown A)) (s : Shown A)
+pub holder-push : {A : Type 0} (find : Key → Option Key) (shown : List (DumpedObject A)) (s : DumpedObject A)
     → holder_by find (shown ++ s ∷ []) ≡ with_name (named s) (holder_by find shown)
 holder-push find [] s = refl
 holder-push find (t ∷ shown) s = holder-push (with_name (named t) find) shown s

@@ -50,7 +50,7 @@ use Rattle.tc_objects.specs.Put.{content_in, content_of, contents_made, contents
 use Rattle.tc_objects.specs.States.{root_in, ingress_in, is_filled, keys_by, keys_shown}
 use Rattle.tc_objects.specs.declared.dump.Dump.{Dump}
 use Rattle.tc_objects.specs.declared.reading.Reading.{Reading}
-use Rattle.tc_objects.specs.declared.shown.Shown.{Shown}
+use Rattle.tc_objects.specs.declared.dumped_object.DumpedObject.{DumpedObject}
 use Rattle.tc_objects.specs.declared.state.Item.{Item}
 
 one_more : {X : Type 0} (f : Option X) (x : X) (t : Bool) → is_some (or_else f (cond t (Some x) None)) ≡ (t || is_some f)
@@ -159,7 +159,8 @@ module _ {A : Type 0} where
   appended first last new (x ∷ rest) all are none inv = absurd (cc none)
 
   -- the step of what is shown
-  pub one_step : (steps new : List (Step (Item A) Key A)) (step : Step (Item A) Key A) (object : Object A) (s : Shown A) (old rest : List (Shown A))
+  pub one_step : (steps new : List (Step (Item A) Key A)) (step : Step (Item A) Key A) (object : Object A) (s : DumpedObject A)
+      (old rest : List (DumpedObject A))
       (all : List (Key × List ℕ))
       → new ≡ steps ++ step ∷ [] → old ≡ s ∷ rest → step.item.object ≡ object → content_in object ≡ content_of s
       → contents_made steps ++ map content_of old ≡ all → contents_made new ++ map content_of rest ≡ all
@@ -171,7 +172,7 @@ module _ {A : Type 0} where
       ∙ ap (λ l. contents_made steps ++ map content_of l) (sym is)
       ∙ inv
 
-  pub no_step : (steps : List (Step (Item A) Key A)) (rest : List (Shown A)) (all : List (Key × List ℕ)) → length rest ≡ 0
+  pub no_step : (steps : List (Step (Item A) Key A)) (rest : List (DumpedObject A)) (all : List (Key × List ℕ)) → length rest ≡ 0
       → contents_made steps ++ map content_of rest ≡ all → contents_made steps ≡ all
   no_step steps [] all none inv = sym (append-nil (contents_made steps)) ∙ inv
   no_step steps (s ∷ rest) all none inv = absurd (cc none)

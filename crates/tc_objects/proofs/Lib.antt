@@ -2,5 +2,5 @@ pub mod Holders
 pub mod Confined
 pub mod Put
 pub mod Adds
-pub mod Chosen
+pub mod Renamings
 pub mod Kept

@@ -45,7 +45,7 @@ use Rattle.tc_objects.specs.Put.{key_at, keys_read, IsRead, Puts}
 use Rattle.tc_objects.specs.States.{action_by}
 use Rattle.tc_objects.specs.declared.reading.Reading.{Reading}
 use Rattle.tc_objects.specs.declared.reading.Readings.{Readings}
-use Rattle.tc_objects.specs.declared.shown.Shown.{Shown}
+use Rattle.tc_objects.specs.declared.dumped_object.DumpedObject.{DumpedObject}
 
 or_assoc : (a b c : Bool) → ((a || b) || c) ≡ (a || (b || c))
 or_assoc true b c = refl
@@ -101,7 +101,7 @@ no_action (Some k) = refl
 no_action None = refl
 
 module _ {A : Type 0} where
-  of_shown : (s : Shown A) (sort : Sort) → s.sort ≡ sort → key_of s ≡ key_at sort s.index s.parent s.chain s.priority s.handle
+  of_shown : (s : DumpedObject A) (sort : Sort) → s.sort ≡ sort → key_of s ≡ key_at sort s.index s.parent s.chain s.priority s.handle
   of_shown s Qdisc is = ap (λ t. key_by t s) is
   of_shown s Class is = ap (λ t. key_by t s) is
   of_shown s Chain is = ap (λ t. key_by t s) is
@@ -111,7 +111,7 @@ module _ {A : Type 0} where
   of_shown s (Action kind) is = ap (λ t. key_by t s) is
 
   -- the key of what is shown, by its parts
-  pub of_parts : (s : Shown A) (sort : Sort) (index : ℤ) (parent chain priority handle : ℕ)
+  pub of_parts : (s : DumpedObject A) (sort : Sort) (index : ℤ) (parent chain priority handle : ℕ)
       → s.sort ≡ sort → s.index ≡ index → s.parent ≡ parent → s.chain ≡ chain → s.priority ≡ priority → s.handle ≡ handle
       → key_of s ≡ key_at sort index parent chain priority handle
   of_parts s sort index parent chain priority handle is i p c q h =

@@ -22,7 +22,7 @@ use Rattle.tc_objects.specs.Needs.{key_of}
 use Rattle.tc_objects.specs.declared.dump.Dump.{Dump}
 use Rattle.tc_objects.specs.declared.reading.Reading.{Reading}
 use Rattle.tc_objects.specs.declared.reading.Readings.{Readings}
-use Rattle.tc_objects.specs.declared.shown.Shown.{Shown}
+use Rattle.tc_objects.specs.declared.dumped_object.DumpedObject.{DumpedObject}
 use Rattle.tc_objects.specs.declared.state.Item.{Item}
 
 -- the key of an object of this type, at this interface, parent, chain and priority, with this handle
@@ -78,7 +78,7 @@ IsActionIn attribute r = Any (λ action. IsActionRead action r) (actions_in attr
 abbrev pub content_in : {A : Type 0} → Object A → Key × List ℕ
 content_in o = (o.key, o.config.items)
 
-abbrev pub content_of : {A : Type 0} → Shown A → Key × List ℕ
+abbrev pub content_of : {A : Type 0} → DumpedObject A → Key × List ℕ
 content_of s = (key_of s, s.config.items)
 
 abbrev pub contents_made : {A : Type 0} → List (Step (Item A) Key A) → List (Key × List ℕ)

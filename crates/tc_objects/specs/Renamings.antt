@@ -20,5 +20,5 @@ abbrev pub AreFound : (Key → Option ℕ) → List Renaming → Type 0
 AreFound find renamings = AllByRecursion (IsFound find) renamings
 
 -- each is of a handle that the kernel chose
-abbrev pub AreChosen : List Renaming → Type 0
-AreChosen renamings = list_all (λ r. is_chosen r.from) renamings ≡ true
+abbrev pub OnlyKernelHandles : List Renaming → Type 0
+OnlyKernelHandles renamings = list_all (λ r. is_chosen r.from) renamings ≡ true

@@ -16,7 +16,8 @@ use tc_action_messages::{TcActionMessage, TcActionMessageAttribute};
 use tc_changes::Key;
 use tc_messages::TcMessage;
 use tc_plan::{
-    Entry, Fate, Key as PlanKey, entry_of, ingress_of, made_by_filters, offloaded_by, shared_action,
+    Dependencies, Fate, Key as PlanKey, dependencies_of, ingress_of, made_by_filters, offloaded_by,
+    shared_action,
 };
 use tc_restore::{Object, RootTable, root_table};
 
@@ -167,8 +168,15 @@ fn chain_in<A: Allocator + Copy>(
 {
     match dump {
         Dump::Of(Object::Filter, message) => {
-            let entry = entry_of(alloc, 0, Fate::Request, Object::Filter, ingress, message)?;
-            Ok(entry.provides.first().copied())
+            let dependencies = dependencies_of(
+                alloc,
+                0,
+                Fate::Request,
+                Object::Filter,
+                ingress,
+                message,
+            )?;
+            Ok(dependencies.provides.first().copied())
         }
         _ => Ok(None),
     }
@@ -183,10 +191,17 @@ fn tables_of<A: Allocator + Copy>(
     let mut tables = HashMap::new(alloc);
     for dump in dumps {
         if let Dump::Of(Object::Filter, message) = dump {
-            let entry = entry_of(alloc, 0, Fate::Request, Object::Filter, ingress, message)?;
-            for key in &entry.provides {
+            let dependencies = dependencies_of(
+                alloc,
+                0,
+                Fate::Request,
+                Object::Filter,
+                ingress,
+                message,
+            )?;
+            for key in &dependencies.provides {
                 if let PlanKey::Table { .. } = key {
-                    tables.insert(*key, table_of(message, &entry))?;
+                    tables.insert(*key, table_of(message, &dependencies))?;
                 }
             }
         }
@@ -195,11 +210,11 @@ fn tables_of<A: Allocator + Copy>(
 }
 
 // The object of a hash table: none of a root table.
-fn table_of<A: Allocator>(message: &TcMessage<A>, entry: &Entry<A>) -> Option<Key> {
+fn table_of<A: Allocator>(message: &TcMessage<A>, dependencies: &Dependencies<A>) -> Option<Key> {
     if root_table(Object::Filter, message).is_some() {
         return None;
     }
-    match entry.objects.first() {
+    match dependencies.objects.first() {
         Some(
             PlanKey::Filter {
                 index,
@@ -231,8 +246,15 @@ fn blocks_of<A: Allocator + Copy>(
                 index: message.header.index,
                 parent: u32::from(message.header.parent),
             };
-            let entry = entry_of(alloc, 0, Fate::Request, Object::Qdisc, &[], message)?;
-            for key in &entry.provides {
+            let dependencies = dependencies_of(
+                alloc,
+                0,
+                Fate::Request,
+                Object::Qdisc,
+                &[],
+                message,
+            )?;
+            for key in &dependencies.provides {
                 if let PlanKey::Block { number } = key {
                     blocks.push((*number, place))?;
                 }

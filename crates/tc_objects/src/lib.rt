@@ -4,6 +4,7 @@
 
 mod classes;
 pub mod dump;
+pub mod dumped_object;
 mod known;
 pub mod label;
 mod made;
@@ -14,11 +15,11 @@ pub mod reading;
 mod renamed;
 pub mod requests;
 pub mod rules;
-pub mod shown;
 pub mod state;
 pub mod state_error;
 
 pub use dump::Dump;
+pub use dumped_object::DumpedObject;
 pub use label::{Dumped, Label};
 pub use names::{Names, names_of};
 pub use objects::object_of;
@@ -26,6 +27,5 @@ pub use plans::{Planned, plan_between};
 pub use reading::Origin;
 pub use requests::{CHANGE_FLAGS, DELETE_FLAGS, PlanRequest};
 pub use rules::KindRules;
-pub use shown::Shown;
 pub use state::{State, state_after, state_of};
 pub use state_error::StateError;

@@ -6,7 +6,7 @@ ghost use Rattle.tc_changes.specs.Objects.{same_key};
 ghost use Rattle.tc_changes.specs.declared.key.Key.{Key as KeyModel};
 ghost use Rattle.tc_objects.specs.Names.{named, with_name, holder};
 
-use crate::shown::Shown;
+use crate::dumped_object::DumpedObject;
 use std::alloc::{AllocError, Allocator};
 use std::collections::HashMap;
 use std::hash::{BuildHasherDefault, FoldHasher};
@@ -17,7 +17,10 @@ use tc_configs::Sort;
 pub type Names<A> = HashMap<Key, Key, BuildHasherDefault<FoldHasher>, A>;
 
 /// The names of what dumps show.
-pub fn names_of<A: Allocator + Copy>(alloc: A, shown: &[Shown<A>]) -> Result<Names<A>, AllocError>
+pub fn names_of<A: Allocator + Copy>(
+    alloc: A,
+    shown: &[DumpedObject<A>],
+) -> Result<Names<A>, AllocError>
     ensures { IfOk result (λ names. (k : KeyModel) → hash.get same_key names k ≡ holder shown.now k) }
 {
     let mut names = HashMap::new(alloc);
@@ -28,7 +31,10 @@ pub fn names_of<A: Allocator + Copy>(alloc: A, shown: &[Shown<A>]) -> Result<Nam
 }
 
 // The names, and that of one more object.
-fn with_name<A: Allocator + Copy>(names: Names<A>, shown: &Shown<A>) -> Result<Names<A>, AllocError>
+fn with_name<A: Allocator + Copy>(
+    names: Names<A>,
+    shown: &DumpedObject<A>,
+) -> Result<Names<A>, AllocError>
     ensures { IfOk result (λ made. (k : KeyModel) → hash.get same_key made k ≡ with_name (named shown.now) (hash.get same_key names) k) }
 {
     let mut names = names;
@@ -39,10 +45,10 @@ fn with_name<A: Allocator + Copy>(names: Names<A>, shown: &Shown<A>) -> Result<N
 }
 
 // The name of an object, and its key: none of a qdisc without a handle, which has nothing under it, or of a filter.
-fn named<A: Allocator>(shown: &Shown<A>) -> Option<(Key, Key)>
+fn named<A: Allocator>(shown: &DumpedObject<A>) -> Option<(Key, Key)>
     ensures { result ≡ named shown.now }
 {
-    let Shown {
+    let DumpedObject {
         index,
         handle,
         parent,

@@ -7,8 +7,8 @@ ghost use Rattle.std.specs.HashMap as hash;
 ghost use Rattle.tc_changes.specs.Objects.{same_key};
 ghost use Rattle.tc_objects.specs.Needs.{key_of, priority_of, under, refers, major, above, owner, parent_class, class_named};
 
+use crate::dumped_object::DumpedObject;
 use crate::names::Names;
-use crate::shown::Shown;
 use std::alloc::{AllocError, Allocator};
 use tc_changes::{Key, Object};
 use tc_configs::Sort;
@@ -18,7 +18,7 @@ use tc_configs::Sort;
 pub fn object_of<A: Allocator + Copy>(
     alloc: A,
     names: &Names<A>,
-    shown: Shown<A>,
+    shown: DumpedObject<A>,
 ) -> Result<Object<A>, AllocError>
     ensures key { IfOk result (λ o. o.key ≡ key_of shown) }
     ensures under { IfOk result (λ o. o.under.items ≡ under (hash.get same_key names.now) shown) }
@@ -28,7 +28,7 @@ pub fn object_of<A: Allocator + Copy>(
     let key = key_of(&shown);
     let under = under(alloc, names, &shown)?;
     let refers = refers(alloc, names, &shown)?;
-    let Shown { config, .. } = shown;
+    let DumpedObject { config, .. } = shown;
     Ok(Object {
         key,
         under,
@@ -37,10 +37,10 @@ pub fn object_of<A: Allocator + Copy>(
     })
 }
 
-pub(crate) fn key_of<A: Allocator>(shown: &Shown<A>) -> Key
+pub(crate) fn key_of<A: Allocator>(shown: &DumpedObject<A>) -> Key
     ensures { result ≡ key_of shown.now }
 {
-    let Shown {
+    let DumpedObject {
         index,
         handle,
         parent,
@@ -72,7 +72,7 @@ pub(crate) fn key_of<A: Allocator>(shown: &Shown<A>) -> Key
 }
 
 // The priority of a filter.
-fn priority_of<A: Allocator>(shown: &Shown<A>) -> Key
+fn priority_of<A: Allocator>(shown: &DumpedObject<A>) -> Key
     ensures { result ≡ priority_of shown.now }
 {
     Key::Priority {
@@ -121,7 +121,7 @@ fn owner<A: Allocator>(names: &Names<A>, index: i32, handle: u32) -> Key
 fn under<A: Allocator + Copy>(
     alloc: A,
     names: &Names<A>,
-    shown: &Shown<A>,
+    shown: &DumpedObject<A>,
 ) -> Result<Vec<Key, A>, AllocError>
     ensures { IfOk result (λ keys. keys.items ≡ under (hash.get same_key names.now) shown.now) }
 {
@@ -147,7 +147,7 @@ fn under<A: Allocator + Copy>(
 fn refers<A: Allocator + Copy>(
     alloc: A,
     names: &Names<A>,
-    shown: &Shown<A>,
+    shown: &DumpedObject<A>,
 ) -> Result<Vec<Key, A>, AllocError>
     ensures { IfOk result (λ keys. keys.items ≡ refers (hash.get same_key names.now) shown.now) }
 {

@@ -23,10 +23,10 @@ ghost use Rattle.tc_objects.specs.declared.dump.Dump.TheVariants.{Of};
 
 use crate::classes::classes_of;
 use crate::dump::Dump;
+use crate::dumped_object::DumpedObject;
 use crate::known::Known;
 use crate::made::{handle_named, is_by_kernel};
 use crate::objects::key_of;
-use crate::shown::Shown;
 use crate::state_error::StateError;
 use std::alloc::{AllocError, Allocator};
 use std::collections::HashSet;
@@ -40,7 +40,8 @@ use tc_configs::requested::config_of_action;
 use tc_configs::{Configured, Sort, config_of};
 use tc_messages::TcMessage;
 use tc_plan::{
-    Entry, Fate, Key as PlanKey, Named, entry_of, has_action, name_of_action, newest_first,
+    Dependencies, Fate, Key as PlanKey, Named, dependencies_of, has_action, name_of_action,
+    newest_first,
 };
 use tc_restore::{Object, actions_of_filter, kind_of_message, standalone_index};
 
@@ -56,7 +57,7 @@ pub struct Origin {
 /// An object as a dump shows it, and its origin.
 #[derive(Drop)]
 pub(crate) struct Reading<A: Allocator> {
-    pub(crate) shown: Shown<A>,
+    pub(crate) shown: DumpedObject<A>,
     pub(crate) origin: Origin,
     /// The filters that the kernel keeps newest first, if it is one of these.
     pub(crate) group: Option<PlanKey>,
@@ -176,16 +177,16 @@ fn whereabouts_of<A: Allocator>(
     known: &Known<A>,
     object: Object,
     message: &TcMessage<A>,
-    entry: &Entry<A>,
+    dependencies: &Dependencies<A>,
 ) -> Whereabouts
-    requires { entry.now.objects.items ≡ plan_object known.now.ingress.items object message.now }
+    requires { dependencies.now.objects.items ≡ plan_object known.now.ingress.items object message.now }
     ensures key { (handle : ℕ) → key_at result.sort result.index result.parent result.chain result.priority handle
         ≡ key_named known.now.ingress.items object message.now handle }
     ensures parent { result.parent ≡ parent_named known.now.ingress.items object message.now }
     ensures chain { object ≡ kinds.Chain → result.chain ≡ chain_number message.now.attributes.items }
 {
     let index = message.header.index;
-    match (object, entry.objects.first()) {
+    match (object, dependencies.objects.first()) {
         (Object::Chain, Some(PlanKey::Chain { parent, number, .. })) => Whereabouts {
             sort: Sort::Chain,
             index,
@@ -204,7 +205,7 @@ fn whereabouts_of<A: Allocator>(
                 },
             ),
         ) => Whereabouts {
-            sort: sort_of_filter(known, entry),
+            sort: sort_of_filter(known, dependencies),
             index,
             parent: *parent,
             chain: *number,
@@ -232,11 +233,11 @@ fn sort_of_node(object: Object) -> Sort
 }
 
 // A hash table of u32, or a filter.
-fn sort_of_filter<A: Allocator>(known: &Known<A>, entry: &Entry<A>) -> Sort
+fn sort_of_filter<A: Allocator>(known: &Known<A>, dependencies: &Dependencies<A>) -> Sort
     ensures { (index : _) (parent chain priority handle : ℕ) → key_at result index parent chain priority handle
         ≡ FilterKey index parent chain priority handle }
 {
-    for key in &entry.provides {
+    for key in &dependencies.provides {
         if let Some(Some(_)) = known.tables.get(key) {
             return Sort::Table;
         }
@@ -258,13 +259,13 @@ fn put_object<A: Allocator + Copy>(
     ensures configs { IfOk result (λ made. Adds readings (IsReadBy known.now.roots.items known.now.ingress.items
         (bag.contains plan.same_key known.now.filled) (Of object message)) made) }
 {
-    let entry = entry_of(alloc, 0, Fate::Request, object, &known.ingress, &message)?;
-    let at = whereabouts_of(known, object, &message, &entry);
+    let dependencies = dependencies_of(alloc, 0, Fate::Request, object, &known.ingress, &message)?;
+    let at = whereabouts_of(known, object, &message, &dependencies);
     let before = put_priority(alloc, known, place, object, at, &message, readings)?;
-    if is_left_out(known, object, at.chain, &message, &entry) {
+    if is_left_out(known, object, at.chain, &message, &dependencies) {
         return Ok(before);
     }
-    let reading = reading_of(alloc, known, place, object, at, &entry, message)?;
+    let reading = reading_of(alloc, known, place, object, at, &dependencies, message)?;
     let made = put_reading(before, reading)?;
     Ok(made)
 }
@@ -290,14 +291,15 @@ fn is_left_out<A: Allocator>(
     object: Object,
     chain: u32,
     message: &TcMessage<A>,
-    entry: &Entry<A>,
+    dependencies: &Dependencies<A>,
 ) -> bool
-    requires made_by { option_to_list entry.now.made_by ≡ made_by known.now.ingress.items object message.now }
+    requires made_by { option_to_list dependencies.now.made_by ≡ made_by known.now.ingress.items object message.now }
     requires chain { object ≡ kinds.Chain → chain ≡ chain_number message.now.attributes.items }
     ensures { result ≡ (is_implied known.now.ingress.items (bag.contains plan.same_key known.now.filled) object message.now
         || is_by_kernel known.now.roots.items object message.now) }
 {
-    is_implied(known, object, chain, message, entry) || is_by_kernel(&known.roots, object, message)
+    is_implied(known, object, chain, message, dependencies)
+        || is_by_kernel(&known.roots, object, message)
 }
 
 // The reading of an object that the kernel doesn't make itself.
@@ -307,7 +309,7 @@ fn reading_of<A: Allocator + Copy>(
     place: usize,
     object: Object,
     at: Whereabouts,
-    entry: &Entry<A>,
+    dependencies: &Dependencies<A>,
     message: TcMessage<A>,
 ) -> Result<Reading<A>, StateError>
     ensures key { IfOk result (λ made. key_of made.shown
@@ -321,7 +323,7 @@ fn reading_of<A: Allocator + Copy>(
     let group = newest_first(object, &known.ingress, &message);
     let others = match at.sort {
         Sort::Table | Sort::Chain => with_places(Vec::new(alloc), known, at)?,
-        _ => tables_of(alloc, known, entry)?,
+        _ => tables_of(alloc, known, dependencies)?,
     };
     let shown = shown_of(alloc, known, place, object, at, others, message)?;
     Ok(Reading {
@@ -362,13 +364,13 @@ fn is_implied<A: Allocator>(
     object: Object,
     chain: u32,
     message: &TcMessage<A>,
-    entry: &Entry<A>,
+    dependencies: &Dependencies<A>,
 ) -> bool
-    requires made_by { option_to_list entry.now.made_by ≡ made_by known.now.ingress.items object message.now }
+    requires made_by { option_to_list dependencies.now.made_by ≡ made_by known.now.ingress.items object message.now }
     requires chain { object ≡ kinds.Chain → chain ≡ chain_number message.now.attributes.items }
     ensures { result ≡ is_implied known.now.ingress.items (bag.contains plan.same_key known.now.filled) object message.now }
 {
-    match &entry.made_by {
+    match &dependencies.made_by {
         Some(key) => chain == 0 || known.filled.contains(key),
         None => false,
     }
@@ -378,10 +380,10 @@ fn is_implied<A: Allocator>(
 fn tables_of<A: Allocator + Copy>(
     alloc: A,
     known: &Known<A>,
-    entry: &Entry<A>,
+    dependencies: &Dependencies<A>,
 ) -> Result<Vec<Key, A>, AllocError> {
     let mut keys = Vec::new(alloc);
-    for key in &entry.needs {
+    for key in &dependencies.needs {
         if let PlanKey::Table {
             index,
             parent,
@@ -469,11 +471,11 @@ fn priority_shown<A: Allocator + Copy>(
     at: Whereabouts,
     others: Vec<Key, A>,
     config: Vec<u8, A>,
-) -> Shown<A>
+) -> DumpedObject<A>
     ensures key { key_of result ≡ PriorityKey at.index at.parent at.chain at.priority }
     ensures config { result.config ≡ config }
 {
-    Shown {
+    DumpedObject {
         sort: Sort::Priority,
         index: at.index,
         handle: 0,
@@ -495,7 +497,7 @@ fn shown_of<A: Allocator + Copy>(
     at: Whereabouts,
     others: Vec<Key, A>,
     message: TcMessage<A>,
-) -> Result<Shown<A>, StateError>
+) -> Result<DumpedObject<A>, StateError>
     ensures key { IfOk result (λ made. key_of made
         ≡ key_at at.sort at.index at.parent at.chain at.priority (handle_named known.now.roots.items object message)) }
     ensures config { IfOk result (λ made. IsConfigOf known.now.roots.items object at.parent message made.config.items) }
@@ -523,7 +525,7 @@ fn shown_at<A: Allocator>(
     classes: Vec<u32, A>,
     others: Vec<Key, A>,
     config: Vec<u8, A>,
-) -> Shown<A>
+) -> DumpedObject<A>
     ensures sort { result.sort ≡ at.sort }
     ensures index { result.index ≡ at.index }
     ensures parent { result.parent ≡ at.parent }
@@ -532,7 +534,7 @@ fn shown_at<A: Allocator>(
     ensures handle { result.handle ≡ handle }
     ensures config { result.config ≡ config }
 {
-    Shown {
+    DumpedObject {
         sort: at.sort,
         index: at.index,
         handle,
@@ -666,12 +668,17 @@ fn reading_of_action<A: Allocator + Copy>(
     })
 }
 
-fn of_action<A: Allocator + Copy>(alloc: A, sort: Sort, index: u32, config: Vec<u8, A>) -> Shown<A>
+fn of_action<A: Allocator + Copy>(
+    alloc: A,
+    sort: Sort,
+    index: u32,
+    config: Vec<u8, A>,
+) -> DumpedObject<A>
     ensures sort { result.sort ≡ sort }
     ensures handle { result.handle ≡ index }
     ensures config { result.config ≡ config }
 {
-    Shown {
+    DumpedObject {
         sort,
         index: 0,
         handle: index,

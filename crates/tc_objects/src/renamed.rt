@@ -5,7 +5,7 @@ ghost use Rattle.std.specs.HashMap as hash;
 ghost use Rattle.std.specs.List.{list_all};
 ghost use Rattle.tc_changes.specs.Objects.{same_key};
 ghost use Rattle.tc_objects.specs.States.{IsRenaming, IsOfNow, is_chosen, dump_renamed, header_renamed, handle_renamed};
-ghost use Rattle.tc_objects.specs.Renamings.{major_by, AreChosen, AreFound, IsFound};
+ghost use Rattle.tc_objects.specs.Renamings.{major_by, OnlyKernelHandles, AreFound, IsFound};
 
 use crate::classes::classes_of;
 use crate::dump::Dump;
@@ -78,7 +78,7 @@ fn renamings_of<A: Allocator + Copy>(
     now: &Handles<A>,
     dumps: &[Dump<A>],
 ) -> Result<Vec<Renaming, A>, AllocError>
-    ensures chosen { IfOk result (λ renamings. AreChosen renamings.items) }
+    ensures chosen { IfOk result (λ renamings. OnlyKernelHandles renamings.items) }
     ensures found { IfOk result (λ renamings. AreFound (hash.get same_key now.now) renamings.items) }
 {
     let mut renamings = Vec::new(alloc);

@@ -10,6 +10,7 @@ ghost use Rattle.std.specs.HashMap as hash;
 ghost use Rattle.tc_changes.specs.Objects.{things, same_key};
 
 use crate::dump::Dump;
+use crate::dumped_object::DumpedObject;
 use crate::known::known_of;
 use crate::label::{Dumped, Label};
 use crate::names::names_of;
@@ -17,7 +18,6 @@ use crate::objects::{key_of, object_of};
 use crate::reading::{Origin, Reading, readings_of};
 use crate::renamed::renamed;
 use crate::requests::Handles;
-use crate::shown::Shown;
 use crate::state_error::StateError;
 use std::alloc::{AllocError, Allocator};
 use std::collections::{HashMap, HashSet};
@@ -212,7 +212,7 @@ const NOWHERE: Origin = Origin {
 fn parted<A: Allocator + Copy>(
     alloc: A,
     readings: Vec<Reading<A>, A>,
-) -> Result<(Vec<Shown<A>, A>, Vec<Origin, A>), AllocError>
+) -> Result<(Vec<DumpedObject<A>, A>, Vec<Origin, A>), AllocError>
     ensures { IfOk result (λ made. map content_of made.0.items ≡ contents_read readings.items) }
 {
     let mut shown = Vec::with_capacity(alloc, readings.len())?;

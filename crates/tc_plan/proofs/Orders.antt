@@ -8,8 +8,8 @@ use Rattle.tc_order.specs.declared.order.Step.{Step}
 use Rattle.std.proofs.lemmas.List.{map-append}
 use Rattle.std.proofs.lemmas.Grind.{flat_map-append}
 use Rattle.tc_plan.specs.Fates.{Parts, parts_of, links_of, objects, same_key, is_refused, waits_for, are_in_order}
-use Rattle.tc_plan.specs.declared.entry.Entry.{Entry}
-use Rattle.tc_plan.specs.declared.entry.Item.{Item}
+use Rattle.tc_plan.specs.declared.dependencies.Dependencies.{Dependencies}
+use Rattle.tc_plan.specs.declared.dependencies.Item.{Item}
 use Rattle.tc_plan.specs.declared.key.Key.{Key}
 
 -- an order among steps is one among the same steps, whatever the order of these
@@ -53,9 +53,9 @@ module _ {A : Type 0} where
       ap (λ l. map parts_of l ++ rest) pushed ∙ ap (λ l. l ++ rest) (map-append parts_of old (step ∷ []))
       ∙ append_assoc (map parts_of old) (parts_of step ∷ []) rest ∙ ap (λ p. map parts_of old ++ p ∷ rest) same ∙ is
 
-  pub objects_more : (entries : List (Entry A)) (entry : Entry A) → objects (entries ++ entry ∷ []) ≡ objects entries ++ entry.objects.items
-  objects_more entries entry =
-      flat_map-append (λ (e : Entry A). e.objects.items) entries (entry ∷ []) ∙ ap (λ l. objects entries ++ l) (append-nil entry.objects.items)
+  pub objects_more : (dumps : List (Dependencies A)) (dump : Dependencies A) → objects (dumps ++ dump ∷ []) ≡ objects dumps ++ dump.objects.items
+  objects_more dumps dump =
+      flat_map-append (λ (e : Dependencies A). e.objects.items) dumps (dump ∷ []) ∙ ap (λ l. objects dumps ++ l) (append-nil dump.objects.items)
 
   -- one more step, freed
   pub needs_more : (old : List (Step ℕ Key A)) (front : List (Step Item Key A)) (new : List (Step ℕ Key A)) (more : List (Step Item Key A))

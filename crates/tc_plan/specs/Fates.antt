@@ -5,8 +5,8 @@ use Rattle.std.specs.HashSet as bag
 use Rattle.std.specs.HashSet.{HashSet}
 use Rattle.std.specs.Ordering.{int_eq}
 use Rattle.tc_order.specs.declared.order.Step.{Step}
-use Rattle.tc_plan.specs.declared.entry.Entry.{Entry}
-use Rattle.tc_plan.specs.declared.entry.Item.{Item}
+use Rattle.tc_plan.specs.declared.dependencies.Dependencies.{Dependencies}
+use Rattle.tc_plan.specs.declared.dependencies.Item.{Item}
 use Rattle.tc_plan.specs.declared.fate.Fate.{Fate}
 use Rattle.tc_plan.specs.declared.fate.Fate.TheVariants.{Request, Made, Change, Refused}
 use Rattle.tc_plan.specs.declared.fate.Reason.TheVariants.{Twice, NoParent, NoSide}
@@ -63,15 +63,15 @@ fate_by given before own must must_not made_by Request =
 fate_by given before own must must_not made_by Change = if any_among before own then again own else Change
 fate_by given before own must must_not made_by fate = fate
 
-abbrev pub fate_among : {A : Type 0} → List Key → List Key → Entry A → Fate
-fate_among given before entry = fate_by given before entry.objects.items entry.must entry.must_not entry.made_by entry.fate
+abbrev pub fate_among : {A : Type 0} → List Key → List Key → Dependencies A → Fate
+fate_among given before dump = fate_by given before dump.objects.items dump.must dump.must_not dump.made_by dump.fate
 
 -- all keys that dumps provide, and their objects
-abbrev pub all_provided : {A : Type 0} → List (Entry A) → List Key
-all_provided entries = flat_map (λ entry. entry.provides.items) entries
+abbrev pub all_provided : {A : Type 0} → List (Dependencies A) → List Key
+all_provided dumps = flat_map (λ dump. dump.provides.items) dumps
 
-abbrev pub objects : {A : Type 0} → List (Entry A) → List Key
-objects entries = flat_map (λ entry. entry.objects.items) entries
+abbrev pub objects : {A : Type 0} → List (Dependencies A) → List Key
+objects dumps = flat_map (λ dump. dump.objects.items) dumps
 
 -- a second dump provides nothing, since the first provides it
 abbrev pub provides_by : Fate → List Key → List Key
@@ -86,11 +86,11 @@ abbrev pub parts_of : {A : Type 0} → Step Item Key A → Parts
 parts_of step = (step.item.place, step.item.fate, step.provides.items, step.needs.items)
 
 -- the parts of dumps after others, given the keys that all provide
-abbrev pub parts_among : {A : Type 0} → List Key → List (Entry A) → List (Entry A) → List Parts
+abbrev pub parts_among : {A : Type 0} → List Key → List (Dependencies A) → List (Dependencies A) → List Parts
 parts_among given before [] = []
-parts_among given before (entry ∷ entries) =
-    (entry.place, fate_among given (objects before) entry, provides_by (fate_among given (objects before) entry) entry.provides.items, entry.needs.items)
-    ∷ parts_among given (before ++ entry ∷ []) entries
+parts_among given before (dump ∷ dumps) =
+    (dump.place, fate_among given (objects before) dump, provides_by (fate_among given (objects before) dump) dump.provides.items, dump.needs.items)
+    ∷ parts_among given (before ++ dump ∷ []) dumps
 
 -- a dump waits for these: it is refused, or it needs a key that one of them provides
 abbrev pub waits_for : List Parts → Parts → Bool

@@ -6,11 +6,11 @@
 //! for (object, dump) in &dumps {
 //!     ingress.extend(ingress_of(*object, dump))?;
 //! }
-//! let mut entries = Vec::new(alloc);
+//! let mut planned = Vec::new(alloc);
 //! for (place, (object, dump)) in dumps.iter().enumerate() {
-//!     entries.push(entry_of(alloc, place, Fate::Request, *object, &ingress, dump)?)?;
+//!     planned.push(dependencies_of(alloc, place, Fate::Request, *object, &ingress, dump)?)?;
 //! }
-//! let plan = plan(alloc, entries)?;
+//! let plan = plan(alloc, planned)?;
 //! for step in &plan.sorted {
 //!     // the dumps that it needs are before it; another request makes one with `Fate::Made`
 //!     if step.item.fate == Fate::Request {
@@ -21,7 +21,7 @@
 //! ```
 #![tactic(auto)]
 
-pub mod entry;
+pub mod dependencies;
 pub mod fate;
 pub mod key;
 mod keys;
@@ -29,7 +29,10 @@ pub mod now;
 pub mod planned;
 pub mod shared_actions;
 
-pub use entry::{Entry, Item, entry_of, entry_of_actions, ingress_of, newest_first};
+pub use dependencies::{
+    Dependencies, Item, block_of, dependencies_of, dependencies_of_actions, ingress_of,
+    newest_first,
+};
 pub use fate::{Fate, Named, Reason};
 pub use key::Key;
 pub use now::{Action, Now, fate_of_action, held_by, name_of_action};

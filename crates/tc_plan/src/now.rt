@@ -6,7 +6,7 @@ ghost use Rattle.std.specs.Option.{option_to_list};
 ghost use Rattle.tc_restore.specs.Standalone.{index_if};
 ghost use Rattle.tc_plan.specs.Now.{fate_now, fate_there, key_of, own, named, named_by, held_action, Holds};
 
-use crate::entry::{name_of, with};
+use crate::dependencies::{name_of, with};
 use crate::fate::{Fate, Named, Reason};
 use crate::key::Key;
 use std::alloc::{AllocError, Allocator};

@@ -6,7 +6,7 @@ ghost use Rattle.tc_order.specs.Order.{waits, IsOrder};
 ghost use Rattle.tc_plan.specs.Fates.{parts_of, parts_among, links_of, all_provided, same_key, is_refused, are_in_order, IsSetOf, among, any_among};
 ghost use Rattle.tc_plan.specs.Fates.{lacks, again, fate_by, provides_by, is_shared};
 
-use crate::entry::{Entry, Item};
+use crate::dependencies::{Dependencies, Item};
 use crate::fate::{Fate, Reason};
 use crate::key::Key;
 use crate::keys::{Keys, any_in, set_of, with_keys};
@@ -19,10 +19,10 @@ use tc_order::{Order, Step, ordered};
 /// circle. Dumps that are in order already stay in it.
 pub fn plan<A: Allocator + Copy>(
     alloc: A,
-    entries: Vec<Entry<A>, A>,
+    dumps: Vec<Dependencies<A>, A>,
 ) -> Result<Order<Item, Key, A>, AllocError>
     ensures once { IfOk result (λ made.
-        IsPermutation (parts_among (all_provided entries.items) [] entries.items)
+        IsPermutation (parts_among (all_provided dumps.items) [] dumps.items)
         (map parts_of (made.sorted.items ++ made.unordered.items))) }
     ensures after { IfOk result (λ made.
         IsOrder same_key (made.sorted.items ++ made.unordered.items) made.sorted.items) }
@@ -31,10 +31,10 @@ pub fn plan<A: Allocator + Copy>(
     ensures stuck { IfOk result (λ made.
         All (λ step. waits same_key made.unordered.items step ≡ true) made.unordered.items) }
     ensures same { IfOk result (λ made.
-        are_in_order (parts_among (all_provided entries.items) [] entries.items) ≡ true
-        → map parts_of made.sorted.items ≡ parts_among (all_provided entries.items) [] entries.items) }
+        are_in_order (parts_among (all_provided dumps.items) [] dumps.items) ≡ true
+        → map parts_of made.sorted.items ≡ parts_among (all_provided dumps.items) [] dumps.items) }
 {
-    let steps = steps_of(alloc, entries)?;
+    let steps = steps_of(alloc, dumps)?;
     let order = ordered(alloc, steps)?;
     Ok(order)
 }
@@ -103,42 +103,42 @@ fn copied<A: Allocator + Copy>(alloc: A, keys: &[Key]) -> Result<Vec<Key, A>, Al
 // All keys that dumps provide, as a set.
 fn all_provided<A: Allocator + Copy>(
     alloc: A,
-    entries: &[Entry<A>],
+    dumps: &[Dependencies<A>],
 ) -> Result<Keys<Key, A>, AllocError>
-    ensures { IfOk result (λ set. IsSetOf same_key set (all_provided entries.now)) }
+    ensures { IfOk result (λ set. IsSetOf same_key set (all_provided dumps.now)) }
 {
-    let keys = provided_keys(alloc, entries)?;
+    let keys = provided_keys(alloc, dumps)?;
     set_of(alloc, &keys)
 }
 
 // All keys that dumps provide.
 fn provided_keys<A: Allocator + Copy>(
     alloc: A,
-    entries: &[Entry<A>],
+    dumps: &[Dependencies<A>],
 ) -> Result<Vec<Key, A>, AllocError>
-    ensures { IfOk result (λ keys. keys.items ≡ all_provided entries.now) }
+    ensures { IfOk result (λ keys. keys.items ≡ all_provided dumps.now) }
 {
     let mut keys = Vec::new(alloc);
-    for entry in entries {
-        keys.extend_from_slice(&entry.provides)?;
+    for dump in dumps {
+        keys.extend_from_slice(&dump.provides)?;
     }
     Ok(keys)
 }
 
 fn steps_of<A: Allocator + Copy>(
     alloc: A,
-    entries: Vec<Entry<A>, A>,
+    dumps: Vec<Dependencies<A>, A>,
 ) -> Result<Vec<Step<Item, Key, A>, A>, AllocError>
     ensures parts { IfOk result (λ steps.
-        map parts_of steps.items ≡ parts_among (all_provided entries.items) [] entries.items) }
+        map parts_of steps.items ≡ parts_among (all_provided dumps.items) [] dumps.items) }
     ensures refused { IfOk result (λ steps.
         All (λ step. step.cannot_run ≡ is_refused step.item.fate) steps.items) }
 {
-    let given = all_provided(alloc, &entries)?;
+    let given = all_provided(alloc, &dumps)?;
     let mut before = HashSet::new(alloc);
-    let mut steps = Vec::with_capacity(alloc, entries.len())?;
-    for entry in entries {
-        let Entry {
+    let mut steps = Vec::with_capacity(alloc, dumps.len())?;
+    for dump in dumps {
+        let Dependencies {
             place,
             fate,
             provides,
@@ -147,7 +147,7 @@ fn steps_of<A: Allocator + Copy>(
             must,
             must_not,
             made_by,
-        } = entry;
+        } = dump;
         let own = objects.as_slice();
         let fate = fate_among(&given, &before, own, must, must_not, made_by, fate);
         before = with_keys(before, own)?;

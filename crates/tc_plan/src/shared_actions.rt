@@ -7,7 +7,7 @@ ghost use Rattle.tc_plan.specs.SharedActions.{skips, option_skips, attribute_ski
 ghost use Rattle.tc_plan.specs.SharedActions.{shared_action, is_among, made_by_filters};
 ghost use Rattle.tc_plan.specs.Now.{key_of};
 
-use crate::entry::{options_of, standalone_action};
+use crate::dependencies::{options_of, standalone_action};
 use crate::fate::Named;
 use crate::key::Key;
 use crate::now::{held_by, key_of};

@@ -31,7 +31,7 @@ use Rattle.tcmake_laws.proofs.Told.{line_slots}
 use Rattle.tcmake_messages.specs.Line.{IsGiven, IsTyped, IsOneOf, HasUnknown, IsUnknown, IsRemark, IsOfKernel, IsHead, IsEnd, members, fault_members}
 use Rattle.tcmake_messages.specs.Line.{is_of_refused, message_in, beside}
 use Rattle.tcmake_messages.specs.Verdict.{words_of, IsVerdictOn, Says, Agrees}
-use Rattle.tcmake_messages.specs.Made.{form_of, StandsFor, StandsForMany, IsMade, IsUnmade, IsDenied}
+use Rattle.tcmake_messages.specs.Built.{form_of, StandsFor, StandsForMany, IsMade, IsUnmade, IsDenied}
 use Rattle.tcmake_messages.specs.Answer.{IsAnswer, IsMessage, IsWrong, IsRefused}
 use Rattle.tcmake_laws.proofs.SlotsFound.{found_in_order}
 use Rattle.tcmake_laws.proofs.Found.{given, got, line_given, same_holds, no_answer}

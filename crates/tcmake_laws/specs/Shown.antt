@@ -7,7 +7,7 @@ use Rattle.forms_kinds.specs.Table.{tc_tables, tc_message, action_message}
 use Rattle.tcmake_lines.specs.declared.netlink.NetlinkHeader.{NetlinkHeader}
 use Rattle.tcmake_messages.specs.declared.making.Making.TheVariants.{Checked}
 use Rattle.tcmake_messages.specs.Answer.{IsAnswer, IsMessage, IsRefused}
-use Rattle.tcmake_messages.specs.Made.{most_message}
+use Rattle.tcmake_messages.specs.Built.{most_message}
 use Rattle.tc_capture.specs.Kind.{rtm_at}
 use Rattle.tcshow_json.specs.Grammars.{grammar_of}
 use Rattle.tcshow_json.specs.Messages.{Header, Message}

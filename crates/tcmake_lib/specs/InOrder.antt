@@ -3,8 +3,8 @@ use Rattle.std.specs.Prelude.{◌≡◌, ◌≢◌, ◌⊎◌, ℕ, ℤ, Bool, t
 use Rattle.std.specs.Io.KnownBytes.{Appends}
 use Rattle.forms_values.specs.declared.form.Form.{Form}
 use Rattle.forms_values.specs.Tables.{Table}
-use Rattle.tcmake_lib.specs.declared.arguments.Request.{Request}
-use Rattle.tcmake_lib.specs.declared.order.Asked.{Asked}
+use Rattle.tcmake_lib.specs.declared.arguments.Options.{Options}
+use Rattle.tcmake_lib.specs.declared.order.RequestOptions.{RequestOptions}
 use Rattle.tcmake_lines.specs.declared.format.OutputFormat.{OutputFormat}
 use Rattle.tcmake_lines.specs.Lines.{AreFirstLines, AreLines}
 use Rattle.tcmake_lines.specs.Written.{Message, IsWritable, written}
@@ -15,44 +15,44 @@ use Rattle.program_io.specs.declared.stop.Stop.{Stop}
 use Rattle.program_io.specs.declared.stop.Stop.TheVariants.{Closed}
 
 -- requests are made, in the default order
-abbrev pub IsInOrder : Request → Type 0
-IsInOrder request = (request.making ≡ making.Restored) × (request.in_order ≡ false)
+abbrev pub IsInOrder : Options → Type 0
+IsInOrder options = (options.making ≡ making.Restored) × (options.in_order ≡ false)
 
 -- lines are taken one after the other: any but requests in an order of their own
-abbrev pub IsLineByLine : Request → Type 0
-IsLineByLine request = request.making ≡ making.Restored → request.in_order ≡ true
+abbrev pub IsLineByLine : Options → Type 0
+IsLineByLine options = options.making ≡ making.Restored → options.in_order ≡ true
 
 -- dumps become requests as they are: neither a plan nor the present indices of interfaces are asked for
-abbrev pub IsOfDumps : Asked → Type 0
-IsOfDumps asked = (asked.plans ≡ false) × IsNone asked.names
+abbrev pub IsOfDumps : RequestOptions → Type 0
+IsOfDumps options = (options.plans ≡ false) × IsNone options.names
 
 -- nothing else is asked for than the interface of requests
-abbrev pub of_dumps : Option ℤ → Asked
+abbrev pub of_dumps : Option ℤ → RequestOptions
 of_dumps index = record { index = index; now = None; plans = false; replaces_actions = false; names = None }
 
 -- ---- what is made of lines
 
 module _ (table : Table) (tc action : Form) (index : Option ℤ) where
   -- if nothing is wrong, no line of an input is refused. Nothing is said here of a plan, and of names
-  pub record AreMade (asked : Asked) (input : Option (List ℕ)) (made : Restored) : Type 0 where
+  pub record AreMade (options : RequestOptions) (input : Option (List ℕ)) (made : Restored) : Type 0 where
     pub lines : List (List ℕ)
     pub all : AreLines input lines
-    pub taken : IsOfDumps asked → IsQuiet made.remarks.items → All (IsTaken table tc action index) lines
+    pub taken : IsOfDumps options → IsQuiet made.remarks.items → All (IsTaken table tc action index) lines
 
   -- a run that reaches the end of its input: it has written some requests, or nothing if it refuses something; and if it refuses nothing, no line of the
   -- input is refused. It isn't said which requests these are (that each restores a dump that a line shows, that each dump has one, and their order), nor
   -- that something is wrong if something is refused
-  pub record RanInOrder (asked : Asked) (form : OutputFormat) (bad : Bool) (input old new : Option (List ℕ)) : Type 0 where
+  pub record RanInOrder (options : RequestOptions) (form : OutputFormat) (bad : Bool) (input old new : Option (List ℕ)) : Type 0 where
     pub lines : List (List ℕ)
     pub requests : List Message
     pub all : AreLines input lines
     pub writable : All (λ (m : Message). IsWritable form m.given m.bytes) requests
     pub output : Appends old new (written form requests) ⊎ ((bad ≡ true) × Appends old new [])
-    pub taken : bad ≡ false → IsOfDumps asked → All (IsTaken table tc action index) lines
+    pub taken : bad ≡ false → IsOfDumps options → All (IsTaken table tc action index) lines
 
   -- a run that ends early: it has written a front of the output for some requests. If it refuses nothing, none of the first lines is refused; these are
   -- all lines if it has written something, or its output was closed
-  pub record RanPartlyInOrder (asked : Asked) (form : OutputFormat) (bad : Bool) (stop : Stop) (input old new : Option (List ℕ)) : Type 0 where
+  pub record RanPartlyInOrder (options : RequestOptions) (form : OutputFormat) (bad : Bool) (stop : Stop) (input old new : Option (List ℕ)) : Type 0 where
     pub lines : List (List ℕ)
     pub requests : List Message
     pub out : List ℕ
@@ -62,4 +62,4 @@ module _ (table : Table) (tc action : Form) (index : Option ℤ) where
     pub writable : All (λ (m : Message). IsWritable form m.given m.bytes) requests
     pub output : Appends old new out
     pub front : written form requests ≡ out ++ rest
-    pub taken : bad ≡ false → IsOfDumps asked → All (IsTaken table tc action index) lines
+    pub taken : bad ≡ false → IsOfDumps options → All (IsTaken table tc action index) lines

@@ -69,13 +69,13 @@ ShownBy there messages state = (dumps : List (Dump Global)) × AreDumps messages
 -- ---- plans
 
 -- message type, flags and bytes of a request
-abbrev pub Request : Type 0
-Request = Option ℕ × ℕ × List ℕ
+abbrev pub RequestBytes : Type 0
+RequestBytes = Option ℕ × ℕ × List ℕ
 
-abbrev pub planned_as : Sent → Request
+abbrev pub planned_as : Sent → RequestBytes
 planned_as s = (Some s.1, s.2, s.3)
 
-abbrev pub requested_as : LineRequest → Request
+abbrev pub requested_as : LineRequest → RequestBytes
 requested_as r = (r.given.kind, r.given.flags, r.bytes.items)
 
 -- these are the requests of a plan, in its order, with their types, flags and bytes

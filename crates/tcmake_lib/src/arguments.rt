@@ -7,9 +7,9 @@ use std::convert::AsStr;
 use tcmake_lines::OutputFormat;
 use tcmake_messages::Making;
 
-/// The parsed arguments.
+/// The options, without the files that they name.
 #[derive(Clone, Copy, Debug)]
-pub struct Request {
+pub struct Options {
     /// How messages are written.
     pub form: OutputFormat,
     /// How a line is made into a message.
@@ -25,8 +25,8 @@ pub struct Request {
 /// The parsed arguments, and the files that they name.
 #[derive(Clone, Copy, Debug)]
 pub struct Arguments<'a> {
-    /// The messages to make.
-    pub request: Request,
+    /// The options that name no file.
+    pub options: Options,
     /// The file with what the kernel has now.
     pub now: Option<&'a str>,
     /// True if requests lead from that to what is wanted.
@@ -63,7 +63,8 @@ Checks:
   ({\"end\":true} if they were edited).
   --plan needs whole dumps, and makes no request at all if a line is wrong, or if something can't
   be made that isn't there as it is wanted. What is the same isn't touched, nor is any interface,
-  shared block or action that the wanted lines don't name. A save names its interfaces.
+  shared block or action that the wanted lines don't name. A block that only named interfaces have
+  counts as named. A save names its interfaces.
 
 Exit status:
   0  every line was built
@@ -261,9 +262,9 @@ fn making_of(matches: &ArgMatches<'_>) -> Making {
     }
 }
 
-// What they make.
-fn request_in(matches: &ArgMatches<'_>) -> Request {
-    Request {
+// The options that name no file.
+fn options_in(matches: &ArgMatches<'_>) -> Options {
+    Options {
         form: form_of(matches),
         making: making_of(matches),
         in_order: matches.get_flag("in-order"),
@@ -277,7 +278,7 @@ fn request_in(matches: &ArgMatches<'_>) -> Request {
 pub fn arguments_of<'a, S: AsStr>(alloc: Global, words: &'a [S]) -> Result<Arguments<'a>, Error> {
     let matches = command(alloc)?.try_get_matches_from(words)?;
     Ok(Arguments {
-        request: request_in(&matches),
+        options: options_in(&matches),
         now: matches.get_str("plan").or(matches.get_str("now")),
         plans: matches.get_str("plan").is_some(),
         replaces_actions: matches.get_flag("replace-actions"),
@@ -285,8 +286,8 @@ pub fn arguments_of<'a, S: AsStr>(alloc: Global, words: &'a [S]) -> Result<Argum
     })
 }
 
-/// The messages to make, without the files that the arguments name.
-pub fn request_of<'a, S: AsStr>(alloc: Global, words: &'a [S]) -> Result<Request, Error> {
+/// The options of the arguments, without the files that they name.
+pub fn options_of<'a, S: AsStr>(alloc: Global, words: &'a [S]) -> Result<Options, Error> {
     let arguments = arguments_of(alloc, words)?;
-    Ok(arguments.request)
+    Ok(arguments.options)
 }

@@ -4,7 +4,7 @@ ghost use Rattle.std.specs.Prelude.{◌≢◌, IfErr, IfOk, OnOk};
 ghost use Rattle.program_io.specs.declared.stop.Stop.TheVariants.{Closed, NoMemory};
 ghost use Rattle.tcmake_lib.specs.InOrder.{AreMade, RanInOrder, RanPartlyInOrder};
 
-use crate::arguments::Request;
+use crate::arguments::Options;
 use crate::plans::{named_by, of_interfaces, plan_by};
 use forms_json::Tables;
 use program_io::Stop;
@@ -19,7 +19,7 @@ use tcmake_requests::order::{
 
 /// Options for making requests from lines.
 #[derive(Clone, Copy)]
-pub struct Asked<'a> {
+pub struct RequestOptions<'a> {
     /// The interface of requests, instead of the dumps' own.
     pub index: Option<i32>,
     /// The kernel's present objects, as lines of JSON.
@@ -36,25 +36,25 @@ pub struct Asked<'a> {
 pub fn requests_of<T: Tables, R: BufRead>(
     alloc: Global,
     forms: Forms<T>,
-    asked: &Asked<'_>,
+    requests: &RequestOptions<'_>,
     reader: &mut R,
 ) -> Result<Restored, Stop>
     // Without a complaint, every line was accepted.
-    ensures made { IfOk result (AreMade (T.parts_of forms.table) forms.tc forms.action asked.entry.now.index asked.entry.now (R.remaining reader.old)) }
+    ensures made { IfOk result (AreMade (T.parts_of forms.table) forms.tc forms.action requests.entry.now.index requests.entry.now (R.remaining reader.old)) }
     ensures open { IfErr result (λ stop. stop ≢ Closed) }
 {
     let reading = Reading {
         source: Source::Wanted,
-        index: asked.index,
-        names: asked.names,
+        index: requests.index,
+        names: requests.names,
     };
     let lines = read_lines(alloc, forms, reading, reader)?;
-    match asked.now {
+    match requests.now {
         None => requests_by(alloc, lines, None, false),
-        Some(text) => if asked.plans {
-            requests_of_plan(alloc, forms, asked.index, text, lines)
+        Some(text) => if requests.plans {
+            requests_of_plan(alloc, forms, requests.index, text, lines)
         } else {
-            requests_by_now(alloc, forms, asked.replaces_actions, text, lines)
+            requests_by_now(alloc, forms, requests.replaces_actions, text, lines)
         },
     }
 }
@@ -79,25 +79,25 @@ fn requests_of_plan<T: Tables>(
 pub(crate) fn restore_in_order<T: Tables, R: BufRead, W: Write, E: Write>(
     alloc: Global,
     forms: Forms<T>,
-    request: &Request,
-    asked: &Asked<'_>,
+    options: &Options,
+    requests: &RequestOptions<'_>,
     reader: &mut R,
     writer: &mut W,
     errors: &mut E,
     has_refused: &mut bool,
 ) -> Result<(), Stop>
-    ensures ran { OnOk result (RanInOrder (T.parts_of forms.table) forms.tc forms.action asked.entry.now.index asked.entry.now request.now.form
+    ensures ran { OnOk result (RanInOrder (T.parts_of forms.table) forms.tc forms.action requests.entry.now.index requests.entry.now options.now.form
         has_refused.new (R.remaining reader.old) (W.contents writer.old) (W.contents writer.new)) }
-    ensures partly { IfErr result (λ stop. stop ≢ NoMemory → RanPartlyInOrder (T.parts_of forms.table) forms.tc forms.action asked.entry.now.index
-        asked.entry.now request.now.form has_refused.new stop (R.remaining reader.old) (W.contents writer.old) (W.contents writer.new)) }
+    ensures partly { IfErr result (λ stop. stop ≢ NoMemory → RanPartlyInOrder (T.parts_of forms.table) forms.tc forms.action requests.entry.now.index
+        requests.entry.now options.now.form has_refused.new stop (R.remaining reader.old) (W.contents writer.old) (W.contents writer.new)) }
 {
-    let restored = requests_of(alloc, forms, asked, reader)?;
+    let restored = requests_of(alloc, forms, requests, reader)?;
     *has_refused = either(restored.is_void, has_complaint(&restored.remarks));
     write_remarks(
         alloc,
         &restored.remarks,
-        request.verbose,
-        asked.plans,
+        options.verbose,
+        requests.plans,
         errors,
     )?;
     if restored.is_void {
@@ -105,7 +105,7 @@ pub(crate) fn restore_in_order<T: Tables, R: BufRead, W: Write, E: Write>(
     }
     write_requests(
         alloc,
-        request.form,
+        options.form,
         &restored.requests,
         writer,
         errors,

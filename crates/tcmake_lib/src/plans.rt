@@ -2,7 +2,7 @@
 
 ghost use Rattle.std.specs.Prelude.{◌≡◌, ◌≢◌, ◌∷◌, ◌++◌, ◌||◌, [], false, map, option_map, true};
 ghost use Rattle.std.specs.Prelude.{IfErr, IfNone, IfOk, IfSome, List, MatchOption};
-ghost use Rattle.program_io.specs.declared.stop.Stop.TheVariants.{Closed};
+ghost use Rattle.program_io.specs.declared.stop.Stop.TheVariants.{Closed, NoMemory};
 ghost use Rattle.tc_changes.specs.Model.{ready};
 ghost use Rattle.tc_changes.specs.Objects.{same_key, things, IfRefused, IsRefused};
 ghost use Rattle.tc_objects.specs.Sent.{seen};
@@ -22,7 +22,7 @@ ghost use Rattle.tcmake_requests.specs.Dumps.{Message, given_as, has_complaint, 
 
 use crate::plan_complaint::PlanComplaint;
 use forms_json::Tables;
-use nla_frames::{NLA_TYPE_MASK, Nla, ParseableBytes};
+use nla_frames::ParseableBytes;
 use program_io::Stop;
 use std::alloc::{AllocError, Global};
 use std::collections::HashMap;
@@ -31,14 +31,15 @@ use std::io::BufRead;
 use tc_action_messages::TcActionMessage;
 use tc_capture::{MessageType, Time};
 use tc_changes::{Key, Plan, PlanError, Rules};
-use tc_messages::{TcAttribute, TcMessage};
+use tc_messages::TcMessage;
 use tc_objects::{
-    DELETE_FLAGS, Dump as Shown, Label, PlanRequest, Planned, State, StateError, plan_between,
+    DELETE_FLAGS, Dump as ParsedDump, Label, PlanRequest, Planned, State, StateError, plan_between,
     state_after, state_of,
 };
 use tc_restore::RTM_NEWACTION;
 use tcmake_lines::{NetlinkHeader, packet_at};
-use tcmake_messages::{Forms, Made};
+use tcmake_messages::{BuiltMessage, Forms};
+use tcmake_requests::blocks::blocks_of;
 use tcmake_requests::complaint::Complaint;
 use tcmake_requests::lines::{
     Dumped, Lines, Reading, Remark, Source, complain, has_complaint, lines_of, read_lines, say_all,
@@ -52,7 +53,7 @@ type Numbers = HashMap<Key, u64, BuildHasherDefault<FoldHasher>, Global>;
 // The dumps of lines, and the numbers of these lines.
 #[derive(Drop)]
 struct Parsed {
-    dumps: Vec<Shown<Global>>,
+    dumps: Vec<ParsedDump<Global>>,
     numbers: Vec<u64>,
 }
 
@@ -72,6 +73,8 @@ pub fn plan_of_dumps<R: Rules<Global>>(
     // If something is wrong, there are none, and a remark says what.
     ensures void { IfOk result (λ r. r.is_void ≡ true → r.requests.items ≡ []) }
     ensures told { IfOk result (λ r. r.is_void ≡ has_complaint r.remarks.items) }
+    // It fails only if memory runs out.
+    ensures memory { IfErr result (λ stop. stop ≡ NoMemory) }
 {
     let now = lines_of(alloc, now)?;
     let want = lines_of(alloc, want)?;
@@ -147,42 +150,8 @@ pub(crate) fn named_by(alloc: Global, now: &Lines, want: &Lines) -> Result<Vec<K
     Ok(keys)
 }
 
-// The blocks of a qdisc's dump: `TCA_INGRESS_BLOCK` and `TCA_EGRESS_BLOCK`. One that can't be read has none.
-fn blocks_of(alloc: Global, made: &Made) -> Result<Vec<u32>, AllocError> {
-    let mut blocks = Vec::new(alloc);
-    if made.given.kind != Some(RTM_NEWQDISC) {
-        return Ok(blocks);
-    }
-    if let Ok(message) = TcMessage::parse(alloc, &made.bytes) {
-        for attribute in &message.attributes {
-            if let Some(number) = block_in(attribute) {
-                blocks.push(number)?;
-            }
-        }
-    }
-    Ok(blocks)
-}
-
-fn block_in(attribute: &TcAttribute<Global>) -> Option<u32> {
-    match attribute {
-        TcAttribute::Other(nla) => {
-            let kind = nla.kind() & NLA_TYPE_MASK;
-            match nla.value() {
-                [a, b, c, d] if kind == 13 || kind == 14 => Some(u32::from_le_bytes([
-                    *a, *b, *c, *d,
-                ])),
-                _ => None,
-            }
-        }
-        _ => None,
-    }
-}
-
-// `RTM_NEWQDISC` of `linux/rtnetlink.h`.
-const RTM_NEWQDISC: u16 = 36;
-
 // The interface of a dump (`tcm_ifindex`). Actions have none, nor has what is in a block that interfaces share.
-fn interface_of(made: &Made) -> Option<i32> {
+fn interface_of(made: &BuiltMessage) -> Option<i32> {
     match (made.given.holds, made.bytes.as_slice()) {
         (MessageType::Tc, [_, _, _, _, a, b, c, d, ..]) => {
             let index = i32::from_le_bytes([*a, *b, *c, *d]);
@@ -208,6 +177,7 @@ pub(crate) fn plan_by<R: Rules<Global>>(
     ensures of_now { IfOk result (λ r. has_complaint now.remarks.items ≡ true → r.is_void ≡ true) }
     ensures of_wanted { IfOk result (λ r. has_complaint want.remarks.items ≡ true → r.is_void ≡ true) }
     ensures open { IfErr result (λ stop. stop ≢ Closed) }
+    ensures memory { IfErr result (λ stop. stop ≡ NoMemory) }
 {
     let is_void = now.is_void || want.is_void;
     let mut remarks = Vec::new(alloc);
@@ -255,6 +225,7 @@ fn requests_between<R: Rules<Global>>(
     ensures of_now { IfOk result (λ _. has_complaint remarks.new.items ≡ false → has_complaint now.remarks.items ≡ false) }
     ensures of_wanted { IfOk result (λ _. has_complaint remarks.new.items ≡ false → has_complaint want.remarks.items ≡ false) }
     ensures open { IfErr result (λ stop. stop ≢ Closed) }
+    ensures memory { IfErr result (λ stop. stop ≡ NoMemory) }
 {
     let found = state_in(alloc, Source::Now, None, now, remarks)?;
     match found {
@@ -282,6 +253,7 @@ fn requests_after<R: Rules<Global>>(
     ensures said { IfOk result (λ _. has_complaint remarks.new.items ≡ false → has_complaint remarks.old.items ≡ false) }
     ensures of_wanted { IfOk result (λ _. has_complaint remarks.new.items ≡ false → has_complaint want.remarks.items ≡ false) }
     ensures open { IfErr result (λ stop. stop ≢ Closed) }
+    ensures memory { IfErr result (λ stop. stop ≡ NoMemory) }
 {
     let found = state_in(alloc, Source::Wanted, Some(now), want, remarks)?;
     match found {
@@ -437,7 +409,7 @@ fn with_dump(
 }
 
 // Dumps, and one more.
-fn with_shown(parsed: Parsed, shown: Shown<Global>, number: u64) -> Result<Parsed, AllocError>
+fn with_shown(parsed: Parsed, shown: ParsedDump<Global>, number: u64) -> Result<Parsed, AllocError>
     ensures { IfOk result (λ made. made.dumps.items ≡ parsed.dumps.items ++ shown ∷ []) }
 {
     let mut parsed = parsed;
@@ -476,7 +448,7 @@ fn state_by(
 fn state_shown(
     alloc: Global,
     there: Option<&State<Global>>,
-    dumps: Vec<Shown<Global>>,
+    dumps: Vec<ParsedDump<Global>>,
 ) -> Result<State<Global>, StateError>
     ensures { IfOk result (λ state. Shows (option_map (λ s. s.now) there.entry) dumps.items state) }
 {
@@ -489,7 +461,7 @@ fn state_shown(
 // `NLM_F_DUMP_INTR` of `linux/netlink.h`.
 const NLM_F_DUMP_INTR: u16 = 0x10;
 
-fn parsed_dump(alloc: Global, made: &Made) -> Result<Shown<Global>, Complaint>
+fn parsed_dump(alloc: Global, made: &BuiltMessage) -> Result<ParsedDump<Global>, Complaint>
     ensures { IfOk result (IsDumpIn (made.now.given, made.now.bytes.items)) }
 {
     if made.given.flags & NLM_F_DUMP_INTR != 0 {
@@ -499,11 +471,11 @@ fn parsed_dump(alloc: Global, made: &Made) -> Result<Shown<Global>, Complaint>
     match dump {
         Dump::Of(object) => {
             let message = TcMessage::parse(alloc, &made.bytes)?;
-            Ok(Shown::Of(object, message))
+            Ok(ParsedDump::Of(object, message))
         }
         Dump::Actions => {
             let actions = TcActionMessage::parse(alloc, &made.bytes)?;
-            Ok(Shown::Actions(actions))
+            Ok(ParsedDump::Actions(actions))
         }
     }
 }

@@ -9,8 +9,8 @@ ghost use Rattle.tcmake_requests.specs.Requests.{Makes, Passes, Refuses};
 ghost use Rattle.tcmake_lines.specs.Lines.{left_in};
 ghost use Rattle.tcmake_lines.specs.Parts.{Ran, RanOn, RanPartly};
 
-use crate::arguments::{Arguments, Request, arguments_of};
-use crate::order::Asked;
+use crate::arguments::{Arguments, Options, arguments_of};
+use crate::order::RequestOptions;
 use crate::run::run;
 use clap::Error;
 use clap::error::ErrorKind;
@@ -128,21 +128,21 @@ fn with_names<T: Tables, R: AllocGlobal + Files + Input + Print, E: Write>(
     now: Option<&[u8]>,
     errors: &mut E,
 ) -> Ended {
-    let asked = Asked {
-        index: arguments.request.index,
+    let requests = RequestOptions {
+        index: arguments.options.index,
         now,
         plans: arguments.plans,
         replaces_actions: arguments.replaces_actions,
         names: None,
     };
     match arguments.names {
-        None => make(rt, forms, &arguments.request, &asked, errors),
+        None => make(rt, forms, &arguments.options, &requests, errors),
         Some(path) => match fs::read_to_string(rt, path) {
             Ok(text) => with_names_in(
                 rt,
                 forms,
-                &arguments.request,
-                asked,
+                &arguments.options,
+                requests,
                 path,
                 text.as_str(),
                 errors,
@@ -155,22 +155,22 @@ fn with_names<T: Tables, R: AllocGlobal + Files + Input + Print, E: Write>(
 fn with_names_in<T: Tables, R: AllocGlobal + Input + Print, E: Write>(
     rt: &R,
     forms: Forms<T>,
-    request: &Request,
-    asked: Asked<'_>,
+    options: &Options,
+    requests: RequestOptions<'_>,
     path: &str,
     text: &str,
     errors: &mut E,
 ) -> Ended {
     match names_in(rt.alloc(), text) {
         Ok(Ok(names)) => {
-            let asked = Asked {
-                index: asked.index,
-                now: asked.now,
-                plans: asked.plans,
-                replaces_actions: asked.replaces_actions,
+            let requests = RequestOptions {
+                index: requests.index,
+                now: requests.now,
+                plans: requests.plans,
+                replaces_actions: requests.replaces_actions,
                 names: Some(names.as_slice()),
             };
-            make(rt, forms, request, &asked, errors)
+            make(rt, forms, options, &requests, errors)
         }
         Ok(Err(line)) => complain_of_names(rt.alloc(), path, line, errors),
         Err(_) => fail(errors, NO_MEMORY, Stop::NoMemory),
@@ -204,17 +204,17 @@ fn complain_of_names<E: Write>(alloc: Global, path: &str, line: u64, errors: &mu
 fn make<T: Tables, R: AllocGlobal + Input + Print, E: Write>(
     rt: &R,
     forms: Forms<T>,
-    request: &Request,
-    asked: &Asked<'_>,
+    options: &Options,
+    requests: &RequestOptions<'_>,
     errors: &mut E,
 ) -> Ended {
     let mut writer = Writer::new(io::writer(rt));
     match BufReader::new(rt.alloc(), Reader::new(rt.reader())) {
-        Ok(mut reader) => serve_asked(
+        Ok(mut reader) => serve_with(
             rt.alloc(),
             forms,
-            request,
-            asked,
+            options,
+            requests,
             &mut reader,
             &mut writer,
             errors,
@@ -227,92 +227,92 @@ fn make<T: Tables, R: AllocGlobal + Input + Print, E: Write>(
 pub fn serve<T: Tables, R: Read, W: Write, E: Write>(
     alloc: Global,
     forms: Forms<T>,
-    request: &Request,
+    options: &Options,
     reader: &mut BufReader<Reader<R>>,
     writer: &mut Writer<W>,
     errors: &mut E,
 ) -> Ended
     // At the end of the input each line became a message, nothing or a complaint, and the messages are written in their order. So do requests that keep
     // the order of the lines.
-    ensures ran { IsLineByLine request.now → OnOk result.outcome (Ran
-        (Makes (T.parts_of forms.table) forms.tc forms.action request.now.index request.now.making)
-        (Passes (T.parts_of forms.table) forms.tc forms.action request.now.index request.now.making)
-        (Refuses (T.parts_of forms.table) forms.tc forms.action request.now.index request.now.making) request.now.form result.has_refused
+    ensures ran { IsLineByLine options.now → OnOk result.outcome (Ran
+        (Makes (T.parts_of forms.table) forms.tc forms.action options.now.index options.now.making)
+        (Passes (T.parts_of forms.table) forms.tc forms.action options.now.index options.now.making)
+        (Refuses (T.parts_of forms.table) forms.tc forms.action options.now.index options.now.making) options.now.form result.has_refused
         (left_in R.remaining reader.old) (W.contents (writer_inside writer.old)) (W.contents (writer_inside writer.new))) }
     // When the output is closed, the lines that were read are those that became parts.
-    ensures closed { IsLineByLine request.now → result.outcome ≡ Err Closed → RanOn
-        (Makes (T.parts_of forms.table) forms.tc forms.action request.now.index request.now.making)
-        (Passes (T.parts_of forms.table) forms.tc forms.action request.now.index request.now.making)
-        (Refuses (T.parts_of forms.table) forms.tc forms.action request.now.index request.now.making) request.now.form result.has_refused
+    ensures closed { IsLineByLine options.now → result.outcome ≡ Err Closed → RanOn
+        (Makes (T.parts_of forms.table) forms.tc forms.action options.now.index options.now.making)
+        (Passes (T.parts_of forms.table) forms.tc forms.action options.now.index options.now.making)
+        (Refuses (T.parts_of forms.table) forms.tc forms.action options.now.index options.now.making) options.now.form result.has_refused
         (left_in R.remaining reader.old) (left_in R.remaining reader.new) }
     // A run that ends early has written a front of the output for the first lines.
-    ensures partly { IsLineByLine request.now → IfErr result.outcome (λ stop. stop ≢ NoMemory → RanPartly
-        (Makes (T.parts_of forms.table) forms.tc forms.action request.now.index request.now.making)
-        (Passes (T.parts_of forms.table) forms.tc forms.action request.now.index request.now.making)
-        (Refuses (T.parts_of forms.table) forms.tc forms.action request.now.index request.now.making) request.now.form result.has_refused
+    ensures partly { IsLineByLine options.now → IfErr result.outcome (λ stop. stop ≢ NoMemory → RanPartly
+        (Makes (T.parts_of forms.table) forms.tc forms.action options.now.index options.now.making)
+        (Passes (T.parts_of forms.table) forms.tc forms.action options.now.index options.now.making)
+        (Refuses (T.parts_of forms.table) forms.tc forms.action options.now.index options.now.making) options.now.form result.has_refused
         (left_in R.remaining reader.old) (W.contents (writer_inside writer.old)) (W.contents (writer_inside writer.new))) }
     // Requests in the default order: whole requests are written, or nothing if the run refuses. A run that refuses nothing has accepted every line.
-    ensures ran_in_order { IsInOrder request.now → OnOk result.outcome (RanInOrder (T.parts_of forms.table) forms.tc forms.action request.now.index
-        (of_dumps request.now.index) request.now.form result.has_refused
+    ensures ran_in_order { IsInOrder options.now → OnOk result.outcome (RanInOrder (T.parts_of forms.table) forms.tc forms.action options.now.index
+        (of_dumps options.now.index) options.now.form result.has_refused
         (left_in R.remaining reader.old) (W.contents (writer_inside writer.old)) (W.contents (writer_inside writer.new))) }
     // A run that ends early has written a front of them, or nothing if reading failed.
-    ensures partly_in_order { IsInOrder request.now → IfErr result.outcome (λ stop. stop ≢ NoMemory → RanPartlyInOrder (T.parts_of forms.table) forms.tc
-        forms.action request.now.index (of_dumps request.now.index) request.now.form result.has_refused stop
+    ensures partly_in_order { IsInOrder options.now → IfErr result.outcome (λ stop. stop ≢ NoMemory → RanPartlyInOrder (T.parts_of forms.table) forms.tc
+        forms.action options.now.index (of_dumps options.now.index) options.now.form result.has_refused stop
         (left_in R.remaining reader.old) (W.contents (writer_inside writer.old)) (W.contents (writer_inside writer.new))) }
     // A stream that failed shows why the run ends early; otherwise memory ran out.
     ensures stopped { IfErr result.outcome (Shows (read_failure (reader_inner reader.new)) (write_failure writer.new)) }
 {
-    let asked = Asked {
-        index: request.index,
+    let requests = RequestOptions {
+        index: options.index,
         now: None,
         plans: false,
         replaces_actions: false,
         names: None,
     };
-    serve_asked(alloc, forms, request, &asked, reader, writer, errors)
+    serve_with(alloc, forms, options, &requests, reader, writer, errors)
 }
 
-/// The same of requests by what there is now, and by names.
-pub fn serve_asked<T: Tables, R: Read, W: Write, E: Write>(
+/// Makes messages of all lines of an input, with options for requests. Complaints, and why it ended early, are written to `errors`.
+pub fn serve_with<T: Tables, R: Read, W: Write, E: Write>(
     alloc: Global,
     forms: Forms<T>,
-    request: &Request,
-    asked: &Asked<'_>,
+    options: &Options,
+    requests: &RequestOptions<'_>,
     reader: &mut BufReader<Reader<R>>,
     writer: &mut Writer<W>,
     errors: &mut E,
 ) -> Ended
     // At the end of the input each line became a message, nothing or a complaint, and the messages are written in their order. So do requests that keep
     // the order of the lines.
-    ensures ran { IsLineByLine request.now → OnOk result.outcome (Ran
-        (Makes (T.parts_of forms.table) forms.tc forms.action asked.entry.now.index request.now.making)
-        (Passes (T.parts_of forms.table) forms.tc forms.action asked.entry.now.index request.now.making)
-        (Refuses (T.parts_of forms.table) forms.tc forms.action asked.entry.now.index request.now.making) request.now.form result.has_refused
+    ensures ran { IsLineByLine options.now → OnOk result.outcome (Ran
+        (Makes (T.parts_of forms.table) forms.tc forms.action requests.entry.now.index options.now.making)
+        (Passes (T.parts_of forms.table) forms.tc forms.action requests.entry.now.index options.now.making)
+        (Refuses (T.parts_of forms.table) forms.tc forms.action requests.entry.now.index options.now.making) options.now.form result.has_refused
         (left_in R.remaining reader.old) (W.contents (writer_inside writer.old)) (W.contents (writer_inside writer.new))) }
     // When the output is closed, the lines that were read are those that became parts.
-    ensures closed { IsLineByLine request.now → result.outcome ≡ Err Closed → RanOn
-        (Makes (T.parts_of forms.table) forms.tc forms.action asked.entry.now.index request.now.making)
-        (Passes (T.parts_of forms.table) forms.tc forms.action asked.entry.now.index request.now.making)
-        (Refuses (T.parts_of forms.table) forms.tc forms.action asked.entry.now.index request.now.making) request.now.form result.has_refused
+    ensures closed { IsLineByLine options.now → result.outcome ≡ Err Closed → RanOn
+        (Makes (T.parts_of forms.table) forms.tc forms.action requests.entry.now.index options.now.making)
+        (Passes (T.parts_of forms.table) forms.tc forms.action requests.entry.now.index options.now.making)
+        (Refuses (T.parts_of forms.table) forms.tc forms.action requests.entry.now.index options.now.making) options.now.form result.has_refused
         (left_in R.remaining reader.old) (left_in R.remaining reader.new) }
     // A run that ends early has written a front of the output for the first lines.
-    ensures partly { IsLineByLine request.now → IfErr result.outcome (λ stop. stop ≢ NoMemory → RanPartly
-        (Makes (T.parts_of forms.table) forms.tc forms.action asked.entry.now.index request.now.making)
-        (Passes (T.parts_of forms.table) forms.tc forms.action asked.entry.now.index request.now.making)
-        (Refuses (T.parts_of forms.table) forms.tc forms.action asked.entry.now.index request.now.making) request.now.form result.has_refused
+    ensures partly { IsLineByLine options.now → IfErr result.outcome (λ stop. stop ≢ NoMemory → RanPartly
+        (Makes (T.parts_of forms.table) forms.tc forms.action requests.entry.now.index options.now.making)
+        (Passes (T.parts_of forms.table) forms.tc forms.action requests.entry.now.index options.now.making)
+        (Refuses (T.parts_of forms.table) forms.tc forms.action requests.entry.now.index options.now.making) options.now.form result.has_refused
         (left_in R.remaining reader.old) (W.contents (writer_inside writer.old)) (W.contents (writer_inside writer.new))) }
     // Requests in the default order: whole requests are written, or nothing if the run refuses. A run that refuses nothing has accepted every line.
-    ensures ran_in_order { IsInOrder request.now → OnOk result.outcome (RanInOrder (T.parts_of forms.table) forms.tc forms.action asked.entry.now.index
-        asked.entry.now request.now.form result.has_refused
+    ensures ran_in_order { IsInOrder options.now → OnOk result.outcome (RanInOrder (T.parts_of forms.table) forms.tc forms.action requests.entry.now.index
+        requests.entry.now options.now.form result.has_refused
         (left_in R.remaining reader.old) (W.contents (writer_inside writer.old)) (W.contents (writer_inside writer.new))) }
     // A run that ends early has written a front of them, or nothing if reading failed.
-    ensures partly_in_order { IsInOrder request.now → IfErr result.outcome (λ stop. stop ≢ NoMemory → RanPartlyInOrder (T.parts_of forms.table) forms.tc
-        forms.action asked.entry.now.index asked.entry.now request.now.form result.has_refused stop
+    ensures partly_in_order { IsInOrder options.now → IfErr result.outcome (λ stop. stop ≢ NoMemory → RanPartlyInOrder (T.parts_of forms.table) forms.tc
+        forms.action requests.entry.now.index requests.entry.now options.now.form result.has_refused stop
         (left_in R.remaining reader.old) (W.contents (writer_inside writer.old)) (W.contents (writer_inside writer.new))) }
     // A stream that failed shows why the run ends early; otherwise memory ran out.
     ensures stopped { IfErr result.outcome (Shows (read_failure (reader_inner reader.new)) (write_failure writer.new)) }
 {
-    let ended = run(alloc, forms, request, asked, reader, writer, errors);
+    let ended = run(alloc, forms, options, requests, reader, writer, errors);
     match ended.outcome {
         Ok(()) | Err(Stop::Closed | Stop::Usage) => {}
         Err(Stop::Read) => say_failure(alloc, "standard input", reader.get_ref().failure(), errors),

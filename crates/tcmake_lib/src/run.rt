@@ -11,15 +11,15 @@ ghost use Rattle.tcmake_requests.specs.Requests.{IsNothing, IsRequest, IsUnmade,
 ghost use Rattle.tcmake_lines.specs.Lines.{left_in};
 ghost use Rattle.tcmake_lines.specs.Parts.{Ran, RanOn, RanPartly};
 
-use crate::arguments::Request;
-use crate::order::{Asked, restore_in_order};
+use crate::arguments::Options;
+use crate::order::{RequestOptions, restore_in_order};
 use forms_json::Tables;
 use program_io::{Ended, Reader, Writer, shown_reason};
 use std::alloc::{AllocError, Global};
 use std::io::{BufReader, Read, Write};
 use tcmake_lines::run::run as run_lines;
 use tcmake_lines::{Answer, Maker};
-use tcmake_messages::{Forms, Made, Making, MessageMaker, notices_of};
+use tcmake_messages::{BuiltMessage, Forms, Making, MessageMaker, notices_of};
 use tcmake_requests::complaint::Complaint;
 use tcmake_requests::lines::dump_in_line;
 use tcmake_requests::order::MADE_BY_ANOTHER;
@@ -29,53 +29,53 @@ use tcmake_requests::restore::restored;
 pub fn run<T: Tables, R: Read, W: Write, E: Write>(
     alloc: Global,
     forms: Forms<T>,
-    request: &Request,
-    asked: &Asked<'_>,
+    options: &Options,
+    requests: &RequestOptions<'_>,
     reader: &mut BufReader<Reader<R>>,
     writer: &mut Writer<W>,
     errors: &mut E,
 ) -> Ended
-    ensures ran { IsLineByLine request.now → OnOk result.outcome (Ran
-        (Makes (T.parts_of forms.table) forms.tc forms.action asked.entry.now.index request.now.making)
-        (Passes (T.parts_of forms.table) forms.tc forms.action asked.entry.now.index request.now.making)
-        (Refuses (T.parts_of forms.table) forms.tc forms.action asked.entry.now.index request.now.making) request.now.form result.has_refused
+    ensures ran { IsLineByLine options.now → OnOk result.outcome (Ran
+        (Makes (T.parts_of forms.table) forms.tc forms.action requests.entry.now.index options.now.making)
+        (Passes (T.parts_of forms.table) forms.tc forms.action requests.entry.now.index options.now.making)
+        (Refuses (T.parts_of forms.table) forms.tc forms.action requests.entry.now.index options.now.making) options.now.form result.has_refused
         (left_in R.remaining reader.old) (W.contents (writer_inside writer.old)) (W.contents (writer_inside writer.new))) }
-    ensures closed { IsLineByLine request.now → result.outcome ≡ Err Closed → RanOn
-        (Makes (T.parts_of forms.table) forms.tc forms.action asked.entry.now.index request.now.making)
-        (Passes (T.parts_of forms.table) forms.tc forms.action asked.entry.now.index request.now.making)
-        (Refuses (T.parts_of forms.table) forms.tc forms.action asked.entry.now.index request.now.making) request.now.form result.has_refused
+    ensures closed { IsLineByLine options.now → result.outcome ≡ Err Closed → RanOn
+        (Makes (T.parts_of forms.table) forms.tc forms.action requests.entry.now.index options.now.making)
+        (Passes (T.parts_of forms.table) forms.tc forms.action requests.entry.now.index options.now.making)
+        (Refuses (T.parts_of forms.table) forms.tc forms.action requests.entry.now.index options.now.making) options.now.form result.has_refused
         (left_in R.remaining reader.old) (left_in R.remaining reader.new) }
-    ensures partly { IsLineByLine request.now → IfErr result.outcome (λ stop. stop ≢ NoMemory → RanPartly
-        (Makes (T.parts_of forms.table) forms.tc forms.action asked.entry.now.index request.now.making)
-        (Passes (T.parts_of forms.table) forms.tc forms.action asked.entry.now.index request.now.making)
-        (Refuses (T.parts_of forms.table) forms.tc forms.action asked.entry.now.index request.now.making) request.now.form result.has_refused
+    ensures partly { IsLineByLine options.now → IfErr result.outcome (λ stop. stop ≢ NoMemory → RanPartly
+        (Makes (T.parts_of forms.table) forms.tc forms.action requests.entry.now.index options.now.making)
+        (Passes (T.parts_of forms.table) forms.tc forms.action requests.entry.now.index options.now.making)
+        (Refuses (T.parts_of forms.table) forms.tc forms.action requests.entry.now.index options.now.making) options.now.form result.has_refused
         (left_in R.remaining reader.old) (W.contents (writer_inside writer.old)) (W.contents (writer_inside writer.new))) }
-    ensures ran_in_order { IsInOrder request.now → OnOk result.outcome (RanInOrder (T.parts_of forms.table) forms.tc forms.action asked.entry.now.index
-        asked.entry.now request.now.form result.has_refused
+    ensures ran_in_order { IsInOrder options.now → OnOk result.outcome (RanInOrder (T.parts_of forms.table) forms.tc forms.action requests.entry.now.index
+        requests.entry.now options.now.form result.has_refused
         (left_in R.remaining reader.old) (W.contents (writer_inside writer.old)) (W.contents (writer_inside writer.new))) }
-    ensures partly_in_order { IsInOrder request.now → IfErr result.outcome (λ stop. stop ≢ NoMemory → RanPartlyInOrder (T.parts_of forms.table) forms.tc
-        forms.action asked.entry.now.index asked.entry.now request.now.form result.has_refused stop
+    ensures partly_in_order { IsInOrder options.now → IfErr result.outcome (λ stop. stop ≢ NoMemory → RanPartlyInOrder (T.parts_of forms.table) forms.tc
+        forms.action requests.entry.now.index requests.entry.now options.now.form result.has_refused stop
         (left_in R.remaining reader.old) (W.contents (writer_inside writer.old)) (W.contents (writer_inside writer.new))) }
     ensures stopped { IfErr result.outcome (Shows (read_failure (reader_inner reader.new)) (write_failure writer.new)) }
 {
-    if !is_restoring(request.making) {
+    if !is_restoring(options.making) {
         let maker = MessageMaker {
             alloc,
             forms,
-            making: request.making,
+            making: options.making,
         };
-        return run_lines(alloc, &maker, request.form, reader, writer, errors);
+        return run_lines(alloc, &maker, options.form, reader, writer, errors);
     }
-    if request.in_order {
+    if options.in_order {
         let maker = RequestMaker {
             alloc,
             forms,
-            index: asked.index,
-            verbose: request.verbose,
+            index: requests.index,
+            verbose: options.verbose,
         };
-        return run_lines(alloc, &maker, request.form, reader, writer, errors);
+        return run_lines(alloc, &maker, options.form, reader, writer, errors);
     }
-    restore(alloc, forms, request, asked, reader, writer, errors)
+    restore(alloc, forms, options, requests, reader, writer, errors)
 }
 
 // True if requests are made.
@@ -90,16 +90,16 @@ fn is_restoring(making: Making) -> bool
 fn restore<T: Tables, R: Read, W: Write, E: Write>(
     alloc: Global,
     forms: Forms<T>,
-    request: &Request,
-    asked: &Asked<'_>,
+    options: &Options,
+    requests: &RequestOptions<'_>,
     reader: &mut BufReader<Reader<R>>,
     writer: &mut Writer<W>,
     errors: &mut E,
 ) -> Ended
-    ensures ran { OnOk result.outcome (RanInOrder (T.parts_of forms.table) forms.tc forms.action asked.entry.now.index asked.entry.now request.now.form
+    ensures ran { OnOk result.outcome (RanInOrder (T.parts_of forms.table) forms.tc forms.action requests.entry.now.index requests.entry.now options.now.form
         result.has_refused (left_in R.remaining reader.old) (W.contents (writer_inside writer.old)) (W.contents (writer_inside writer.new))) }
-    ensures partly { IfErr result.outcome (λ stop. stop ≢ NoMemory → RanPartlyInOrder (T.parts_of forms.table) forms.tc forms.action asked.entry.now.index
-        asked.entry.now request.now.form result.has_refused stop
+    ensures partly { IfErr result.outcome (λ stop. stop ≢ NoMemory → RanPartlyInOrder (T.parts_of forms.table) forms.tc forms.action requests.entry.now.index
+        requests.entry.now options.now.form result.has_refused stop
         (left_in R.remaining reader.old) (W.contents (writer_inside writer.old)) (W.contents (writer_inside writer.new))) }
     ensures stopped { IfErr result.outcome (Shows (read_failure (reader_inner reader.new)) (write_failure writer.new)) }
 {
@@ -107,8 +107,8 @@ fn restore<T: Tables, R: Read, W: Write, E: Write>(
     let restored = restore_in_order(
         alloc,
         forms,
-        request,
-        asked,
+        options,
+        requests,
         reader,
         writer,
         errors,
@@ -144,7 +144,7 @@ impl<T: Tables> Maker for RequestMaker<T> {
         match request_in(self.alloc, self.forms, self.index, line) {
             Ok(
                 Some(
-                    Made {
+                    BuiltMessage {
                         given,
                         bytes,
                         settled,
@@ -184,7 +184,7 @@ fn request_in<T: Tables>(
     forms: Forms<T>,
     index: Option<i32>,
     line: Vec<u8>,
-) -> Result<Option<Made>, Complaint>
+) -> Result<Option<BuiltMessage>, Complaint>
     ensures made { IfOk result (λ found. MatchOption found
         (IsNothing (T.parts_of forms.table) forms.tc forms.action index line.items)
         (λ made. IsRequest (T.parts_of forms.table) forms.tc forms.action index line.items made.given made.bytes.items)) }

@@ -19,7 +19,7 @@ use Rattle.tcmake_lines.specs.declared.input.LineStatus.{LineStatus}
 use Rattle.tcmake_lines.specs.declared.input.LineStatus.TheVariants.{Whole, TooLong, End}
 use Rattle.tcmake_lines.specs.declared.input.Ends.TheVariants.{Nowhere, LineFeed, Input}
 
--- a line and its line feed come before the lines behind them
+-- a line and its line feed come before the other lines
 pub lines_of_line : (line rest : List ℕ) → All (λ c. c ≢ 10) line → lines_of (line ++ 10 ∷ rest) ≡ line ∷ lines_of rest
 lines_of_line [] rest h = ap (λ b. cond b ([] ∷ lines_of rest) (in_front 10 (lines_of rest))) (eq-eqb 10 10 refl)
 lines_of_line (c ∷ line) rest h =

@@ -26,7 +26,7 @@ packets_more : (p : Packet) (m : Message) (ms : List Message) (b : Bool)
 packets_more p m ms true = refl
 packets_more p m ms false = refl
 
--- what is written of a message and of those behind it
+-- what is written of a message and of those after it
 pub text_more : (form : OutputFormat) (held : Option Packet) (m : Message) (ms : List Message)
     → text_after form held (m ∷ ms) ≡ brought form held m.given m.bytes ++ text_after form (held_then form held m.given m.bytes) ms
 text_more Hex held m ms = refl
@@ -67,8 +67,8 @@ module _ (Makes : List ℕ → NetlinkHeader → List ℕ → Type 0) (Passes Re
 
   -- ---- a run so far
 
-  -- lines became these parts; what is written of their messages is what is written and what is to be written, and what comes behind
-  -- stands behind it
+  -- lines became these parts; what is written of their messages is what is written and what is to be written, and what comes after
+  -- that
   pub record Until (old now : Option (List ℕ)) (state : State) (bad : Bool) (lines : List (List ℕ)) : Type 0 where
     pub parts : List Part
     pub become : BecomeEach Makes Passes Refuses form lines parts

@@ -1,5 +1,5 @@
 -- The output for messages: lines of hex, a stream, or a capture.
-use Rattle.std.specs.Prelude.{◌≡◌, ◌<◌, ◌≤◌, ◌==◌, ⊤, ℕ, ◌+◌, ◌^◌, Bool, false, ◌&&◌, List, [], ◌∷◌, ◌++◌}
+use Rattle.std.specs.Prelude.{◌≡◌, ◌≢◌, ◌⊎◌, ◌<◌, ◌≤◌, ◌==◌, ⊤, ℕ, ◌+◌, ◌^◌, Bool, false, ◌&&◌, List, [], ◌∷◌, ◌++◌}
 use Rattle.std.specs.Prelude.{length, replicate, Option, Some, None, unwrap_or, nat_le, if◌then◌else◌}
 use Rattle.std.specs.List.{flat_map}
 use Rattle.hex.specs.Hex.{encode_lower}
@@ -7,6 +7,8 @@ use Rattle.tc_capture.specs.Message.{padding}
 pub use Rattle.tc_capture.specs.Written.{file_header, netlink_header, in_netlink, packet_header}
 use Rattle.tcmake_lines.specs.declared.format.OutputFormat.{OutputFormat}
 use Rattle.tcmake_lines.specs.declared.format.OutputFormat.TheVariants.{Hex, Bare, Stream, Capture}
+use Rattle.tcmake_lines.specs.declared.format.Unwritable.{Unwritable}
+use Rattle.tcmake_lines.specs.declared.format.Unwritable.TheVariants.{NoType, Late, TooLong}
 use Rattle.tcmake_lines.specs.declared.netlink.NetlinkHeader.{NetlinkHeader}
 use Rattle.tcmake_lines.specs.declared.netlink.PacketOf.{PacketOf}
 
@@ -107,3 +109,9 @@ abbrev pub IsWritable : OutputFormat → NetlinkHeader → List ℕ → Type 0
 IsWritable Bare g bytes = ⊤
 IsWritable Capture g bytes = HasHeader g bytes × HasPacket g bytes
 IsWritable form g bytes = HasHeader g bytes
+
+-- why a message can't be written: it has no type; its time doesn't fit into a capture; it is too long for its header, or for a packet
+abbrev pub IsReason : Unwritable → OutputFormat → NetlinkHeader → List ℕ → Type 0
+IsReason NoType form g bytes = (form ≢ Bare) × (g.kind ≡ None)
+IsReason (Late seconds) form g bytes = (form ≡ Capture) × (seconds ≡ g.packet.time.seconds) × (2 ^ 32 ≤ seconds)
+IsReason TooLong form g bytes = (form ≢ Bare) × ((2 ^ 32 ≤ length bytes + 16) ⊎ ((form ≡ Capture) × (most_messages < length bytes + 16)))

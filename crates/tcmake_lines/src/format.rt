@@ -1,7 +1,7 @@
 //! Output formats.
 
-ghost use Rattle.std.specs.Prelude.{OnErr, OnOk};
-ghost use Rattle.tcmake_lines.specs.Written.{IsWritable};
+ghost use Rattle.std.specs.Prelude.{IfErr, OnErr, OnOk};
+ghost use Rattle.tcmake_lines.specs.Written.{IsReason, IsWritable};
 
 use crate::netlink::NetlinkHeader;
 use std::fmt;
@@ -37,6 +37,7 @@ pub(crate) const MOST_MESSAGES: usize = 0x10_0000 - 32;
 pub fn check(form: OutputFormat, given: &NetlinkHeader, bytes: &[u8]) -> Result<(), Unwritable>
     ensures writable { OnOk result (IsWritable form given.now bytes.now) }
     ensures refused { OnErr result (¬ IsWritable form given.now bytes.now) }
+    ensures reason { IfErr result (λ why. IsReason why form given.now bytes.now) }
 {
     if form == OutputFormat::Bare {
         return Ok(());

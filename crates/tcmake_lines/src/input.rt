@@ -1,7 +1,7 @@
 //! Reading lines.
 
-ghost use Rattle.std.specs.Prelude.{◌≡◌, ◌≢◌, ◌≤◌, ◌↔◌, ◌||◌, ℕ, nat_lt, IsTrue, List, ◌++◌, All, length, take, IfErr, IfOk};
-ghost use Rattle.program_io.specs.declared.stop.Stop.TheVariants.{Closed};
+ghost use Rattle.std.specs.Prelude.{◌≡◌, ◌≢◌, ◌⊎◌, ◌≤◌, ◌↔◌, ◌||◌, ℕ, nat_lt, IsTrue, List, ◌++◌, All, length, take, IfErr, IfOk};
+ghost use Rattle.program_io.specs.declared.stop.Stop.TheVariants.{Closed, NoMemory, Read};
 ghost use Rattle.tcmake_lines.specs.Ends.{IsEmptyAtEnd, TakesPart, with_end};
 ghost use Rattle.tcmake_lines.specs.Lines.{EndsLine, HasContent, IsBlank, IsFound, IsNext, after, count, value, values};
 
@@ -71,6 +71,7 @@ pub fn next_line<R: BufRead>(input: &mut R, line: &mut Vec<u8>) -> Result<LineSt
     ensures next { IfOk result (λ found. IsNext found line.new.items (R.remaining input.old) (R.remaining input.new)) }
     ensures bound { length line.new.items ≤ 4194304 }
     ensures open { IfErr result (λ stop. stop ≢ Closed) }
+    ensures fails { IfErr result (λ stop. (stop ≡ Read) ⊎ (stop ≡ NoMemory)) }
 {
     line.clear();
     let mut found = LineStatus::Whole;
@@ -114,6 +115,7 @@ fn next_part<R: BufRead>(
     ensures part { IfOk result (λ r. (part : List ℕ) × TakesPart r.0 part (R.remaining input.old) (R.remaining input.new)
         × ((text : List ℕ) → IsFound found text line.old.items → IsFound r.1 (text ++ part) line.new.items)) }
     ensures open { IfErr result (λ stop. stop ≢ Closed) }
+    ensures fails { IfErr result (λ stop. (stop ≡ Read) ⊎ (stop ≡ NoMemory)) }
 {
     let Ok(available) = input.fill_buf() else {
         return Err(Stop::Read);

@@ -11,7 +11,7 @@ use Rattle.forms_json.specs.Made.{made_of}
 use Rattle.forms_text.specs.Strict.{IsMemory, json_of}
 use Rattle.forms_text.specs.declared.error.StrictError.{StrictError}
 use Rattle.forms_text.specs.declared.error.StrictError.TheVariants.{Make}
-use Rattle.tcmake_messages.specs.Made.{HasNoBytes}
+use Rattle.tcmake_messages.specs.Built.{HasNoBytes}
 use Rattle.tcmake_messages.specs.declared.error.LineError.{LineError}
 use Rattle.tcmake_messages.specs.declared.error.LineError.TheVariants.{NoMemory}
 

@@ -7,7 +7,7 @@ use Rattle.forms_values.specs.declared.form.Form.{Form}
 use Rattle.forms_values.specs.Tables.{Table}
 use Rattle.tcmake_messages.specs.declared.making.Making.{Making}
 use Rattle.tcmake_messages.specs.Line.{HasUnknown, IsGiven, IsOfKernel, IsOfSave, IsRemark, message_in}
-use Rattle.tcmake_messages.specs.Made.{IsMade, IsUnmade, form_of}
+use Rattle.tcmake_messages.specs.Built.{IsMade, IsUnmade, form_of}
 use Rattle.tcmake_lines.specs.declared.netlink.NetlinkHeader.{NetlinkHeader}
 
 -- an answer of the kernel, or the first or the last line of a save: neither a message nor a complaint

@@ -1,4 +1,4 @@
 pub mod Line
 pub mod Verdict
-pub mod Made
+pub mod Built
 pub mod Answer

@@ -32,7 +32,7 @@ pub enum LineError {
     /// A member isn't what it has to be.
     Member {
         name: &'static str,
-        found: Found,
+        found: Actual,
         wanted: &'static str,
     },
     /// A member isn't one of a line.
@@ -74,9 +74,9 @@ pub enum LineError {
     NoMemory,
 }
 
-/// A difference: the text that was found and the one that was expected.
+/// What a line has instead of what is expected.
 #[derive(Drop)]
-pub enum Found {
+pub enum Actual {
     /// Nothing.
     Nothing,
     /// True or false.
@@ -124,17 +124,17 @@ impl From<DecodeError> for LineError {
     }
 }
 
-impl fmt::Display for Found {
+impl fmt::Display for Actual {
     fn fmt<W: fmt::Write>(&self, f: &mut fmt::Formatter<W>) -> fmt::Result {
         match self {
-            Found::Nothing => f.write_str("nothing"),
-            Found::Truth(is_so) => write!(f, "{is_so}"),
-            Found::Number(number) => write!(f, "{number}"),
-            Found::Type(kind) => match rtm_of(*kind) {
+            Actual::Nothing => f.write_str("nothing"),
+            Actual::Truth(is_so) => write!(f, "{is_so}"),
+            Actual::Number(number) => write!(f, "{number}"),
+            Actual::Type(kind) => match rtm_of(*kind) {
                 Some(rtm) => f.write_str(rtm.name),
                 None => write!(f, "{kind}"),
             },
-            Found::Json(text) => f.write_str(text.as_str()),
+            Actual::Json(text) => f.write_str(text.as_str()),
         }
     }
 }

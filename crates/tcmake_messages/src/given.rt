@@ -306,7 +306,7 @@ const RAW_TYPES: &str = "a message type, since the message is raw";
 const TYPES: &str =
     "RTM_NEWQDISC, RTM_DELQDISC, RTM_GETQDISC, the same of TCLASS, TFILTER, ACTION or CHAIN, or NLMSG_ERROR";
 
-// The time, in seconds with nine digits behind a point; 0 where there is none.
+// The time, in seconds with nine digits after a point; 0 if there is none.
 fn time_of(alloc: Global, json: &Value) -> Result<Time, LineError>
     ensures time { IfOk result (IsTime (view json.now)) }
     ensures wrong { OnErr result ((time : TimeType) → ¬ IsTime (view json.now) time) }

@@ -6,9 +6,9 @@
 //! Calls that take an allocator fail with `LineError::NoMemory` or `AllocError` if it fails.
 #![tactic(auto)]
 
+mod built;
 mod error;
 mod given;
-mod made;
 mod maker;
 mod making;
 mod members;
@@ -17,9 +17,9 @@ mod save;
 mod unknown;
 mod verdict;
 
-pub use error::{Found, LineError, Notice, Place};
+pub use built::{BuiltMessage, json_in, made_of, made_of_json};
+pub use error::{Actual, LineError, Notice, Place};
 pub use given::is_answer;
-pub use made::{Made, json_in, made_of, made_of_json};
 pub use maker::{MessageMaker, notices_of};
 pub use making::Making;
 pub use members::{Numbered, number_of, wrong};

@@ -2,8 +2,8 @@
 
 ghost use Rattle.tcmake_messages.specs.Answer.{IsAnswer, IsMessage, IsRefused};
 
+use crate::built::{BuiltMessage, made_of};
 use crate::error::{LineError, Notice};
-use crate::made::{Made, made_of};
 use crate::making::Making;
 use crate::message::Forms;
 use forms_json::Tables;
@@ -32,7 +32,7 @@ impl<T: Tables> Maker for MessageMaker<T> {
         match made_of(self.alloc, self.forms, line, self.making) {
             Ok(
                 Some(
-                    Made {
+                    BuiltMessage {
                         given,
                         bytes,
                         settled,

@@ -4,7 +4,7 @@ ghost use Rattle.std.specs.Prelude.{◌≤◌, ℕ, Bool, Option, IfOk, IfSome, 
 ghost use Rattle.serde_json.specs.View.{view};
 ghost use Rattle.tcmake_messages.specs.Line.{IsBoolIf, IsNumberIf, IsNumberOr};
 
-use crate::error::{Found, LineError};
+use crate::error::{Actual, LineError};
 use forms_text::brief;
 use serde_json::Value;
 use std::alloc::Global;
@@ -69,7 +69,7 @@ pub fn bool_of(alloc: Global, json: &Value, name: &'static str) -> Result<Option
 pub fn missing(name: &'static str, wanted: &'static str) -> LineError {
     LineError::Member {
         name,
-        found: Found::Nothing,
+        found: Actual::Nothing,
         wanted,
     }
 }
@@ -79,7 +79,7 @@ pub fn wrong(alloc: Global, name: &'static str, held: &Value, wanted: &'static s
     match brief(alloc, held) {
         Ok(text) => LineError::Member {
             name,
-            found: Found::Json(text),
+            found: Actual::Json(text),
             wanted,
         },
         Err(_) => LineError::NoMemory,

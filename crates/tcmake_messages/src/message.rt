@@ -3,12 +3,12 @@
 ghost use Rattle.std.specs.Prelude.{◌≡◌, ◌⊎◌, ℕ, List, None, IfErr, IfOk, IsOk, OnOk, codes};
 ghost use Rattle.serde_json.specs.Find.{get};
 ghost use Rattle.serde_json.specs.View.{view};
-ghost use Rattle.tcmake_messages.specs.Made.{HasNoBytes, IsAsSaid, IsDenied, IsMade, IsUnmade, IsUnread, IsUnsettled, Settles, StandsFor, form_of};
+ghost use Rattle.tcmake_messages.specs.Built.{HasNoBytes, IsAsSaid, IsDenied, IsMade, IsUnmade, IsUnread, IsUnsettled, Settles, StandsFor, form_of};
 ghost use Rattle.tcmake_messages.specs.Verdict.{words_of};
 ghost use Rattle.tc_wire.specs.Rewriting.{Refused};
 ghost use Rattle.tcmake_messages.specs.declared.error.LineError.TheVariants.{NoMemory};
 
-use crate::error::{Found, LineError};
+use crate::error::{Actual, LineError};
 use crate::making::Making;
 use crate::unknown::with_kind;
 use crate::verdict::{Disagreement, Said, Verdict, agree, said_in, verdict_on};
@@ -169,7 +169,7 @@ fn disagreement<T: Tables>(
     match (why, said, verdict) {
         (Disagreement::Member(name, said), _, _) => LineError::Member {
             name,
-            found: Found::Truth(said),
+            found: Actual::Truth(said),
             wanted: if said { "false" } else { "true" },
         },
         (_, Said::Refused(said), Verdict::Refused(error)) => LineError::OtherFault { said, error },

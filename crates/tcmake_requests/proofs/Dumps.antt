@@ -14,7 +14,7 @@ use Rattle.tcmake_requests.specs.Dumps.{AreShown, IsQuiet, IsTaken, TakesLine, d
 use Rattle.tcmake_requests.specs.Requests.{IsAsked, ShowsDump}
 use Rattle.tcmake_lines.specs.Lines.{IsRead}
 use Rattle.tcmake_messages.specs.Answer.{IsPassed}
-use Rattle.tcmake_messages.specs.declared.made.Made.{Made}
+use Rattle.tcmake_messages.specs.declared.built.BuiltMessage.{BuiltMessage}
 
 module _ (table : Table) (tc action : Form) (index : Option ℤ) where
   abbrev Shows : List (List ℕ) → Dumped → Type 0
@@ -41,7 +41,7 @@ module _ (table : Table) (tc action : Form) (index : Option ℤ) where
   }
 
   -- a line shows one, or none
-  pub shown_if : (lines : List (List ℕ)) (line : List ℕ) (old new : Lines) (number : ℕ) (found : Option Made) → AreShown table tc action index lines old
+  pub shown_if : (lines : List (List ℕ)) (line : List ℕ) (old new : Lines) (number : ℕ) (found : Option BuiltMessage) → AreShown table tc action index lines old
       → TakesLine table tc action index line found → new.dumps.items ≡ old.dumps.items ++ dump_at number found → new.remarks.items ≡ old.remarks.items
       → AreShown table tc action index (lines ++ line ∷ []) new
   shown_if lines line old new number (Some made) h takes dumps remarks =
@@ -67,8 +67,8 @@ module _ (table : Table) (tc action : Form) (index : Option ℤ) where
   }
 
   -- a line that is read, by what it shows
-  pub takes_by : (line : List ℕ) (found : Option Made) → IsRead line
-      → MatchOption found (IsAsked table tc action line) (λ (d : Made). ShowsDump table tc action index line d.given d.bytes.items)
+  pub takes_by : (line : List ℕ) (found : Option BuiltMessage) → IsRead line
+      → MatchOption found (IsAsked table tc action line) (λ (d : BuiltMessage). ShowsDump table tc action index line d.given d.bytes.items)
       → TakesLine table tc action index line found
   takes_by line None read asked = (inr (read, inr (inl asked)), tt)
   takes_by line (Some d) read shows = (inr (read, inr (inr (d.given, d.bytes.items, shows))), shows)

@@ -25,7 +25,7 @@ all_then xs i x lt is = sym (take-append-drop (i + 1) xs) ∙ ap (λ l. l ++ dro
 
 module _ (form : OutputFormat) where
   -- some requests are written, or can't be: what is written of their messages is what is written and what is to be written, and what comes
-  -- behind stands behind it
+  -- after that
   pub record Until (old now : Option (List ℕ)) (state : State) (was bad : Bool) (qs : List LineRequest) : Type 0 where
     pub messages : List Message
     pub refused : Bool

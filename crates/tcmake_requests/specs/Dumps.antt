@@ -15,7 +15,7 @@ use Rattle.tcmake_requests.specs.Requests.{IsAsked, ShowsDump}
 use Rattle.tcmake_lines.specs.declared.netlink.NetlinkHeader.{NetlinkHeader}
 use Rattle.tcmake_lines.specs.Lines.{AreLines, IsBlank, IsRead, IsTooLong}
 use Rattle.tcmake_messages.specs.Answer.{IsAnswer}
-use Rattle.tcmake_messages.specs.declared.made.Made.{Made}
+use Rattle.tcmake_messages.specs.declared.built.BuiltMessage.{BuiltMessage}
 
 -- ---- complaints
 
@@ -45,7 +45,7 @@ abbrev pub shown_by : Dumped → Message
 shown_by line = (line.made.given, line.made.bytes.items)
 
 -- the dump of a line, if it shows one
-abbrev pub dump_at : ℕ → Option Made → List Dumped
+abbrev pub dump_at : ℕ → Option BuiltMessage → List Dumped
 dump_at number None = []
 dump_at number (Some made) = record { number = number; made = made } ∷ []
 
@@ -59,8 +59,8 @@ module _ (table : Table) (tc action : Form) (index : Option ℤ) where
       ⊎ (IsRead line × (IsAnswer line ⊎ IsAsked table tc action line ⊎ ((given : NetlinkHeader) × (bytes : List ℕ) × ShowsDump table tc action index line given bytes)))
 
   -- a line that isn't refused, and the dump that it shows, if it does
-  abbrev pub TakesLine : List ℕ → Option Made → Type 0
-  TakesLine line made = IsTaken line × IfSome made (λ (dump : Made). ShowsDump table tc action index line dump.given dump.bytes.items)
+  abbrev pub TakesLine : List ℕ → Option BuiltMessage → Type 0
+  TakesLine line made = IsTaken line × IfSome made (λ (dump : BuiltMessage). ShowsDump table tc action index line dump.given dump.bytes.items)
 
   -- each dump is shown by one of these lines, and if nothing is wrong, no line is refused
   pub record AreShown (lines : List (List ℕ)) (kept : Lines) : Type 0 where

@@ -41,7 +41,8 @@ pub enum Complaint {
 impl Complaint {
     /// True if memory ran out.
     pub fn is_no_memory(&self) -> bool
-        ensures { result ≡ false → ¬ IsNoMemory self.now }
+        ensures memory { IsTrue result → IsNoMemory self.now }
+        ensures other { result ≡ false → ¬ IsNoMemory self.now }
     {
         match self {
             Complaint::Line(error) => is_no_memory(error),
@@ -74,7 +75,8 @@ impl Complaint {
 }
 
 fn is_no_memory(error: &LineError) -> bool
-    ensures { result ≡ false → error.now ≢ NoMemory }
+    ensures memory { IsTrue result → error.now ≡ NoMemory }
+    ensures other { result ≡ false → error.now ≢ NoMemory }
 {
     matches!(error, LineError::NoMemory)
 }

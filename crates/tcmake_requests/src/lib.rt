@@ -1,6 +1,7 @@
 //! Requests that restore what lines of dumps show.
 #![tactic(auto)]
 
+pub mod blocks;
 pub mod complaint;
 pub mod interfaces;
 pub mod lines;

@@ -46,7 +46,7 @@ use std::io::BufRead;
 use tc_capture::MessageType;
 use tcmake_lines::{LineContent, LineStatus, NetlinkHeader, content_of, next_line};
 use tcmake_messages::{
-    Forms, Found, LineError, Made, Making, is_answer, is_of_save, json_in, made_of_json,
+    Actual, BuiltMessage, Forms, LineError, Making, is_answer, is_of_save, json_in, made_of_json,
 };
 
 /// The input of a line.
@@ -83,7 +83,7 @@ pub struct Remark {
 #[derive(Drop)]
 pub struct Dumped {
     pub number: u64,
-    pub made: Made,
+    pub made: BuiltMessage,
 }
 
 /// The messages of lines, and remarks on them.
@@ -126,7 +126,7 @@ impl Lines {
     }
 
     /// Keeps a dump.
-    pub(crate) fn keep(&mut self, number: u64, made: Made) -> Result<(), AllocError>
+    pub(crate) fn keep(&mut self, number: u64, made: BuiltMessage) -> Result<(), AllocError>
         ensures dumps { OnOk result (self.new.dumps.items ≡ self.old.dumps.items ++ record { number = number; made = made } ∷ []) }
         ensures remarks { self.new.remarks.items ≡ self.old.remarks.items }
         ensures void { self.new.is_void ≡ self.old.is_void }
@@ -136,7 +136,7 @@ impl Lines {
     }
 
     // Keeps the dump of a line, if it shows one.
-    fn keep_if(&mut self, number: u64, dump: Option<Made>) -> Result<(), AllocError>
+    fn keep_if(&mut self, number: u64, dump: Option<BuiltMessage>) -> Result<(), AllocError>
         ensures dumps { OnOk result (self.new.dumps.items ≡ self.old.dumps.items ++ dump_at number dump) }
         ensures remarks { self.new.remarks.items ≡ self.old.remarks.items }
     {
@@ -169,7 +169,7 @@ impl Lines {
         alloc: Global,
         source: Source,
         number: u64,
-        found: Result<Option<Made>, Complaint>,
+        found: Result<Option<BuiltMessage>, Complaint>,
     ) -> Result<(), AllocError>
         ensures { OnOk result ((table : Table) (tc action : FormType) (index : Option ℤ) (lines : List (List ℕ)) (line : List ℕ)
             → IfOk found (TakesLine table tc action index line) → AreShown table tc action index lines self.old
@@ -237,7 +237,7 @@ pub fn lines_of(alloc: Global, dumps: Vec<(NetlinkHeader, Vec<u8>)>) -> Result<L
         let settled = Vec::new(alloc);
         lines.keep(
             number,
-            Made {
+            BuiltMessage {
                 given,
                 bytes,
                 settled,
@@ -345,7 +345,7 @@ fn dump_in<T: Tables>(
     found: LineStatus,
     line: Vec<u8>,
     number: u64,
-) -> Result<Option<Made>, Complaint>
+) -> Result<Option<BuiltMessage>, Complaint>
     requires { length line.items ≤ 4194304 }
     ensures { IsNone reading.entry.names → (whole : List ℕ) → IsFound found whole line.items
         → IfOk result (TakesLine (T.parts_of forms.table) forms.tc forms.action reading.entry.index whole) }
@@ -364,7 +364,7 @@ fn dump_in_whole<T: Tables>(
     save: &mut Save,
     line: Vec<u8>,
     number: u64,
-) -> Result<Option<Made>, Complaint>
+) -> Result<Option<BuiltMessage>, Complaint>
     requires { length line.items ≤ 4194304 }
     ensures { IsNone reading.entry.names
         → IfOk result (TakesLine (T.parts_of forms.table) forms.tc forms.action reading.entry.index line.items) }
@@ -376,7 +376,7 @@ fn dump_in_whole<T: Tables>(
     }
 }
 
-// The complaint about a line that isn't read as JSON: that it is behind the end, or this one.
+// The complaint about a line that isn't read as JSON: that it comes after the end, or this one.
 fn without_json(save: &mut Save, number: u64, error: LineError) -> Complaint {
     match save.take_line(number) {
         Ok(()) => Complaint::Line(error),
@@ -391,7 +391,7 @@ fn dump_in_text<T: Tables>(
     save: &mut Save,
     line: Vec<u8>,
     number: u64,
-) -> Result<Option<Made>, Complaint>
+) -> Result<Option<BuiltMessage>, Complaint>
     requires { IsRead line.items }
     ensures { IsNone reading.entry.names
         → IfOk result (TakesLine (T.parts_of forms.table) forms.tc forms.action reading.entry.index line.items) }
@@ -417,7 +417,7 @@ fn dump_in_json<T: Tables>(
     reading: Reading<'_>,
     saved: Option<&Names>,
     json: Value,
-) -> Result<Option<Made>, Complaint>
+) -> Result<Option<BuiltMessage>, Complaint>
     ensures { (line : List ℕ) → read line ≡ Some (view json) → IsNone reading.entry.names → IfOk result (λ found. MatchOption found
         (IsAsked (T.parts_of forms.table) forms.tc forms.action line)
         (λ dump. ShowsDump (T.parts_of forms.table) forms.tc forms.action reading.entry.index line dump.given dump.bytes.items)) }
@@ -453,7 +453,7 @@ pub fn dump_in_line<T: Tables>(
     forms: Forms<T>,
     index: Option<i32>,
     line: Vec<u8>,
-) -> Result<Option<Made>, Complaint>
+) -> Result<Option<BuiltMessage>, Complaint>
     ensures shown { IfOk result (λ found. MatchOption found
         (IsOfAnswer line.items ⊎ IsAsked (T.parts_of forms.table) forms.tc forms.action line.items)
         (λ dump. ShowsDump (T.parts_of forms.table) forms.tc forms.action index line.items dump.given dump.bytes.items)) }
@@ -469,7 +469,7 @@ pub fn dump_in_line<T: Tables>(
     as_dump(made_of_json(alloc, forms, &json, Making::Restored)?, index)
 }
 
-fn as_dump(made: Made, index: Option<i32>) -> Result<Option<Made>, Complaint>
+fn as_dump(made: BuiltMessage, index: Option<i32>) -> Result<Option<BuiltMessage>, Complaint>
     ensures dump { IfOk result (λ found. MatchOption found (AsksForDump made.given) (λ dump. IsDump made.given
         × (dump.given ≡ made.given) × (dump.bytes.items ≡ at_interface index made.given.holds made.bytes.items))) }
     ensures refused { IfErr result (Says ⊥ (IsOtherRequest made.given)) }
@@ -512,13 +512,13 @@ fn is_dump(given: &NetlinkHeader) -> Result<bool, Complaint>
     }
     Err(Complaint::Line(LineError::Member {
         name: "flags",
-        found: Found::Number(u64::from(flags)),
+        found: Actual::Number(u64::from(flags)),
         wanted: "those of a dump, without NLM_F_REQUEST (1)",
     }))
 }
 
 // A message of this interface, if one is given; what is in a block that interfaces share has none (its index is -1).
-fn with_index(mut made: Made, index: Option<i32>) -> Made
+fn with_index(mut made: BuiltMessage, index: Option<i32>) -> BuiltMessage
     ensures given { result.given ≡ made.given }
     ensures bytes { result.bytes.items ≡ at_interface index made.given.holds made.bytes.items }
 {

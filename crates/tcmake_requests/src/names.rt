@@ -6,7 +6,7 @@ use crate::save::Names;
 use std::alloc::{AllocError, Global};
 use std::str;
 use tc_texts::{hex_string, read_hex};
-use tcmake_messages::{Found, LineError};
+use tcmake_messages::{Actual, LineError};
 
 /// The names of then and of now.
 #[derive(Clone, Copy)]
@@ -109,16 +109,16 @@ pub(crate) fn mapped(
         };
         around.is_header = around.is_header && *first != b'}';
         let (front, len) = front_of(rest, around)?;
-        let Some((taken, behind)) = rest.split_at_checked(len) else {
+        let Some((taken, after)) = rest.split_at_checked(len) else {
             break;
         };
         made.extend_from_slice(taken)?;
         rest = match front {
-            Front::Index => put_mapped(alloc, &mut made, behind, interfaces)?,
-            Front::Word => put_mapped_word(alloc, &mut made, behind, interfaces)?,
+            Front::Index => put_mapped(alloc, &mut made, after, interfaces)?,
+            Front::Word => put_mapped_word(alloc, &mut made, after, interfaces)?,
             Front::Other(new) => {
                 around = new;
-                behind
+                after
             }
         };
     }
@@ -152,15 +152,15 @@ fn column_at(text: &[u8], is_header: bool) -> Option<usize> {
 // How long the name of the member at the front of a text is, if it is one of these.
 fn member_among(text: &[u8], names: &[&'static str]) -> Option<usize> {
     for name in names {
-        if behind_name(text, name).is_some() {
+        if after_name(text, name).is_some() {
             return Some(name.len() + 3);
         }
     }
     None
 }
 
-// What is behind this name of a member at the front of a text.
-fn behind_name<'a>(text: &'a [u8], name: &str) -> Option<&'a [u8]> {
+// What is after this name of a member at the front of a text.
+fn after_name<'a>(text: &'a [u8], name: &str) -> Option<&'a [u8]> {
     let text = text.strip_prefix(b"\"")?;
     let text = text.strip_prefix(name.as_bytes())?;
     text.strip_prefix(b"\":")
@@ -168,8 +168,8 @@ fn behind_name<'a>(text: &'a [u8], name: &str) -> Option<&'a [u8]> {
 
 // True if the member of this name is at the front of a text, and is a text itself.
 fn is_text(text: &[u8], name: &str) -> bool {
-    match behind_name(text, name) {
-        Some(behind) => behind.first() == Some(&b'"'),
+    match after_name(text, name) {
+        Some(after) => after.first() == Some(&b'"'),
         None => false,
     }
 }
@@ -179,16 +179,16 @@ fn meta_at(text: &[u8], around: Around) -> Result<(Front, usize), Complaint> {
     if text.strip_prefix(META).is_some() {
         return Ok((Front::Other(NOWHERE), META.len()));
     }
-    if let Some(behind) = text.strip_prefix(LEFT) {
+    if let Some(after) = text.strip_prefix(LEFT) {
         let new = Around {
-            left: kind_at(behind),
+            left: kind_at(after),
             ..around
         };
         return Ok((Front::Other(new), LEFT.len()));
     }
-    if let Some(behind) = text.strip_prefix(RIGHT) {
+    if let Some(after) = text.strip_prefix(RIGHT) {
         let new = Around {
-            right: kind_at(behind),
+            right: kind_at(after),
             ..around
         };
         return Ok((Front::Other(new), RIGHT.len()));
@@ -212,7 +212,7 @@ fn value_of(value: &MetaValue, around: Around) -> Result<Front, Complaint> {
         (Some(_), Some(_)) => Ok(Front::Other(around)),
         _ => Err(Complaint::Line(LineError::Member {
             name: "Hdr",
-            found: Found::Nothing,
+            found: Actual::Nothing,
             wanted: "left and right, each with a number for its kind, before Lvalue and Rvalue",
         })),
     }
@@ -225,7 +225,7 @@ fn kind_at(text: &[u8]) -> Option<u32> {
     }
 }
 
-// Puts the index of now in place of the number at the front of a text, and returns what is behind it.
+// Puts the index of now in place of the number at the front of a text, and returns what is after it.
 fn put_mapped<'a>(
     alloc: Global,
     made: &mut Vec<u8>,
@@ -233,10 +233,10 @@ fn put_mapped<'a>(
     interfaces: Interfaces<'_>,
 ) -> Result<&'a [u8], Complaint> {
     match number_at(text) {
-        Some((index, behind)) if index != 0 => {
+        Some((index, after)) if index != 0 => {
             let index = interfaces.index_now(alloc, index)?;
             put_number(alloc, made, index)?;
-            Ok(behind)
+            Ok(after)
         }
         _ => Ok(text),
     }
@@ -249,14 +249,14 @@ fn put_mapped_word<'a>(
     text: &'a [u8],
     interfaces: Interfaces<'_>,
 ) -> Result<&'a [u8], Complaint> {
-    let Some((digits, behind)) = text.split_at_checked(8) else {
+    let Some((digits, after)) = text.split_at_checked(8) else {
         return Ok(text);
     };
     match word_in(alloc, digits)? {
         Some(index) if index != 0 => {
             let index = interfaces.index_now(alloc, index)?;
             made.extend_from_slice(hex_string(alloc, &index.to_le_bytes())?.as_bytes())?;
-            Ok(behind)
+            Ok(after)
         }
         _ => Ok(text),
     }
@@ -280,10 +280,10 @@ fn put_number(alloc: Global, made: &mut Vec<u8>, number: u32) -> Result<(), Allo
     made.extend_from_slice(digits.as_bytes())
 }
 
-// The number at the front of a text, and what is behind it.
+// The number at the front of a text, and what is after it.
 fn number_at(text: &[u8]) -> Option<(u32, &[u8])> {
     let len = text.iter().take_while(|c| c.is_ascii_digit()).count();
-    let (digits, behind) = text.split_at_checked(len)?;
+    let (digits, after) = text.split_at_checked(len)?;
     let number = str::from_utf8(digits).ok()?.parse::<u32>().ok()?;
-    Some((number, behind))
+    Some((number, after))
 }

@@ -10,20 +10,21 @@ use tc_actions::TcAction;
 use tc_capture::MessageType;
 use tc_messages::TcMessage;
 use tc_plan::{
-    Action, Entry, Fate, Key, Named, Now, entry_of, fate_of_action, held_by, name_of_action,
+    Action, Dependencies, Fate, Key, Named, Now, dependencies_of, fate_of_action, held_by,
+    name_of_action,
 };
 use tc_records::TcActionMessageHeader;
 use tc_restore::{
     Object, RTM_NEWACTION, actions_of_filter, standalone_index, unheld, use_of_action,
 };
 use tcmake_lines::NetlinkHeader;
-use tcmake_messages::Made;
+use tcmake_messages::BuiltMessage;
 
 /// An action of a dump by itself.
 #[derive(Drop)]
 pub(crate) struct Single {
     /// Its dump.
-    pub(crate) made: Made,
+    pub(crate) made: BuiltMessage,
     /// Its kind and its index, if it has one.
     pub(crate) name: Option<Named>,
     /// The number of filters that hold it.
@@ -42,7 +43,7 @@ pub(crate) enum Counts {
 /// The actions of a dump of actions, each by itself.
 pub(crate) fn singles_of(
     alloc: Global,
-    dump: &Made,
+    dump: &BuiltMessage,
     counts: Counts,
 ) -> Result<Vec<Single>, Complaint> {
     let TcActionMessage { header, attributes } = TcActionMessage::parse(alloc, &dump.bytes)?;
@@ -95,7 +96,7 @@ fn single_of(
         attributes,
     };
     let bytes = emitted(alloc, &message)?;
-    let made = Made {
+    let made = BuiltMessage {
         given: NetlinkHeader {
             holds: MessageType::Action,
             kind: Some(RTM_NEWACTION),
@@ -144,7 +145,11 @@ fn keep(
     }
 }
 
-fn keep_actions(alloc: Global, dump: &Made, found: &mut Now<Global>) -> Result<(), Complaint> {
+fn keep_actions(
+    alloc: Global,
+    dump: &BuiltMessage,
+    found: &mut Now<Global>,
+) -> Result<(), Complaint> {
     for single in singles_of(alloc, dump, Counts::Cleared)? {
         let Single {
             made,
@@ -164,7 +169,7 @@ fn keep_actions(alloc: Global, dump: &Made, found: &mut Now<Global>) -> Result<(
 }
 
 // The request that makes an action; none of one that can't be made by itself.
-fn request_bytes(alloc: Global, made: &Made) -> Result<Vec<u8>, Complaint> {
+fn request_bytes(alloc: Global, made: &BuiltMessage) -> Result<Vec<u8>, Complaint> {
     match restored(alloc, &[], made) {
         Ok(made) => Ok(made.bytes),
         Err(Complaint::Restore(_)) => Ok(Vec::new(alloc)),
@@ -181,11 +186,11 @@ fn keep_filter(
 ) -> Result<(), Complaint> {
     let filter = TcMessage::parse(alloc, bytes)?;
     if filter.header.index == -1 {
-        let entry = entry_of(alloc, 0, Fate::Request, Object::Filter, &[], &filter)?;
-        if is_known(shared, &entry) {
+        let dump = dependencies_of(alloc, 0, Fate::Request, Object::Filter, &[], &filter)?;
+        if is_known(shared, &dump) {
             return Ok(());
         }
-        shared.extend_from_slice(&entry.objects)?;
+        shared.extend_from_slice(&dump.objects)?;
     }
     let held = held_by(alloc, filter)?;
     found.held.extend_from_slice(&held)?;
@@ -217,6 +222,6 @@ pub(crate) fn unlisted_in(
     Ok(None)
 }
 
-fn is_known(shared: &[Key], entry: &Entry<Global>) -> bool {
-    entry.objects.iter().any(|key| shared.contains(key))
+fn is_known(shared: &[Key], filter: &Dependencies<Global>) -> bool {
+    filter.objects.iter().any(|key| shared.contains(key))
 }

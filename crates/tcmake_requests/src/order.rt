@@ -20,14 +20,14 @@ use tc_action_messages::{TcActionMessage, TcActionMessageAttribute};
 use tc_actions::{TcAction, TcActionAttribute};
 use tc_messages::TcMessage;
 use tc_plan::{
-    Entry, Fate, Item, Key, Named, Now, Order, Reason, Step, circle, entry_of, entry_of_actions,
-    fate_of_action, has_action, ingress_of, made_by_filters, name_of_action, newest_first,
-    offloaded_by, plan, shared_action,
+    Dependencies, Fate, Item, Key, Named, Now, Order, Reason, Step, circle, dependencies_of,
+    dependencies_of_actions, fate_of_action, has_action, ingress_of, made_by_filters,
+    name_of_action, newest_first, offloaded_by, plan, shared_action,
 };
 use tc_restore::{Object, RestoreError, RootTable, actions_of_filter, notice_of, root_table};
 use tcmake_lines::run::put_message;
 use tcmake_lines::{NetlinkHeader, Output, OutputFormat};
-use tcmake_messages::{Forms, Made};
+use tcmake_messages::{BuiltMessage, Forms};
 
 /// The request for what a line shows.
 #[derive(Drop)]
@@ -77,10 +77,10 @@ pub struct Restored {
 #[derive(Drop)]
 struct Requests {
     // What a plan has to know of each dump; its place is an index of `lines`.
-    entries: Vec<Entry<Global>>,
+    dependencies: Vec<Dependencies<Global>>,
     // The line of each dump, and its request if there is one.
     lines: Vec<Planned>,
-    // Where the last filter of basic or bpf is among the entries, of each chain and priority.
+    // Where the last filter of basic or bpf is among them, of each chain and priority.
     last: Vec<(Key, usize)>,
     // What isn't restored although there is a request, by the numbers of the lines.
     notices: Vec<(u64, String)>,
@@ -92,7 +92,7 @@ struct Planned {
     // The number of the line.
     number: u64,
     // Its request.
-    made: Option<Made>,
+    made: Option<BuiltMessage>,
 }
 
 // What all dumps show, and what there is now.
@@ -111,10 +111,10 @@ struct Known<'a> {
 }
 
 impl Requests {
-    // None.
+    // No dumps and no requests.
     fn new(alloc: Global) -> Requests {
         Requests {
-            entries: Vec::new(alloc),
+            dependencies: Vec::new(alloc),
             lines: Vec::new(alloc),
             last: Vec::new(alloc),
             notices: Vec::new(alloc),
@@ -164,9 +164,9 @@ impl Requests {
         known: Known<'_>,
         kind: Dump,
         number: u64,
-        dump: &Made,
+        dump: &BuiltMessage,
         fate: Fate,
-        made: Option<Made>,
+        made: Option<BuiltMessage>,
     ) -> Result<(), Complaint> {
         let place = self.lines.len();
         self.lines.push(Planned { number, made })?;
@@ -177,34 +177,45 @@ impl Requests {
                     self.notices.push((number, format!(in alloc; "{notice}")?))?;
                 }
                 let group = newest_first(object, known.ingress, &message);
-                let entry = entry_of(alloc, place, fate, object, known.ingress, &message)?;
-                Ok(self.put_ranked(entry, group)?)
+                let dependencies = dependencies_of(
+                    alloc,
+                    place,
+                    fate,
+                    object,
+                    known.ingress,
+                    &message,
+                )?;
+                Ok(self.put_ranked(dependencies, group)?)
             }
             Dump::Actions => {
                 let message = TcActionMessage::parse(alloc, &dump.bytes)?;
-                let entry = entry_of_actions(alloc, place, fate, &message)?;
-                Ok(self.entries.push(entry)?)
+                let dependencies = dependencies_of_actions(alloc, place, fate, &message)?;
+                Ok(self.dependencies.push(dependencies)?)
             }
         }
     }
 
     // Puts a dump. Of filters that the kernel keeps newest first the one dumped before waits for this one.
-    fn put_ranked(&mut self, entry: Entry<Global>, group: Option<Key>) -> Result<(), AllocError> {
-        let mut entry = entry;
-        if let (Some(group), Fate::Request) = (group, &entry.fate) {
-            let place = self.entries.len();
+    fn put_ranked(
+        &mut self,
+        dump: Dependencies<Global>,
+        group: Option<Key>,
+    ) -> Result<(), AllocError> {
+        let mut dump = dump;
+        if let (Some(group), Fate::Request) = (group, &dump.fate) {
+            let place = self.dependencies.len();
             if let Some(before) = self.rank(group, place)? {
-                if let Some(newer) = self.entries.get_mut(before) {
-                    newer.needs.extend_from_slice(&entry.objects)?;
+                if let Some(newer) = self.dependencies.get_mut(before) {
+                    newer.needs.extend_from_slice(&dump.objects)?;
                 }
             }
-            entry.provides.extend_from_slice(&entry.objects)?;
+            dump.provides.extend_from_slice(&dump.objects)?;
         }
-        self.entries.push(entry)?;
+        self.dependencies.push(dump)?;
         Ok(())
     }
 
-    // Makes this the last entry of a group, and returns the last one before.
+    // Makes this dump the last of a group, and returns the last one before.
     fn rank(&mut self, group: Key, place: usize) -> Result<Option<usize>, AllocError> {
         for (known, last) in self.last.iter_mut() {
             if *known == group {
@@ -221,13 +232,13 @@ impl Requests {
 // The flags of a request that changes what is there: `NLM_F_REQUEST`, `NLM_F_ACK`, `NLM_F_REPLACE` and `NLM_F_CREATE` of `linux/netlink.h`.
 const CHANGE_FLAGS: u16 = 0x505;
 
-// What becomes of an action by what there is now, and its request.
+// The fate of an action, given the present actions, and its request.
 fn fate_of_single(
     known: Known<'_>,
     single: &Single,
     fate: Fate,
-    made: Option<Made>,
-) -> (Fate, Option<Made>) {
+    made: Option<BuiltMessage>,
+) -> (Fate, Option<BuiltMessage>) {
     match (fate, made) {
         (Fate::Request, Some(made)) => {
             let (fate, made) = fate_by_now(known, single.name, made);
@@ -237,7 +248,11 @@ fn fate_of_single(
     }
 }
 
-fn fate_by_now(known: Known<'_>, name: Option<Named>, made: Made) -> (Fate, Option<Made>) {
+fn fate_by_now(
+    known: Known<'_>,
+    name: Option<Named>,
+    made: BuiltMessage,
+) -> (Fate, Option<BuiltMessage>) {
     match (known.now, name) {
         (Some(now), Some(name)) => {
             let mut made = made;
@@ -260,12 +275,12 @@ fn fate_by_filters(known: Known<'_>, name: Option<Named>, fate: Fate) -> Fate {
     }
 }
 
-// What becomes of a filter by the actions that it shares.
+// The fate of a filter, given the actions that it shares.
 fn fate_by_actions(
     alloc: Global,
     known: Known<'_>,
     kind: Dump,
-    dump: &Made,
+    dump: &BuiltMessage,
     fate: Fate,
 ) -> Result<Fate, Complaint> {
     match (known.now, kind, &fate) {
@@ -280,8 +295,10 @@ fn fate_by_actions(
     }
 }
 
-// What becomes of a dump by itself, and its request.
-fn fate_of(made: Result<Made, Complaint>) -> Result<(Fate, Option<Made>), Complaint> {
+// The fate of a dump regardless of others, and its request.
+fn fate_of(
+    made: Result<BuiltMessage, Complaint>,
+) -> Result<(Fate, Option<BuiltMessage>), Complaint> {
     match made {
         Ok(made) => Ok((Fate::Request, Some(made))),
         Err(Complaint::Restore(RestoreError::MadeByKernel)) => Ok((Fate::Made, None)),
@@ -290,7 +307,7 @@ fn fate_of(made: Result<Made, Complaint>) -> Result<(Fate, Option<Made>), Compla
     }
 }
 
-/// The requests of what lines show, but of actions that are there already.
+/// Makes the requests for what lines show, except for actions that exist already.
 pub fn requests_by_now<T: Tables>(
     alloc: Global,
     forms: Forms<T>,
@@ -371,7 +388,7 @@ pub fn requests_by(
         &mut remarks,
     )?;
     let Requests {
-        entries,
+        dependencies,
         lines,
         notices,
         ..
@@ -379,7 +396,7 @@ pub fn requests_by(
     for (number, notice) in notices {
         say(&mut remarks, number, RemarkKind::Notice, notice)?;
     }
-    let plan = plan(alloc, entries)?;
+    let plan = plan(alloc, dependencies)?;
     let is_void = say_left(alloc, &lines, &plan.unordered, &mut remarks)? || is_void;
     let mut requests = requests_in_order(alloc, lines, &plan.sorted, &mut remarks)?;
     if is_void {
@@ -403,13 +420,13 @@ fn keep_all(
 ) -> Result<(), AllocError>
     ensures quiet { OnOk result (IsQuiet remarks.new.items → IsQuiet remarks.old.items) }
 {
-    let Shown {
+    let DumpFacts {
         roots,
         ingress,
         listed,
         shared,
         offloaded,
-    } = shown_by(alloc, dumps, remarks)?;
+    } = facts_of(alloc, dumps, remarks)?;
     let by_filters = made_by_filters(shared, &offloaded);
     let known = Known {
         roots: &roots,
@@ -428,10 +445,14 @@ fn keep_all(
 }
 
 // The parts of all dumps on which requests depend.
-fn shown_by(alloc: Global, dumps: &[Dumped], remarks: &mut Vec<Remark>) -> Result<Shown, AllocError>
+fn facts_of(
+    alloc: Global,
+    dumps: &[Dumped],
+    remarks: &mut Vec<Remark>,
+) -> Result<DumpFacts, AllocError>
     ensures { IfOk result (λ _. IsQuiet remarks.new.items → IsQuiet remarks.old.items) }
 {
-    let mut shown = Shown {
+    let mut facts = DumpFacts {
         roots: Vec::new(alloc),
         ingress: Vec::new(alloc),
         listed: Vec::new(alloc),
@@ -439,16 +460,16 @@ fn shown_by(alloc: Global, dumps: &[Dumped], remarks: &mut Vec<Remark>) -> Resul
         offloaded: Vec::new(alloc),
     };
     for dump in dumps {
-        if let Err(complaint) = shown.keep(alloc, dump) {
+        if let Err(complaint) = facts.keep(alloc, dump) {
             complain(alloc, Source::Wanted, dump.number, &complaint, remarks)?;
         }
     }
-    Ok(shown)
+    Ok(facts)
 }
 
 // Parts of all dumps on which requests depend.
 #[derive(Drop)]
-struct Shown {
+struct DumpFacts {
     // The root tables of u32.
     roots: Vec<RootTable>,
     // The interfaces that have ingress.
@@ -461,7 +482,7 @@ struct Shown {
     offloaded: Vec<Key>,
 }
 
-impl Shown {
+impl DumpFacts {
     // Keeps the parts of a dump. A line that isn't a dump has its complaint where its request is made.
     fn keep(&mut self, alloc: Global, dump: &Dumped) -> Result<(), Complaint> {
         match dump_of(dump.made.given.kind) {
@@ -603,7 +624,7 @@ fn say_reason(
     Ok(())
 }
 
-// Why a dump isn't made: a reason of its own, or that what it needs isn't, which may need the dump in turn.
+// Why a dump isn't made: its own reason, or that something it needs isn't made, which may need the dump in turn.
 fn reason_of<'a>(item: &'a Item, around: &[Step<usize, Key, Global>]) -> &'a Reason {
     match &item.fate {
         Fate::Refused(reason) => reason,

@@ -30,7 +30,7 @@ use tc_capture::MessageType;
 use tc_messages::TcMessage;
 use tc_restore::{Object, RTM_NEWACTION, Request, RootTable, request_of, request_of_actions};
 use tcmake_lines::{NetlinkHeader, packet_at};
-use tcmake_messages::{Found, LineError, Made};
+use tcmake_messages::{Actual, BuiltMessage, LineError};
 
 /// The type of a dumped object.
 #[derive(Clone, Copy, PartialEq, Eq)]
@@ -54,7 +54,11 @@ const RTM_NEWCHAIN: u16 = 100;
 
 /// Makes of the message of a dump the request that restores it, with the dump's sequence number and time. `roots` are the root
 /// tables of u32 that all dumps show.
-pub fn restored(alloc: Global, roots: &[RootTable], made: &Made) -> Result<Made, Complaint>
+pub fn restored(
+    alloc: Global,
+    roots: &[RootTable],
+    made: &BuiltMessage,
+) -> Result<BuiltMessage, Complaint>
     ensures restores { IfOk result (λ r.
         IsRequestFor new_flags roots.now made.now.given made.now.bytes.items r.given r.bytes.items) }
     ensures refused { IfErr result (Says (IsMadeByAnother roots.now made.now.given.kind made.now.bytes.items)
@@ -62,7 +66,7 @@ pub fn restored(alloc: Global, roots: &[RootTable], made: &Made) -> Result<Made,
 {
     let dump = dump_of(made.given.kind)?;
     let request = request_for(alloc, roots, dump, &made.bytes)?;
-    Ok(Made {
+    Ok(BuiltMessage {
         given: NetlinkHeader {
             holds: held_by(dump),
             kind: Some(request.message_type),
@@ -112,9 +116,9 @@ pub fn dump_of(kind: Option<u16>) -> Result<Dump, Complaint>
     match kind {
         Some(number) => match dumped_as(number) {
             Some(dump) => Ok(dump),
-            None => Err(no_dump(Found::Type(number))),
+            None => Err(no_dump(Actual::Type(number))),
         },
-        None => Err(no_dump(Found::Nothing)),
+        None => Err(no_dump(Actual::Nothing)),
     }
 }
 
@@ -134,7 +138,7 @@ fn dumped_as(kind: u16) -> Option<Dump>
 }
 
 // The complaint about a message that is no dump, with the type that was found.
-fn no_dump(found: Found) -> Complaint
+fn no_dump(found: Actual) -> Complaint
     ensures { result ≢ Restore MadeByKernel }
 {
     Complaint::Line(LineError::Member {

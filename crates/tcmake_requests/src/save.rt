@@ -20,7 +20,7 @@ pub enum SaveFault {
     /// A first line that isn't the first.
     LateHead,
     /// A line after the last one.
-    Behind,
+    AfterEnd,
     /// It has another number of lines between the two than the last one says.
     Count { found: u64, wanted: u64 },
 }
@@ -34,8 +34,8 @@ impl fmt::Display for SaveFault {
             SaveFault::NoHead => f.write_str(
                 "the last line of a save, whose first line is missing",
             ),
-            SaveFault::LateHead => f.write_str("the first line of a save behind other lines"),
-            SaveFault::Behind => f.write_str("a line behind the last line of a save"),
+            SaveFault::LateHead => f.write_str("the first line of a save after other lines"),
+            SaveFault::AfterEnd => f.write_str("a line after the last line of a save"),
             SaveFault::Count { found, wanted } => {
                 write!(
                     f,
@@ -56,11 +56,11 @@ pub(crate) struct Save {
     names: Option<Names>,
     // The interfaces that it is of, by its first line.
     devices: Option<Vec<i32>>,
-    // How many lines were read that aren't blank, behind the first line of a save.
+    // How many lines were read that aren't blank, after the first line of a save.
     lines: u64,
     // The number of the last line that was read; 0 before the first.
     last: u64,
-    // True behind the last line of a save.
+    // True after the last line of a save.
     is_ended: bool,
 }
 
@@ -91,7 +91,7 @@ impl Save {
         self.last = number;
         self.lines = self.lines.saturating_add(1);
         if self.is_ended {
-            return Err(SaveFault::Behind);
+            return Err(SaveFault::AfterEnd);
         }
         Ok(())
     }
@@ -132,7 +132,7 @@ impl Save {
     fn take_end(&mut self, alloc: Global, number: u64, json: &Value) -> Result<(), Complaint> {
         self.last = number;
         if self.is_ended {
-            return Err(Complaint::Save(SaveFault::Behind));
+            return Err(Complaint::Save(SaveFault::AfterEnd));
         }
         if self.names.is_none() {
             return Err(Complaint::Save(SaveFault::NoHead));

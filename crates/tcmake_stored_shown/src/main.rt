@@ -11,7 +11,6 @@ use std::process::ExitCode;
 use tc_differences::StateDiffer;
 use tc_outline::Interfaces;
 use tc_select::Filter;
-use tcmake_lib::arguments::Request;
 use tcmake_lines::OutputFormat;
 use tcmake_messages::{Forms, Making};
 use tcshow_lib::options::Options;
@@ -72,7 +71,7 @@ fn make_again<R: Print, I: Read, E: Write>(
         tc: TC_MESSAGE,
         action: ACTION_MESSAGE,
     };
-    let request = Request {
+    let options = tcmake_lib::arguments::Options {
         form: OutputFormat::Hex,
         making: Making::Checked,
         in_order: false,
@@ -83,7 +82,7 @@ fn make_again<R: Print, I: Read, E: Write>(
         Ok(mut shown) => tcmake_lib::program::serve(
             alloc,
             forms,
-            &request,
+            &options,
             &mut shown,
             &mut Writer::new(io::writer(rt)),
             errors,

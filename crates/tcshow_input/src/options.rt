@@ -25,7 +25,7 @@ pub struct Options<'a> {
     /// Which messages are printed.
     pub filter: Filter<'a>,
     /// How lines of objects show times.
-    pub time: TimeFormat,
+    pub time: TimeFormat<'a>,
     /// True if lines of objects are printed for acknowledgements without a text, too.
     pub acks: bool,
     /// True if outlines have padding attributes too.

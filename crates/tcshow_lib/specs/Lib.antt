@@ -1,3 +1,4 @@
 pub mod Json
 pub mod Status
 pub mod Streams
+pub mod Times

@@ -1,6 +1,6 @@
 //! Arguments of the program.
 
-use crate::options::{OutputFormat, TimeFormat};
+use crate::options::OutputFormat;
 use clap::{Arg, ArgAction, ArgGroup, ArgMatches, Command, Error, value_parser};
 use std::alloc::{AllocError, Global};
 use std::convert::AsStr;
@@ -33,7 +33,7 @@ pub struct Arguments<'a> {
     /// Output format.
     pub format: OutputFormat,
     /// How times of lines are written (`--time`).
-    pub time: TimeFormat,
+    pub time: TimeChoice,
     /// True if objects are printed below their parents (`--tree`).
     pub tree: bool,
     /// True if lines have acknowledgements without a text too (`--acks`).
@@ -68,6 +68,17 @@ pub struct Arguments<'a> {
     pub colours: Colours,
     /// Whether lines and outlines are colored, once decided.
     pub in_colours: bool,
+}
+
+/// A format of times. The time zone of the local ones is read later.
+#[derive(Clone, Copy, PartialEq, Eq)]
+pub enum TimeChoice {
+    Clock,
+    Local,
+    Date,
+    Epoch,
+    Delta,
+    Relative,
 }
 
 /// When lines and outlines are colored.
@@ -129,9 +140,10 @@ Notes:
   packet that has a time. --since and --until also drop messages that have no time.
   --dev takes a number or a name: one in the capture (tcnl monitor --links), or one in --names.
   --type tclass stands for newtclass, deltclass and gettclass. Hex that is a message only has no
-  netlink header. --time delta counts from the message before, relative from the first. --since
-  takes what --time date and epoch print. Without --color, lines and outlines have color on a
-  terminal, unless NO_COLOR is set.
+  netlink header. --time local is the time of day in the time zone of TZ, or else /etc/localtime.
+  --time delta counts from the message before, relative from the first. --since takes what --time
+  date and epoch print. Without --color, lines and outlines have color on a terminal, unless
+  NO_COLOR is set.
   Hex may contain spaces, colons, 0x prefixes and # comments. One message per line; or a dump with
   offsets (xxd, hexdump -C, tcpdump -x, Wireshark), in which offset 0 starts a new message; or lines
   of 60 digits and a shorter last one (xxd -p).
@@ -205,7 +217,7 @@ static OPTIONS: [(&str, Value, &str, &str); 26] = [
     ),
     (
         "time",
-        Value::Word("FORMAT", &["date", "epoch", "delta", "relative"]),
+        Value::Word("FORMAT", &["local", "date", "epoch", "delta", "relative"]),
         FORMS,
         "Print times in FORMAT",
     ),
@@ -541,13 +553,14 @@ fn format_of(matches: &ArgMatches<'_>) -> OutputFormat {
     }
 }
 
-fn time_of(matches: &ArgMatches<'_>) -> TimeFormat {
+fn time_of(matches: &ArgMatches<'_>) -> TimeChoice {
     match matches.get_str("time") {
-        Some("date") => TimeFormat::Date,
-        Some("epoch") => TimeFormat::Epoch,
-        Some("delta") => TimeFormat::Delta,
-        Some("relative") => TimeFormat::Relative,
-        _ => TimeFormat::Clock,
+        Some("local") => TimeChoice::Local,
+        Some("date") => TimeChoice::Date,
+        Some("epoch") => TimeChoice::Epoch,
+        Some("delta") => TimeChoice::Delta,
+        Some("relative") => TimeChoice::Relative,
+        _ => TimeChoice::Clock,
     }
 }
 

@@ -24,7 +24,7 @@ use tcshow_input::Stop;
 
 /// The messages that lines of JSON show.
 #[derive(Drop)]
-pub struct Made {
+pub struct BuiltMessages {
     /// A capture or a stream.
     pub bytes: Vec<u8>,
     /// True if a line has an error.
@@ -128,7 +128,7 @@ pub fn made_of<R: Read + Drop, E: Write>(
     form: OutputFormat,
     reader: R,
     errors: &mut E,
-) -> Result<Made, Stop>
+) -> Result<BuiltMessages, Stop>
     // These are the bytes that `tcmake` writes for these lines.
     ensures { IfOk result (λ made. Ran (IsMessage tc_tables TC_MESSAGE ACTION_MESSAGE Checked) IsAnswer
         (IsRefused tc_tables TC_MESSAGE ACTION_MESSAGE Checked) form made.has_wrong (R.remaining reader) (Some []) (Some made.bytes.items)) }
@@ -158,7 +158,7 @@ pub fn made_of<R: Read + Drop, E: Write>(
     );
     put_complaints(alloc, name, &complaints, errors)?;
     match ended.outcome {
-        Ok(()) => Ok(Made {
+        Ok(()) => Ok(BuiltMessages {
             bytes: writer.into_inner(),
             has_wrong: ended.has_refused,
         }),

@@ -18,3 +18,4 @@ pub mod options;
 pub mod program;
 pub mod run;
 pub mod status;
+mod zone;

@@ -11,19 +11,21 @@ ghost use Rattle.tcshow_input.specs.Writing.{GrowsClean};
 ghost use Rattle.tcshow_input.specs.declared.options.OutputFormat.TheVariants.{Json};
 ghost use Rattle.tcshow_lib.specs.Streams.{ShowsEnd};
 
-use crate::arguments::{Arguments, Task, arguments_of};
+use crate::arguments::{Arguments, Task, TimeChoice, arguments_of};
 use crate::day::first_time;
 use crate::example::EXAMPLE;
 use crate::filter::{FilterError, FilterValues};
 use crate::hint::{HINT, lacks_header};
 use crate::inputs::{run_next, worse};
-use crate::json::{Made, form_by, joined, made_of, names_in_head, with_fault};
+use crate::json::{BuiltMessages, form_by, joined, made_of, names_in_head, with_fault};
 use crate::kinds::{explain, is_known, put_schema_of_line, write_all_kinds};
 use crate::names::names_in;
 use crate::options::{Options, OutputFormat, options_of};
 use crate::run::{Ended, run};
+use crate::zone::{SystemZone, ZoneError};
 use clap::Error;
 use clap::error::ErrorKind;
+use jiff_tz::TimeZone;
 use program_io::{Coloured, Reader, Writer, cause_of, write_all, write_text};
 use std::alloc::{AllocError, Allocator, Global};
 use std::io::{self, Input, Print, Read, Write};
@@ -108,7 +110,7 @@ fn allows_colours<R: Env + AllocGlobal>(rt: &R) -> bool {
     }
 }
 
-fn perform<R: AllocGlobal + Files + Input + Print, D: Differ, E: Write>(
+fn perform<R: AllocGlobal + Env + Files + Input + Print, D: Differ, E: Write>(
     rt: &R,
     arguments: &Arguments<'_>,
     differ: &D,
@@ -167,16 +169,35 @@ fn print<R: AllocGlobal + Print, E: Write>(rt: &R, text: &[u8], errors: &mut E) 
     }
 }
 
-// Reads the file with names of interfaces, if there is one.
-fn show<R: AllocGlobal + Files + Input + Print, E: Write>(
+// Reads the time zone of the system, if times are in it.
+fn show<R: AllocGlobal + Env + Files + Input + Print, E: Write>(
     rt: &R,
     arguments: &Arguments<'_>,
     errors: &mut E,
 ) -> Ended {
+    if arguments.time != TimeChoice::Local {
+        return show_in(rt, arguments, TimeZone::UTC, errors);
+    }
+    match SystemZone::read(rt) {
+        Ok(zone) => match zone.time_zone() {
+            Ok(zone) => show_in(rt, arguments, zone, errors),
+            Err(error) => complain_of_zone(rt, error, errors),
+        },
+        Err(error) => complain_of_zone(rt, error, errors),
+    }
+}
+
+// Reads the file with names of interfaces, if there is one.
+fn show_in<R: AllocGlobal + Files + Input + Print, E: Write>(
+    rt: &R,
+    arguments: &Arguments<'_>,
+    zone: TimeZone<'_>,
+    errors: &mut E,
+) -> Ended {
     match arguments.names {
-        None => show_with(rt, arguments, "", "", errors),
+        None => show_with(rt, arguments, zone, "", "", errors),
         Some(path) => match fs::read_to_string(rt, path) {
-            Ok(text) => show_with(rt, arguments, path, text.as_str(), errors),
+            Ok(text) => show_with(rt, arguments, zone, path, text.as_str(), errors),
             Err(error) => complain_of_file(rt.alloc(), path, &error, errors),
         },
     }
@@ -186,12 +207,13 @@ fn show<R: AllocGlobal + Files + Input + Print, E: Write>(
 fn show_with<R: AllocGlobal + Files + Input + Print, E: Write>(
     rt: &R,
     arguments: &Arguments<'_>,
+    zone: TimeZone<'_>,
     path: &str,
     text: &str,
     errors: &mut E,
 ) -> Ended {
     match names_in(rt.alloc(), text) {
-        Ok(Ok(names)) => show_named(rt, arguments, names.as_slice(), errors),
+        Ok(Ok(names)) => show_named(rt, arguments, zone, names.as_slice(), errors),
         Ok(Err(line)) => complain_of_names(rt.alloc(), path, line, errors),
         Err(_) => fail_without_memory(errors),
     }
@@ -200,11 +222,12 @@ fn show_with<R: AllocGlobal + Files + Input + Print, E: Write>(
 fn show_named<R: AllocGlobal + Files + Input + Print, E: Write>(
     rt: &R,
     arguments: &Arguments<'_>,
+    zone: TimeZone<'_>,
     names: &[(u32, &str)],
     errors: &mut E,
 ) -> Ended {
     match FilterValues::of_arguments(rt.alloc(), arguments, names) {
-        Ok(values) => show_files(rt, arguments, names, values, errors),
+        Ok(values) => show_files(rt, arguments, zone, names, values, errors),
         Err(none) => complain_of_filter(rt.alloc(), none, errors),
     }
 }
@@ -213,16 +236,28 @@ fn show_named<R: AllocGlobal + Files + Input + Print, E: Write>(
 fn show_files<R: AllocGlobal + Files + Input + Print, E: Write>(
     rt: &R,
     arguments: &Arguments<'_>,
+    zone: TimeZone<'_>,
     names: &[(u32, &str)],
     values: FilterValues<'_, '_>,
     errors: &mut E,
 ) -> Ended {
     if arguments.example {
-        return show_reader(rt, arguments, names, values, "example", EXAMPLE, errors);
+        return show_reader(
+            rt, arguments, zone, names, values, "example", EXAMPLE, errors,
+        );
     }
     match arguments.files.as_slice() {
-        [] => show_reader(rt, arguments, names, values, INPUT, rt.reader(), errors),
-        [file] => show_file(rt, arguments, names, values, *file, errors),
+        [] => show_reader(
+            rt,
+            arguments,
+            zone,
+            names,
+            values,
+            INPUT,
+            rt.reader(),
+            errors,
+        ),
+        [file] => show_file(rt, arguments, zone, names, values, *file, errors),
         files => {
             if values.need_day() {
                 return complain(
@@ -231,7 +266,7 @@ fn show_files<R: AllocGlobal + Files + Input + Print, E: Write>(
                     Stop::Usage,
                 );
             }
-            show_each(rt, arguments, names, values.filter(), files, errors)
+            show_each(rt, arguments, zone, names, values.filter(), files, errors)
         }
     }
 }
@@ -239,16 +274,26 @@ fn show_files<R: AllocGlobal + Files + Input + Print, E: Write>(
 fn show_file<R: AllocGlobal + Files + Input + Print, E: Write>(
     rt: &R,
     arguments: &Arguments<'_>,
+    zone: TimeZone<'_>,
     names: &[(u32, &str)],
     values: FilterValues<'_, '_>,
     file: &str,
     errors: &mut E,
 ) -> Ended {
     if file == "-" {
-        return show_reader(rt, arguments, names, values, INPUT, rt.reader(), errors);
+        return show_reader(
+            rt,
+            arguments,
+            zone,
+            names,
+            values,
+            INPUT,
+            rt.reader(),
+            errors,
+        );
     }
     match fs::open(rt, file) {
-        Ok(reader) => show_reader(rt, arguments, names, values, file, reader, errors),
+        Ok(reader) => show_reader(rt, arguments, zone, names, values, file, reader, errors),
         Err(error) => complain_of_file(rt.alloc(), file, &error, errors),
     }
 }
@@ -257,6 +302,7 @@ fn show_file<R: AllocGlobal + Files + Input + Print, E: Write>(
 fn show_reader<R: AllocGlobal + Print, I: Read + Drop, E: Write>(
     rt: &R,
     arguments: &Arguments<'_>,
+    zone: TimeZone<'_>,
     names: &[(u32, &str)],
     values: FilterValues<'_, '_>,
     name: &str,
@@ -270,13 +316,15 @@ fn show_reader<R: AllocGlobal + Print, I: Read + Drop, E: Write>(
                 let is_bare = arguments.without_header.is_none()
                     && lacks_header(rt.alloc(), input.rest()).unwrap_or(false);
                 let whole = input.rest().chain(reader.into_inner());
-                let ended = show_bytes(rt, arguments, names, values, name, whole, errors);
+                let ended = show_bytes(rt, arguments, zone, names, values, name, whole, errors);
                 if is_bare {
                     say_of(rt.alloc(), errors, name, HINT);
                 }
                 ended
             }
-            Some(form) => show_lines(rt, arguments, names, name, form, input, reader, errors),
+            Some(form) => show_lines(
+                rt, arguments, zone, names, name, form, input, reader, errors,
+            ),
         },
         Err(stop) => fail_to_read(rt.alloc(), stop, name, &reader, errors),
     }
@@ -286,6 +334,7 @@ fn show_reader<R: AllocGlobal + Print, I: Read + Drop, E: Write>(
 fn show_lines<R: AllocGlobal + Print, I: Read + Drop, E: Write>(
     rt: &R,
     arguments: &Arguments<'_>,
+    zone: TimeZone<'_>,
     names: &[(u32, &str)],
     name: &str,
     form: MadeFormat,
@@ -296,7 +345,9 @@ fn show_lines<R: AllocGlobal + Print, I: Read + Drop, E: Write>(
     match names_in_head(rt.alloc(), &mut input, &mut reader) {
         Ok(saved) => {
             let whole = input.rest().chain(reader.into_inner());
-            show_named_lines(rt, arguments, names, &saved, name, form, whole, errors)
+            show_named_lines(
+                rt, arguments, zone, names, &saved, name, form, whole, errors,
+            )
         }
         Err(stop) => fail_to_read(rt.alloc(), stop, name, &reader, errors),
     }
@@ -305,6 +356,7 @@ fn show_lines<R: AllocGlobal + Print, I: Read + Drop, E: Write>(
 fn show_named_lines<R: AllocGlobal + Print, I: Read + Drop, E: Write>(
     rt: &R,
     arguments: &Arguments<'_>,
+    zone: TimeZone<'_>,
     names: &[(u32, &str)],
     saved: &[(u32, String)],
     name: &str,
@@ -320,6 +372,7 @@ fn show_named_lines<R: AllocGlobal + Print, I: Read + Drop, E: Write>(
             show_json(
                 rt,
                 arguments,
+                zone,
                 names.as_slice(),
                 values,
                 name,
@@ -336,6 +389,7 @@ fn show_named_lines<R: AllocGlobal + Print, I: Read + Drop, E: Write>(
 fn show_json<R: AllocGlobal + Print, I: Read + Drop, E: Write>(
     rt: &R,
     arguments: &Arguments<'_>,
+    zone: TimeZone<'_>,
     names: &[(u32, &str)],
     values: FilterValues<'_, '_>,
     name: &str,
@@ -344,12 +398,12 @@ fn show_json<R: AllocGlobal + Print, I: Read + Drop, E: Write>(
     errors: &mut E,
 ) -> Ended {
     match made_of(rt.alloc(), name, form, reader, errors) {
-        Ok(Made { bytes, has_wrong }) => {
+        Ok(BuiltMessages { bytes, has_wrong }) => {
             if bytes.is_empty() {
                 return with_fault(Ended::well(), has_wrong);
             }
             let bytes = bytes.as_slice();
-            let ended = show_bytes(rt, arguments, names, values, name, bytes, errors);
+            let ended = show_bytes(rt, arguments, zone, names, values, name, bytes, errors);
             with_fault(ended, has_wrong)
         }
         Err(Stop::NoMemory) => fail_without_memory(errors),
@@ -376,6 +430,7 @@ fn fail_to_read<I, E: Write>(
 fn show_bytes<R: AllocGlobal + Print, I: Read + Drop, E: Write>(
     rt: &R,
     arguments: &Arguments<'_>,
+    zone: TimeZone<'_>,
     names: &[(u32, &str)],
     mut values: FilterValues<'_, '_>,
     name: &str,
@@ -383,7 +438,16 @@ fn show_bytes<R: AllocGlobal + Print, I: Read + Drop, E: Write>(
     errors: &mut E,
 ) -> Ended {
     if !values.need_day() {
-        return show_filtered(rt, arguments, names, values.filter(), name, reader, errors);
+        return show_filtered(
+            rt,
+            arguments,
+            zone,
+            names,
+            values.filter(),
+            name,
+            reader,
+            errors,
+        );
     }
     let mut reader = Reader::new(reader);
     match first_time(rt.alloc(), &mut reader) {
@@ -392,7 +456,16 @@ fn show_bytes<R: AllocGlobal + Print, I: Read + Drop, E: Write>(
                 values.set_day(time);
             }
             let reader = first.rest().chain(reader.into_inner());
-            show_filtered(rt, arguments, names, values.filter(), name, reader, errors)
+            show_filtered(
+                rt,
+                arguments,
+                zone,
+                names,
+                values.filter(),
+                name,
+                reader,
+                errors,
+            )
         }
         Err(stop) => fail_to_read(rt.alloc(), stop, name, &reader, errors),
     }
@@ -401,6 +474,7 @@ fn show_bytes<R: AllocGlobal + Print, I: Read + Drop, E: Write>(
 fn show_filtered<R: AllocGlobal + Print, I: Read + Drop, E: Write>(
     rt: &R,
     arguments: &Arguments<'_>,
+    zone: TimeZone<'_>,
     names: &[(u32, &str)],
     filter: Filter<'_>,
     name: &str,
@@ -408,7 +482,7 @@ fn show_filtered<R: AllocGlobal + Print, I: Read + Drop, E: Write>(
     errors: &mut E,
 ) -> Ended {
     let alloc = rt.alloc();
-    let options = options_of(arguments, filter, names);
+    let options = options_of(arguments, zone, filter, names);
     let mut reader = Reader::new(reader);
     let mut writer = Writer::new(styled(alloc, arguments, io::writer(rt)));
     if arguments.tree {
@@ -477,12 +551,13 @@ fn print_tree<W: Write, E: Write>(
 fn show_each<R: AllocGlobal + Files + Input + Print, E: Write>(
     rt: &R,
     arguments: &Arguments<'_>,
+    zone: TimeZone<'_>,
     names: &[(u32, &str)],
     filter: Filter<'_>,
     files: &[&str],
     errors: &mut E,
 ) -> Ended {
-    let options = options_of(arguments, filter, names);
+    let options = options_of(arguments, zone, filter, names);
     let mut writer = Writer::new(styled(rt.alloc(), arguments, io::writer(rt)));
     show_each_on(rt, &options, arguments.tree, files, &mut writer, errors)
 }
@@ -758,6 +833,22 @@ fn complain_of_file<E: Write>(
 ) -> Ended {
     say_cause(alloc, errors, path, error);
     Ended::early(Stop::Usage)
+}
+
+// Complains about the time zone of the system, by where it is named.
+fn complain_of_zone<R: AllocGlobal + Env, E: Write>(
+    rt: &R,
+    error: ZoneError,
+    errors: &mut E,
+) -> Ended {
+    if error == ZoneError::OutOfMemory {
+        return fail_without_memory(errors);
+    }
+    let text = match env::var(rt, "TZ") {
+        Ok(zone) => format!(in rt.alloc(); "tcshow: TZ={zone}: {error}\n"),
+        Err(_) => format!(in rt.alloc(); "tcshow: /etc/localtime: {error}\n"),
+    };
+    fail(rt.alloc(), errors, text, Stop::Usage)
 }
 
 // Complains about a line in a file of names.

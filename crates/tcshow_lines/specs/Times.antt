@@ -1,11 +1,13 @@
 -- The time that a line begins with.
-use Rattle.std.specs.Prelude.{List, Option, [], if◌then◌else◌, ℕ, zero, suc, ◌%◌, ◌+◌, ◌-◌, ◌++◌, ◌/◌, ◌==◌, ◌&&◌, ◌||◌, ◌∷◌, Bool, decimal, nat_le}
-use Rattle.std.specs.Prelude.{nat_lt, not, unwrap_or}
+use Rattle.std.specs.Prelude.{List, Option, [], if◌then◌else◌, ℕ, ℤ, zero, suc, pos, negsuc, ◌%◌, ◌+◌, ◌-◌, ◌*◌, ◌++◌, ◌/◌, ◌==◌, ◌&&◌, ◌||◌, ◌∷◌, Bool}
+use Rattle.std.specs.Prelude.{decimal, nat_le, nat_lt, not, unwrap_or}
+use Rattle.jiff_tz.specs.Zone.{offset_at}
+use Rattle.jiff_tz.specs.declared.timezone.TimeZone.{TimeZone}
 use Rattle.tc_capture.specs.declared.time.Time.{Time}
 use Rattle.tc_select.specs.Calendar.{is_leap, month_length, year_length}
 use Rattle.tcshow_lines.specs.declared.times.Place.{Place}
 use Rattle.tcshow_lines.specs.declared.times.TimeFormat.{TimeFormat}
-use Rattle.tcshow_lines.specs.declared.times.TimeFormat.TheVariants.{Clock, Date, Epoch, Delta, Relative}
+use Rattle.tcshow_lines.specs.declared.times.TimeFormat.TheVariants.{Clock, Local, Date, Epoch, Delta, Relative}
 
 -- the last digits of a number in decimal
 abbrev pub two_digits : ℕ → List ℕ
@@ -30,6 +32,22 @@ unfoldable pub clock_text : Bool → Time → List ℕ
 clock_text nine t =
     two_digits (t.seconds / 3600 % 24) ++ (58 ∷ two_digits (t.seconds / 60 % 60))
     ++ ((58 ∷ two_digits (t.seconds % 60)) ++ (46 ∷ fraction nine t.nanoseconds))
+
+-- nanoseconds after the first of January 1970, UTC
+abbrev pub instant : Time → ℕ
+instant t = t.seconds * 1000000000 + t.nanoseconds
+
+-- a count of seconds, so many later, or earlier if the number is below zero
+abbrev pub shifted : ℕ → ℤ → ℕ
+shifted seconds (pos n) = seconds + n
+shifted seconds (negsuc n) = seconds - suc n
+
+-- what a clock in a zone shows: the time in UTC, shifted by the zone's offset at this instant. Two days are added, which change no time of the day, since
+-- a zone can be behind UTC. In the last two days of the year 9999 and later, for which zones need not have offsets, it is the time in UTC.
+unfoldable pub local_time : TimeZone → Time → Time
+local_time zone t =
+    if nat_le 253402128000 t.seconds then t
+    else record { seconds = shifted (t.seconds + 172800) (offset_at zone (pos (instant t))); nanoseconds = t.nanoseconds }
 
 -- seconds, `1764028801.123456`
 abbrev pub epoch_text : Bool → Time → List ℕ
@@ -75,6 +93,7 @@ difference_text nine a b = if is_before b a then 45 ∷ epoch_text nine (time_si
 -- a time in a format with six or nine digits, after messages of which the first and the last had these times
 abbrev pub time_text : TimeFormat → Bool → Option Time → Option Time → Time → List ℕ
 time_text Clock nine first last t = clock_text nine t
+time_text (Local zone) nine first last t = clock_text nine (local_time zone t)
 time_text Date nine first last t = date_text nine t
 time_text Epoch nine first last t = epoch_text nine t
 time_text Delta nine first last t = difference_text nine (unwrap_or last t) t

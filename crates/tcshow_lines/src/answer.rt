@@ -110,11 +110,11 @@ fn put_place_of(
 pub(crate) fn refused(
     alloc: Global,
     past: &Requests,
-    format: TimeFormat,
+    format: TimeFormat<'_>,
     time: &Option<Time>,
     errno: &str,
 ) -> Result<Vec<u8>, AllocError>
-    ensures { IfOk result (λ text. text.items ≡ words_text (timed (time_in format (past_of past.now) time.now) (codes "refused" ∷ errno.now ∷ []))) }
+    ensures { IfOk result (λ text. text.items ≡ words_text (timed (time_in format.entry (past_of past.now) time.now) (codes "refused" ∷ errno.now ∷ []))) }
 {
     let mut text = begin_with(alloc, past, format, time, b"refused")?;
     put_word(&mut text, errno.as_bytes())?;
@@ -125,10 +125,10 @@ pub(crate) fn refused(
 fn told(
     alloc: Global,
     past: &Requests,
-    format: TimeFormat,
+    format: TimeFormat<'_>,
     reply: &Reply<'_>,
 ) -> Result<Vec<u8>, AllocError>
-    ensures { IfOk result (λ text. text.items ≡ words_text (timed (time_in format (past_of past.now) reply.now.request.origin.time)
+    ensures { IfOk result (λ text. text.items ≡ words_text (timed (time_in format.entry (past_of past.now) reply.now.request.origin.time)
         (told_words (reason_of (answer_of reply.now.answer))))) }
 {
     let time = &reply.request.origin.time;
@@ -155,11 +155,11 @@ fn taken_word(reply: &Reply<'_>) -> &'static [u8]
 fn told_text(
     alloc: Global,
     past: &Requests,
-    format: TimeFormat,
+    format: TimeFormat<'_>,
     request: &Message<'_>,
     reply: &Reply<'_>,
 ) -> Result<Vec<u8>, AllocError>
-    ensures { IfOk result (λ text. text.items ≡ told_text (past_of past.now) format (reason_of (answer_of reply.now.answer))
+    ensures { IfOk result (λ text. text.items ≡ told_text (past_of past.now) format.entry (reason_of (answer_of reply.now.answer))
         (message_view reply.now.request) (message_view request.now)) }
 {
     let mut text = told(alloc, past, format, reply)?;
@@ -313,10 +313,10 @@ pub fn lines_of_reply(
     links: &LinkNames,
     past: &Requests,
     statistics: bool,
-    format: TimeFormat,
+    format: TimeFormat<'_>,
     reply: &Reply<'_>,
 ) -> Result<Vec<u8>, AllocError>
-    ensures answer { IfOk result (λ text. IsAnswer (past_of past.now) (names_after interfaces.now links.now) statistics format
+    ensures answer { IfOk result (λ text. IsAnswer (past_of past.now) (names_after interfaces.now links.now) statistics format.entry
         (reason_of (answer_of reply.now.answer)) (message_view reply.now.request) text.items) }
     ensures ended { IfOk result (λ text. IsEnded text.items) }
 {

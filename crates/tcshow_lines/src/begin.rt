@@ -60,10 +60,10 @@ pub(crate) fn put_verb(alloc: Global, out: &mut Vec<u8>, verb: Verb) -> Result<(
 fn time_in(
     alloc: Global,
     past: &Requests,
-    format: TimeFormat,
+    format: TimeFormat<'_>,
     time: &Option<Time>,
 ) -> Result<Option<Vec<u8>>, AllocError>
-    ensures { IfOk result (λ text. option_map (λ t. t.items) text ≡ time_in format (past_of past.now) time.now) }
+    ensures { IfOk result (λ text. option_map (λ t. t.items) text ≡ time_in format.entry (past_of past.now) time.now) }
 {
     match time {
         Some(time) => {
@@ -94,11 +94,11 @@ fn first_word(alloc: Global, time: &Option<Vec<u8>>, word: &[u8]) -> Result<Vec<
 pub(crate) fn begin_with(
     alloc: Global,
     past: &Requests,
-    format: TimeFormat,
+    format: TimeFormat<'_>,
     time: &Option<Time>,
     word: &[u8],
 ) -> Result<Vec<u8>, AllocError>
-    ensures { IfOk result (λ text. text.items ≡ words_text (timed (time_in format (past_of past.now) time.now) (word.now ∷ []))) }
+    ensures { IfOk result (λ text. text.items ≡ words_text (timed (time_in format.entry (past_of past.now) time.now) (word.now ∷ []))) }
 {
     let time = time_in(alloc, past, format, time)?;
     first_word(alloc, &time, word)
@@ -109,11 +109,11 @@ pub(crate) fn begin_with(
 pub(crate) fn begin(
     alloc: Global,
     past: &Requests,
-    format: TimeFormat,
+    format: TimeFormat<'_>,
     time: &Option<Time>,
     verb: Verb,
 ) -> Result<Vec<u8>, AllocError>
-    ensures { IfOk result (λ text. text.items ≡ words_text (timed (time_in format (past_of past.now) time.now) (verb_words verb))) }
+    ensures { IfOk result (λ text. text.items ≡ words_text (timed (time_in format.entry (past_of past.now) time.now) (verb_words verb))) }
 {
     let mut text = begin_with(alloc, past, format, time, word_of(verb).as_bytes())?;
     put_flags(alloc, &mut text, verb)?;

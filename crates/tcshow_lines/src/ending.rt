@@ -177,11 +177,11 @@ fn end_sentence<'m>(message: &NetlinkMessage<'m>) -> Option<&'m [u8]>
 fn end_text(
     alloc: Global,
     past: &Requests,
-    format: TimeFormat,
+    format: TimeFormat<'_>,
     origin: &Origin,
     message: &NetlinkMessage<'_>,
 ) -> Result<Vec<u8>, AllocError>
-    ensures { IfOk result (λ text. text.items ≡ end_text (past_of past.now) format origin.now (message_of message.now)) }
+    ensures { IfOk result (λ text. text.items ≡ end_text (past_of past.now) format.entry origin.now (message_of message.now)) }
 {
     let mut text = ending(alloc, past, format, origin, message)?;
     put_sentence(&mut text, end_sentence(message))?;
@@ -192,12 +192,12 @@ fn end_text(
 fn ending(
     alloc: Global,
     past: &Requests,
-    format: TimeFormat,
+    format: TimeFormat<'_>,
     origin: &Origin,
     message: &NetlinkMessage<'_>,
 ) -> Result<Vec<u8>, AllocError>
     ensures { IfOk result (λ text. text.items
-        ≡ words_text (timed (time_in format (past_of past.now) origin.now.time) (end_words (message_of message.now)))) }
+        ≡ words_text (timed (time_in format.entry (past_of past.now) origin.now.time) (end_words (message_of message.now)))) }
 {
     let error = end_error(message.payload);
     if error == 0 {
@@ -233,11 +233,11 @@ pub fn lines_of_end(
     links: &LinkNames,
     past: &Requests,
     statistics: bool,
-    format: TimeFormat,
+    format: TimeFormat<'_>,
     origin: Origin,
     message: &NetlinkMessage<'_>,
 ) -> Result<Vec<u8>, AllocError>
-    ensures end { IfOk result (λ text. IsEnd (past_of past.now) (names_after interfaces.now links.now) statistics format origin
+    ensures end { IfOk result (λ text. IsEnd (past_of past.now) (names_after interfaces.now links.now) statistics format.entry origin
         (message_of message.now) text.items) }
     ensures ended { is_some (dump_of (past_of past.now) origin (message_of message.now)) ≡ true → IfOk result (λ text. IsEnded text.items) }
 {

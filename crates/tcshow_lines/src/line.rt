@@ -138,10 +138,10 @@ pub fn lines_of_message(
     links: &LinkNames,
     past: &Requests,
     statistics: bool,
-    format: TimeFormat,
+    format: TimeFormat<'_>,
     found: &Message<'_>,
 ) -> Result<Lines, AllocError>
-    ensures lines { IfOk result (λ lines. IsLines (past_of past.now) (names_after interfaces.now links.now) statistics format
+    ensures lines { IfOk result (λ lines. IsLines (past_of past.now) (names_after interfaces.now links.now) statistics format.entry
         (message_view found.now) lines.text.items) }
     ensures ended { IfOk result (λ lines. IsEnded lines.text.items) }
     ensures fault { IfOk result (λ lines. is_some lines.fault ≡ is_some (fault_of (message_view found.now))) }

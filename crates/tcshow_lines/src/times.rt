@@ -1,19 +1,24 @@
 //! The time that a line begins with.
 
-ghost use Rattle.std.specs.Prelude.{◌≡◌, ◌≤◌, ◌++◌, ◌||◌, IfOk, OnOk, unwrap_or};
+ghost use Rattle.std.specs.Prelude.{◌≡◌, ◌<◌, ◌≤◌, ◌++◌, ◌^◌, ◌||◌, IfOk, OnOk, pos, unwrap_or};
 ghost use Rattle.tc_select.specs.Calendar.{is_leap, month_length, year_length};
 ghost use Rattle.tcshow_lines.specs.Times.{clock_text, date_text, day_text, difference_text, epoch_text, four_digits};
-ghost use Rattle.tcshow_lines.specs.Times.{fraction, is_before, is_fine, place_in, three_digits, time_since, time_text, two_digits};
+ghost use Rattle.tcshow_lines.specs.Times.{fraction, instant, is_before, is_fine, local_time, place_in, shifted, three_digits};
+ghost use Rattle.tcshow_lines.specs.Times.{time_since, time_text, two_digits};
 
+use jiff_core::Timestamp;
+use jiff_tz::TimeZone;
 use std::alloc::{AllocError, Global};
 use tc_capture::Time;
 use tc_units::put_decimal;
 
 /// How times are written.
 #[derive(Clone, Copy, PartialEq, Eq, Debug)]
-pub enum TimeFormat {
+pub enum TimeFormat<'z> {
     /// The time of the day in UTC: `14:00:01.123456`.
     Clock,
+    /// The time of the day in a time zone.
+    Local(TimeZone<'z>),
     /// The date and the time of the day in UTC: `2026-11-26T14:00:01.123456Z`.
     Date,
     /// Seconds after the first of January 1970, UTC: `1764028801.123456`.
@@ -102,6 +107,50 @@ fn put_clock(alloc: Global, out: &mut Vec<u8>, nine: bool, time: &Time) -> Resul
 {
     let text = clock_text(alloc, nine, time)?;
     out.extend_from_slice(&text)
+}
+
+// The first second for which a zone may have no offset.
+const LAST_DAYS: u64 = 253_402_128_000;
+
+// A time before it, for a zone.
+fn instant(time: &Time) -> Timestamp
+    requires { time.now.seconds < 253402128000 }
+    ensures { result.nanosecond ≡ pos (instant time.now) }
+{
+    Timestamp {
+        nanosecond: i128::from(time.seconds) * 1_000_000_000 + i128::from(time.nanoseconds),
+    }
+}
+
+// A count of seconds, so many later, or earlier if the number is below zero.
+fn shifted(seconds: u64, offset: i32) -> u64
+    requires { seconds ≤ 2 ^ 63 }
+    ensures { result ≡ shifted seconds offset }
+{
+    let size = u64::from(offset.unsigned_abs());
+    if offset < 0 {
+        seconds.saturating_sub(size)
+    } else {
+        seconds + size
+    }
+}
+
+// More seconds than a zone can be behind UTC, in whole days.
+const TWO_DAYS: u64 = 172_800;
+
+// What a clock in a zone shows.
+#[tactic(auto, unfolding(crate::specs::Times::local_time))]
+fn local_time(zone: &TimeZone<'_>, time: &Time) -> Time
+    ensures { result ≡ local_time zone.now time.now }
+{
+    if time.seconds >= LAST_DAYS {
+        return *time;
+    }
+    let offset = zone.to_offset(instant(time));
+    Time {
+        seconds: shifted(time.seconds + TWO_DAYS, offset.seconds),
+        nanoseconds: time.nanoseconds,
+    }
 }
 
 // Appends seconds with a fraction.
@@ -253,13 +302,13 @@ fn put_difference(out: &mut Vec<u8>, nine: bool, a: &Time, b: &Time) -> Result<(
 /// A time in a format with nine digits or six, after messages with these first and last times.
 pub(crate) fn time_text(
     alloc: Global,
-    format: TimeFormat,
+    format: TimeFormat<'_>,
     nine: bool,
     first: &Option<Time>,
     last: &Option<Time>,
     time: &Time,
 ) -> Result<Vec<u8>, AllocError>
-    ensures { IfOk result (λ text. text.items ≡ time_text format nine first.now last.now time.now) }
+    ensures { IfOk result (λ text. text.items ≡ time_text format.entry nine first.now last.now time.now) }
 {
     let mut text = Vec::with_capacity(alloc, 32)?;
     put_time(alloc, &mut text, format, nine, first, last, time)?;
@@ -269,16 +318,17 @@ pub(crate) fn time_text(
 fn put_time(
     alloc: Global,
     out: &mut Vec<u8>,
-    format: TimeFormat,
+    format: TimeFormat<'_>,
     nine: bool,
     first: &Option<Time>,
     last: &Option<Time>,
     time: &Time,
 ) -> Result<(), AllocError>
-    ensures { OnOk result (out.new.items ≡ out.old.items ++ time_text format nine first.now last.now time.now) }
+    ensures { OnOk result (out.new.items ≡ out.old.items ++ time_text format.entry nine first.now last.now time.now) }
 {
     match format {
         TimeFormat::Clock => put_clock(alloc, out, nine, time),
+        TimeFormat::Local(zone) => put_clock(alloc, out, nine, &local_time(&zone, time)),
         TimeFormat::Date => put_date(alloc, out, nine, time),
         TimeFormat::Epoch => put_epoch(out, nine, time),
         TimeFormat::Delta => put_after(out, nine, last, time),

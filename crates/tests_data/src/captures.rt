@@ -126,7 +126,7 @@ fn put_numbers(file: &mut Vec<u8>, is_big: bool, numbers: &[u32]) -> Result<(), 
     Ok(())
 }
 
-// Appends messages behind the cooked header of LINKTYPE_NETLINK for NETLINK_ROUTE.
+// Appends messages after the cooked header of LINKTYPE_NETLINK for NETLINK_ROUTE.
 fn put_cooked(file: &mut Vec<u8>, messages: &[u8]) -> Result<(), AllocError> {
     file.extend_from_slice(&[0, 4, 3, 0x38, 0, 0, 0, 0, 0, 0, 0, 0, 0, 0, 0, 0])?;
     file.extend_from_slice(messages)

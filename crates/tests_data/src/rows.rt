@@ -56,7 +56,7 @@ static MADE: [&str; 69] = [
     "tc zeros ingress 04000200 = yes yes yes",
     "tc zeros ingress 0c0002000800010005000000 = yes yes yes",
     "tc zeros matchall 0c0002000800030001000000 = yes yes yes",
-    // an action with its kind behind its index; with a flag in its word
+    // an action with its kind after its index; with a flag in its word
     "action zeros 18000100140001000800030005000000080001006e617400 = yes yes yes",
     "action zeros 18000100140001800800030005000000080001006e617400 = yes yes no zeros 18000100140001000800030005000000080001006e617400",
     // an action without a kind, with a broken attribute, and with two kinds and an index of a byte; a broken action
@@ -92,7 +92,7 @@ static MADE: [&str; 69] = [
     "tc zeros flower 1c000200180063801400018005000100010000000800050045230100 = yes yes yes",
     "tc zeros flower 1c000200180063001400018005000100010000000800050045230100 \
 = yes yes no zeros flower 1c000200180063801400018005000100010000000800050045230100",
-    // an attribute of one byte without its padding, and two bytes behind an attribute
+    // an attribute of one byte without its padding, and two bytes after an attribute
     "tc zeros 05000c0001 = yes yes no zeros 05000c0001000000",
     "tc zeros 08000b0007000000aabb = FrameHeaderShort",
     // statistics of fq_codel: too short, without their record, of an unknown number, and of a class with twelve bytes more

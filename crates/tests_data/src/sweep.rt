@@ -45,7 +45,7 @@ fn as_option(alloc: Global, kind: &[u8], swept: &[u8]) -> Result<Input, AllocErr
     Input::of_frames(alloc, Form::Tc, &[kind, &options])
 }
 
-// What begins an attribute of type 1 with so many bytes behind it.
+// What begins an attribute of type 1 with so many bytes after it.
 fn front(length: usize) -> [u8; 4] {
     let length = u16::try_from(length.saturating_add(4)).unwrap_or(u16::MAX);
     let [low, high] = length.to_le_bytes();

@@ -43,11 +43,14 @@ mod tcsave;
 #[path = "../../erase/shims/user.rs"]
 #[allow(dead_code)] // what tests use besides
 mod user;
+#[path = "../../erase/shims/zones.rs"]
+mod zones;
 
 use ::itoa;
 use serde::json as serde_json;
 use small::arrayvec;
 use user::memchr;
+use zones::{jiff_core, jiff_tz};
 
 // The erased crates, each a private module.
 include!(concat!(env!("OUT_DIR"), "/programs.rs"));

@@ -11,6 +11,7 @@ pub(crate) const STOOD_FOR: &[(&str, &str)] = &[
     ("forms_text::repeated", ""),
     ("program_io::copied", "pub(crate) use crate::host::{copied, copied_if_any};"),
     ("tc_lines::log", ""),
+    ("tcshow_lib::zone", "pub(crate) use crate::zones::{SystemZone, ZoneError};"),
 ];
 
 /// Classes of words: types of allocators, the names of their values, traits that only contracts name (one that isn't listed stays
@@ -271,8 +272,8 @@ pub(crate) const CORE: &[&str] = &["cmp", "convert", "error", "fmt", "hash", "it
 pub(crate) const STD: &[&str] = &["collections", "hash", "process"];
 
 /// Modules of the shims, beside those crates that one stands for.
-pub(crate) const MODULES: &[&str] = &["fallible", "host", "jsontext", "serde", "strict", "user"];
-pub(crate) const SHIMS: &[&str] = &["arrayvec", "bitflags", "clap", "hex", "itoa", "memchr", "serde", "serde_json"];
+pub(crate) const MODULES: &[&str] = &["fallible", "host", "jsontext", "serde", "strict", "user", "zones"];
+pub(crate) const SHIMS: &[&str] = &["arrayvec", "bitflags", "clap", "hex", "itoa", "jiff_core", "jiff_tz", "memchr", "serde", "serde_json"];
 
 /// Words that would be left of a form that no rule knows.
 pub(crate) const UNKNOWN: &[&str] =

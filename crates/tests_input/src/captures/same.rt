@@ -63,7 +63,7 @@ fn count_of(bytes: &[u8]) -> u32 {
     count
 }
 
-// Messages, one behind the other.
+// Messages, one after the other.
 fn joined(alloc: Global, messages: &[Vec<u8>]) -> Result<Vec<u8>, AllocError> {
     let mut packet = Vec::new(alloc);
     for message in messages {

@@ -108,7 +108,10 @@ static TCLASS_FQ_CODEL: Known = Known {
     line: &[
         "is class fq_codel 10:26 dev 7 parent 10:",
     ],
-    counted: &[],
+    counted: &[
+        "is class fq_codel 10:26 dev 7 parent 10: ; sent 0B 0p dropped 0 overlimits 0 backlog 14766B 23p deficit=872B ldelay=1us rest=000000000000000",
+        "000000000",
+    ],
 };
 
 // tdc61.note.newtclass.hfsc.0001
@@ -233,7 +236,9 @@ static TCLASS_QFQ: Known = Known {
     line: &[
         "new class qfq 1:1 dev 4 root weight 100 maxpkt 1514B by 21644",
     ],
-    counted: &[],
+    counted: &[
+        "new class qfq 1:1 dev 4 root weight 100 maxpkt 1514B by 21644 ; sent 0B 0p dropped 0 overlimits 0 backlog 0B 0p weight=100 lmax=1514B",
+    ],
 };
 
 // tdc61.answer.newtclass.taprio.0001

@@ -1,5 +1,5 @@
 //! Lines of messages that show a rule: keys of u32 within an extended match, two actions in a message, long lists, values of a wrong length, counts of flushed
-//! actions.
+//! actions, statistics of a kind that differ.
 
 use super::known::Known;
 use tc_brief::Object;
@@ -97,6 +97,28 @@ static CUT_COMMAND: Known = Known {
     counted: &[],
 };
 
+// Statistics of a class of fq_codel, and older ones with another deficit.
+#[rattlefmt::skip]
+static OTHER_STATISTICS: Known = Known {
+    root: Root::Class,
+    object: Object::Class,
+    verb: "is",
+    port: 0,
+    digits: &[
+        "00000000070000002600100000001000000000000d00010066715f636f64656c00000000040009004c000700040006001800030017000000ae39000000000000000000000000",
+        "00002c00040001000000680300000100000000000000000000000000000000000000000000000000000000000000040009002c00030000000000000000000000000000000000",
+        "00000000000000000000000017000000ae39000000000000040009002c0004000100000067030000010000000000000000000000000000000000000000000000000000000000",
+        "0000",
+    ],
+    line: &[
+        "is class fq_codel 10:26 dev 7 parent 10:",
+    ],
+    counted: &[
+        "is class fq_codel 10:26 dev 7 parent 10: ; sent 0B 0p dropped 0 overlimits 0 backlog 14766B 23p deficit=872B ldelay=1us rest=000000000000000",
+        "000000000 deficit=871B ldelay=1us rest=000000000000000000000000",
+    ],
+};
+
 // The kernel's answer to a flush: how many actions it deleted, and the same of three bytes.
 #[rattlefmt::skip]
 static FLUSHED: Known = Known {
@@ -122,13 +144,14 @@ static FLUSHED_CUT: Known = Known {
 
 /// All of them.
 #[rattlefmt::skip]
-pub(crate) fn all() -> [&'static Known; 7] {
+pub(crate) fn all() -> [&'static Known; 8] {
     [
         &FILTER_BASIC_U32,
         &ACTIONS_BEFORE_KINDS,
         &TABLES_OF_NETEM,
         &CUT_NUMBERS,
         &CUT_COMMAND,
+        &OTHER_STATISTICS,
         &FLUSHED,
         &FLUSHED_CUT,
     ]

@@ -2,7 +2,7 @@
 
 use crate::make::runs::made;
 use std::test::Fail;
-use tcmake_lib::arguments::request_of;
+use tcmake_lib::arguments::options_of;
 
 // What kernels dumped and `tc` asked for, each line of which is made into a request, is left out or gets a complaint.
 #[rattlefmt::skip]
@@ -41,8 +41,8 @@ static REQUESTS: &str = "\
 #[test]
 fn requests_of_dumps(rt: HostRuntime) -> Result<(), Fail> {
     let alloc = rt.alloc();
-    let request = request_of(alloc, &["tcmake", "--request"])?;
-    let run = made(alloc, &request, DUMPS.as_bytes());
+    let options = options_of(alloc, &["tcmake", "--request"])?;
+    let run = made(alloc, &options, DUMPS.as_bytes());
     assert!(rt; run.status == 1 && run.written.as_slice() == REQUESTS.as_bytes());
     Ok(())
 }
@@ -66,11 +66,11 @@ static IN_ORDER_OF_LINES: &str = "\
 #[test]
 fn requests_in_both_orders(rt: HostRuntime) -> Result<(), Fail> {
     let alloc = rt.alloc();
-    let request = request_of(alloc, &["tcmake", "--request"])?;
-    let run = made(alloc, &request, SHARED.as_bytes());
+    let options = options_of(alloc, &["tcmake", "--request"])?;
+    let run = made(alloc, &options, SHARED.as_bytes());
     assert!(rt; run.status == 0 && run.written.as_slice() == IN_DEFAULT_ORDER.as_bytes());
-    let request = request_of(alloc, &["tcmake", "--request", "--in-order"])?;
-    let run = made(alloc, &request, SHARED.as_bytes());
+    let options = options_of(alloc, &["tcmake", "--request", "--in-order"])?;
+    let run = made(alloc, &options, SHARED.as_bytes());
     assert!(rt; run.status == 0 && run.written.as_slice() == IN_ORDER_OF_LINES.as_bytes());
     Ok(())
 }
@@ -87,6 +87,6 @@ static NO_REQUESTS: [&[&str]; 5] = [
 #[test]
 fn options_of_requests_alone(rt: HostRuntime) {
     for words in &NO_REQUESTS {
-        assert!(rt; request_of(rt.alloc(), *words).is_err(), "{words:?}");
+        assert!(rt; options_of(rt.alloc(), *words).is_err(), "{words:?}");
     }
 }

@@ -2,7 +2,7 @@
 
 use crate::make::runs::{HEX, PCAP, STREAM, makes, makes_line};
 use std::alloc::Global;
-use tcmake_lib::arguments::Request;
+use tcmake_lib::arguments::Options;
 
 // Two messages of one packet, and an answer of the kernel between them; a message of the next; one of the same number at another
 // time; one without a number; one that says nothing but its type.
@@ -33,14 +33,14 @@ static CAPTURE: &str =
 // True if a run over lines ends with this status, having written the bytes of this hex and said this.
 fn makes_bytes(
     alloc: Global,
-    request: &Request,
+    options: &Options,
     lines: &str,
     status: u8,
     digits: &str,
     said: &str,
 ) -> bool {
     match hex::decode(alloc, digits) {
-        Ok(bytes) => makes(alloc, request, lines.as_bytes(), status, &bytes, said),
+        Ok(bytes) => makes(alloc, options, lines.as_bytes(), status, &bytes, said),
         Err(_) => false,
     }
 }

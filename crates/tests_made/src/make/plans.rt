@@ -10,10 +10,10 @@ use std::test::Fail;
 use tc_capture::{MessageType, Time};
 use tc_changes::Key;
 use tc_objects::KindRules;
-use tcmake_lib::arguments::{Request, arguments_of};
-use tcmake_lib::order::Asked;
+use tcmake_lib::arguments::{Options, arguments_of};
+use tcmake_lib::order::RequestOptions;
 use tcmake_lib::plans::plan_of_dumps;
-use tcmake_lib::program::serve_asked;
+use tcmake_lib::program::serve_with;
 use tcmake_lines::{NetlinkHeader, packet_at};
 use tcmake_requests::order::LineRequest;
 
@@ -93,8 +93,8 @@ const ADD_HTB: &str = "\
 fn planned(alloc: Global, now: &str, want: &str) -> Result<Outcome, Fail> {
     let words = ["tcmake", "--plan", "now.json"];
     let arguments = arguments_of(alloc, &words)?;
-    let request: Request = arguments.request;
-    let asked = Asked {
+    let options: Options = arguments.options;
+    let requests = RequestOptions {
         index: None,
         now: Some(now.as_bytes()),
         plans: arguments.plans,
@@ -104,11 +104,11 @@ fn planned(alloc: Global, now: &str, want: &str) -> Result<Outcome, Fail> {
     let mut reader = BufReader::new(alloc, Reader::new(want.as_bytes()))?;
     let mut writer = Writer::new(Vec::new(alloc));
     let mut errors = Vec::new(alloc);
-    let ended = serve_asked(
+    let ended = serve_with(
         alloc,
         FORMS,
-        &request,
-        &asked,
+        &options,
+        &requests,
         &mut reader,
         &mut writer,
         &mut errors,

@@ -4,7 +4,7 @@ use forms_kinds::{ACTION_MESSAGE, TC_MESSAGE, TcTables};
 use program_io::{Reader, Writer};
 use std::alloc::Global;
 use std::io::BufReader;
-use tcmake_lib::arguments::Request;
+use tcmake_lib::arguments::Options;
 use tcmake_lib::program::serve;
 use tcmake_lines::OutputFormat;
 use tcmake_messages::{Forms, Making};
@@ -16,8 +16,8 @@ pub(crate) const FORMS: Forms<TcTables> = Forms {
     action: ACTION_MESSAGE,
 };
 
-/// The request without arguments.
-pub(crate) const HEX: Request = Request {
+/// The options without arguments.
+pub(crate) const HEX: Options = Options {
     form: OutputFormat::Hex,
     making: Making::Checked,
     in_order: false,
@@ -26,7 +26,7 @@ pub(crate) const HEX: Request = Request {
 };
 
 /// A capture instead of lines of hex.
-pub(crate) const PCAP: Request = Request {
+pub(crate) const PCAP: Options = Options {
     form: OutputFormat::Capture,
     making: Making::Checked,
     in_order: false,
@@ -35,7 +35,7 @@ pub(crate) const PCAP: Request = Request {
 };
 
 /// Messages one after the other instead of lines of hex.
-pub(crate) const STREAM: Request = Request {
+pub(crate) const STREAM: Options = Options {
     form: OutputFormat::Stream,
     making: Making::AsGiven,
     in_order: false,
@@ -44,8 +44,8 @@ pub(crate) const STREAM: Request = Request {
 };
 
 /// Messages without a netlink header, made so.
-pub(crate) fn bare(making: Making) -> Request {
-    Request {
+pub(crate) fn bare(making: Making) -> Options {
+    Options {
         form: OutputFormat::Bare,
         making,
         in_order: false,
@@ -63,14 +63,14 @@ pub(crate) struct Outcome {
 }
 
 /// A run over lines.
-pub(crate) fn made(alloc: Global, request: &Request, lines: &[u8]) -> Outcome {
+pub(crate) fn made(alloc: Global, options: &Options, lines: &[u8]) -> Outcome {
     let mut writer = Writer::new(Vec::new(alloc));
     let mut errors = Vec::new(alloc);
     let status = match BufReader::new(alloc, Reader::new(lines)) {
         Ok(mut reader) => serve(
             alloc,
             FORMS,
-            request,
+            options,
             &mut reader,
             &mut writer,
             &mut errors,
@@ -87,13 +87,13 @@ pub(crate) fn made(alloc: Global, request: &Request, lines: &[u8]) -> Outcome {
 /// True if a run over lines ends with this status, having written these bytes and said this.
 pub(crate) fn makes(
     alloc: Global,
-    request: &Request,
+    options: &Options,
     lines: &[u8],
     status: u8,
     written: &[u8],
     errors: &str,
 ) -> bool {
-    let run = made(alloc, request, lines);
+    let run = made(alloc, options, lines);
     run.status == status
         && run.written.as_slice() == written
         && run.errors.as_slice() == errors.as_bytes()
@@ -111,12 +111,12 @@ pub(crate) fn is_line(bytes: &[u8], start: &str, text: &str) -> bool {
 /// there is anything to say.
 pub(crate) fn makes_line(
     alloc: Global,
-    request: &Request,
+    options: &Options,
     line: &str,
     hex: &str,
     said: &str,
 ) -> bool {
-    let run = made(alloc, request, line.as_bytes());
+    let run = made(alloc, options, line.as_bytes());
     let is_written = if hex.is_empty() {
         run.status == 1 && run.written.is_empty()
     } else {

@@ -4,9 +4,9 @@ use crate::make::runs::FORMS;
 use program_io::{Reader, Writer};
 use std::alloc::Global;
 use std::io::BufReader;
-use tcmake_lib::arguments::{Request, arguments_of};
-use tcmake_lib::order::Asked;
-use tcmake_lib::program::serve_asked;
+use tcmake_lib::arguments::{Options, arguments_of};
+use tcmake_lib::order::RequestOptions;
+use tcmake_lib::program::serve_with;
 use tcmake_lines::OutputFormat;
 use tcmake_messages::Making;
 
@@ -78,12 +78,12 @@ const FILTER_REQUESTS: &str = "\
 000000000200000002000000f2ffffff000359010d0001006d61746368616c6c0000000008000b00000000003c00020038000200340001000b0001006d69727265640000240002802000020000000000000000000300000000000000000000000200000003000000
 ";
 
-// The request of the second action behind its netlink header: with NLM_F_CREATE and NLM_F_EXCL (0x605), and with NLM_F_REPLACE and NLM_F_CREATE (0x505).
+// The request of the second action after its netlink header: with NLM_F_CREATE and NLM_F_EXCL (0x605), and with NLM_F_REPLACE and NLM_F_CREATE (0x505).
 const MAKES: &str = "4c000000300005061d00000000000000";
 
 const CHANGES: &str = "4c000000300005051d00000000000000";
 
-const BARE: Request = Request {
+const BARE: Options = Options {
     form: OutputFormat::Bare,
     making: Making::Restored,
     in_order: false,
@@ -91,7 +91,7 @@ const BARE: Request = Request {
     verbose: false,
 };
 
-const HEX: Request = Request {
+const HEX: Options = Options {
     form: OutputFormat::Hex,
     making: Making::Restored,
     in_order: false,
@@ -99,7 +99,7 @@ const HEX: Request = Request {
     verbose: true,
 };
 
-const ALONE: Asked<'static> = Asked {
+const ALONE: RequestOptions<'static> = RequestOptions {
     index: None,
     now: None,
     plans: false,
@@ -108,8 +108,8 @@ const ALONE: Asked<'static> = Asked {
 };
 
 // What is asked for where this is what there is now.
-fn now(lines: &str, replaces_actions: bool) -> Asked<'_> {
-    Asked {
+fn now(lines: &str, replaces_actions: bool) -> RequestOptions<'_> {
+    RequestOptions {
         index: None,
         now: Some(lines.as_bytes()),
         plans: false,
@@ -119,8 +119,8 @@ fn now(lines: &str, replaces_actions: bool) -> Asked<'_> {
 }
 
 // What is asked for where interfaces have these names now.
-fn named<'a>(names: &'a [(u32, &'a str)]) -> Asked<'a> {
-    Asked {
+fn named<'a>(names: &'a [(u32, &'a str)]) -> RequestOptions<'a> {
+    RequestOptions {
         index: None,
         now: None,
         plans: false,
@@ -132,8 +132,8 @@ fn named<'a>(names: &'a [(u32, &'a str)]) -> Asked<'a> {
 // True if a run over these parts of an input ends with this status, having written these texts one after the other and said this.
 fn makes(
     alloc: Global,
-    request: &Request,
-    asked: &Asked<'_>,
+    options: &Options,
+    requests: &RequestOptions<'_>,
     input: &[&str],
     status: u8,
     written: &[&str],
@@ -146,11 +146,11 @@ fn makes(
             };
             let mut output = Writer::new(Vec::new(alloc));
             let mut errors = Vec::new(alloc);
-            let ended = serve_asked(
+            let ended = serve_with(
                 alloc,
                 FORMS,
-                request,
-                asked,
+                options,
+                requests,
                 &mut reader,
                 &mut output,
                 &mut errors,
@@ -212,12 +212,12 @@ static BROKEN: [(&[&str], &str); 5] = [
     ),
     (
         &[QDISCS, HEAD, "{\"end\":0}\n"],
-        "tcmake: line 3: the first line of a save behind other lines\n\
+        "tcmake: line 3: the first line of a save after other lines\n\
 tcmake: line 4: the last line of a save, whose first line is missing\n",
     ),
     (
         &[HEAD, "{\"end\":0}\n", ACTIONS],
-        "tcmake: line 3: a line behind the last line of a save\n",
+        "tcmake: line 3: a line after the last line of a save\n",
     ),
 ];
 

@@ -4,7 +4,7 @@ use crate::make::runs::{FORMS, HEX, Outcome, PCAP, made};
 use program_io::{Reader, Writer};
 use std::alloc::Global;
 use std::io::{BufReader, ErrorKind, Result};
-use tcmake_lib::arguments::Request;
+use tcmake_lib::arguments::Options;
 use tcmake_lib::program::serve;
 use tests_data::streams::{Stream, calls, slowly};
 
@@ -16,7 +16,7 @@ static LINES: &str =
 // A run over lines, by such streams.
 fn run(
     alloc: Global,
-    request: &Request,
+    options: &Options,
     lines: &str,
     reader: Stream,
     writer: Stream,
@@ -25,7 +25,7 @@ fn run(
     let mut from = BufReader::with_capacity(alloc, 64, Reader::new(from))?;
     let mut to = Writer::new(slowly(Vec::new(alloc), writer));
     let mut errors = Vec::new(alloc);
-    let ended = serve(alloc, FORMS, request, &mut from, &mut to, &mut errors);
+    let ended = serve(alloc, FORMS, options, &mut from, &mut to, &mut errors);
     Ok(Outcome {
         status: ended.status(),
         written: to.into_inner().inner,
@@ -34,8 +34,8 @@ fn run(
 }
 
 // True if these bytes are the front of what is written of lines where no stream fails.
-fn is_front(alloc: Global, request: &Request, lines: &str, bytes: &[u8]) -> bool {
-    made(alloc, request, lines.as_bytes())
+fn is_front(alloc: Global, options: &Options, lines: &str, bytes: &[u8]) -> bool {
+    made(alloc, options, lines.as_bytes())
         .written
         .starts_with(bytes)
 }
@@ -44,16 +44,16 @@ fn is_front(alloc: Global, request: &Request, lines: &str, bytes: &[u8]) -> bool
 // another status or complaint.
 fn written(
     alloc: Global,
-    request: &Request,
+    options: &Options,
     lines: &str,
     streams: (Stream, Stream),
     end: (u8, &str),
 ) -> Option<usize> {
-    match run(alloc, request, lines, streams.0, streams.1) {
+    match run(alloc, options, lines, streams.0, streams.1) {
         Ok(run) => {
             let is_so = run.status == end.0
                 && run.errors.as_slice() == end.1.as_bytes()
-                && is_front(alloc, request, lines, &run.written);
+                && is_front(alloc, options, lines, &run.written);
             if is_so { Some(run.written.len()) } else { None }
         }
         Err(_) => None,

@@ -18,7 +18,7 @@ enum Way {
     Action,
 }
 
-// A header, the kind fq_codel, and its options: the limit 10240, with NLA_F_NESTED, and padding behind the kind that isn't zeros.
+// A header, the kind fq_codel, and its options: the limit 10240, with NLA_F_NESTED, and padding after the kind that isn't zeros.
 const LIMIT: &str =
     r#"{"header":{"family":"Unspec","index":2,"handle":"1:","parent":"root","info":0},"attributes":[
     {"Kind":"fq_codel","pad":"010203"},{"Options":[{"FqCodel":{"Limit":10240,"word":32770}}]}]}"#;

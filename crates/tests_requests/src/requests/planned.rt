@@ -5,8 +5,8 @@ use std::alloc::{AllocError, Global};
 use std::test::Fail;
 use tc_action_messages::TcActionMessageAttribute;
 use tc_plan::{
-    Entry, Fate, Item, Key, Order, Reason, Step, circle, entry_of, entry_of_actions,
-    made_by_filters, offloaded_by, plan, shared_action,
+    Dependencies, Fate, Item, Key, Order, Reason, Step, circle, dependencies_of,
+    dependencies_of_actions, made_by_filters, offloaded_by, plan, shared_action,
 };
 use tc_restore::{Object, RestoreError};
 
@@ -248,37 +248,42 @@ const SHARED: &[(Dump, &str)] = &[
     ),
 ];
 
-fn entry_of_object(
+fn object_dependencies(
     alloc: Global,
     place: usize,
     object: Object,
     digits: &str,
-) -> Result<Entry<Global>, Fail> {
+) -> Result<Dependencies<Global>, Fail> {
     let dump = tc_message(alloc, digits)?;
-    Ok(entry_of(alloc, place, Fate::Request, object, &[], &dump)?)
+    Ok(dependencies_of(alloc, place, Fate::Request, object, &[], &dump)?)
 }
 
-fn entry_of_dumped_actions(
+fn action_dependencies(
     alloc: Global,
     place: usize,
     fate: Fate,
     digits: &str,
-) -> Result<Entry<Global>, Fail> {
+) -> Result<Dependencies<Global>, Fail> {
     let dump = action_message(alloc, digits)?;
-    Ok(entry_of_actions(alloc, place, fate, &dump)?)
+    Ok(dependencies_of_actions(alloc, place, fate, &dump)?)
 }
 
 // A dump, as a plan has to know it.
-fn entry(alloc: Global, place: usize, dump: Dump, digits: &str) -> Result<Entry<Global>, Fail> {
+fn dumped(
+    alloc: Global,
+    place: usize,
+    dump: Dump,
+    digits: &str,
+) -> Result<Dependencies<Global>, Fail> {
     match dump {
-        Dump::Qdisc => entry_of_object(alloc, place, Object::Qdisc, digits),
-        Dump::Class => entry_of_object(alloc, place, Object::Class, digits),
-        Dump::Chain => entry_of_object(alloc, place, Object::Chain, digits),
-        Dump::Filter => entry_of_object(alloc, place, Object::Filter, digits),
-        Dump::Actions => entry_of_dumped_actions(alloc, place, Fate::Request, digits),
+        Dump::Qdisc => object_dependencies(alloc, place, Object::Qdisc, digits),
+        Dump::Class => object_dependencies(alloc, place, Object::Class, digits),
+        Dump::Chain => object_dependencies(alloc, place, Object::Chain, digits),
+        Dump::Filter => object_dependencies(alloc, place, Object::Filter, digits),
+        Dump::Actions => action_dependencies(alloc, place, Fate::Request, digits),
         Dump::RefusedActions => {
             let fate = Fate::Refused(Reason::Restore(RestoreError::GotoChain));
-            entry_of_dumped_actions(alloc, place, fate, digits)
+            action_dependencies(alloc, place, fate, digits)
         }
     }
 }
@@ -326,11 +331,11 @@ fn shared_actions_of_offloaded_filters(rt: HostRuntime) -> Result<(), Fail> {
 }
 
 fn planned(alloc: Global, rows: &[(Dump, &str)]) -> Result<Order<Item, Key, Global>, Fail> {
-    let mut entries = Vec::new(alloc);
+    let mut dumps = Vec::new(alloc);
     for (place, (dump, digits)) in rows.iter().enumerate() {
-        entries.push(entry(alloc, place, *dump, digits)?)?;
+        dumps.push(dumped(alloc, place, *dump, digits)?)?;
     }
-    Ok(plan(alloc, entries)?)
+    Ok(plan(alloc, dumps)?)
 }
 
 // True if steps have these places.
@@ -493,14 +498,14 @@ static INGRESS: [&str; 2] = [
 
 // True if the chain is made by its filter, where these interfaces have ingress.
 fn is_one_chain(alloc: Global, ingress: &[i32]) -> Result<bool, Fail> {
-    let mut entries = Vec::new(alloc);
+    let mut dumps = Vec::new(alloc);
     let objects = [Object::Chain, Object::Filter];
     for (place, (object, digits)) in objects.iter().zip(INGRESS.iter()).enumerate() {
         let dump = tc_message(alloc, digits)?;
-        let entry = entry_of(alloc, place, Fate::Request, *object, ingress, &dump)?;
-        entries.push(entry)?;
+        let dependencies = dependencies_of(alloc, place, Fate::Request, *object, ingress, &dump)?;
+        dumps.push(dependencies)?;
     }
-    let made = plan(alloc, entries)?;
+    let made = plan(alloc, dumps)?;
     Ok(made.sorted.iter().any(|step| step.item.fate == Fate::Made))
 }
 

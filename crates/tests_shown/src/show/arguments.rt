@@ -2,15 +2,15 @@
 
 use std::alloc::Global;
 use tc_capture::MessageType;
-use tcshow_lib::arguments::{Arguments, Colours, Task, arguments_of};
-use tcshow_lib::options::{OutputFormat, TimeFormat};
+use tcshow_lib::arguments::{Arguments, Colours, Task, TimeChoice, arguments_of};
+use tcshow_lib::options::OutputFormat;
 
 // A part of the arguments.
 #[derive(Clone, Copy)]
 enum Part {
     Task(Task<'static>),
     Format(OutputFormat),
-    Time(TimeFormat),
+    Time(TimeChoice),
     Acks,
     Example,
     Files(&'static [&'static str]),
@@ -63,7 +63,7 @@ fn has(arguments: &Arguments<'_>, part: Part) -> bool {
 fn is_default(arguments: &Arguments<'_>) -> bool {
     arguments.format == OutputFormat::Lines(false)
         && arguments.files.is_empty()
-        && arguments.time == TimeFormat::Clock
+        && arguments.time == TimeChoice::Clock
         && !arguments.acks
         && !arguments.example
         && arguments.names.is_none()
@@ -84,7 +84,7 @@ fn chooses_all(arguments: &Arguments<'_>) -> bool {
 }
 
 // Words, and what they say.
-static WORDS: [(&[&str], &[Part]); 18] = [
+static WORDS: [(&[&str], &[Part]); 19] = [
     (&["tcshow"], &[Part::Defaults]),
     (
         &["tcshow", "-s"],
@@ -95,13 +95,17 @@ static WORDS: [(&[&str], &[Part]); 18] = [
         &["tcshow", "-s", "--time", "delta", "--acks"],
         &[
             Part::Format(OutputFormat::Lines(true)),
-            Part::Time(TimeFormat::Delta),
+            Part::Time(TimeChoice::Delta),
             Part::Acks,
         ],
     ),
     (
+        &["tcshow", "--time", "local"],
+        &[Part::Time(TimeChoice::Local)],
+    ),
+    (
         &["tcshow", "--time", "date", "--example"],
-        &[Part::Time(TimeFormat::Date), Part::Example],
+        &[Part::Time(TimeChoice::Date), Part::Example],
     ),
     (
         &[
@@ -218,7 +222,7 @@ static OTHERS: [(&[&str], i32); 15] = [
     (&["tcshow", "-s", "--json"], 2),
     (&["tcshow", "--time", "date", "--outline"], 2),
     (&["tcshow", "--acks", "--json"], 2),
-    (&["tcshow", "--time", "local"], 2),
+    (&["tcshow", "--time", "zone"], 2),
     (&["tcshow", "--example", "a"], 2),
     (&["tcshow", "--lines"], 2),
     (&["tcshow", "--no-header", "qdisc"], 2),

@@ -166,7 +166,7 @@ fn is_refused(alloc: Global, capture: &str, complaint: &str) -> bool {
 
 #[test]
 #[rattlefmt::skip]
-fn zeros_behind_messages(rt: HostRuntime) {
+fn zeros_after_messages(rt: HostRuntime) {
     let alloc = rt.alloc();
     assert!(rt; is_shown(alloc, ZEROS, 0, &[TIMED]));
     assert!(rt; is_shown(alloc, BROKEN_IN_PACKET, 1, &[TIMED, "byte 120: malformed: message length 15 under 16\n", TIMED]));

@@ -1,12 +1,14 @@
 //! Filters of messages.
 
-use crate::show::runs::{Written, all_in, gives, is_written};
+use crate::show::runs::{Written, all_in, gives, gives_of_hex, is_written};
+use jiff_tz::posix;
 use std::alloc::Global;
+use tc_select::Filter;
 use tcshow_lib::arguments::{Arguments, arguments_of};
 use tcshow_lib::filter::{FilterError, FilterValues};
 use tcshow_lib::kinds::explain;
 use tcshow_lib::names::names_in;
-use tcshow_lib::options::{OutputFormat, options_of};
+use tcshow_lib::options::{OutputFormat, TimeZone, options_of};
 
 // What Linux answered tc, a message a line: a qdisc of bfifo, handle 1:; a filter of u32 with an action of mirred, handle 80d::800, parent
 // 1:, chain 0, priority 14, index 7; one of flower with such an action, handle 0x1, priority 49152, chain 0, index 3; such an action alone; a
@@ -48,7 +50,7 @@ fn gives_by(
 ) -> bool {
     match FilterValues::of_arguments(alloc, arguments, names) {
         Ok(values) => {
-            let options = options_of(arguments, values.filter(), names);
+            let options = options_of(arguments, TimeZone::UTC, values.filter(), names);
             gives(alloc, &options, input, status, written, "")
         }
         Err(_) => false,
@@ -149,6 +151,29 @@ fn times(rt: HostRuntime) {
             "{words:?}"
         );
     }
+}
+
+// True if the capture has a line in local time, by this rule of a time zone, that begins so.
+fn is_local(alloc: Global, rule: &str, front: &str) -> bool {
+    let zone = match posix::TimeZone::parse(rule.as_bytes()) {
+        Ok(rule) => TimeZone::Posix(rule),
+        Err(_) => return false,
+    };
+    match arguments_of(alloc, &["tcshow", "--time", "local"]) {
+        Ok(arguments) => {
+            let options = options_of(&arguments, zone, Filter::ALL, &[]);
+            let line = Written::BeginsWithLines(&[front]);
+            gives_of_hex(alloc, &options, CAPTURE, 0, line, "")
+        }
+        Err(_) => false,
+    }
+}
+
+// As `TZ=CET-1CEST,M3.5.0,M10.5.0/3 date -d @1700000000 +%T` of coreutils prints it.
+#[test]
+fn local_times(rt: HostRuntime) {
+    let rule = "CET-1CEST,M3.5.0,M10.5.0/3";
+    assert!(rt; is_local(rt.alloc(), rule, "23:13:20.123456 new qdisc "));
 }
 
 // Options with words that aren't known, and a part of the complaint.

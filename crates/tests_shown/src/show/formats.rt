@@ -11,7 +11,7 @@ use tests_data::{FORMATS, Format, messages};
 fn is_same(line: &str, want: &str) -> bool {
     match line.split_once("\"packet\":") {
         Some((front, number)) => match number.split_once(",") {
-            Some((_, behind)) => want.strip_prefix(front) == Some(behind),
+            Some((_, after)) => want.strip_prefix(front) == Some(after),
             None => false,
         },
         None => line == want,

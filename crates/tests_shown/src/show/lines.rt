@@ -1,11 +1,12 @@
 //! Lines for people.
 
 use crate::show::runs::{Written, all_in, chosen_in, counted_in, gives, shown, writes};
+use jiff_tz::posix;
 use std::alloc::{AllocError, Global};
 use std::test::Fail;
 use tc_outline::Interfaces;
 use tc_select::Filter;
-use tcshow_lib::options::{OutputFormat, TimeFormat};
+use tcshow_lib::options::{OutputFormat, TimeFormat, TimeZone};
 use tests_data::{Format, file_of};
 
 // In hex: a qdisc of fq_codel with a limit of 10240 packets, and of three bytes; a list of actions with an index of 5.
@@ -221,7 +222,7 @@ fn capture_at(alloc: Global, header: &[u8], times: &[(u32, u32)]) -> Result<Vec<
 // True if the lines of packets at these times begin so.
 fn begin_so(
     alloc: Global,
-    format: TimeFormat,
+    format: TimeFormat<'_>,
     times: &[(u32, u32)],
     fronts: &[&str],
 ) -> Result<bool, Fail> {
@@ -231,13 +232,13 @@ fn begin_so(
 // The same in a file with this header.
 fn are_begun(
     alloc: Global,
-    format: TimeFormat,
+    format: TimeFormat<'_>,
     header: &[u8],
     times: &[(u32, u32)],
     fronts: &[&str],
 ) -> Result<bool, Fail> {
     let file = capture_at(alloc, header, times)?;
-    let mut options = all_in(OutputFormat::Lines(false));
+    let mut options = chosen_in(OutputFormat::Lines(false), Filter::ALL);
     options.time = format;
     Ok(gives(
         alloc,
@@ -298,6 +299,42 @@ fn times_are_known(rt: HostRuntime) -> Result<(), Fail> {
         assert!(rt;
             begin_so(alloc, TimeFormat::Date, &[(*seconds, 0)], &[line.as_str()])?,
             "{date}"
+        );
+    }
+    Ok(())
+}
+
+// What `TZ=RULE date -d @SECONDS +%T` of coreutils prints, before and after each change of a year, and before 1970 begins in a zone.
+static LOCAL_TIMES: [(&str, u32, &str); 8] = [
+    ("CET-1CEST,M3.5.0,M10.5.0/3", 1_679_792_399, "01:59:59"),
+    ("CET-1CEST,M3.5.0,M10.5.0/3", 1_679_792_400, "03:00:00"),
+    ("CET-1CEST,M3.5.0,M10.5.0/3", 1_698_541_199, "02:59:59"),
+    ("CET-1CEST,M3.5.0,M10.5.0/3", 1_698_541_200, "02:00:00"),
+    ("EST5EDT,M3.2.0,M11.1.0", 0, "19:00:00"),
+    ("EST5EDT,M3.2.0,M11.1.0", 1_679_792_400, "21:00:00"),
+    ("EST5EDT,M3.2.0,M11.1.0", 1_700_000_000, "17:13:20"),
+    ("NPT-5:45", 4_102_444_799, "05:44:59"),
+];
+
+// True if the line of a packet at this time begins so, by this rule of a time zone.
+fn is_local(alloc: Global, rule: &str, seconds: u32, front: &str) -> Result<bool, Fail> {
+    match posix::TimeZone::parse(rule.as_bytes()) {
+        Ok(zone) => {
+            let format = TimeFormat::Local(TimeZone::Posix(zone));
+            begin_so(alloc, format, &[(seconds, 0)], &[front])
+        }
+        Err(_) => Ok(false),
+    }
+}
+
+#[test]
+fn local_times_are_known(rt: HostRuntime) -> Result<(), Fail> {
+    let alloc = rt.alloc();
+    for (rule, seconds, clock) in &LOCAL_TIMES {
+        let line = format!(in alloc; "{clock}.000000 new qdisc fq_codel 1: dev 2 root")?;
+        assert!(rt;
+            is_local(alloc, *rule, *seconds, line.as_str())?,
+            "{rule} {seconds}"
         );
     }
     Ok(())

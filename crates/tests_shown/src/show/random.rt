@@ -15,12 +15,7 @@ fn ends(alloc: Global, options: &Options<'_>, input: &[u8], most: u8) -> bool {
 }
 
 // The beginning of a file, and bytes after it.
-fn behind(
-    alloc: Global,
-    format: Format,
-    is_big: bool,
-    bytes: &[u8],
-) -> Result<Vec<u8>, AllocError> {
+fn after(alloc: Global, format: Format, is_big: bool, bytes: &[u8]) -> Result<Vec<u8>, AllocError> {
     let mut file = beginning(alloc, format, is_big)?;
     file.extend_from_slice(bytes)?;
     Ok(file)
@@ -34,7 +29,7 @@ fn is_capture(
     is_big: bool,
     bytes: &[u8],
 ) -> bool {
-    match behind(alloc, format, is_big, bytes) {
+    match after(alloc, format, is_big, bytes) {
         Ok(file) => ends(alloc, &all_in(form), &file, 1),
         Err(_) => false,
     }

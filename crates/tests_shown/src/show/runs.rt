@@ -100,7 +100,7 @@ fn is_joined(written: &[u8], texts: &[&str]) -> bool {
     let mut rest = written;
     for text in texts {
         match rest.strip_prefix(text.as_bytes()) {
-            Some(behind) => rest = behind,
+            Some(after) => rest = after,
             None => return false,
         }
     }

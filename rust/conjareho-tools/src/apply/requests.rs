@@ -5,7 +5,7 @@ use crate::forms_kinds::{ACTION_MESSAGE, TC_MESSAGE, TcTables};
 use crate::netlink::message::{Header, header_of, is_action};
 use crate::program_io::Stop;
 use crate::tc_capture::{MessageType, Time};
-use crate::tcmake_lib::order::{Asked as Lines, requests_of};
+use crate::tcmake_lib::order::{RequestOptions, requests_of};
 use crate::tcmake_lines::{NetlinkHeader, packet_at};
 use crate::tcmake_messages::Forms;
 use crate::tcmake_requests::lines::RemarkKind;
@@ -43,14 +43,14 @@ pub(crate) struct Made {
 /// The requests that make what lines say.
 pub(crate) fn requests(wanted: &Asked<'_>) -> Made {
     let forms = Forms { table: TcTables, tc: TC_MESSAGE, action: ACTION_MESSAGE };
-    let asked = Lines {
+    let options = RequestOptions {
         index: wanted.index.and_then(|index| i32::try_from(index).ok()),
         now: None,
         plans: false,
         replaces_actions: false,
         names: wanted.names,
     };
-    let restored = requests_of(forms, &asked, &mut wanted.text.as_bytes());
+    let restored = requests_of(forms, &options, &mut wanted.text.as_bytes());
     restored.and_then(|restored| planned(restored, 0)).unwrap_or_else(|_| no_memory())
 }
 

@@ -3,7 +3,7 @@ use Rattle.std.specs.HashMap as hash
 use Rattle.tc_changes.specs.Objects.{same_key}
 use Rattle.tc_objects.specs.States.{dump_renamed}
 use Rattle.tc_objects.specs.Renamings.{major_by}
-use Rattle.tc_objects.proofs.Chosen.{unrenamed_all, twice_all, only_chosen, found_then}
+use Rattle.tc_objects.proofs.Renamings.{unrenamed_all, twice_all, only_chosen, found_then}
 use Rattle.tc_objects.proofs.renamed.renamed.Goals as goal
 
 pub loop-init : goal.loop-init

@@ -6,17 +6,17 @@ use Rattle.tcmake_lib.proofs.order.requests_of.Goals as goal
 pub returns-in-None-clause-made : goal.returns-in-None-clause-made
 returns-in-None-clause-made g c =
     let read = c.in_ok-lines.ensures.read in
-    made_by (g.T.Tables.parts_of c.args.forms.table) c.args.forms.tc c.args.forms.action c.args.asked.now.index c.args.asked.now _ c.in_ok-lines.lines
+    made_by (g.T.Tables.parts_of c.args.forms.table) c.args.forms.tc c.args.forms.action c.args.requests.now.index c.args.requests.now _ c.in_ok-lines.lines
     c.requests_by.result read.lines read.all (λ d. read.shown d.1) c.requests_by.ensures.quiet
 
-pub returns-then-asked-clause-made : goal.returns-then-asked-clause-made
-returns-then-asked-clause-made g c =
+pub returns-then-requests-clause-made : goal.returns-then-requests-clause-made
+returns-then-requests-clause-made g c =
     let read = c.in_ok-lines.ensures.read in
-    made_by_plan (g.T.Tables.parts_of c.args.forms.table) c.args.forms.tc c.args.forms.action c.args.asked.now.index c.args.asked.now _ c.requests_of_plan.result
-    read.lines read.all (λ d. false≢true (sym d.0 ∙ c.if-asked.true))
+    made_by_plan (g.T.Tables.parts_of c.args.forms.table) c.args.forms.tc c.args.forms.action c.args.requests.now.index c.args.requests.now _
+    c.requests_of_plan.result read.lines read.all (λ d. false≢true (sym d.0 ∙ c.if-requests.true))
 
-pub returns-else-asked-clause-made : goal.returns-else-asked-clause-made
-returns-else-asked-clause-made g c =
+pub returns-else-requests-clause-made : goal.returns-else-requests-clause-made
+returns-else-requests-clause-made g c =
     let read = c.in_ok-lines.ensures.read in
-    made_by (g.T.Tables.parts_of c.args.forms.table) c.args.forms.tc c.args.forms.action c.args.asked.now.index c.args.asked.now _ c.in_ok-lines.lines
+    made_by (g.T.Tables.parts_of c.args.forms.table) c.args.forms.tc c.args.forms.action c.args.requests.now.index c.args.requests.now _ c.in_ok-lines.lines
     c.requests_by_now.result read.lines read.all (λ d. read.shown d.1) c.requests_by_now.ensures.quiet
