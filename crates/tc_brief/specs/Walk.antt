@@ -102,6 +102,20 @@ abbrev pub of_kind : List ℕ → Section → Section
 of_kind key section.Statistics = named_statistics key
 of_kind key s = s
 
+-- statistics that aren't asked for
+abbrev pub is_statistics : Section → Bool
+is_statistics section.Statistics = true
+is_statistics section.KindStatistics = true
+is_statistics section.OlderStatistics = true
+is_statistics section.ActionStatistics = true
+is_statistics s = false
+
+abbrev pub is_passed : Bool → Section → Bool
+is_passed stats s = if stats then false else is_statistics s
+
+abbrev pub kept : Bool → Leaf → List Leaf
+kept stats l = if is_passed stats l.section then [] else l ∷ []
+
 abbrev pub section_in : Frame → Display → Row → Section
 section_in f h r = if f.inside then f.section else displayed h (of_kind r.key (styled r.style f.section))
 
@@ -258,6 +272,17 @@ close_map s f = record s { out = s.out ++ closing f; frames = settle f.place (re
 abbrev pub close_seq : State → Frame → State
 close_seq s f = record s { out = s.out ++ closing f; frames = rest_of s.frames }
 
+-- ---- statistics that aren't asked for, which have no leaves
+
+abbrev pub unseen : Frame → Frame
+unseen f = record f { shape = Silent; list = false }
+
+-- an event within them that doesn't end a record or list
+abbrev pub passed : Event → State → Frame → State
+passed (event.map_begins n) s f = record s { frames = unseen f ∷ s.frames }
+passed (event.seq_begins n) s f = record s { frames = unseen f ∷ s.frames }
+passed e s f = s
+
 module _ (t : Table) where
   abbrev pub display_at : ℕ → Frame → List ℕ → Display
   display_at companion f key = (column_of (t.columns companion) (t.columns f.place) (t.columns f.base) key).display
@@ -300,22 +325,22 @@ module _ (t : Table) where
   note (event.text name) display.Kind f = record f { place = t.under f.base name }
   note e h f = f
 
-  abbrev pub plain_leaf : Event → State → Frame → State
-  plain_leaf e s f =
+  abbrev pub plain_leaf : Bool → Event → State → Frame → State
+  plain_leaf stats e s f =
       record s {
-        out = s.out ++ leaf_of s f (value_of s.display e) ∷ [];
+        out = s.out ++ kept stats (leaf_of s f (value_of s.display e));
         companion = companion_by s.display (says_block e) (if is_head f.section then s.companion else NONE);
         frames = note e s.display f ∷ rest_of s.frames;
       }
 
   -- an attribute without a row: its `nla_type`, then its bytes
-  abbrev pub other_leaf : Event → State → Frame → State
-  other_leaf (event.unsigned n) s f = record s { word = n }
-  other_leaf (event.text v) s f = record s { out = s.out ++ leaf_of s f (attribute s.word v) ∷ [] }
-  other_leaf e s f = plain_leaf e s f
+  abbrev pub other_leaf : Bool → Event → State → Frame → State
+  other_leaf stats (event.unsigned n) s f = record s { word = n }
+  other_leaf stats (event.text v) s f = record s { out = s.out ++ kept stats (leaf_of s f (attribute s.word v)) }
+  other_leaf stats e s f = plain_leaf stats e s f
 
-  abbrev pub take_leaf : Event → State → Frame → State
-  take_leaf e s f = if is_other f.row.key then other_leaf e s f else plain_leaf e s f
+  abbrev pub take_leaf : Bool → Event → State → Frame → State
+  take_leaf stats e s f = if is_other f.row.key then other_leaf stats e s f else plain_leaf stats e s f
 
   abbrev pub new_key : (ℕ → List Row) → List ℕ → State → Frame → State
   new_key rows key s f = record s { key = key; display = display_at s.companion f key; row = row_at rows f key }
@@ -324,27 +349,31 @@ module _ (t : Table) where
   abbrev pub take_key : (ℕ → List Row) → List ℕ → State → Frame → State
   take_key rows key s f = if is_enum s.display && is_stand_in key then s else new_key rows key s f
 
-  -- one event
-  abbrev pub step_in : (ℕ → List Row) → Event → State → Option Frame → Option State
-  step_in rows e s None = None
-  step_in rows (event.field_key k AsIs) s (Some f) = Some (take_key rows k s f)
-  step_in rows (event.map_begins n) s (Some f) = Some (open_map s f)
-  step_in rows (event.seq_begins n) s (Some f) = Some (open_seq s f)
-  step_in rows event.map_ends s (Some f) = Some (close_map s f)
-  step_in rows event.seq_ends s (Some f) = Some (close_seq s f)
-  step_in rows e s (Some f) = Some (take_leaf e s f)
+  -- an event that doesn't end a record or list
+  abbrev pub taken : Bool → (ℕ → List Row) → Event → State → Frame → State
+  taken stats rows (event.field_key k AsIs) s f = take_key rows k s f
+  taken stats rows (event.map_begins n) s f = open_map s f
+  taken stats rows (event.seq_begins n) s f = open_seq s f
+  taken stats rows e s f = take_leaf stats e s f
 
-  abbrev pub step : (ℕ → List Row) → Event → State → Option State
-  step rows e s = step_in rows e s (top_of s.frames)
+  -- one event
+  abbrev pub step_in : Bool → (ℕ → List Row) → Event → State → Option Frame → Option State
+  step_in stats rows e s None = None
+  step_in stats rows event.map_ends s (Some f) = Some (close_map s f)
+  step_in stats rows event.seq_ends s (Some f) = Some (close_seq s f)
+  step_in stats rows e s (Some f) = Some (if is_passed stats f.section then passed e s f else taken stats rows e s f)
+
+  abbrev pub step : Bool → (ℕ → List Row) → Event → State → Option State
+  step stats rows e s = step_in stats rows e s (top_of s.frames)
 
   -- events in sequence
-  abbrev pub walked : (ℕ → List Row) → List Event → Option State → Option State
-  walked rows [] s = s
-  walked rows (e ∷ es) s = walked rows es (option_and_then (step rows e) s)
+  abbrev pub walked : Bool → (ℕ → List Row) → List Event → Option State → Option State
+  walked stats rows [] s = s
+  walked stats rows (e ∷ es) s = walked stats rows es (option_and_then (step stats rows e) s)
 
-  -- the leaves of a message with the columns at a place
-  abbrev pub leaves : (ℕ → List Row) → ℕ → List Event → Option (List Leaf)
-  leaves rows root es = option_map (λ s. s.out) (walked rows es (Some (start root)))
+  -- the leaves of a message with the columns at a place, with those of statistics or without
+  abbrev pub leaves : Bool → (ℕ → List Row) → ℕ → List Event → Option (List Leaf)
+  leaves stats rows root es = option_map (λ s. s.out) (walked stats rows es (Some (start root)))
 
 -- ---- abstract values of the code's types
 

@@ -779,11 +779,11 @@ pub fn lines_of<T: Tables, C: Columns + Drop, W: Words + Drop>(
     bytes: &[u8],
 ) -> Result<Vec<u8>, BriefError>
     ensures { IfOk result (λ text. (found : List LeafView)
-        × (leaves (C.table (C.options columns)) W.rows (C.options columns).root (events (shown_of (T.parts_of table) form bytes.now)) ≡ Some found)
+        × (leaves (C.table (C.options columns)) said.now.statistics W.rows (C.options columns).root (events (shown_of (T.parts_of table) form bytes.now)) ≡ Some found)
         × (text.items ≡ message_lines (said_view said.now) found)) }
 {
     let tape = tape_of(alloc, table, form, bytes)?;
-    let found = leaves_of(alloc, &columns, &words, &tape)?;
+    let found = leaves_of(alloc, said.statistics, &columns, &words, &tape)?;
     let mut line = Line {
         text: Vec::with_capacity(alloc, 256)?,
         word: Vec::with_capacity(alloc, 64)?,

@@ -11,7 +11,8 @@ ghost use Rattle.tc_brief.specs.Walk.{close_map, close_seq, closing, displayed, 
 ghost use Rattle.tc_brief.specs.Walk.{is_silent, is_stand_in, is_through, is_transparent, item_shape, leaf_of, leaves, list_shape, names_in, note};
 ghost use Rattle.tc_brief.specs.Walk.{begin_row, named_statistics, number_value, of_kind};
 ghost use Rattle.tc_brief.specs.Walk.{open_map, open_seq, opened, opening, option_list, other_leaf, place_within, plain_leaf, rated, record_shape};
-ghost use Rattle.tc_brief.specs.Walk.{rest_of, section_in, stack_of, start, state_of, step, styled, take_key, take_leaf, text_number, IsOwn};
+ghost use Rattle.tc_brief.specs.Walk.{rest_of, section_in, stack_of, start, state_of, step, styled, take_key, take_leaf, taken, text_number, IsOwn};
+ghost use Rattle.tc_brief.specs.Walk.{is_passed, is_statistics, kept, passed};
 ghost use Rattle.tc_brief.specs.Walk.{text_value, value_of};
 
 use crate::error::BriefError;
@@ -284,6 +285,26 @@ fn of_kind(key: &str, section: Section) -> Section
         Section::Statistics => named_statistics(key),
         _ => section,
     }
+}
+
+fn is_statistics(section: Section) -> bool
+    ensures { result ≡ is_statistics section }
+{
+    matches!(
+        section,
+        Section::Statistics
+            | Section::KindStatistics
+            | Section::OlderStatistics
+            | Section::ActionStatistics
+    )
+}
+
+// True for statistics that aren't asked for.
+#[inline(always)]
+fn is_passed(counted: bool, section: Section) -> bool
+    ensures { result ≡ is_passed counted section }
+{
+    !counted && is_statistics(section)
 }
 
 fn section_in(frame: &Frame<'_>, display: &Display, row: &Row<'_>) -> Section
@@ -592,18 +613,31 @@ impl<'t> Walk<'t> {
         }
     }
 
+    // Appends a leaf, unless it is of statistics that aren't asked for.
+    #[inline(always)]
+    fn keep(&mut self, counted: bool, leaf: Leaf<'t>) -> Result<(), AllocError>
+        ensures { OnOk result (state_of self.new ≡ record (state_of self.old) { out = (state_of self.old).out ++ kept counted (leaf_view leaf.entry) }) }
+    {
+        if is_passed(counted, leaf.section) {
+            return Ok(());
+        }
+        self.out.push(leaf)?;
+        Ok(())
+    }
+
     // A leaf with a name of its own.
     fn plain_leaf<C: Columns>(
         &mut self,
+        counted: bool,
         columns: &'t C,
         token: &Token<'t>,
     ) -> Result<(), AllocError>
         ensures { OnOk result (state_of self.new
-            ≡ plain_leaf (C.table (C.options columns.now)) (event_of token.now) (state_of self.old) (frame_view self.old.top)) }
+            ≡ plain_leaf (C.table (C.options columns.now)) counted (event_of token.now) (state_of self.old) (frame_view self.old.top)) }
     {
         let value = value_of(columns, &self.display, token);
         let leaf = self.leaf_of(columns, value);
-        self.out.push(leaf)?;
+        self.keep(counted, leaf)?;
         let before = if is_head(self.top.section) {
             self.companion
         } else {
@@ -617,11 +651,12 @@ impl<'t> Walk<'t> {
     // A leaf of an attribute without a row: its `nla_type`, or its bytes.
     fn other_leaf<C: Columns>(
         &mut self,
+        counted: bool,
         columns: &'t C,
         token: &Token<'t>,
     ) -> Result<(), AllocError>
         ensures { OnOk result (state_of self.new
-            ≡ other_leaf (C.table (C.options columns.now)) (event_of token.now) (state_of self.old) (frame_view self.old.top)) }
+            ≡ other_leaf (C.table (C.options columns.now)) counted (event_of token.now) (state_of self.old) (frame_view self.old.top)) }
     {
         match token {
             Token::Unsigned(n) => {
@@ -631,22 +666,26 @@ impl<'t> Walk<'t> {
             Token::Text(text) => {
                 let value = Value::Attribute(self.word, *text);
                 let leaf = self.leaf_of(columns, value);
-                self.out.push(leaf)?;
-                Ok(())
+                self.keep(counted, leaf)
             }
-            _ => self.plain_leaf(columns, token),
+            _ => self.plain_leaf(counted, columns, token),
         }
     }
 
     // The next value, which has no contents.
-    fn take_leaf<C: Columns>(&mut self, columns: &'t C, token: &Token<'t>) -> Result<(), AllocError>
+    fn take_leaf<C: Columns>(
+        &mut self,
+        counted: bool,
+        columns: &'t C,
+        token: &Token<'t>,
+    ) -> Result<(), AllocError>
         ensures { OnOk result (state_of self.new
-            ≡ take_leaf (C.table (C.options columns.now)) (event_of token.now) (state_of self.old) (frame_view self.old.top)) }
+            ≡ take_leaf (C.table (C.options columns.now)) counted (event_of token.now) (state_of self.old) (frame_view self.old.top)) }
     {
         if is_other(self.top.row.key) {
-            return self.other_leaf(columns, token);
+            return self.other_leaf(counted, columns, token);
         }
-        self.plain_leaf(columns, token)
+        self.plain_leaf(counted, columns, token)
     }
 
     // The beginning of a record or list, if it is a part of its own.
@@ -775,9 +814,51 @@ impl<'t> Walk<'t> {
         self.leave()
     }
 
+    // An event that doesn't end a record or list.
+    #[inline(always)]
+    fn taken<C: Columns, W: Words>(
+        &mut self,
+        counted: bool,
+        columns: &'t C,
+        words: &W,
+        own: &Own,
+        token: &Token<'t>,
+    ) -> Result<(), AllocError>
+        requires place { own.now.place ≡ self.old.top.place }
+        requires own { IsOwn (C.table (C.options columns.now)) W.rows own.now }
+        ensures { OnOk result (state_of self.new
+            ≡ taken (C.table (C.options columns.now)) counted W.rows (event_of token.now) (state_of self.old) (frame_view self.old.top)) }
+    {
+        match token {
+            Token::Key(key) => {
+                self.take_key(columns, words, own, *key);
+                Ok(())
+            }
+            Token::BeginMap => self.open_map(),
+            Token::BeginSeq => self.open_seq(),
+            _ => self.take_leaf(counted, columns, token),
+        }
+    }
+
+    // The same within statistics that aren't asked for.
+    fn passed(&mut self, token: &Token<'t>) -> Result<(), AllocError>
+        ensures { OnOk result (state_of self.new ≡ passed (event_of token.now) (state_of self.old) (frame_view self.old.top)) }
+    {
+        match token {
+            Token::BeginMap | Token::BeginSeq => self.enter(Frame {
+                shape: Shape::Silent,
+                list: false,
+                ..self.top
+            }),
+            _ => Ok(()),
+        }
+    }
+
     // One event.
+    #[inline(always)]
     fn take<C: Columns, W: Words>(
         &mut self,
+        counted: bool,
         columns: &'t C,
         words: &W,
         own: &Own,
@@ -785,28 +866,27 @@ impl<'t> Walk<'t> {
     ) -> Result<(), BriefError>
         requires place { own.now.place ≡ self.old.top.place }
         requires own { IsOwn (C.table (C.options columns.now)) W.rows own.now }
-        ensures { OnOk result (step (C.table (C.options columns.now)) W.rows (event_of token.now) (state_of self.old) ≡ Some (state_of self.new)) }
+        ensures { OnOk result (step (C.table (C.options columns.now)) counted W.rows (event_of token.now) (state_of self.old) ≡ Some (state_of self.new)) }
     {
         match token {
-            Token::Key(key) => self.take_key(columns, words, own, *key),
-            Token::BeginMap => self.open_map()?,
-            Token::BeginSeq => self.open_seq()?,
             Token::EndMap => self.close_map()?,
             Token::EndSeq => self.close_seq()?,
-            _ => self.take_leaf(columns, token)?,
+            _ if is_passed(counted, self.top.section) => self.passed(token)?,
+            _ => self.taken(counted, columns, words, own, token)?,
         }
         Ok(())
     }
 }
 
-/// The leaves of a message with these columns and rows, given the events of its JSON.
+/// The leaves of a message with these columns and rows, given the events of its JSON; those of statistics only if they are asked for.
 pub(crate) fn leaves_of<'t, C: Columns, W: Words>(
     alloc: Global,
+    counted: bool,
     columns: &'t C,
     words: &W,
     tape: &'t Tape,
 ) -> Result<Vec<Leaf<'t>>, BriefError>
-    ensures { IfOk result (λ found. leaves (C.table (C.options columns.now)) W.rows (C.options columns.now).root (events_of tape.now)
+    ensures { IfOk result (λ found. leaves (C.table (C.options columns.now)) counted W.rows (C.options columns.now).root (events_of tape.now)
         ≡ Some (leaves_view found.items)) }
 {
     let mut walk = Walk::new(alloc, columns.root(), tape.kept.len() / 2)?;
@@ -819,7 +899,7 @@ pub(crate) fn leaves_of<'t, C: Columns, W: Words>(
             None => return Err(BriefError::NotJson),
         };
         own = own_from(columns, words, own, walk.top.place);
-        walk.take(columns, words, &own, &token)?;
+        walk.take(counted, columns, words, &own, &token)?;
         texts = rest;
         left = others;
     }

@@ -36,12 +36,13 @@ names_after given links = map (λ name. (name.0, name.1.now)) given ++ names_in 
 abbrev pub options_with : List (ℕ × List ℕ) → Root → Options
 options_with names about = record { root = root_place about; all = false; interfaces = names }
 
--- the leaves of a message's JSON
-abbrev pub leaves_at : Options → Root → List ℕ → Option (List Leaf)
-leaves_at options about payload = leaves (kind_table options) all_rows options.root (events (shown_of tc_tables (form_of about) payload))
+-- the leaves of a message's JSON; those of statistics if they are asked for
+abbrev pub leaves_at : Bool → Options → Root → List ℕ → Option (List Leaf)
+leaves_at stats options about payload =
+    leaves (kind_table options) stats all_rows options.root (events (shown_of tc_tables (form_of about) payload))
 
-abbrev pub leaves_with : List (ℕ × List ℕ) → Message → Option (List Leaf)
-leaves_with names m = leaves_at (options_with names (root_of m)) (root_of m) m.payload
+abbrev pub leaves_with : Bool → List (ℕ × List ℕ) → Message → Option (List Leaf)
+leaves_with stats names m = leaves_at stats (options_with names (root_of m)) (root_of m) m.payload
 
 -- what is known of a message beside its bytes, if its lines begin and end with these texts
 abbrev pub said_as : List ℕ → Bool → ℕ → List ℕ → Message → Said
@@ -87,7 +88,7 @@ fault_words m = words_of m (fault_of m) (offset_of m)
 
 -- the lines of a message that begin with a text, with these names of interfaces: its words, and its fault, if it has one
 pub record IsSaid (names : List (ℕ × List ℕ)) (begin : List ℕ) (stats : Bool) (port : ℕ) (m : Message) (text : List ℕ) : Type 0 where
-  pub line : option_map (message_lines (said_as begin stats port (written (fault_words m)) m)) (leaves_with names m) ≡ Some text
+  pub line : option_map (message_lines (said_as begin stats port (written (fault_words m)) m)) (leaves_with stats names m) ≡ Some text
 
 -- what a message's lines begin with, after these messages: its time, if it has one, and what it does
 abbrev pub begin_of : Past → TimeFormat → Message → List ℕ

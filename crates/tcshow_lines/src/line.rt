@@ -48,7 +48,7 @@ fn lines_with(
     bytes: &[u8],
 ) -> Result<Vec<u8>, AllocError>
     ensures { IfOk result (λ text. option_map (message_lines (said_view said.now))
-        (leaves_at (options_with (names_after interfaces.now links.now) root) root bytes.now) ≡ Some text.items) }
+        (leaves_at said.now.statistics (options_with (names_after interfaces.now links.now) root) root bytes.now) ≡ Some text.items) }
 {
     let columns = KindColumns {
         root,

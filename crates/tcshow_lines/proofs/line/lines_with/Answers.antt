@@ -16,7 +16,8 @@ pub returns-in-Ok : goal.returns-in-Ok
 returns-in-Ok c =
     let names = names_of c.args.interfaces (Some c.args.links) in
     let options = options_with names c.args.root in
+    let stats = c.args.said.now.statistics in
     let lines = option_map (message_lines (said_view c.args.said.now)) in
     let found = c.in-Ok.ensures in
-    ap (λ (form : Form). lines (leaves (kind_table options) all_rows options.root (events (shown_of tc_tables form c.args.bytes.now))))
+    ap (λ (form : Form). lines (leaves (kind_table options) stats all_rows options.root (events (shown_of tc_tables form c.args.bytes.now))))
     (sym c.form_of.ensures) ∙ ap lines found.1 ∙ ap Some (sym found.2)
