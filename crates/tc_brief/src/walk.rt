@@ -135,7 +135,7 @@ fn own_at<C: Columns, W: Words>(columns: &C, words: &W, place: usize) -> Own
     }
 }
 
-// The same, given those at a place, which mostly is the same.
+// The same, given those at the place before, which often is the same.
 #[inline(always)]
 fn own_from<C: Columns, W: Words>(columns: &C, words: &W, own: Own, place: usize) -> Own
     requires { IsOwn (C.table (C.options columns.now)) W.rows own }
@@ -891,6 +891,7 @@ pub(crate) fn leaves_of<'t, C: Columns, W: Words>(
 {
     let mut walk = Walk::new(alloc, columns.root(), tape.kept.len() / 2)?;
     let mut own = own_at(columns, words, columns.root());
+    let mut before = own;
     let mut texts = tape.texts.as_str();
     let mut left = tape.kept.as_slice();
     'each: while let [kept, others @ ..] = left {
@@ -898,7 +899,11 @@ pub(crate) fn leaves_of<'t, C: Columns, W: Words>(
             Some(parts) => parts,
             None => return Err(BriefError::NotJson),
         };
-        own = own_from(columns, words, own, walk.top.place);
+        if own.place != walk.top.place {
+            let last = own;
+            own = own_from(columns, words, before, walk.top.place);
+            before = last;
+        }
         walk.take(counted, columns, words, &own, &token)?;
         texts = rest;
         left = others;

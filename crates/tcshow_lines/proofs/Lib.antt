@@ -1,3 +1,4 @@
+pub mod Bare
 pub mod Beginning
 pub mod Kept
 pub mod Places

@@ -1,4 +1,5 @@
 pub mod Answers
+pub mod Bare
 pub mod Begins
 pub mod Lines
 pub mod Past

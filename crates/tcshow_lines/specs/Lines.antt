@@ -36,10 +36,19 @@ names_after given links = map (λ name. (name.0, name.1.now)) given ++ names_in 
 abbrev pub options_with : List (ℕ × List ℕ) → Root → Options
 options_with names about = record { root = root_place about; all = false; interfaces = names }
 
--- the leaves of a message's JSON; those of statistics if they are asked for
+-- the leaves of the JSON of bytes
+abbrev pub leaves_in : Bool → Options → Root → List ℕ → Option (List Leaf)
+leaves_in stats options about bytes = leaves (kind_table options) stats all_rows options.root (events (shown_of tc_tables (form_of about) bytes))
+
+-- the leaves of a message's JSON; those of statistics only if they are asked for
+abbrev pub is_of_actions : Root → Bool
+is_of_actions root.Action = true
+is_of_actions root.Flush = true
+is_of_actions about = false
+
 abbrev pub leaves_at : Bool → Options → Root → List ℕ → Option (List Leaf)
 leaves_at stats options about payload =
-    leaves (kind_table options) stats all_rows options.root (events (shown_of tc_tables (form_of about) payload))
+    leaves_in stats options about (if stats || is_of_actions about then payload else without_statistics payload)
 
 abbrev pub leaves_with : Bool → List (ℕ × List ℕ) → Message → Option (List Leaf)
 leaves_with stats names m = leaves_at stats (options_with names (root_of m)) (root_of m) m.payload

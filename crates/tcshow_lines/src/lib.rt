@@ -9,6 +9,7 @@
 #![tactic(auto)]
 
 mod answer;
+mod bare;
 mod begin;
 mod ending;
 mod fault;

@@ -7,6 +7,7 @@ ghost use Rattle.tcshow_json.specs.Messages.{message_view};
 ghost use Rattle.tcshow_lines.specs.Lines.{IsEnded, IsLines, IsSaid, fault_of, leaves_at, names_after, options_with, said_as};
 ghost use Rattle.tcshow_lines.specs.Past.{past_of};
 
+use crate::bare::without_statistics;
 use crate::begin::begin;
 use crate::fault::end_of;
 use crate::past::Requests;
@@ -38,8 +39,14 @@ pub(crate) fn form_of(root: Root) -> Form
     }
 }
 
+fn is_of_actions(root: Root) -> bool
+    ensures { result ≡ is_of_actions root }
+{
+    matches!(root, Root::Action | Root::Flush)
+}
+
 // The lines of bytes with these names of interfaces.
-fn lines_with(
+fn lines_in(
     alloc: Global,
     interfaces: &[(u32, &str)],
     links: &LinkNames,
@@ -48,7 +55,7 @@ fn lines_with(
     bytes: &[u8],
 ) -> Result<Vec<u8>, AllocError>
     ensures { IfOk result (λ text. option_map (message_lines (said_view said.now))
-        (leaves_at said.now.statistics (options_with (names_after interfaces.now links.now) root) root bytes.now) ≡ Some text.items) }
+        (leaves_in said.now.statistics (options_with (names_after interfaces.now links.now) root) root bytes.now) ≡ Some text.items) }
 {
     let columns = KindColumns {
         root,
@@ -68,6 +75,25 @@ fn lines_with(
         Ok(text) => Ok(text),
         Err(_) => Err(AllocError),
     }
+}
+
+// The lines of a message with these names of interfaces.
+fn lines_with(
+    alloc: Global,
+    interfaces: &[(u32, &str)],
+    links: &LinkNames,
+    root: Root,
+    said: &Said<'_>,
+    bytes: &[u8],
+) -> Result<Vec<u8>, AllocError>
+    ensures { IfOk result (λ text. option_map (message_lines (said_view said.now))
+        (leaves_at said.now.statistics (options_with (names_after interfaces.now links.now) root) root bytes.now) ≡ Some text.items) }
+{
+    if said.statistics || is_of_actions(root) {
+        return lines_in(alloc, interfaces, links, root, said, bytes);
+    }
+    let bare = without_statistics(alloc, bytes)?;
+    lines_in(alloc, interfaces, links, root, said, &bare)
 }
 
 fn name_of(fault: &Option<Fault>) -> Option<&'static str>

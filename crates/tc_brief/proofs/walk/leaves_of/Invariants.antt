@@ -11,6 +11,7 @@ invariant-each g l =
     record {
       utf8 : IsUtf8 l.texts;
       own : IsOwn t g.W.Words.rows l.own;
+      before : IsOwn t g.W.Words.rows l.before;
       left : walked t l.counted g.W.Words.rows (events_in l.texts l.left) (Some (state_of l.walk))
           ≡ walked t l.counted g.W.Words.rows (events_of l.tape) (Some (start (g.C.Columns.options l.columns).root));
     }

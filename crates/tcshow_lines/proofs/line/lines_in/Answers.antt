@@ -10,7 +10,7 @@ use Rattle.tc_columns.specs.Kinds.{kind_table}
 use Rattle.tc_columns.specs.Names.{names_of}
 use Rattle.tc_words.specs.Tables.{all_rows}
 use Rattle.tcshow_lines.specs.Lines.{options_with}
-use Rattle.tcshow_lines.proofs.line.lines_with.Goals as goal
+use Rattle.tcshow_lines.proofs.line.lines_in.Goals as goal
 
 pub returns-in-Ok : goal.returns-in-Ok
 returns-in-Ok c =
