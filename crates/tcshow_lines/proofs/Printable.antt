@@ -20,7 +20,7 @@ use Rattle.tcshow_json.specs.Line.{offset_in_message}
 use Rattle.tcshow_lines.specs.Answers.{IsAsked, end_sentence, end_text, end_words, place_in, request_begin, sentence, sentence_byte, sentence_bytes, told_text}
 use Rattle.tcshow_lines.specs.Answers.{told_words}
 use Rattle.tcshow_lines.specs.Begins.{time_in, timed, words_text}
-use Rattle.tcshow_lines.specs.Lines.{IsEnded, IsSaid, fault_words, leaves_at, leaves_with, options_with, said_as, words_of}
+use Rattle.tcshow_lines.specs.Lines.{IsEnded, IsSaid, fault_words, leaves_at, leaves_with, options_with, rows_for, said_as, words_of}
 use Rattle.tcshow_lines.specs.Past.{Past}
 use Rattle.tcshow_lines.specs.Verbs.{asked_verb, object_in, verb_words}
 use Rattle.tcshow_lines.specs.declared.times.TimeFormat.{TimeFormat}
@@ -103,7 +103,7 @@ module _ (said : Said) (begin : IsShown true said.begin) (end : IsShown true sai
 pub said_ended : (names : List (ℕ × List ℕ)) (begin : List ℕ) (stats : Bool) (port : ℕ) (m : Message) (text : List ℕ) → IsShown true begin
     → IsSaid names begin stats port m text → IsEnded text
 said_ended names begin stats port m text b h =
-    found_ended (said_as begin stats port (written (fault_words m)) m) b (written_shown (fault_words m)) (leaves_with names m) text h.line
+    found_ended (said_as begin stats port (written (fault_words m)) m) b (written_shown (fault_words m)) (leaves_with names stats m) text h.line
 
 -- the words of a message's fault
 pub said_words : (m : Message) (e : Option DecodeError) (n : Option ℕ) → e ≡ fault_of m → n ≡ offset_of m
@@ -115,11 +115,11 @@ said_words m e n fault offset =
 pub is_said : (names : List (ℕ × List ℕ)) (begin : List ℕ) (stats : Bool) (port : ℕ) (m : Message) (object : Object) (about : Root)
     → (end text : List ℕ) → object ≡ object_in about → about ≡ root_of m → end ≡ written (fault_words m)
     → option_map (message_lines (record { begin = begin; object = object; statistics = stats; port = port; end = end }))
-    (leaves_at (options_with names about) about m.payload) ≡ Some text → IsSaid names begin stats port m text
+    (leaves_at (rows_for stats) (options_with names about) about m.payload) ≡ Some text → IsSaid names begin stats port m text
 is_said names begin stats port m object about end text o r e h =
     let with : Object → Root → List ℕ → Option (List ℕ) = λ y t z.
     option_map (message_lines (record { begin = begin; object = y; statistics = stats; port = port; end = z }))
-    (leaves_at (options_with names t) t m.payload) in
+    (leaves_at (rows_for stats) (options_with names t) t m.payload) in
     let same : with object about end ≡ with (object_in (root_of m)) (root_of m) (written (fault_words m)) =
     ap (λ (y : Object). with y about end) (o ∙ ap object_in r) ∙ ap (λ (t : Root). with (object_in (root_of m)) t end) r
     ∙ ap (λ (z : List ℕ). with (object_in (root_of m)) (root_of m) z) e in

@@ -9,6 +9,7 @@ use Rattle.std.specs.Borrow.{Bor}
 use Rattle.std.specs.Prelude.{Bool, List, None, Option, Some, String, [], codes, decimal, false, if◌then◌else◌, map, option_map, true, ℕ, ◌++◌, ◌==◌, ◌≡◌, ◌∷◌}
 use Rattle.tc_brief.specs.Leaves.{Leaf}
 use Rattle.tc_brief.specs.Lines.{Said, message_lines}
+use Rattle.tc_brief.specs.Rows.{Row}
 use Rattle.tc_brief.specs.Walk.{leaves}
 use Rattle.tc_brief.specs.Words.{written}
 use Rattle.tc_columns.specs.Kinds.{kind_table, root_place}
@@ -17,7 +18,7 @@ use Rattle.tc_columns.specs.declared.root.Root.{Root}
 use Rattle.tc_lines.specs.Columns.{Options}
 use Rattle.tc_outline.specs.Outline.{form_of}
 use Rattle.tc_outline.specs.Page.{IsShown}
-use Rattle.tc_words.specs.Tables.{all_rows}
+use Rattle.tc_words.specs.Tables.{all_rows, detailed_rows}
 use Rattle.tc_paths.specs.Paths.{Path}
 pub use Rattle.tcshow_json.specs.Faults.{fault_of}
 use Rattle.tcshow_json.specs.Faults.{offset_of, path_to}
@@ -36,12 +37,16 @@ names_after given links = map (λ name. (name.0, name.1.now)) given ++ names_in 
 abbrev pub options_with : List (ℕ × List ℕ) → Root → Options
 options_with names about = record { root = root_place about; all = false; interfaces = names }
 
--- the leaves of a message's JSON
-abbrev pub leaves_at : Options → Root → List ℕ → Option (List Leaf)
-leaves_at options about payload = leaves (kind_table options) all_rows options.root (events (shown_of tc_tables (form_of about) payload))
+-- the rows of lines with statistics, and of those without
+abbrev pub rows_for : Bool → ℕ → List Row
+rows_for stats = if stats then detailed_rows else all_rows
 
-abbrev pub leaves_with : List (ℕ × List ℕ) → Message → Option (List Leaf)
-leaves_with names m = leaves_at (options_with names (root_of m)) (root_of m) m.payload
+-- the leaves of a message's JSON, with these rows
+abbrev pub leaves_at : (ℕ → List Row) → Options → Root → List ℕ → Option (List Leaf)
+leaves_at rows options about payload = leaves (kind_table options) rows options.root (events (shown_of tc_tables (form_of about) payload))
+
+abbrev pub leaves_with : List (ℕ × List ℕ) → Bool → Message → Option (List Leaf)
+leaves_with names stats m = leaves_at (rows_for stats) (options_with names (root_of m)) (root_of m) m.payload
 
 -- what is known of a message beside its bytes, if its lines begin and end with these texts
 abbrev pub said_as : List ℕ → Bool → ℕ → List ℕ → Message → Said
@@ -87,7 +92,7 @@ fault_words m = words_of m (fault_of m) (offset_of m)
 
 -- the lines of a message that begin with a text, with these names of interfaces: its words, and its fault, if it has one
 pub record IsSaid (names : List (ℕ × List ℕ)) (begin : List ℕ) (stats : Bool) (port : ℕ) (m : Message) (text : List ℕ) : Type 0 where
-  pub line : option_map (message_lines (said_as begin stats port (written (fault_words m)) m)) (leaves_with names m) ≡ Some text
+  pub line : option_map (message_lines (said_as begin stats port (written (fault_words m)) m)) (leaves_with names stats m) ≡ Some text
 
 -- what a message's lines begin with, after these messages: its time, if it has one, and what it does
 abbrev pub begin_of : Past → TimeFormat → Message → List ℕ

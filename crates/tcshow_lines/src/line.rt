@@ -4,7 +4,7 @@ ghost use Rattle.std.specs.Prelude.{◌≡◌, [], IfOk, Some, is_some, option_m
 ghost use Rattle.tc_outline.specs.Outline.{form_of};
 ghost use Rattle.tc_brief.specs.Lines.{message_lines, said_view};
 ghost use Rattle.tcshow_json.specs.Messages.{message_view};
-ghost use Rattle.tcshow_lines.specs.Lines.{IsEnded, IsLines, IsSaid, fault_of, leaves_at, names_after, options_with, said_as};
+ghost use Rattle.tcshow_lines.specs.Lines.{IsEnded, IsLines, IsSaid, fault_of, leaves_at, names_after, options_with, rows_for, said_as};
 ghost use Rattle.tcshow_lines.specs.Past.{past_of};
 
 use crate::begin::begin;
@@ -15,10 +15,10 @@ use crate::verb::{object_in, speech_of};
 use forms_json::Form;
 use forms_kinds::{ACTION_MESSAGE, TC_MESSAGE, TcTables};
 use std::alloc::{AllocError, Global};
-use tc_brief::{Said, lines_of, lines_of_nothing};
+use tc_brief::{Said, Words, lines_of, lines_of_nothing};
 use tc_columns::{KindColumns, LinkNames, Root};
 use tc_outline::Fault;
-use tc_words::TcWords;
+use tc_words::{TcDetails, TcWords};
 use tcshow_json::Message;
 
 /// The lines of a message, each with its line feed, and the name of its fault if it is malformed.
@@ -38,6 +38,31 @@ pub(crate) fn form_of(root: Root) -> Form
     }
 }
 
+// The lines of bytes with these rows and these names of interfaces.
+fn lines_by<W: Words + Drop>(
+    alloc: Global,
+    interfaces: &[(u32, &str)],
+    links: &LinkNames,
+    root: Root,
+    words: W,
+    said: &Said<'_>,
+    bytes: &[u8],
+) -> Result<Vec<u8>, AllocError>
+    ensures { IfOk result (λ text. option_map (message_lines (said_view said.now))
+        (leaves_at W.rows (options_with (names_after interfaces.now links.now) root) root bytes.now) ≡ Some text.items) }
+{
+    let columns = KindColumns {
+        root,
+        interfaces,
+        links: Some(links),
+        all: false,
+    };
+    match lines_of(alloc, TcTables, form_of(root), columns, words, said, bytes) {
+        Ok(text) => Ok(text),
+        Err(_) => Err(AllocError),
+    }
+}
+
 // The lines of bytes with these names of interfaces.
 fn lines_with(
     alloc: Global,
@@ -48,26 +73,12 @@ fn lines_with(
     bytes: &[u8],
 ) -> Result<Vec<u8>, AllocError>
     ensures { IfOk result (λ text. option_map (message_lines (said_view said.now))
-        (leaves_at (options_with (names_after interfaces.now links.now) root) root bytes.now) ≡ Some text.items) }
+        (leaves_at (rows_for said.now.statistics) (options_with (names_after interfaces.now links.now) root) root bytes.now) ≡ Some text.items) }
 {
-    let columns = KindColumns {
-        root,
-        interfaces,
-        links: Some(links),
-        all: false,
-    };
-    match lines_of(
-        alloc,
-        TcTables,
-        form_of(root),
-        columns,
-        TcWords,
-        said,
-        bytes,
-    ) {
-        Ok(text) => Ok(text),
-        Err(_) => Err(AllocError),
+    if said.statistics {
+        return lines_by(alloc, interfaces, links, root, TcDetails, said, bytes);
     }
+    lines_by(alloc, interfaces, links, root, TcWords, said, bytes)
 }
 
 fn name_of(fault: &Option<Fault>) -> Option<&'static str>

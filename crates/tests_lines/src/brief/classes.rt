@@ -180,7 +180,10 @@ static TCLASS_HTB: Known = Known {
         "add class htb 1:1 dev 4 parent 1: cell_log=2^3 mpu 64B rate 20kbit cell_log=2^3 mpu 64B ceil 20kbit burst 1600B cburst 1600B quantum 0B prio",
         " 0 Rtab=<1024B> Ctab=<1024B>",
     ],
-    counted: &[],
+    counted: &[
+        "add class htb 1:1 dev 4 parent 1: cell_log=2^3 linklayer ethernet overhead 0B mpu 64B rate 20kbit cell_log=2^3 linklayer ethernet overhead 0",
+        "B mpu 64B ceil 20kbit burst 1600B cburst 1600B quantum 0B prio 0 Rtab=<1024B> Ctab=<1024B>",
+    ],
 };
 
 // tdc61.answer.newtclass.mqprio.0001

@@ -777,7 +777,8 @@ static QDISC_TBF: Known = Known {
         "new qdisc tbf 1: dev 4 root rate 10kbit limit 1000B burst 1500B by 21644",
     ],
     counted: &[
-        "new qdisc tbf 1: dev 4 root refcnt 2 rate 10kbit limit 1000B burst 1500B by 21644 ; sent 0B 0p dropped 0 overlimits 0 backlog 0B 0p",
+        "new qdisc tbf 1: dev 4 root refcnt 2 linklayer ethernet overhead 0B mpu 0B rate 10kbit linklayer unaware overhead 0B mpu 0B peakrate 0bit li",
+        "mit 1000B burst 1500B by 21644 ; sent 0B 0p dropped 0 overlimits 0 backlog 0B 0p",
     ],
 };
 
