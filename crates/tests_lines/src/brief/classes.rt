@@ -89,7 +89,9 @@ static TCLASS_ETS: Known = Known {
     line: &[
         "add class ets 1:1 dev 4 quantum 1500B",
     ],
-    counted: &[],
+    counted: &[
+        "add class ets 1:1 dev 4 parent none quantum 1500B",
+    ],
 };
 
 // uml61.answer.newtclass.fq_codel.001
