@@ -232,7 +232,7 @@ def check_word(block, x):
         fault(x.where, 'no rate with the word %s' % word.split('@')[1])
     if '|' in word and x.form.what == 'enum' and named(x.form) and word.count('|') > max(y.number for y in named(x.form).lines):
         fault(x.where, 'enum %s has no number %d, for the word %s' % (x.form.of, word.count('|'), word.split('|')[-1]))
-    if '=' in x.columns and not re.fullmatch(r'\d+|0-\d+', x.columns['=']):
+    if '=' in x.columns and not re.fullmatch(r'(\d+|0-\d+);?', x.columns['=']):
         fault(x.where, 'no number: %s' % x.columns['='])
 
 def check_fixed(kind):

@@ -4,7 +4,7 @@ use Rattle.std.specs.Prelude.{◌++◌, ◌/◌, ◌==◌, ◌||◌, ◌∷◌}
 use Rattle.tc_brief.specs.Leaves as leaf
 use Rattle.tc_brief.specs.Leaves.{Leaf, Value}
 use Rattle.tc_brief.specs.Numbers as numbers
-use Rattle.tc_brief.specs.Parts.{Around, bare, count_in, is_in, section_words, words_of}
+use Rattle.tc_brief.specs.Parts.{Around, bare, count_in, is_in, section_words, tells, words_of}
 use Rattle.tc_brief.specs.Values.{depth_after, interface_text, is_left_out, is_opening, number_in, value_text}
 use Rattle.tc_brief.specs.Words.{written}
 use Rattle.tc_brief.specs.declared.leaf.Section.{Section}
@@ -68,19 +68,19 @@ dev_words (leaf.interface n name) = if n == 0 then [] else codes "dev" ∷ inter
 dev_words (leaf.signed z) = if is_block z then [] else codes "dev" ∷ numbers.signed_text Plain z ∷ []
 dev_words v = []
 
--- the place: `root`, `ingress`, `egress`, a parent, or the number of a block
-abbrev pub parent_words : List ℕ → List (List ℕ)
-parent_words s =
-    if is_zero_handle s then []
+-- the place: `root`, `ingress`, `egress`, a parent, or the number of a block; 0 is there with statistics only
+abbrev pub parent_words : Bool → List ℕ → List (List ℕ)
+parent_words stats s =
+    if is_zero_handle s then (if stats then codes "parent" ∷ codes "none" ∷ [] else [])
     else if bytes_eq s (codes "root") then codes "root" ∷ []
     else if bytes_eq s (codes "ffff:fff2") then codes "ingress" ∷ []
     else if bytes_eq s (codes "ffff:fff3") then codes "egress" ∷ []
     else codes "parent" ∷ s ∷ []
 
-abbrev pub place_words : Display → Value → List (List ℕ)
-place_words (display.Handle u) (leaf.text s) = codes "block" ∷ handle_in u s (handle_of s) ∷ []
-place_words h (leaf.text s) = parent_words s
-place_words h v = []
+abbrev pub place_words : Bool → Display → Value → List (List ℕ)
+place_words stats (display.Handle u) (leaf.text s) = codes "block" ∷ handle_in u s (handle_of s) ∷ []
+place_words stats h (leaf.text s) = parent_words stats s
+place_words stats h v = []
 
 abbrev pub protocol_in : ℕ → ℕ
 protocol_in n = n % 0x100 * 0x100 + n / 0x100 % 0x100
@@ -95,7 +95,7 @@ named_or_hex (Some name) n = name
 
 -- references are a statistic
 abbrev pub info_words : Bool → InfoOf → List Name → ℕ → List (List ℕ)
-info_words stats info.Refcnt names n = if stats then unless_zero n (codes "refcnt" ∷ decimal n ∷ []) else []
+info_words stats info.Refcnt names n = if stats then codes "refcnt" ∷ decimal n ∷ [] else []
 info_words stats info.Leaf names n = unless_zero n (codes "leaf" ∷ handle_text (n % 0x100000000) ∷ [])
 info_words stats (info.Pref p) names n =
     unless_zero (n / 0x10000) (codes "pref" ∷ decimal (n / 0x10000) ∷ [])
@@ -133,8 +133,16 @@ counts s ls =
     ++ (counted_bare (codes "dropped") (count_in s ls (codes "drops")) ++ (counted (codes "overlimits") (count_in s ls (codes "overlimits"))
     ++ (counted (codes "backlog") (count_in s ls (codes "backlog")) ++ counted [] (count_in s ls (codes "qlen"))))))
 
+-- the estimated rate, unless it is 0
+abbrev pub estimated : List ℕ → Option Leaf → List (List ℕ)
+estimated name None = []
+estimated name (Some l) = if is_left_out l then [] else counted name (Some l)
+
+abbrev pub estimates : Section → List Leaf → List (List ℕ)
+estimates s ls = estimated (codes "rate") (count_in s ls (codes "bps")) ++ estimated [] (count_in s ls (codes "pps"))
+
 abbrev pub statistics : Around → Section → List Leaf → List (List ℕ)
-statistics c s ls = counts s ls ++ section_words c s 0 None ls
+statistics c s ls = counts s ls ++ (estimates s ls ++ section_words c s 0 None ls)
 
 -- the words of a kind's statistics, and of the older ones unless these are the same
 abbrev pub unless_same : List (List ℕ) → List (List ℕ) → List (List ℕ)
@@ -143,10 +151,10 @@ unless_same newer older = if bytes_eq (written newer) (written older) then newer
 abbrev pub kind_statistics : Around → List Leaf → List (List ℕ)
 kind_statistics c ls = unless_same (section_words c section.KindStatistics 0 None ls) (section_words c section.OlderStatistics 0 None ls)
 
--- true if a leaf of the section isn't left out
+-- true if a leaf of the section has words
 abbrev pub has_any : Section → List Leaf → Bool
 has_any s [] = false
-has_any s (l ∷ ls) = is_in s l && (if is_left_out l then false else true) || has_any s ls
+has_any s (l ∷ ls) = is_in s l && tells l ls || has_any s ls
 
 -- ---- actions
 
@@ -169,6 +177,11 @@ abbrev pub bracketed : Bool → List (List ℕ) → List (List ℕ)
 bracketed true words = codes "[" ∷ (words ++ codes "]" ∷ [])
 bracketed false words = []
 
+-- the number of an action, which it begins with; `tc` prints it as its order
+abbrev pub order_words : Bool → Value → List (List ℕ)
+order_words stats (leaf.number n) = if stats then codes "order" ∷ decimal n ∷ [] else []
+order_words stats v = []
+
 -- the words of an action after its kind
 abbrev pub action_words : Around → List (List ℕ)
 action_words c = section_words c section.Actions 0 None c.leaves ++ section_words c section.Control 0 None c.leaves
@@ -180,7 +193,7 @@ counted_action stats c =
 
 -- an action of a filter, which begins with a leaf
 abbrev pub action_of : Bool → Leaf → Around → List (List ℕ)
-action_of stats l c = codes "action" ∷ (action_kind l c ++ counted_action stats c)
+action_of stats l c = codes "action" ∷ (action_kind l c ++ (order_words stats l.value ++ counted_action stats c))
 
 -- the actions of a filter
 abbrev pub actions : Bool → ℕ → List Leaf → List (List ℕ)
@@ -210,8 +223,8 @@ by_words n = unless_zero n (codes "by" ∷ decimal n ∷ [])
 abbrev pub dev_of : Leaf → List (List ℕ)
 dev_of l = dev_words l.value
 
-abbrev pub place_of : Leaf → List (List ℕ)
-place_of l = place_words l.display l.value
+abbrev pub place_of : Bool → Leaf → List (List ℕ)
+place_of stats l = place_words stats l.display l.value
 
 abbrev pub info_of : Bool → Leaf → List (List ℕ)
 info_of stats l = info_in stats l.display l.names l.value
@@ -222,7 +235,7 @@ family_of l = family_words l.value
 -- where the object is, and the filter's priority and protocol, or the class's qdisc
 abbrev pub place : Bool → List Leaf → List (List ℕ)
 place stats ls =
-    of_leaf dev_of (in_head ls (codes "index")) ++ (of_leaf place_of (in_head ls (codes "parent"))
+    of_leaf dev_of (in_head ls (codes "index")) ++ (of_leaf (place_of stats) (in_head ls (codes "parent"))
     ++ (of_leaf (info_of stats) (in_head ls (codes "info")) ++ of_leaf family_of (in_head ls (codes "family"))))
 
 -- kind and handle; of a chain its number; of an action its kind
@@ -292,7 +305,7 @@ object_words said ls =
 
 -- an action has no handle
 abbrev pub own_head : Bool → List Leaf → Leaf → Around → List (List ℕ)
-own_head stats all l c = codes "action" ∷ (action_kind l c ++ (codes "-" ∷ (place stats all ++ other_words c 0 all)))
+own_head stats all l c = codes "action" ∷ (action_kind l c ++ (codes "-" ∷ (order_words stats l.value ++ (place stats all ++ other_words c 0 all))))
 
 -- the words of an action's line, after the verb
 abbrev pub own_action_words : Said → List Leaf → Leaf → Around → List (List ℕ)

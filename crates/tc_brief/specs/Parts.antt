@@ -249,18 +249,30 @@ styled_words style.Key c rest l = key_words l (number_in l.value) rest
 styled_words style.Count c rest l = count_words c.leaves l
 styled_words s c rest l = plain l
 
--- a list or record of one word, unless it is a record without a member
+-- a list or record of one word, unless it is a record without a member, or a list without an item that has no word of `tc`
 abbrev pub is_braces : Shape → Bool
 is_braces Braces = true
 is_braces s = false
 
+abbrev pub says_nothing : Leaf → Shape → List Leaf → Bool
+says_nothing l s rest = (is_braces s || bytes_eq l.row.word []) && is_hollow rest
+
 abbrev pub opened_words : Leaf → Shape → List Leaf → List (List ℕ)
-opened_words l s rest = if is_braces s && is_hollow rest then [] else valued l (opened_text s rest)
+opened_words l s rest = if says_nothing l s rest then [] else valued l (opened_text s rest)
 
 abbrev pub words_by : Value → Around → List Leaf → Leaf → List (List ℕ)
 words_by (leaf.opens s) c rest l = opened_words l s rest
 words_by (leaf.closes s) c rest l = []
 words_by v c rest l = styled_words l.row.style c rest l
+
+-- true if a leaf has words of its own
+abbrev pub tells_as : Value → Leaf → List Leaf → Bool
+tells_as (leaf.opens s) l rest = if says_nothing l s rest then false else true
+tells_as (leaf.closes s) l rest = false
+tells_as v l rest = true
+
+abbrev pub tells : Leaf → List Leaf → Bool
+tells l rest = if is_left_out l then false else tells_as l.value l rest
 
 abbrev pub words_of : Around → Option Leaf → List Leaf → Leaf → List (List ℕ)
 words_of c before rest l = if is_taken before l || is_left_out l then [] else words_by l.value c rest l

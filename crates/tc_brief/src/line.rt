@@ -7,11 +7,11 @@ ghost use Rattle.forms_values.specs.Sent.{events};
 ghost use Rattle.tc_brief.specs.Leaves.{Leaf as LeafView, leaf_view, leaves_view, value_view};
 ghost use Rattle.tc_brief.specs.Lines.{action_kind, action_of, action_words, actions, all_statistics, body, chain_words, counted, counted_action};
 ghost use Rattle.tc_brief.specs.Lines.{has_statistics, kind_statistics, object_statistics, own_statistics};
-ghost use Rattle.tc_brief.specs.Lines.{counted_bare, counts, dev_words, family_words, handle_in};
+ghost use Rattle.tc_brief.specs.Lines.{counted_bare, counts, dev_words, estimated, estimates, family_words, handle_in};
 ghost use Rattle.tc_brief.specs.Lines.{handle_value, handle_word, has_action, has_any, head, in_head, info_in, info_words, is_of_actions, is_other, is_placed};
 ghost use Rattle.tc_brief.specs.Lines.{kind_words, message_lines, named_or_hex, object_text, object_words, of_leaf, one_action, other_words};
-ghost use Rattle.tc_brief.specs.Lines.{own_action_words, own_actions, own_head, parent_words, place, place_words, protocol_in, protocol_of, said_view};
-ghost use Rattle.tc_brief.specs.Lines.{statistics, text_or_dash, unless_zero, with_word};
+ghost use Rattle.tc_brief.specs.Lines.{order_words, own_action_words, own_actions, own_head, parent_words, place, place_words, protocol_in, protocol_of};
+ghost use Rattle.tc_brief.specs.Lines.{said_view, statistics, text_or_dash, unless_zero, with_word};
 ghost use Rattle.tc_brief.specs.Parts.{count_in, is_in, scope_view};
 ghost use Rattle.tc_brief.specs.Values.{number_in};
 ghost use Rattle.tc_brief.specs.Walk.{leaves};
@@ -23,7 +23,7 @@ use crate::error::BriefError;
 use crate::leaf::{Leaf, Section, Value};
 use crate::named::is_same;
 use crate::numbers::put_signed;
-use crate::parts::{Line, Scope, bare, count_in, is_in};
+use crate::parts::{Line, Scope, bare, count_in, is_in, tells};
 use crate::row::Words;
 use crate::tape::tape_of;
 use crate::values::{depth_after, is_left_out, is_opening, number_in, put_interface};
@@ -204,11 +204,16 @@ impl Line {
     }
 
     // Writes the place of an object: `root`, `ingress`, `egress` or a parent.
-    fn parent(&mut self, text: &str) -> Result<(), AllocError>
-        ensures { OnOk result (self.new.text.items ≡ self.old.text.items ++ written (parent_words text.now)) }
+    #[tactic(auto, using(crate::proofs::Written::written_append))]
+    fn parent(&mut self, counted: bool, text: &str) -> Result<(), AllocError>
+        ensures { OnOk result (self.new.text.items ≡ self.old.text.items ++ written (parent_words counted text.now)) }
     {
         if is_same(text, "0:0") {
-            return Ok(());
+            if !counted {
+                return Ok(());
+            }
+            self.word(b"parent")?;
+            return self.word(b"none");
         }
         if is_same(text, "root") {
             return self.word(b"root");
@@ -224,15 +229,20 @@ impl Line {
     }
 
     // Writes the place of an object, or the number of a block.
-    fn place_in(&mut self, display: &Display, value: &Value<'_>) -> Result<(), AllocError>
-        ensures { OnOk result (self.new.text.items ≡ self.old.text.items ++ written (place_words display.now (value_view value.now))) }
+    fn place_in(
+        &mut self,
+        counted: bool,
+        display: &Display,
+        value: &Value<'_>,
+    ) -> Result<(), AllocError>
+        ensures { OnOk result (self.new.text.items ≡ self.old.text.items ++ written (place_words counted display.now (value_view value.now))) }
     {
         match (value, display) {
             (Value::Text(text), Display::Handle(unit)) => {
                 self.word(b"block")?;
                 self.handle_in(*unit, text)
             }
-            (Value::Text(text), _) => self.parent(text),
+            (Value::Text(text), _) => self.parent(counted, text),
             _ => Ok(()),
         }
     }
@@ -279,7 +289,10 @@ impl Line {
         ensures { OnOk result (self.new.text.items ≡ self.old.text.items ++ written (info_words counted of (names_view names.now) n)) }
     {
         match of {
-            InfoOf::Refcnt if counted => self.numbered(b"refcnt", n),
+            InfoOf::Refcnt if counted => {
+                self.word(b"refcnt")?;
+                self.decimal(n)
+            }
             InfoOf::Refcnt => Ok(()),
             InfoOf::Leaf if n == 0 => Ok(()),
             InfoOf::Leaf => {
@@ -333,7 +346,7 @@ impl Line {
             self.dev(&leaf.value)?;
         }
         if let Some(leaf) = in_head(leaves, "parent") {
-            self.place_in(&leaf.display, &leaf.value)?;
+            self.place_in(counted, &leaf.display, &leaf.value)?;
         }
         if let Some(leaf) = in_head(leaves, "info") {
             self.info_in(counted, &leaf.display, leaf.names, &leaf.value)?;
@@ -406,6 +419,16 @@ impl Line {
         }
     }
 
+    // Writes an estimate after its word, if it has one, unless it is 0.
+    fn estimated(&mut self, word: &[u8], leaf: Option<&Leaf<'_>>) -> Result<(), AllocError>
+        ensures { OnOk result (self.new.text.items ≡ self.old.text.items ++ written (estimated word.now (option_map (λ l. leaf_view l.now) leaf.entry))) }
+    {
+        match leaf {
+            Some(leaf) if is_left_out(leaf) => Ok(()),
+            _ => self.counted(word, leaf),
+        }
+    }
+
     // Writes the counts that each line with statistics has.
     #[tactic(auto, using(crate::proofs::Written::written_append))]
     fn counts(&mut self, section: Section, leaves: &[Leaf<'_>]) -> Result<(), AllocError>
@@ -419,6 +442,15 @@ impl Line {
         self.counted(b"", count_in(section, leaves, "qlen"))
     }
 
+    // Writes the estimated rate, unless it is 0.
+    #[tactic(auto, using(crate::proofs::Written::written_append))]
+    fn estimates(&mut self, section: Section, leaves: &[Leaf<'_>]) -> Result<(), AllocError>
+        ensures { OnOk result (self.new.text.items ≡ self.old.text.items ++ written (estimates section (leaves_view leaves.now))) }
+    {
+        self.estimated(b"rate", count_in(section, leaves, "bps"))?;
+        self.estimated(b"", count_in(section, leaves, "pps"))
+    }
+
     // Writes statistics.
     #[tactic(auto, using(crate::proofs::Written::written_append))]
     fn statistics(
@@ -430,6 +462,7 @@ impl Line {
         ensures { OnOk result (self.new.text.items ≡ self.old.text.items ++ written (statistics (scope_view scope.now) section (leaves_view leaves.now))) }
     {
         self.counts(section, leaves)?;
+        self.estimates(section, leaves)?;
         self.section(scope, section, leaves)
     }
 
@@ -469,6 +502,19 @@ impl Line {
         self.section(scope, Section::Kind, scope.leaves)
     }
 
+    // Writes the number of an action.
+    fn order(&mut self, counted: bool, value: &Value<'_>) -> Result<(), AllocError>
+        ensures { OnOk result (self.new.text.items ≡ self.old.text.items ++ written (order_words counted (value_view value.now))) }
+    {
+        match value {
+            Value::Unsigned(n) if counted => {
+                self.word(b"order")?;
+                self.decimal(*n)
+            }
+            _ => Ok(()),
+        }
+    }
+
     // Writes an action of a filter, which begins with a leaf.
     #[tactic(auto, using(crate::proofs::Written::written_append))]
     fn action_of(
@@ -482,6 +528,7 @@ impl Line {
     {
         self.word(b"action")?;
         self.action_kind(first, scope)?;
+        self.order(counted, &first.value)?;
         self.counted_action(counted, scope)
     }
 
@@ -656,6 +703,7 @@ impl Line {
         self.word(b"action")?;
         self.action_kind(first, scope)?;
         self.word(b"-")?;
+        self.order(counted, &first.value)?;
         self.place(counted, all)?;
         self.others(scope, all)
     }
@@ -725,13 +773,13 @@ fn repeats(text: &[u8], begin: usize, middle: usize) -> bool
     text[..middle][begin..] == text[middle..]
 }
 
-// True if a leaf of the section isn't left out.
+// True if a leaf of the section has words.
 fn has_any(section: Section, leaves: &[Leaf<'_>]) -> bool
     ensures { result ≡ has_any section (leaves_view leaves.now) }
 {
     let mut left = leaves;
     'each: while let [leaf, rest @ ..] = left {
-        if is_in(section, leaf) && !is_left_out(leaf) {
+        if is_in(section, leaf) && tells(leaf, rest) {
             return true;
         }
         left = rest;

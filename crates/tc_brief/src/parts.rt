@@ -8,7 +8,7 @@ ghost use Rattle.tc_brief.specs.Parts.{is_blank, is_in, is_rate};
 ghost use Rattle.tc_brief.specs.Parts.{is_taken, is_with, key_text, key_words, mask_text, match_words, next_with, number_of, number_of_section, opened_words};
 ghost use Rattle.tc_brief.specs.Parts.{agrees, is_braces, count_in, count_words, is_counted, or_key};
 ghost use Rattle.tc_brief.specs.Parts.{own_word, phrase, plain, protocol_words, rate_named, rate_of, rate_text, scope_view, section_words, styled_words};
-ghost use Rattle.tc_brief.specs.Parts.{alone_as, takes, valued, verdict_words, word_before, words_by, words_of};
+ghost use Rattle.tc_brief.specs.Parts.{alone_as, says_nothing, takes, tells, valued, verdict_words, word_before, words_by, words_of};
 ghost use Rattle.tc_brief.specs.Values.{assigned, name_of_leaf, number_in, opened_text, value_text, within_word};
 ghost use Rattle.tc_brief.specs.Words.{written};
 ghost use Rattle.tc_units.specs.Names.{names_view};
@@ -383,7 +383,7 @@ impl Line {
         ensures { OnOk result (self.new.text.items ≡ self.old.text.items
             ++ written (opened_words (leaf_view leaf.now) shape (leaves_view rest.now))) }
     {
-        if is_braces(shape) && is_hollow(rest) {
+        if says_nothing(leaf, shape, rest) {
             return Ok(());
         }
         self.begin_valued(leaf)?;
@@ -454,6 +454,27 @@ impl Line {
             left = rest;
         }
         Ok(())
+    }
+}
+
+// True of a record without a member, and of a list without an item that has no word of `tc`.
+fn says_nothing(leaf: &Leaf<'_>, shape: Shape, rest: &[Leaf<'_>]) -> bool
+    ensures { result ≡ says_nothing (leaf_view leaf.now) shape (leaves_view rest.now) }
+{
+    (is_braces(shape) || leaf.row.word.is_empty()) && is_hollow(rest)
+}
+
+/// True if a leaf has words of its own.
+pub(crate) fn tells(leaf: &Leaf<'_>, rest: &[Leaf<'_>]) -> bool
+    ensures { result ≡ tells (leaf_view leaf.now) (leaves_view rest.now) }
+{
+    if is_left_out(leaf) {
+        return false;
+    }
+    match leaf.value {
+        Value::Opens(shape) => !says_nothing(leaf, shape, rest),
+        Value::Closes(_) => false,
+        _ => true,
     }
 }
 

@@ -30,7 +30,13 @@ use Rattle.tc_words.specs.declared.tables.rows_of_roots.TheConstants.{ROWS_OF_RO
 use Rattle.tc_words.specs.declared.tables.rows_of_shared.TheConstants.{ROWS_OF_SHARED}
 use Rattle.tc_words.specs.declared.tables.rows_of_statistics.TheConstants.{ROWS_OF_STATISTICS}
 use Rattle.tc_brief.specs.Rows.{Row, const_row_view}
-use Rattle.tc_words.specs.declared.tables.rows_of_filters.TheConstants.{ROWS_AT_648}
+use Rattle.tc_words.specs.declared.tables.rows_of_action.TheConstants.{DETAILS_AT_0, DETAILS_AT_1}
+use Rattle.tc_words.specs.declared.tables.rows_of_actions.TheConstants.{DETAILS_AT_338}
+use Rattle.tc_words.specs.declared.tables.rows_of_filters.TheConstants.{ROWS_AT_648, DETAILS_AT_793}
+use Rattle.tc_words.specs.declared.tables.rows_of_message.TheConstants.{DETAILS_AT_819, DETAILS_AT_820}
+use Rattle.tc_words.specs.declared.tables.rows_of_qdiscs.TheConstants.{DETAILS_AT_1609}
+use Rattle.tc_words.specs.declared.tables.rows_of_roots.TheConstants.{DETAILS_AT_6022}
+use Rattle.tc_words.specs.declared.tables.rows_of_shared.TheConstants.{DETAILS_AT_1632}
 
 unfoldable pub rows_of_action : List (List Row)
 rows_of_action = map (λ x. map const_row_view x.now) ROWS_OF_ACTION
@@ -247,3 +253,30 @@ rows_of_roots_250 = map (λ x. map const_row_view x.now) ROWS_OF_ROOTS_250
 
 unfoldable pub rows_at_648 : List Row
 rows_at_648 = map const_row_view ROWS_AT_648
+
+unfoldable pub details_at_0 : List Row
+details_at_0 = map const_row_view DETAILS_AT_0
+
+unfoldable pub details_at_1 : List Row
+details_at_1 = map const_row_view DETAILS_AT_1
+
+unfoldable pub details_at_338 : List Row
+details_at_338 = map const_row_view DETAILS_AT_338
+
+unfoldable pub details_at_793 : List Row
+details_at_793 = map const_row_view DETAILS_AT_793
+
+unfoldable pub details_at_819 : List Row
+details_at_819 = map const_row_view DETAILS_AT_819
+
+unfoldable pub details_at_820 : List Row
+details_at_820 = map const_row_view DETAILS_AT_820
+
+unfoldable pub details_at_1609 : List Row
+details_at_1609 = map const_row_view DETAILS_AT_1609
+
+unfoldable pub details_at_1632 : List Row
+details_at_1632 = map const_row_view DETAILS_AT_1632
+
+unfoldable pub details_at_6022 : List Row
+details_at_6022 = map const_row_view DETAILS_AT_6022

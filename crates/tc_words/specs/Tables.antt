@@ -15,6 +15,8 @@ use Rattle.tc_words.specs.Arrays.{rows_of_qdiscs_hhf, rows_of_qdiscs_htb, rows_o
 use Rattle.tc_words.specs.Arrays.{rows_of_qdiscs_netem, rows_of_qdiscs_none, rows_of_qdiscs_pie, rows_of_qdiscs_plug, rows_of_qdiscs_prio}
 use Rattle.tc_words.specs.Arrays.{rows_of_qdiscs_qfq, rows_of_qdiscs_red, rows_of_qdiscs_sfb, rows_of_qdiscs_sfq, rows_of_qdiscs_skbprio}
 use Rattle.tc_words.specs.Arrays.{rows_of_qdiscs_taprio, rows_of_qdiscs_tbf, rows_of_shared, rows_of_statistics, rows_of_roots_250, rows_at_648}
+use Rattle.tc_words.specs.Arrays.{details_at_0, details_at_1, details_at_338, details_at_793, details_at_819, details_at_820, details_at_1609}
+use Rattle.tc_words.specs.Arrays.{details_at_1632, details_at_6022}
 use Rattle.tc_brief.specs.Rows.{Row}
 
 unfoldable pub rows_from_0 : ℕ → List (List Row)
@@ -119,3 +121,17 @@ rows_of file =
 
 unfoldable pub all_rows : ℕ → List Row
 all_rows place = if place == 648 then rows_at_648 else unwrap_or (slice_get (rows_of (place / 24)) (place % 24)) []
+
+-- the same with statistics, which leave out less
+unfoldable pub detailed_rows : ℕ → List Row
+detailed_rows place =
+    if place == 0 then details_at_0 else
+    if place == 1 then details_at_1 else
+    if place == 338 then details_at_338 else
+    if place == 793 then details_at_793 else
+    if place == 819 then details_at_819 else
+    if place == 820 then details_at_820 else
+    if place == 1609 then details_at_1609 else
+    if place == 1632 then details_at_1632 else
+    if place == 6022 then details_at_6022 else
+    all_rows place

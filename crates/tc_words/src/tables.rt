@@ -1,7 +1,7 @@
 //! The rows, by their places. Written by `kinds/words`.
 
 ghost use Rattle.std.specs.Prelude.{[], map, slice_get, unwrap_or, ◌≡◌};
-ghost use Rattle.tc_words.specs.Tables.{all_rows, rows_from_0, rows_from_18, rows_from_36, rows_from_54, rows_from_234, rows_of};
+ghost use Rattle.tc_words.specs.Tables.{all_rows, detailed_rows, rows_from_0, rows_from_18, rows_from_36, rows_from_54, rows_from_234, rows_of};
 ghost use Rattle.tc_brief.specs.Rows.{rows_view};
 
 mod rows_of_action;
@@ -165,4 +165,38 @@ pub(crate) fn all_rows(place: usize) -> &'static [Row<'static>]
         return rows_of_filters::rows_at_648();
     }
     rows_in(rows_of(place / 24), place % 24)
+}
+
+#[tactic(auto, unfolding(crate::specs::Tables::detailed_rows))]
+pub(crate) fn detailed_rows(place: usize) -> &'static [Row<'static>]
+    ensures { rows_view result.now ≡ detailed_rows place }
+{
+    if place == 0 {
+        return rows_of_action::details_at_0();
+    }
+    if place == 1 {
+        return rows_of_action::details_at_1();
+    }
+    if place == 338 {
+        return rows_of_actions::details_at_338();
+    }
+    if place == 793 {
+        return rows_of_filters::details_at_793();
+    }
+    if place == 819 {
+        return rows_of_message::details_at_819();
+    }
+    if place == 820 {
+        return rows_of_message::details_at_820();
+    }
+    if place == 1609 {
+        return rows_of_qdiscs::details_at_1609();
+    }
+    if place == 1632 {
+        return rows_of_shared::details_at_1632();
+    }
+    if place == 6022 {
+        return rows_of_roots::details_at_6022();
+    }
+    all_rows(place)
 }

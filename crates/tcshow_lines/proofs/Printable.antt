@@ -103,7 +103,7 @@ module _ (said : Said) (begin : IsShown true said.begin) (end : IsShown true sai
 pub said_ended : (names : List (ℕ × List ℕ)) (begin : List ℕ) (stats : Bool) (port : ℕ) (m : Message) (text : List ℕ) → IsShown true begin
     → IsSaid names begin stats port m text → IsEnded text
 said_ended names begin stats port m text b h =
-    found_ended (said_as begin stats port (written (fault_words m)) m) b (written_shown (fault_words m)) (leaves_with stats names m) text h.line
+    found_ended (said_as begin stats port (written (fault_words m)) m) b (written_shown (fault_words m)) (leaves_with names stats m) text h.line
 
 -- the words of a message's fault
 pub said_words : (m : Message) (e : Option DecodeError) (n : Option ℕ) → e ≡ fault_of m → n ≡ offset_of m

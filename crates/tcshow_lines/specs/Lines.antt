@@ -36,9 +36,14 @@ names_after given links = map (λ name. (name.0, name.1.now)) given ++ names_in 
 abbrev pub options_with : List (ℕ × List ℕ) → Root → Options
 options_with names about = record { root = root_place about; all = false; interfaces = names }
 
--- the leaves of the JSON of bytes
-abbrev pub leaves_in : Bool → Options → Root → List ℕ → Option (List Leaf)
-leaves_in stats options about bytes = leaves (kind_table options) stats all_rows options.root (events (shown_of tc_tables (form_of about) bytes))
+-- the rows of lines with statistics, and of those without
+abbrev pub rows_for : Bool → ℕ → List Row
+rows_for stats = if stats then detailed_rows else all_rows
+
+-- the leaves of the JSON of bytes, with these rows
+abbrev pub leaves_in : Bool → (ℕ → List Row) → Options → Root → List ℕ → Option (List Leaf)
+leaves_in stats rows options about bytes =
+    leaves (kind_table options) stats rows options.root (events (shown_of tc_tables (form_of about) bytes))
 
 -- the leaves of a message's JSON; those of statistics only if they are asked for
 abbrev pub is_of_actions : Root → Bool
@@ -48,10 +53,10 @@ is_of_actions about = false
 
 abbrev pub leaves_at : Bool → Options → Root → List ℕ → Option (List Leaf)
 leaves_at stats options about payload =
-    leaves_in stats options about (if stats || is_of_actions about then payload else without_statistics payload)
+    leaves_in stats (rows_for stats) options about (if stats || is_of_actions about then payload else without_statistics payload)
 
-abbrev pub leaves_with : Bool → List (ℕ × List ℕ) → Message → Option (List Leaf)
-leaves_with stats names m = leaves_at stats (options_with names (root_of m)) (root_of m) m.payload
+abbrev pub leaves_with : List (ℕ × List ℕ) → Bool → Message → Option (List Leaf)
+leaves_with names stats m = leaves_at stats (options_with names (root_of m)) (root_of m) m.payload
 
 -- what is known of a message beside its bytes, if its lines begin and end with these texts
 abbrev pub said_as : List ℕ → Bool → ℕ → List ℕ → Message → Said
@@ -97,7 +102,7 @@ fault_words m = words_of m (fault_of m) (offset_of m)
 
 -- the lines of a message that begin with a text, with these names of interfaces: its words, and its fault, if it has one
 pub record IsSaid (names : List (ℕ × List ℕ)) (begin : List ℕ) (stats : Bool) (port : ℕ) (m : Message) (text : List ℕ) : Type 0 where
-  pub line : option_map (message_lines (said_as begin stats port (written (fault_words m)) m)) (leaves_with stats names m) ≡ Some text
+  pub line : option_map (message_lines (said_as begin stats port (written (fault_words m)) m)) (leaves_with names stats m) ≡ Some text
 
 -- what a message's lines begin with, after these messages: its time, if it has one, and what it does
 abbrev pub begin_of : Past → TimeFormat → Message → List ℕ

@@ -16,10 +16,10 @@ use crate::verb::{object_in, speech_of};
 use forms_json::Form;
 use forms_kinds::{ACTION_MESSAGE, TC_MESSAGE, TcTables};
 use std::alloc::{AllocError, Global};
-use tc_brief::{Said, lines_of, lines_of_nothing};
+use tc_brief::{Said, Words, lines_of, lines_of_nothing};
 use tc_columns::{KindColumns, LinkNames, Root};
 use tc_outline::Fault;
-use tc_words::TcWords;
+use tc_words::{TcDetails, TcWords};
 use tcshow_json::Message;
 
 /// The lines of a message, each with its line feed, and the name of its fault if it is malformed.
@@ -45,17 +45,18 @@ fn is_of_actions(root: Root) -> bool
     matches!(root, Root::Action | Root::Flush)
 }
 
-// The lines of bytes with these names of interfaces.
-fn lines_in(
+// The lines of bytes with these rows and these names of interfaces.
+fn lines_in<W: Words + Drop>(
     alloc: Global,
     interfaces: &[(u32, &str)],
     links: &LinkNames,
     root: Root,
+    words: W,
     said: &Said<'_>,
     bytes: &[u8],
 ) -> Result<Vec<u8>, AllocError>
     ensures { IfOk result (λ text. option_map (message_lines (said_view said.now))
-        (leaves_in said.now.statistics (options_with (names_after interfaces.now links.now) root) root bytes.now) ≡ Some text.items) }
+        (leaves_in said.now.statistics W.rows (options_with (names_after interfaces.now links.now) root) root bytes.now) ≡ Some text.items) }
 {
     let columns = KindColumns {
         root,
@@ -68,7 +69,7 @@ fn lines_in(
         TcTables,
         form_of(root),
         columns,
-        TcWords,
+        words,
         said,
         bytes,
     ) {
@@ -89,11 +90,14 @@ fn lines_with(
     ensures { IfOk result (λ text. option_map (message_lines (said_view said.now))
         (leaves_at said.now.statistics (options_with (names_after interfaces.now links.now) root) root bytes.now) ≡ Some text.items) }
 {
-    if said.statistics || is_of_actions(root) {
-        return lines_in(alloc, interfaces, links, root, said, bytes);
+    if said.statistics {
+        return lines_in(alloc, interfaces, links, root, TcDetails, said, bytes);
+    }
+    if is_of_actions(root) {
+        return lines_in(alloc, interfaces, links, root, TcWords, said, bytes);
     }
     let bare = without_statistics(alloc, bytes)?;
-    lines_in(alloc, interfaces, links, root, said, &bare)
+    lines_in(alloc, interfaces, links, root, TcWords, said, &bare)
 }
 
 fn name_of(fault: &Option<Fault>) -> Option<&'static str>

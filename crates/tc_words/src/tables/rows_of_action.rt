@@ -1,7 +1,7 @@
 //! The rows of `kinds/action`. Written by `kinds/words`.
 
 ghost use Rattle.std.specs.Prelude.{map, ◌≡◌};
-ghost use Rattle.tc_words.specs.Arrays.{rows_of_action};
+ghost use Rattle.tc_words.specs.Arrays.{rows_of_action, details_at_0, details_at_1};
 ghost use Rattle.tc_brief.specs.Rows.{rows_view};
 
 use tc_brief::{LeftOut, Row, Style};
@@ -17,7 +17,7 @@ static ROWS_OF_ACTION: [&'static [Row<'static>]; 9] = [
         Row { key: "Flags", word: "", style: Style::Flat, with: "", left: LeftOut::Never },
         Row { key: "HwStats", word: "hw_stats", style: Style::Value, with: "", left: LeftOut::Never },
         Row { key: "UsedHwStats", word: "", style: Style::Statistics, with: "", left: LeftOut::Never },
-        Row { key: "InHwCount", word: "", style: Style::Statistics, with: "", left: LeftOut::Equal(0) },
+        Row { key: "InHwCount", word: "in_hw_count", style: Style::Statistics, with: "", left: LeftOut::Equal(0) },
         Row { key: "Options", word: "", style: Style::Flat, with: "", left: LeftOut::Never },
     ],
     &[ // 1, `list action`: the rows of all kinds
@@ -29,7 +29,7 @@ static ROWS_OF_ACTION: [&'static [Row<'static>]; 9] = [
         Row { key: "Flags", word: "", style: Style::Flat, with: "", left: LeftOut::Never },
         Row { key: "HwStats", word: "hw_stats", style: Style::Value, with: "", left: LeftOut::Never },
         Row { key: "UsedHwStats", word: "", style: Style::Statistics, with: "", left: LeftOut::Never },
-        Row { key: "InHwCount", word: "", style: Style::Statistics, with: "", left: LeftOut::Equal(0) },
+        Row { key: "InHwCount", word: "in_hw_count", style: Style::Statistics, with: "", left: LeftOut::Equal(0) },
     ],
     &[ // 2, `list action`: the rows of other kinds
         Row { key: "Options", word: "", style: Style::Flat, with: "", left: LeftOut::Never },
@@ -63,4 +63,47 @@ pub(crate) fn rows_of_action() -> &'static [&'static [Row<'static>]]
     ensures { map (λ x. rows_view x.now) result.now ≡ rows_of_action }
 {
     &ROWS_OF_ACTION
+}
+
+// `list action`, with statistics
+#[rattlefmt::skip]
+static DETAILS_AT_0: [Row<'static>; 10] = [
+    Row { key: "Kind", word: "", style: Style::Alone, with: "", left: LeftOut::Never },
+    Row { key: "Index", word: "index", style: Style::Value, with: "", left: LeftOut::Never },
+    Row { key: "Stats", word: "", style: Style::Statistics, with: "", left: LeftOut::Never },
+    Row { key: "Pad", word: "", style: Style::Value, with: "", left: LeftOut::Always },
+    Row { key: "Cookie", word: "cookie", style: Style::Control, with: "", left: LeftOut::Never },
+    Row { key: "Flags", word: "", style: Style::Flat, with: "", left: LeftOut::Never },
+    Row { key: "HwStats", word: "hw_stats", style: Style::Value, with: "", left: LeftOut::Never },
+    Row { key: "UsedHwStats", word: "", style: Style::Statistics, with: "", left: LeftOut::Never },
+    Row { key: "InHwCount", word: "in_hw_count", style: Style::Statistics, with: "", left: LeftOut::Never },
+    Row { key: "Options", word: "", style: Style::Flat, with: "", left: LeftOut::Never },
+];
+
+#[tactic(auto, unfolding(crate::specs::Arrays::details_at_0))]
+pub(crate) fn details_at_0() -> &'static [Row<'static>]
+    ensures { rows_view result.now ≡ details_at_0 }
+{
+    &DETAILS_AT_0
+}
+
+// `list action`: the rows of all kinds, with statistics
+#[rattlefmt::skip]
+static DETAILS_AT_1: [Row<'static>; 9] = [
+    Row { key: "Kind", word: "", style: Style::Alone, with: "", left: LeftOut::Never },
+    Row { key: "Index", word: "index", style: Style::Value, with: "", left: LeftOut::Never },
+    Row { key: "Stats", word: "", style: Style::Statistics, with: "", left: LeftOut::Never },
+    Row { key: "Pad", word: "", style: Style::Value, with: "", left: LeftOut::Always },
+    Row { key: "Cookie", word: "cookie", style: Style::Control, with: "", left: LeftOut::Never },
+    Row { key: "Flags", word: "", style: Style::Flat, with: "", left: LeftOut::Never },
+    Row { key: "HwStats", word: "hw_stats", style: Style::Value, with: "", left: LeftOut::Never },
+    Row { key: "UsedHwStats", word: "", style: Style::Statistics, with: "", left: LeftOut::Never },
+    Row { key: "InHwCount", word: "in_hw_count", style: Style::Statistics, with: "", left: LeftOut::Never },
+];
+
+#[tactic(auto, unfolding(crate::specs::Arrays::details_at_1))]
+pub(crate) fn details_at_1() -> &'static [Row<'static>]
+    ensures { rows_view result.now ≡ details_at_1 }
+{
+    &DETAILS_AT_1
 }

@@ -5,7 +5,7 @@ ghost use Rattle.tc_words.specs.Arrays.{rows_of_actions_bpf, rows_of_actions_con
 ghost use Rattle.tc_words.specs.Arrays.{rows_of_actions_gact, rows_of_actions_gate, rows_of_actions_ife, rows_of_actions_ipt, rows_of_actions_mirred};
 ghost use Rattle.tc_words.specs.Arrays.{rows_of_actions_mpls, rows_of_actions_nat, rows_of_actions_pedit, rows_of_actions_police};
 ghost use Rattle.tc_words.specs.Arrays.{rows_of_actions_sample, rows_of_actions_simple, rows_of_actions_skbedit, rows_of_actions_skbmod};
-ghost use Rattle.tc_words.specs.Arrays.{rows_of_actions_tunnel_key, rows_of_actions_vlan};
+ghost use Rattle.tc_words.specs.Arrays.{rows_of_actions_tunnel_key, rows_of_actions_vlan, details_at_338};
 ghost use Rattle.tc_brief.specs.Rows.{rows_view};
 
 use tc_brief::{LeftOut, Row, Style};
@@ -607,4 +607,26 @@ pub(crate) fn rows_of_actions_vlan() -> &'static [&'static [Row<'static>]]
     ensures { map (λ x. rows_view x.now) result.now ≡ rows_of_actions_vlan }
 {
     &ROWS_OF_ACTIONS_VLAN
+}
+
+// `struct tc_police`, with statistics
+#[rattlefmt::skip]
+static DETAILS_AT_338: [Row<'static>; 10] = [
+    Row { key: "index", word: "index", style: Style::Control, with: "", left: LeftOut::Never },
+    Row { key: "action", word: "", style: Style::Control, with: "", left: LeftOut::Never },
+    Row { key: "limit", word: "", style: Style::Value, with: "", left: LeftOut::Equal(0) },
+    Row { key: "burst", word: "burst", style: Style::Burst, with: "rate", left: LeftOut::Never },
+    Row { key: "mtu", word: "mtu", style: Style::Value, with: "", left: LeftOut::Never },
+    Row { key: "rate", word: "rate", style: Style::Rate, with: "Rate64", left: LeftOut::Never },
+    Row { key: "peakrate", word: "peakrate", style: Style::Rate, with: "Peakrate64", left: LeftOut::Never },
+    Row { key: "refcnt", word: "ref", style: Style::Statistics, with: "", left: LeftOut::Equal(0) },
+    Row { key: "bindcnt", word: "bind", style: Style::Statistics, with: "", left: LeftOut::Equal(0) },
+    Row { key: "capab", word: "", style: Style::Value, with: "", left: LeftOut::Equal(0) },
+];
+
+#[tactic(auto, unfolding(crate::specs::Arrays::details_at_338))]
+pub(crate) fn details_at_338() -> &'static [Row<'static>]
+    ensures { rows_view result.now ≡ details_at_338 }
+{
+    &DETAILS_AT_338
 }

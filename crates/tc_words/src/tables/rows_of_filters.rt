@@ -3,7 +3,7 @@
 ghost use Rattle.std.specs.Prelude.{map, ◌≡◌};
 ghost use Rattle.tc_words.specs.Arrays.{rows_of_filters_basic, rows_of_filters_bpf, rows_of_filters_cgroup, rows_of_filters_flow};
 ghost use Rattle.tc_words.specs.Arrays.{rows_of_filters_flower, rows_of_filters_fw, rows_of_filters_matchall, rows_of_filters_route};
-ghost use Rattle.tc_words.specs.Arrays.{rows_of_filters_rsvp, rows_of_filters_tcindex, rows_of_filters_u32, rows_at_648};
+ghost use Rattle.tc_words.specs.Arrays.{rows_of_filters_rsvp, rows_of_filters_tcindex, rows_of_filters_u32, rows_at_648, details_at_793};
 ghost use Rattle.tc_brief.specs.Rows.{rows_view};
 
 use tc_brief::{LeftOut, Row, Style};
@@ -429,4 +429,25 @@ pub(crate) fn rows_at_648() -> &'static [Row<'static>]
     ensures { rows_view result.now ≡ rows_at_648 }
 {
     &ROWS_AT_648
+}
+
+// `struct tc_u32_sel`, with statistics
+#[rattlefmt::skip]
+static DETAILS_AT_793: [Row<'static>; 9] = [
+    Row { key: "flags", word: "", style: Style::Value, with: "", left: LeftOut::Never },
+    Row { key: "offshift", word: "", style: Style::Value, with: "", left: LeftOut::Equal(0) },
+    Row { key: "nkeys", word: "", style: Style::Value, with: "", left: LeftOut::Always },
+    Row { key: "offmask", word: "", style: Style::Value, with: "", left: LeftOut::Equal(0) },
+    Row { key: "off", word: "", style: Style::Value, with: "", left: LeftOut::Equal(0) },
+    Row { key: "offoff", word: "", style: Style::Value, with: "", left: LeftOut::Equal(0) },
+    Row { key: "hoff", word: "", style: Style::Value, with: "", left: LeftOut::Equal(0) },
+    Row { key: "hmask", word: "", style: Style::Value, with: "", left: LeftOut::Equal(0) },
+    Row { key: "keys", word: "", style: Style::Keys, with: "", left: LeftOut::Never },
+];
+
+#[tactic(auto, unfolding(crate::specs::Arrays::details_at_793))]
+pub(crate) fn details_at_793() -> &'static [Row<'static>]
+    ensures { rows_view result.now ≡ details_at_793 }
+{
+    &DETAILS_AT_793
 }

@@ -7,7 +7,7 @@ ghost use Rattle.tc_words.specs.Arrays.{rows_of_qdiscs_fifo, rows_of_qdiscs_fq, 
 ghost use Rattle.tc_words.specs.Arrays.{rows_of_qdiscs_hfsc, rows_of_qdiscs_hhf, rows_of_qdiscs_htb, rows_of_qdiscs_ingress, rows_of_qdiscs_mqprio};
 ghost use Rattle.tc_words.specs.Arrays.{rows_of_qdiscs_multiq, rows_of_qdiscs_netem, rows_of_qdiscs_none, rows_of_qdiscs_pie, rows_of_qdiscs_plug};
 ghost use Rattle.tc_words.specs.Arrays.{rows_of_qdiscs_prio, rows_of_qdiscs_qfq, rows_of_qdiscs_red, rows_of_qdiscs_sfb, rows_of_qdiscs_sfq};
-ghost use Rattle.tc_words.specs.Arrays.{rows_of_qdiscs_skbprio, rows_of_qdiscs_taprio, rows_of_qdiscs_tbf};
+ghost use Rattle.tc_words.specs.Arrays.{rows_of_qdiscs_skbprio, rows_of_qdiscs_taprio, rows_of_qdiscs_tbf, details_at_1609};
 ghost use Rattle.tc_brief.specs.Rows.{rows_view};
 
 use tc_brief::{LeftOut, Row, Style};
@@ -1231,4 +1231,21 @@ pub(crate) fn rows_of_qdiscs_tbf() -> &'static [&'static [Row<'static>]]
     ensures { map (λ x. rows_view x.now) result.now ≡ rows_of_qdiscs_tbf }
 {
     &ROWS_OF_QDISCS_TBF
+}
+
+// `struct tc_tbf_qopt`, with statistics
+#[rattlefmt::skip]
+static DETAILS_AT_1609: [Row<'static>; 5] = [
+    Row { key: "rate", word: "rate", style: Style::Rate, with: "Rate64", left: LeftOut::Never },
+    Row { key: "peakrate", word: "peakrate", style: Style::Rate, with: "Prate64", left: LeftOut::Never },
+    Row { key: "limit", word: "limit", style: Style::Value, with: "", left: LeftOut::Never },
+    Row { key: "buffer", word: "burst", style: Style::Burst, with: "rate", left: LeftOut::Never },
+    Row { key: "mtu", word: "mtu", style: Style::Burst, with: "peakrate", left: LeftOut::Equal(0) },
+];
+
+#[tactic(auto, unfolding(crate::specs::Arrays::details_at_1609))]
+pub(crate) fn details_at_1609() -> &'static [Row<'static>]
+    ensures { rows_view result.now ≡ details_at_1609 }
+{
+    &DETAILS_AT_1609
 }

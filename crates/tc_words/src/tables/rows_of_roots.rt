@@ -1,7 +1,7 @@
 //! The rows of messages and their headers. Written by `kinds/words`.
 
 ghost use Rattle.std.specs.Prelude.{map, ◌≡◌};
-ghost use Rattle.tc_words.specs.Arrays.{rows_of_roots_250};
+ghost use Rattle.tc_words.specs.Arrays.{rows_of_roots_250, details_at_6022};
 ghost use Rattle.tc_brief.specs.Rows.{rows_view};
 
 use tc_brief::{LeftOut, Row, Style};
@@ -26,7 +26,7 @@ static ROWS_OF_ROOTS_250: [&'static [Row<'static>]; 23] = [
         Row { key: "Flags", word: "", style: Style::Flat, with: "", left: LeftOut::Never },
         Row { key: "HwStats", word: "hw_stats", style: Style::Value, with: "", left: LeftOut::Never },
         Row { key: "UsedHwStats", word: "", style: Style::Statistics, with: "", left: LeftOut::Never },
-        Row { key: "InHwCount", word: "", style: Style::Statistics, with: "", left: LeftOut::Equal(0) },
+        Row { key: "InHwCount", word: "in_hw_count", style: Style::Statistics, with: "", left: LeftOut::Equal(0) },
         Row { key: "Options", word: "", style: Style::Flat, with: "", left: LeftOut::Never },
     ],
 ];
@@ -36,4 +36,26 @@ pub(crate) fn rows_of_roots_250() -> &'static [&'static [Row<'static>]]
     ensures { map (λ x. rows_view x.now) result.now ≡ rows_of_roots_250 }
 {
     &ROWS_OF_ROOTS_250
+}
+
+// of the answer to a flush, with statistics
+#[rattlefmt::skip]
+static DETAILS_AT_6022: [Row<'static>; 10] = [
+    Row { key: "Kind", word: "", style: Style::Alone, with: "", left: LeftOut::Never },
+    Row { key: "Index", word: "index", style: Style::Value, with: "", left: LeftOut::Never },
+    Row { key: "Stats", word: "", style: Style::Statistics, with: "", left: LeftOut::Never },
+    Row { key: "Pad", word: "", style: Style::Value, with: "", left: LeftOut::Always },
+    Row { key: "Cookie", word: "count", style: Style::Value, with: "", left: LeftOut::Never },
+    Row { key: "Flags", word: "", style: Style::Flat, with: "", left: LeftOut::Never },
+    Row { key: "HwStats", word: "hw_stats", style: Style::Value, with: "", left: LeftOut::Never },
+    Row { key: "UsedHwStats", word: "", style: Style::Statistics, with: "", left: LeftOut::Never },
+    Row { key: "InHwCount", word: "in_hw_count", style: Style::Statistics, with: "", left: LeftOut::Never },
+    Row { key: "Options", word: "", style: Style::Flat, with: "", left: LeftOut::Never },
+];
+
+#[tactic(auto, unfolding(crate::specs::Arrays::details_at_6022))]
+pub(crate) fn details_at_6022() -> &'static [Row<'static>]
+    ensures { rows_view result.now ≡ details_at_6022 }
+{
+    &DETAILS_AT_6022
 }

@@ -13,8 +13,8 @@ static ROWS_OF_STATISTICS: [&'static [Row<'static>]; 8] = [
         Row { key: "packets", word: "", style: Style::Count, with: "", left: LeftOut::Never },
         Row { key: "drops", word: "dropped", style: Style::Count, with: "", left: LeftOut::Never },
         Row { key: "overlimits", word: "overlimits", style: Style::Count, with: "", left: LeftOut::Never },
-        Row { key: "bps", word: "rate", style: Style::Value, with: "", left: LeftOut::Equal(0) },
-        Row { key: "pps", word: "", style: Style::Alone, with: "", left: LeftOut::Equal(0) },
+        Row { key: "bps", word: "rate", style: Style::Count, with: "", left: LeftOut::Equal(0) },
+        Row { key: "pps", word: "", style: Style::Count, with: "", left: LeftOut::Equal(0) },
         Row { key: "qlen", word: "", style: Style::Count, with: "", left: LeftOut::Never },
         Row { key: "backlog", word: "backlog", style: Style::Count, with: "", left: LeftOut::Never },
     ],
@@ -50,12 +50,12 @@ static ROWS_OF_STATISTICS: [&'static [Row<'static>]; 8] = [
         Row { key: "overlimits", word: "overlimits", style: Style::Count, with: "", left: LeftOut::Never },
     ],
     &[ // 1662, `struct gnet_stats_rate_est`
-        Row { key: "bps", word: "rate", style: Style::Value, with: "", left: LeftOut::Equal(0) },
-        Row { key: "pps", word: "", style: Style::Alone, with: "", left: LeftOut::Equal(0) },
+        Row { key: "bps", word: "rate", style: Style::Count, with: "", left: LeftOut::Equal(0) },
+        Row { key: "pps", word: "", style: Style::Count, with: "", left: LeftOut::Equal(0) },
     ],
     &[ // 1663, `struct gnet_stats_rate_est64`
-        Row { key: "bps", word: "rate", style: Style::Value, with: "", left: LeftOut::Equal(0) },
-        Row { key: "pps", word: "", style: Style::Alone, with: "", left: LeftOut::Equal(0) },
+        Row { key: "bps", word: "rate", style: Style::Count, with: "", left: LeftOut::Equal(0) },
+        Row { key: "pps", word: "", style: Style::Count, with: "", left: LeftOut::Equal(0) },
     ],
 ];
 

@@ -22,8 +22,9 @@ static ACTION_BPF: Known = Known {
         "f=0,k=0x0}] cookie d0d0d0d0d0d0d0d0 index 1 pipe acts 1",
     ],
     counted: &[
-        "is action bpf - OpsLen=4 bytecode [{code=0x28,jt=0,jf=0,k=0xc},{code=0x15,jt=0,jf=1,k=0x806},{code=0x6,jt=0,jf=0,k=0x40000},{code=0x6,jt=0,j",
-        "f=0,k=0x0}] cookie d0d0d0d0d0d0d0d0 index 1 pipe acts 1 ; sent 0B 0p dropped 0 overlimits 0 backlog 0B 0p ref 1 installed 230ms used 230ms",
+        "is action bpf - order 0 OpsLen=4 bytecode [{code=0x28,jt=0,jf=0,k=0xc},{code=0x15,jt=0,jf=1,k=0x806},{code=0x6,jt=0,jf=0,k=0x40000},{code=0x",
+        "6,jt=0,jf=0,k=0x0}] cookie d0d0d0d0d0d0d0d0 index 1 pipe acts 1 ; sent 0B 0p dropped 0 overlimits 0 backlog 0B 0p in_hw_count 0 ref 1 instal",
+        "led 230ms used 230ms",
     ],
 };
 
@@ -44,8 +45,8 @@ static ACTION_CONNMARK: Known = Known {
         "is action connmark - zone 555 cookie aabbccddeeff112233445566778800a1 index 5 pipe acts 1",
     ],
     counted: &[
-        "is action connmark - zone 555 cookie aabbccddeeff112233445566778800a1 index 5 pipe acts 1 ; sent 0B 0p dropped 0 overlimits 0 backlog 0B 0p ",
-        "ref 1 installed 680ms used 680ms",
+        "is action connmark - order 0 zone 555 cookie aabbccddeeff112233445566778800a1 index 5 pipe acts 1 ; sent 0B 0p dropped 0 overlimits 0 backlo",
+        "g 0B 0p in_hw_count 0 ref 1 installed 680ms used 680ms",
     ],
 };
 
@@ -66,8 +67,8 @@ static ACTION_CSUM: Known = Known {
         "is action csum - udp cookie 12345678 index 7 pipe acts 1",
     ],
     counted: &[
-        "is action csum - udp cookie 12345678 index 7 pipe acts 1 ; sent 0B 0p dropped 0 overlimits 0 backlog 0B 0p used_hw_stats 0 ref 1 installed 1",
-        "10ms used 110ms",
+        "is action csum - order 0 udp cookie 12345678 index 7 pipe acts 1 ; sent 0B 0p dropped 0 overlimits 0 backlog 0B 0p used_hw_stats 0 in_hw_cou",
+        "nt 0 ref 1 installed 110ms used 110ms",
     ],
 };
 
@@ -88,8 +89,8 @@ static ACTION_CT: Known = Known {
         "is action ct - commit nat nat_src zone 0 addr 5.5.5.7-5.5.6.0 port 1000-2000 index 44 pipe acts 1",
     ],
     counted: &[
-        "is action ct - commit nat nat_src zone 0 addr 5.5.5.7-5.5.6.0 port 1000-2000 index 44 pipe acts 1 ; sent 0B 0p dropped 0 overlimits 0 backlo",
-        "g 0B 0p used_hw_stats 0 ref 1 installed 40ms used 40ms",
+        "is action ct - order 0 commit nat nat_src zone 0 addr 5.5.5.7-5.5.6.0 port 1000-2000 index 44 pipe acts 1 ; sent 0B 0p dropped 0 overlimits ",
+        "0 backlog 0B 0p used_hw_stats 0 in_hw_count 0 ref 1 installed 40ms used 40ms",
     ],
 };
 
@@ -110,8 +111,8 @@ static ACTION_CTINFO: Known = Known {
         "is action ctinfo - zone 0 dscp 0xfc000000 ParmsDscpStatemask=0x1000000 index 100 pipe acts 1",
     ],
     counted: &[
-        "is action ctinfo - zone 0 dscp 0xfc000000 ParmsDscpStatemask=0x1000000 index 100 pipe acts 1 ; sent 0B 0p dropped 0 overlimits 0 backlog 0B ",
-        "0p installed 90ms used 90ms ref 1",
+        "is action ctinfo - order 0 zone 0 dscp 0xfc000000 ParmsDscpStatemask=0x1000000 index 100 pipe acts 1 ; sent 0B 0p dropped 0 overlimits 0 bac",
+        "klog 0B 0p in_hw_count 0 installed 90ms used 90ms ref 1",
     ],
 };
 
@@ -132,8 +133,8 @@ static ACTION_GACT: Known = Known {
         "is action gact - random {ptype=determ,pval=2,paction=drop} index 90 pass acts 1",
     ],
     counted: &[
-        "is action gact - random {ptype=determ,pval=2,paction=drop} index 90 pass acts 1 ; sent 0B 0p dropped 0 overlimits 0 backlog 0B 0p used_hw_st",
-        "ats 0 ref 1 installed 50ms used 50ms",
+        "is action gact - order 0 random {ptype=determ,pval=2,paction=drop} index 90 pass acts 1 ; sent 0B 0p dropped 0 overlimits 0 backlog 0B 0p us",
+        "ed_hw_stats 0 in_hw_count 0 ref 1 installed 50ms used 50ms",
     ],
 };
 
@@ -156,9 +157,9 @@ static ACTION_GATE: Known = Known {
         "tets=-1B,Ipv=-1} cookie d0d0d0d0d0d0d0d0 index 4294 pipe acts 1",
     ],
     counted: &[
-        "is action gate - base-time 0s cycle-time 100ms cycle-time-ext 400s clockid TAI flags 0 priority -1 sched-entry {Index=0,Interval=100ms,MaxOc",
-        "tets=-1B,Ipv=-1} cookie d0d0d0d0d0d0d0d0 index 4294 pipe acts 1 ; sent 0B 0p dropped 0 overlimits 0 backlog 0B 0p used_hw_stats 0 ref 1 inst",
-        "alled 30ms used 30ms",
+        "is action gate - order 0 base-time 0s cycle-time 100ms cycle-time-ext 400s clockid TAI flags 0 priority -1 sched-entry {Index=0,Interval=100",
+        "ms,MaxOctets=-1B,Ipv=-1} cookie d0d0d0d0d0d0d0d0 index 4294 pipe acts 1 ; sent 0B 0p dropped 0 overlimits 0 backlog 0B 0p used_hw_stats 0 in",
+        "_hw_count 0 ref 1 installed 30ms used 30ms",
     ],
 };
 
@@ -179,8 +180,8 @@ static ACTION_IFE: Known = Known {
         "is action ife - encode type 0xed3e prio [] cookie aabbccddeeff112233445566778800a1 index 4 pipe acts 1",
     ],
     counted: &[
-        "is action ife - encode type 0xed3e prio [] cookie aabbccddeeff112233445566778800a1 index 4 pipe acts 1 ; sent 0B 0p dropped 0 overlimits 0 b",
-        "acklog 0B 0p ref 1 installed 350ms used 350ms",
+        "is action ife - order 0 encode type 0xed3e prio [] cookie aabbccddeeff112233445566778800a1 index 4 pipe acts 1 ; sent 0B 0p dropped 0 overli",
+        "mits 0 backlog 0B 0p in_hw_count 0 ref 1 installed 350ms used 350ms",
     ],
 };
 
@@ -199,8 +200,8 @@ static ACTION_IPT: Known = Known {
         "is action ipt - family Unix Table=mangle Hook=16909060 Targ=0x3132333435363738 index 84281096",
     ],
     counted: &[
-        "is action ipt - family Unix Table=mangle Hook=16909060 Targ=0x3132333435363738 index 84281096 ; ref 151653132 bind 219025168 installed 12300",
-        "666251996096.24s used 18087880079042230.08s expires 23875093906088363.92s firstused 29662307733134497.76s",
+        "is action ipt - order 1 family Unix Table=mangle Hook=16909060 Targ=0x3132333435363738 index 84281096 ; ref 151653132 bind 219025168 install",
+        "ed 12300666251996096.24s used 18087880079042230.08s expires 23875093906088363.92s firstused 29662307733134497.76s",
     ],
 };
 
@@ -220,8 +221,8 @@ static ACTION_MIRRED: Known = Known {
         "is action mirred - ingress mirror dev 2 cookie 00ff index 7 continue",
     ],
     counted: &[
-        "is action mirred - ingress mirror dev 2 cookie 00ff index 7 continue ; sent 0B 0p dropped 0 overlimits 0 backlog 0B 0p used_hw_stats 0 ref 1",
-        " installed 290ms used 290ms",
+        "is action mirred - order 1 ingress mirror dev 2 cookie 00ff index 7 continue ; sent 0B 0p dropped 0 overlimits 0 backlog 0B 0p used_hw_stats",
+        " 0 in_hw_count 0 ref 1 installed 290ms used 290ms",
     ],
 };
 
@@ -242,8 +243,8 @@ static ACTION_MPLS: Known = Known {
         "new action mpls - push label 30 tc 2 ttl 125 protocol mpls_uc cookie aa11bb22cc33 index 1 pipe by 21644",
     ],
     counted: &[
-        "new action mpls - push label 30 tc 2 ttl 125 protocol mpls_uc cookie aa11bb22cc33 index 1 pipe by 21644 ; sent 0B 0p dropped 0 overlimits 0 ",
-        "backlog 0B 0p ref 2 installed 140ms used 140ms",
+        "new action mpls - order 1 push label 30 tc 2 ttl 125 protocol mpls_uc cookie aa11bb22cc33 index 1 pipe by 21644 ; sent 0B 0p dropped 0 overl",
+        "imits 0 backlog 0B 0p in_hw_count 0 ref 2 installed 140ms used 140ms",
     ],
 };
 
@@ -264,8 +265,8 @@ static ACTION_NAT: Known = Known {
         "is action nat - old 0.0.0.0 new 20.20.20.1 mask 255.255.255.255 egress cookie aa1bc2d3eeff112233445566778800a1 index 10 pipe acts 1",
     ],
     counted: &[
-        "is action nat - old 0.0.0.0 new 20.20.20.1 mask 255.255.255.255 egress cookie aa1bc2d3eeff112233445566778800a1 index 10 pipe acts 1 ; sent 0",
-        "B 0p dropped 0 overlimits 0 backlog 0B 0p ref 1 installed 160ms used 160ms",
+        "is action nat - order 0 old 0.0.0.0 new 20.20.20.1 mask 255.255.255.255 egress cookie aa1bc2d3eeff112233445566778800a1 index 10 pipe acts 1 ",
+        "; sent 0B 0p dropped 0 overlimits 0 backlog 0B 0p in_hw_count 0 ref 1 installed 160ms used 160ms",
     ],
 };
 
@@ -286,8 +287,8 @@ static ACTION_PEDIT: Known = Known {
         "is action pedit - KeysEx={KeyEx={Htype=ip4,Cmd=set}} keys 1 keys=[{mask=0xffffff,val=0xa000000,off=8}] index 90 pass acts 1",
     ],
     counted: &[
-        "is action pedit - KeysEx={KeyEx={Htype=ip4,Cmd=set}} keys 1 keys=[{mask=0xffffff,val=0xa000000,off=8}] index 90 pass acts 1 ; sent 0B 0p dro",
-        "pped 0 overlimits 0 backlog 0B 0p used_hw_stats 0 ref 1 installed 70ms used 70ms",
+        "is action pedit - order 0 KeysEx={KeyEx={Htype=ip4,Cmd=set}} keys 1 keys=[{mask=0xffffff,val=0xa000000,off=8}] index 90 pass acts 1 ; sent 0",
+        "B 0p dropped 0 overlimits 0 backlog 0B 0p used_hw_stats 0 in_hw_count 0 ref 1 installed 70ms used 70ms",
     ],
 };
 
@@ -308,8 +309,9 @@ static ACTION_POLICE: Known = Known {
         "is action police - skip_hw selector=skip_hw burst 100KiB mtu 2040B rate 1Mbit index 199 reclassify acts 1",
     ],
     counted: &[
-        "is action police - skip_hw selector=skip_hw burst 100KiB mtu 2040B rate 1Mbit index 199 reclassify acts 1 ; sent 0B 0p dropped 0 overlimits ",
-        "0 backlog 0B 0p used_hw_stats 0 ref 1 installed 220ms used 220ms",
+        "is action police - order 0 skip_hw selector=skip_hw burst 100KiB mtu 2040B linklayer ethernet overhead 0B mpu 0B rate 1Mbit linklayer unawar",
+        "e overhead 0B mpu 0B peakrate 0bit index 199 reclassify acts 1 ; sent 0B 0p dropped 0 overlimits 0 backlog 0B 0p used_hw_stats 0 in_hw_count",
+        " 0 ref 1 installed 220ms used 220ms",
     ],
 };
 
@@ -330,8 +332,8 @@ static ACTION_SAMPLE: Known = Known {
         "is action sample - rate 1024 trunc_size 1KiB group 4 index 10 pipe acts 1",
     ],
     counted: &[
-        "is action sample - rate 1024 trunc_size 1KiB group 4 index 10 pipe acts 1 ; sent 0B 0p dropped 0 overlimits 0 backlog 0B 0p used_hw_stats 0 ",
-        "ref 1 installed 60ms used 60ms",
+        "is action sample - order 0 rate 1024 trunc_size 1KiB group 4 index 10 pipe acts 1 ; sent 0B 0p dropped 0 overlimits 0 backlog 0B 0p used_hw_",
+        "stats 0 in_hw_count 0 ref 1 installed 60ms used 60ms",
     ],
 };
 
@@ -351,8 +353,8 @@ static ACTION_SIMPLE: Known = Known {
         "is action simple - sdata 4e6f74206368616e67656400 index 60 pipe acts 1",
     ],
     counted: &[
-        "is action simple - sdata 4e6f74206368616e67656400 index 60 pipe acts 1 ; sent 0B 0p dropped 0 overlimits 0 backlog 0B 0p ref 1 installed 50m",
-        "s used 50ms",
+        "is action simple - order 0 sdata 4e6f74206368616e67656400 index 60 pipe acts 1 ; sent 0B 0p dropped 0 overlimits 0 backlog 0B 0p in_hw_count",
+        " 0 ref 1 installed 50ms used 50ms",
     ],
 };
 
@@ -372,8 +374,8 @@ static ACTION_SKBEDIT: Known = Known {
         "is action skbedit - priority 0x16 cookie deadbeef index 32 continue acts 1",
     ],
     counted: &[
-        "is action skbedit - priority 0x16 cookie deadbeef index 32 continue acts 1 ; sent 0B 0p dropped 0 overlimits 0 backlog 0B 0p ref 1 installed",
-        " 610ms used 610ms",
+        "is action skbedit - order 0 priority 0x16 cookie deadbeef index 32 continue acts 1 ; sent 0B 0p dropped 0 overlimits 0 backlog 0B 0p in_hw_c",
+        "ount 0 ref 1 installed 610ms used 610ms",
     ],
 };
 
@@ -394,8 +396,8 @@ static ACTION_SKBMOD: Known = Known {
         "is action skbmod - flags smac smac 00:01:02:03:04:01 cookie ddeeffaabb11cc22 index 1 reclassify acts 1",
     ],
     counted: &[
-        "is action skbmod - flags smac smac 00:01:02:03:04:01 cookie ddeeffaabb11cc22 index 1 reclassify acts 1 ; sent 0B 0p dropped 0 overlimits 0 b",
-        "acklog 0B 0p ref 1 installed 310ms used 310ms",
+        "is action skbmod - order 0 flags smac smac 00:01:02:03:04:01 cookie ddeeffaabb11cc22 index 1 reclassify acts 1 ; sent 0B 0p dropped 0 overli",
+        "mits 0 backlog 0B 0p in_hw_count 0 ref 1 installed 310ms used 310ms",
     ],
 };
 
@@ -416,8 +418,8 @@ static ACTION_TUNNEL_KEY: Known = Known {
         "is action tunnel_key - set key_id 11 src_ip 11.11.11.1 dst_ip 21.21.21.2 dst_port 3129 csum cookie 123456 index 1 reclassify acts 1",
     ],
     counted: &[
-        "is action tunnel_key - set key_id 11 src_ip 11.11.11.1 dst_ip 21.21.21.2 dst_port 3129 csum cookie 123456 index 1 reclassify acts 1 ; sent 0",
-        "B 0p dropped 0 overlimits 0 backlog 0B 0p used_hw_stats 0 ref 1 installed 100ms used 100ms",
+        "is action tunnel_key - order 0 set key_id 11 src_ip 11.11.11.1 dst_ip 21.21.21.2 dst_port 3129 csum cookie 123456 index 1 reclassify acts 1 ",
+        "; sent 0B 0p dropped 0 overlimits 0 backlog 0B 0p used_hw_stats 0 in_hw_count 0 ref 1 installed 100ms used 100ms",
     ],
 };
 
@@ -438,8 +440,8 @@ static ACTION_VLAN: Known = Known {
         "is action vlan - push id 77 protocol 802.1Q priority 3 index 734 continue acts 1",
     ],
     counted: &[
-        "is action vlan - push id 77 protocol 802.1Q priority 3 index 734 continue acts 1 ; sent 0B 0p dropped 0 overlimits 0 backlog 0B 0p used_hw_s",
-        "tats 0 ref 1 installed 80ms used 80ms",
+        "is action vlan - order 0 push id 77 protocol 802.1Q priority 3 index 734 continue acts 1 ; sent 0B 0p dropped 0 overlimits 0 backlog 0B 0p u",
+        "sed_hw_stats 0 in_hw_count 0 ref 1 installed 80ms used 80ms",
     ],
 };
 
@@ -458,8 +460,8 @@ static ACTION_XT: Known = Known {
         "is action xt - family Bridge Table=mangle Hook=16909060 Targ=0x3132333435363738 index 84281096",
     ],
     counted: &[
-        "is action xt - family Bridge Table=mangle Hook=16909060 Targ=0x3132333435363738 index 84281096 ; ref 151653132 bind 219025168 installed 1230",
-        "0666251996096.24s used 18087880079042230.08s expires 23875093906088363.92s firstused 29662307733134497.76s",
+        "is action xt - order 1 family Bridge Table=mangle Hook=16909060 Targ=0x3132333435363738 index 84281096 ; ref 151653132 bind 219025168 instal",
+        "led 12300666251996096.24s used 18087880079042230.08s expires 23875093906088363.92s firstused 29662307733134497.76s",
     ],
 };
 

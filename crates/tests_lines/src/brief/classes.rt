@@ -89,7 +89,9 @@ static TCLASS_ETS: Known = Known {
     line: &[
         "add class ets 1:1 dev 4 quantum 1500B",
     ],
-    counted: &[],
+    counted: &[
+        "add class ets 1:1 dev 4 parent none quantum 1500B",
+    ],
 };
 
 // uml61.answer.newtclass.fq_codel.001
@@ -180,7 +182,10 @@ static TCLASS_HTB: Known = Known {
         "add class htb 1:1 dev 4 parent 1: cell_log=2^3 mpu 64B rate 20kbit cell_log=2^3 mpu 64B ceil 20kbit burst 1600B cburst 1600B quantum 0B prio",
         " 0 Rtab=<1024B> Ctab=<1024B>",
     ],
-    counted: &[],
+    counted: &[
+        "add class htb 1:1 dev 4 parent 1: cell_log=2^3 linklayer ethernet overhead 0B mpu 64B rate 20kbit cell_log=2^3 linklayer ethernet overhead 0",
+        "B mpu 64B ceil 20kbit burst 1600B cburst 1600B quantum 0B prio 0 Rtab=<1024B> Ctab=<1024B>",
+    ],
 };
 
 // tdc61.answer.newtclass.mqprio.0001

@@ -20,8 +20,8 @@ static TFILTER_BASIC: Known = Known {
         "ans,layer_opnd=link_gt}}}",
     ],
     counted: &[
-        "is filter basic 0x1 dev 3 parent ffff: pref 1 protocol ip classid 1:1 ematch {Cmp={flags=0,match={val=0xa,mask=0xff,off=0B,align_flags=u8_tr",
-        "ans,layer_opnd=link_gt}}} ; hit 6",
+        "is filter basic 0x1 dev 3 parent ffff: pref 1 protocol ip chain 0 classid 1:1 ematch {Cmp={flags=0,match={val=0xa,mask=0xff,off=0B,align_fla",
+        "gs=u8_trans,layer_opnd=link_gt}}} ; hit 6",
     ],
 };
 
@@ -46,9 +46,9 @@ static TFILTER_BPF: Known = Known {
         "redirect dev 8 index 2 stolen action mirred egress mirror dev 9 index 3 pipe by 21644",
     ],
     counted: &[
-        "new filter bpf 0x1 dev 10 egress pref 9 protocol all ProgName=prog.o:[classifier] id 56 tag 59904229c5a1f55d not_in_hw action mirred egress ",
-        "redirect dev 8 index 2 stolen [ sent 0B 0p dropped 0 overlimits 0 backlog 0B 0p ref 1 bind 1 ] action mirred egress mirror dev 9 index 3 pip",
-        "e [ sent 0B 0p dropped 0 overlimits 0 backlog 0B 0p ref 1 bind 1 ] by 21644",
+        "new filter bpf 0x1 dev 10 egress pref 9 protocol all chain 0 ProgName=prog.o:[classifier] id 56 tag 59904229c5a1f55d not_in_hw action mirred",
+        " order 1 egress redirect dev 8 index 2 stolen [ sent 0B 0p dropped 0 overlimits 0 backlog 0B 0p in_hw_count 0 ref 1 bind 1 ] action mirred o",
+        "rder 2 egress mirror dev 9 index 3 pipe [ sent 0B 0p dropped 0 overlimits 0 backlog 0B 0p in_hw_count 0 ref 1 bind 1 ] by 21644",
     ],
 };
 
@@ -71,9 +71,9 @@ static TFILTER_CGROUP: Known = Known {
         "ink_eq}},Cmp={flags=0,match={val=0x7,mask=0xff,off=8B,align_flags=u16,layer_opnd=link_gt}}} action gact index 1 drop",
     ],
     counted: &[
-        "is filter cgroup 0x1 dev 3 parent ffff: pref 1 protocol ip ematch {Cmp={flags=or,match={val=0x3,mask=0xff,off=0B,align_flags=u8,layer_opnd=l",
-        "ink_eq}},Cmp={flags=0,match={val=0x7,mask=0xff,off=8B,align_flags=u16,layer_opnd=link_gt}}} action gact index 1 drop [ sent 0B 0p dropped 0 ",
-        "overlimits 0 backlog 0B 0p ref 1 bind 1 installed 70ms used 70ms ]",
+        "is filter cgroup 0x1 dev 3 parent ffff: pref 1 protocol ip chain 0 ematch {Cmp={flags=or,match={val=0x3,mask=0xff,off=0B,align_flags=u8,laye",
+        "r_opnd=link_eq}},Cmp={flags=0,match={val=0x7,mask=0xff,off=8B,align_flags=u16,layer_opnd=link_gt}}} action gact order 1 index 1 drop [ sent ",
+        "0B 0p dropped 0 overlimits 0 backlog 0B 0p in_hw_count 0 ref 1 bind 1 installed 70ms used 70ms ]",
     ],
 };
 
@@ -96,9 +96,9 @@ static TFILTER_FLOW: Known = Known {
         "xff,off=0B,align_flags=u8,layer_opnd=link_gt}}} action gact index 1 drop",
     ],
     counted: &[
-        "is filter flow 0x1 dev 3 parent ffff: pref 1 protocol ip keys src hash divisor 1024 baseclass 1:1 ematch {Cmp={flags=0,match={val=0xa,mask=0",
-        "xff,off=0B,align_flags=u8,layer_opnd=link_gt}}} action gact index 1 drop [ sent 0B 0p dropped 0 overlimits 0 backlog 0B 0p ref 1 bind 1 inst",
-        "alled 100ms used 100ms ]",
+        "is filter flow 0x1 dev 3 parent ffff: pref 1 protocol ip chain 0 keys src hash divisor 1024 baseclass 1:1 ematch {Cmp={flags=0,match={val=0x",
+        "a,mask=0xff,off=0B,align_flags=u8,layer_opnd=link_gt}}} action gact order 1 index 1 drop [ sent 0B 0p dropped 0 overlimits 0 backlog 0B 0p i",
+        "n_hw_count 0 ref 1 bind 1 installed 100ms used 100ms ]",
     ],
 };
 
@@ -122,9 +122,9 @@ static TFILTER_FLOWER: Known = Known {
         "18/15 src_port 20024 enc_dst_port 43471 ip_flags 0/is_fragment not_in_hw action mpls mac_push label 9 ttl 255 protocol mpls_uc index 23 pipe",
     ],
     counted: &[
-        "is filter flower 0x1 dev 7 egress pref 761 protocol ip src_mac 1a:c0:44:c6:98:57/24 ip_proto sctp src_ip 81.64.71.224/18 dst_ip 62.172.202.2",
-        "18/15 src_port 20024 enc_dst_port 43471 ip_flags 0/is_fragment not_in_hw action mpls mac_push label 9 ttl 255 protocol mpls_uc index 23 pipe",
-        " [ sent 0B 0p dropped 0 overlimits 0 backlog 0B 0p ref 1 bind 1 installed 1.77s used 1.77s ]",
+        "is filter flower 0x1 dev 7 egress pref 761 protocol ip chain 0 src_mac 1a:c0:44:c6:98:57/24 ip_proto sctp src_ip 81.64.71.224/18 dst_ip 62.1",
+        "72.202.218/15 src_port 20024 enc_dst_port 43471 ip_flags 0/is_fragment not_in_hw action mpls order 1 mac_push label 9 ttl 255 protocol mpls_",
+        "uc index 23 pipe [ sent 0B 0p dropped 0 overlimits 0 backlog 0B 0p in_hw_count 0 ref 1 bind 1 installed 1.77s used 1.77s ]",
     ],
 };
 
@@ -145,8 +145,9 @@ static TFILTER_FW: Known = Known {
         "is filter fw 0x4 dev 3 parent ffff: pref 3 protocol all action police burst 10KiB mtu 2040B rate 1kbit index 5 reclassify",
     ],
     counted: &[
-        "is filter fw 0x4 dev 3 parent ffff: pref 3 protocol all action police burst 10KiB mtu 2040B rate 1kbit index 5 reclassify [ sent 0B 0p dropp",
-        "ed 0 overlimits 0 backlog 0B 0p ref 1 bind 1 installed 60ms used 60ms ]",
+        "is filter fw 0x4 dev 3 parent ffff: pref 3 protocol all chain 0 action police order 1 burst 10KiB mtu 2040B linklayer ethernet overhead 0B m",
+        "pu 0B rate 1kbit linklayer unaware overhead 0B mpu 0B peakrate 0bit index 5 reclassify [ sent 0B 0p dropped 0 overlimits 0 backlog 0B 0p in_",
+        "hw_count 0 ref 1 bind 1 installed 60ms used 60ms ]",
     ],
 };
 
@@ -169,8 +170,8 @@ static TFILTER_MATCHALL: Known = Known {
         "pe",
     ],
     counted: &[
-        "is filter matchall 0x1 dev 7 egress pref 351 protocol all not_in_hw action mpls push label 123 tc 3 ttl 64 bos 1 protocol mpls_uc index 4 pi",
-        "pe [ sent 0B 0p dropped 0 overlimits 0 backlog 0B 0p ref 1 bind 1 installed 2.3s used 2.3s ]",
+        "is filter matchall 0x1 dev 7 egress pref 351 protocol all chain 0 not_in_hw action mpls order 1 push label 123 tc 3 ttl 64 bos 1 protocol mp",
+        "ls_uc index 4 pipe [ sent 0B 0p dropped 0 overlimits 0 backlog 0B 0p in_hw_count 0 ref 1 bind 1 installed 2.3s used 2.3s ]",
     ],
 };
 
@@ -195,9 +196,9 @@ static TFILTER_ROUTE: Known = Known {
         "x 1 drop",
     ],
     counted: &[
-        "is filter route 0xa0002 dev 3 parent ffff: pref 2 protocol ip to 2 from 10 classid 1:1 action skbedit mark 0x7 index 1 pipe [ sent 0B 0p dro",
-        "pped 0 overlimits 0 backlog 0B 0p ref 1 bind 1 installed 70ms used 70ms ] action gact index 1 drop [ sent 0B 0p dropped 0 overlimits 0 backl",
-        "og 0B 0p ref 1 bind 1 installed 70ms used 70ms ]",
+        "is filter route 0xa0002 dev 3 parent ffff: pref 2 protocol ip chain 0 to 2 from 10 classid 1:1 action skbedit order 1 mark 0x7 index 1 pipe ",
+        "[ sent 0B 0p dropped 0 overlimits 0 backlog 0B 0p in_hw_count 0 ref 1 bind 1 installed 70ms used 70ms ] action gact order 2 index 1 drop [ s",
+        "ent 0B 0p dropped 0 overlimits 0 backlog 0B 0p in_hw_count 0 ref 1 bind 1 installed 70ms used 70ms ]",
     ],
 };
 
@@ -221,7 +222,7 @@ static TFILTER_RSVP: Known = Known {
     counted: &[
         "is filter rsvp 0x5060708 dev 16909060 parent 90a:b0c pref 3342 protocol 0x100f family Unix classid 1112:1314 Dst=21.22.23.24 Src=25.26.27.28",
         " Pinfo={dpi={key=0x1d1e1f20,mask=0x21222324,offset=623257384},spi={key=0x292a2b2c,mask=0x2d2e2f30,offset=825373492},protocol=53,tunnelid=54,",
-        "tunnelhdr=55} action police action gact capab=1280134735 index 1212762699 trap [ ref 1347506771 bind 1414878807 ]",
+        "tunnelhdr=55} action police action gact order 1 capab=1280134735 index 1212762699 trap [ ref 1347506771 bind 1414878807 ]",
     ],
 };
 
@@ -245,8 +246,8 @@ static TFILTER_RSVP6: Known = Known {
     counted: &[
         "is filter rsvp6 0x5060708 dev 16909060 parent 90a:b0c pref 3342 protocol 0x100f family Bridge classid 1112:1314 Dst=1516:1718:191a:1b1c:1d1e",
         ":1f20:2122:2324 Src=2526:2728:292a:2b2c:2d2e:2f30:3132:3334 Pinfo={dpi={key=0x35363738,mask=0x393a3b3c,offset=1027489600},spi={key=0x4142434",
-        "4,mask=0x45464748,offset=1229605708},protocol=77,tunnelid=78,tunnelhdr=79} action police action gact capab=1684366951 index 1616994915 trap ",
-        "[ ref 1751738987 bind 1819111023 ]",
+        "4,mask=0x45464748,offset=1229605708},protocol=77,tunnelid=78,tunnelhdr=79} action police action gact order 1 capab=1684366951 index 16169949",
+        "15 trap [ ref 1751738987 bind 1819111023 ]",
     ],
 };
 
@@ -268,7 +269,8 @@ static TFILTER_TCINDEX: Known = Known {
     ],
     counted: &[
         "is filter tcindex 0x5060708 dev 16909060 parent 90a:b0c pref 3342 protocol 0x100f family Inet6 hash 286397204 mask 0x1516 shift 387455258 Fa",
-        "llThrough=454827294 classid 1f20:2122 action police action gact capab=926431546 index 859059510 trap [ ref 993803582 bind 1061175618 ]",
+        "llThrough=454827294 classid 1f20:2122 action police action gact order 1 capab=926431546 index 859059510 trap [ ref 993803582 bind 1061175618",
+        " ]",
     ],
 };
 
@@ -292,9 +294,9 @@ static TFILTER_U32: Known = Known {
         "15 src_ip 2001:db8::1 dst_ip 2001:db8::2 dst_port 4789 csum index 11 pipe",
     ],
     counted: &[
-        "is filter u32 806::800 dev 7 egress pref 319 protocol ip match 0a090013/ffffffff at 12 ht 806: not_in_hw action tunnel_key set key_id 167772",
-        "15 src_ip 2001:db8::1 dst_ip 2001:db8::2 dst_port 4789 csum index 11 pipe [ sent 0B 0p dropped 0 overlimits 0 backlog 0B 0p ref 1 bind 1 ins",
-        "talled 6.08s used 6.08s ] ; kcnts=[0p]",
+        "is filter u32 806::800 dev 7 egress pref 319 protocol ip chain 0 flags=terminal match 0a090013/ffffffff at 12 ht 806: not_in_hw action tunne",
+        "l_key order 1 set key_id 16777215 src_ip 2001:db8::1 dst_ip 2001:db8::2 dst_port 4789 csum index 11 pipe [ sent 0B 0p dropped 0 overlimits 0",
+        " backlog 0B 0p in_hw_count 0 ref 1 bind 1 installed 6.08s used 6.08s ] ; kcnts=[0p]",
     ],
 };
 

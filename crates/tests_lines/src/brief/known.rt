@@ -5,7 +5,7 @@ use forms_kinds::TcTables;
 use std::alloc::{AllocError, Global};
 use tc_brief::{Object, Said, lines_of};
 use tc_columns::{KindColumns, Root};
-use tc_words::TcWords;
+use tc_words::{TcDetails, TcWords};
 
 /// A message: its object, what it does and who sent it, its bytes in hex, and its lines without and with statistics, if these are others.
 pub(crate) struct Known {
@@ -47,15 +47,13 @@ fn text_of(alloc: Global, known: &Known, statistics: bool) -> Result<Vec<u8>, Al
         Ok(bytes) => bytes,
         Err(_) => return Err(AllocError),
     };
-    match lines_of(
-        alloc,
-        TcTables,
-        known.root.form(),
-        columns,
-        TcWords,
-        &said,
-        &bytes,
-    ) {
+    let form = known.root.form();
+    let text = if statistics {
+        lines_of(alloc, TcTables, form, columns, TcDetails, &said, &bytes)
+    } else {
+        lines_of(alloc, TcTables, form, columns, TcWords, &said, &bytes)
+    };
+    match text {
         Ok(text) => Ok(text),
         Err(_) => Err(AllocError),
     }

@@ -58,7 +58,9 @@ static QDISC_CAKE: Known = Known {
     line: &[
         "add qdisc cake 1: dev 4 root atm overhead 48B ingress",
     ],
-    counted: &[],
+    counted: &[
+        "add qdisc cake 1: dev 4 root refcnt 0 atm overhead 48B ingress",
+    ],
 };
 
 // header.cbq
@@ -101,7 +103,9 @@ static QDISC_CBS: Known = Known {
     line: &[
         "add qdisc cbs 1: dev 4 root offload 0 hicredit 0B locredit 0B idleslope 0bit sendslope 0bit",
     ],
-    counted: &[],
+    counted: &[
+        "add qdisc cbs 1: dev 4 root refcnt 0 offload 0 hicredit 0B locredit 0B idleslope 0bit sendslope 0bit",
+    ],
 };
 
 // tdc61.note.delqdisc.choke.0001
@@ -181,7 +185,9 @@ static QDISC_DRR: Known = Known {
     line: &[
         "add qdisc drr 10: dev 3 root",
     ],
-    counted: &[],
+    counted: &[
+        "add qdisc drr 10: dev 3 root refcnt 0",
+    ],
 };
 
 // header.dsmark
@@ -270,7 +276,11 @@ static QDISC_FQ: Known = Known {
         "gone qdisc fq 1: dev 4 root limit 10000p flow_limit 100p quantum 3028B initial_quantum 15140B refill_delay 40ms orphan_mask 0x3ff low_rate_t",
         "hreshold 550kbit buckets 2^10 timer_slack 10us horizon 10s horizon_drop by 21644",
     ],
-    counted: &[],
+    counted: &[
+        "gone qdisc fq 1: dev 4 root refcnt 1 limit 10000p flow_limit 100p quantum 3028B initial_quantum 15140B refill_delay 40ms orphan_mask 0x3ff l",
+        "ow_rate_threshold 550kbit buckets 2^10 timer_slack 10us horizon 10s horizon_drop by 21644 ; sent 2268B 14p dropped 0 overlimits 0 backlog 0B",
+        " 0p time_next_delayed_flow=-741907435.889us",
+    ],
 };
 
 // tdc61.note.delqdisc.fq_codel.0011
@@ -334,7 +344,9 @@ static QDISC_GRED: Known = Known {
     line: &[
         "add qdisc gred 1: dev 4 root vqs 10 default 1 limit 1000B",
     ],
-    counted: &[],
+    counted: &[
+        "add qdisc gred 1: dev 4 root refcnt 0 vqs 10 default 1 limit 1000B",
+    ],
 };
 
 // tdc61.answer.newqdisc.hfsc.0001
@@ -434,7 +446,9 @@ static QDISC_MQ: Known = Known {
     line: &[
         "add qdisc mq 1: dev 6 root",
     ],
-    counted: &[],
+    counted: &[
+        "add qdisc mq 1: dev 6 root refcnt 0",
+    ],
 };
 
 // header.mqprio
@@ -758,7 +772,11 @@ static QDISC_TAPRIO: Known = Known {
         "0,0,0,0,0,0,0] offset=[0,0,0,0,0,0,0,0,0,0,0,0,0,0,0,0] base-time 1s cycle-time 4294967.296us sched-entry {Cmd=set_gates,GateMask=0x1,Interv",
         "al=300us}",
     ],
-    counted: &[],
+    counted: &[
+        "add qdisc taprio 1: dev 6 root refcnt 0 clockid TAI flags txtime_assist num_tc 3 map [2,2,1,0,2,2,2,2,2,2,2,2,2,2,2,2] hw 0 count=[1,1,1,0,0",
+        ",0,0,0,0,0,0,0,0,0,0,0] offset=[0,0,0,0,0,0,0,0,0,0,0,0,0,0,0,0] base-time 1s cycle-time 4294967.296us sched-entry {Cmd=set_gates,GateMask=0",
+        "x1,Interval=300us}",
+    ],
 };
 
 // tdc61.note.newqdisc.tbf.0001
@@ -777,7 +795,8 @@ static QDISC_TBF: Known = Known {
         "new qdisc tbf 1: dev 4 root rate 10kbit limit 1000B burst 1500B by 21644",
     ],
     counted: &[
-        "new qdisc tbf 1: dev 4 root refcnt 2 rate 10kbit limit 1000B burst 1500B by 21644 ; sent 0B 0p dropped 0 overlimits 0 backlog 0B 0p",
+        "new qdisc tbf 1: dev 4 root refcnt 2 linklayer ethernet overhead 0B mpu 0B rate 10kbit linklayer unaware overhead 0B mpu 0B peakrate 0bit li",
+        "mit 1000B burst 1500B by 21644 ; sent 0B 0p dropped 0 overlimits 0 backlog 0B 0p",
     ],
 };
 

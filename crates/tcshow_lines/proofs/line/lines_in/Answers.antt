@@ -8,16 +8,15 @@ use Rattle.tc_brief.specs.Lines.{message_lines, said_view}
 use Rattle.tc_brief.specs.Walk.{leaves}
 use Rattle.tc_columns.specs.Kinds.{kind_table}
 use Rattle.tc_columns.specs.Names.{names_of}
-use Rattle.tc_words.specs.Tables.{all_rows}
 use Rattle.tcshow_lines.specs.Lines.{options_with}
 use Rattle.tcshow_lines.proofs.line.lines_in.Goals as goal
 
 pub returns-in-Ok : goal.returns-in-Ok
-returns-in-Ok c =
+returns-in-Ok g c =
     let names = names_of c.args.interfaces (Some c.args.links) in
     let options = options_with names c.args.root in
     let stats = c.args.said.now.statistics in
     let lines = option_map (message_lines (said_view c.args.said.now)) in
     let found = c.in-Ok.ensures in
-    ap (λ (form : Form). lines (leaves (kind_table options) stats all_rows options.root (events (shown_of tc_tables form c.args.bytes.now))))
+    ap (λ (form : Form). lines (leaves (kind_table options) stats g.W.Words.rows options.root (events (shown_of tc_tables form c.args.bytes.now))))
     (sym c.form_of.ensures) ∙ ap lines found.1 ∙ ap Some (sym found.2)
