@@ -1,5 +1,5 @@
-pub mod Bare
 pub mod Beginning
 pub mod Kept
+pub mod Others
 pub mod Places
 pub mod Printable

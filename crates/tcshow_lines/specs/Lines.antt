@@ -6,18 +6,20 @@ use Rattle.nla_frames.specs.declared.error.DecodeError.{DecodeError}
 use Rattle.nla_frames.specs.declared.error.DecodeError.TheVariants as error
 use Rattle.std.specs.BTreeMap.{BTreeMap}
 use Rattle.std.specs.Borrow.{Bor}
-use Rattle.std.specs.Prelude.{Bool, List, None, Option, Some, String, [], codes, decimal, false, if◌then◌else◌, map, option_map, true, ℕ, ◌++◌, ◌==◌, ◌≡◌, ◌∷◌}
+use Rattle.std.specs.Prelude.{Bool, List, None, Option, Some, String, [], codes, decimal, false, if◌then◌else◌, map, option_map, true, ℕ, ◌++◌, ◌==◌, ◌||◌, ◌≡◌, ◌∷◌}
 use Rattle.tc_brief.specs.Leaves.{Leaf}
 use Rattle.tc_brief.specs.Lines.{Said, message_lines}
+use Rattle.tc_brief.specs.Rows.{Row}
 use Rattle.tc_brief.specs.Walk.{leaves}
 use Rattle.tc_brief.specs.Words.{written}
 use Rattle.tc_columns.specs.Kinds.{kind_table, root_place}
 use Rattle.tc_columns.specs.Names.{names_in}
 use Rattle.tc_columns.specs.declared.root.Root.{Root}
+use Rattle.tc_columns.specs.declared.root.Root.TheVariants as root
 use Rattle.tc_lines.specs.Columns.{Options}
 use Rattle.tc_outline.specs.Outline.{form_of}
 use Rattle.tc_outline.specs.Page.{IsShown}
-use Rattle.tc_words.specs.Tables.{all_rows}
+use Rattle.tc_words.specs.Tables.{all_rows, detailed_rows}
 use Rattle.tc_paths.specs.Paths.{Path}
 pub use Rattle.tcshow_json.specs.Faults.{fault_of}
 use Rattle.tcshow_json.specs.Faults.{offset_of, path_to}
@@ -25,6 +27,7 @@ use Rattle.tcshow_json.specs.Messages.{Message}
 use Rattle.tcshow_json.specs.Objects.{root_of}
 use Rattle.tcshow_lines.specs.Begins.{time_in, timed, words_text}
 use Rattle.tcshow_lines.specs.Past.{Past}
+use Rattle.tcshow_lines.specs.Bare.{without_statistics}
 use Rattle.tcshow_lines.specs.Verbs.{object_in, speech_of, verb_words}
 use Rattle.tcshow_lines.specs.declared.times.TimeFormat.{TimeFormat}
 

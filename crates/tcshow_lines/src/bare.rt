@@ -1,11 +1,11 @@
 //! A message without its statistics.
 
-ghost use Rattle.std.specs.Prelude.{IfOk, OnOk, drop, flat_map, take, ◌++◌, ◌≡◌};
+ghost use Rattle.std.specs.Prelude.{IfOk, OnOk, replicate, ◌++◌, ◌≡◌};
 ghost use Rattle.nla_frames.specs.Buffer.{frame_of};
-ghost use Rattle.nla_frames.specs.Frame.{frame_bytes, type_of};
+ghost use Rattle.nla_frames.specs.Frame.{frame_bytes, padding};
 ghost use Rattle.tcshow_lines.specs.Bare.{is_statistics, unless_statistics, without_statistics};
 
-use nla_frames::{NlaBuffer, NlasIterator};
+use nla_frames::{NlaBuffer, NlasIterator, u16_bytes};
 use std::alloc::{AllocError, Global};
 
 // True for `TCA_STATS`, `TCA_XSTATS` and `TCA_STATS2` (`linux/rtnetlink.h`).
@@ -28,11 +28,12 @@ fn put_padding(out: &mut Vec<u8>, len: usize) -> Result<(), AllocError>
 }
 
 // Appends an attribute.
+#[tactic(auto, unfolding(nla_frames::specs::Frame::frame_bytes, nla_frames::specs::Frame::header, nla_frames::specs::Frame::padded))]
 fn put_frame(out: &mut Vec<u8>, frame: &NlaBuffer<'_>) -> Result<(), AllocError>
     ensures { OnOk result (out.new.items ≡ out.old.items ++ frame_bytes (frame_of frame.now)) }
 {
-    out.extend_from_slice(&frame.length().to_le_bytes())?;
-    out.extend_from_slice(&frame.word().to_le_bytes())?;
+    out.extend_from_slice(&u16_bytes(frame.length()))?;
+    out.extend_from_slice(&u16_bytes(frame.word()))?;
     out.extend_from_slice(frame.value())?;
     put_padding(out, frame.value().len())
 }
@@ -48,6 +49,7 @@ fn put_other(out: &mut Vec<u8>, frame: &NlaBuffer<'_>) -> Result<(), AllocError>
 }
 
 /// The bytes of a traffic control message without the attributes of its statistics. All bytes if an attribute is broken.
+#[tactic(auto, using(crate::proofs::Others::of_message))]
 pub(crate) fn without_statistics(alloc: Global, bytes: &[u8]) -> Result<Vec<u8>, AllocError>
     ensures { IfOk result (λ out. out.items ≡ without_statistics bytes.now) }
 {

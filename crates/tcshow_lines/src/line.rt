@@ -4,7 +4,7 @@ ghost use Rattle.std.specs.Prelude.{◌≡◌, [], IfOk, Some, is_some, option_m
 ghost use Rattle.tc_outline.specs.Outline.{form_of};
 ghost use Rattle.tc_brief.specs.Lines.{message_lines, said_view};
 ghost use Rattle.tcshow_json.specs.Messages.{message_view};
-ghost use Rattle.tcshow_lines.specs.Lines.{IsEnded, IsLines, IsSaid, fault_of, leaves_at, names_after, options_with, said_as};
+ghost use Rattle.tcshow_lines.specs.Lines.{IsEnded, IsLines, IsSaid, fault_of, is_of_actions, leaves_at, leaves_in, names_after, options_with, said_as};
 ghost use Rattle.tcshow_lines.specs.Past.{past_of};
 
 use crate::bare::without_statistics;
