@@ -3,7 +3,7 @@
 //! [`lines_of`] serializes bytes as `forms_json` does, and keeps the events. From them it makes leaves: each value with its
 //! column (`tc_lines`) and its row ([`Words`]), in the order of the bytes. A leaf stands in one section of the line: the
 //! head, the kind's words, hardware flags, statistics, or an action. The line has the words of each section's leaves, in
-//! the order of the leaves, without the ones that their rows leave out:
+//! the order of the leaves, without the ones that their rows leave out. Statistics are leaves only if they are asked for:
 //!
 //! ```text
 //! is class htb 1:10 dev eth0 parent 1:1 leaf 10: rate 10Mbit ceil 50Mbit burst 1600B cburst 1600B quantum 125000B
