@@ -17,5 +17,4 @@ mod notes;
 pub mod options;
 pub mod program;
 pub mod run;
-pub mod status;
 mod zone;
