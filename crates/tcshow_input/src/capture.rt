@@ -12,7 +12,7 @@ ghost use Rattle.tcshow_input.specs.Rejected.{capture_rejection, is_rejection, m
 ghost use Rattle.tcshow_input.specs.State.{state_of, Halts, Progress, Puts, Stops};
 ghost use Rattle.tcshow_input.specs.Writing.{GrowsClean};
 
-use crate::packets::Packets;
+use crate::counts::Packets;
 use crate::printer::Printer;
 use crate::stop::Stop;
 use std::alloc::{AllocError, Allocator};

@@ -13,17 +13,14 @@ mod lines;
 mod links;
 mod options;
 mod output;
-mod packets;
 mod printer;
 mod replies;
 mod selection;
 mod stop;
-mod summary;
 
 pub use capture::show_capture;
-pub use counts::Counts;
+pub use counts::{Counts, Packets};
 pub use lines::{is_hex_text, show_lines};
 pub use options::{Options, OutputFormat};
-pub use packets::Packets;
 pub use printer::Printer;
 pub use stop::Stop;

@@ -3,13 +3,12 @@
 ghost use Rattle.std.specs.Prelude.{◌≡◌};
 ghost use Rattle.tcshow_input.specs.State.{is_json, layout_of, statistics_in};
 
-use crate::counts::Counts;
+use crate::counts::{Counts, Summary, SummaryLine};
 use crate::first_lines::FirstLines;
 use crate::links::Links;
 use crate::options::{Options, OutputFormat};
 use crate::output::Output;
 use crate::stop::Stop;
-use crate::summary::{Summary, SummaryLine};
 use std::alloc::{AllocError, Allocator, Global};
 use std::io::Write;
 use tc_outline::{Layout, Page};
