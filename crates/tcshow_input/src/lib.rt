@@ -4,18 +4,17 @@
 //! with [`Stop::NoMemory`] or `AllocError` if it fails.
 #![tactic(auto)]
 
-mod answer;
 mod attributes;
 mod capture;
 mod counts;
 mod first_lines;
 mod lines;
 mod links;
+mod messages;
 mod options;
 mod output;
 mod printer;
 mod replies;
-mod selection;
 mod stop;
 
 pub use capture::show_capture;
