@@ -4,6 +4,7 @@
 #![tactic(auto)]
 
 pub mod arguments;
+mod complaints;
 mod day;
 pub mod example;
 pub mod filter;
