@@ -200,7 +200,7 @@ fn show_in<R: AllocGlobal + Files + Input + Print, E: Write>(
     errors: &mut E,
 ) -> Ended {
     match arguments.names {
-        None => show_with(rt, arguments, zone, "", "", errors),
+        None => show_named(rt, arguments, zone, &[], errors),
         Some(path) => match fs::read_to_string(rt, path) {
             Ok(text) => show_with(rt, arguments, zone, path, text.as_str(), errors),
             Err(error) => complain_of_file(rt.alloc(), path, &error, errors),
