@@ -10,7 +10,7 @@ ghost use Rattle.tcshow_input.specs.Selection.{is_matched, type_in, properties_o
 use crate::attributes::{columns_of, show_attributes};
 use crate::links::Links;
 use crate::options::Options;
-use crate::printer::{Printer, layout_of, statistics_in};
+use crate::printer::{Printer, layout_of, page_after, statistics_in};
 use std::alloc::{AllocError, Allocator};
 use tc_lines::Columns;
 use tc_select::Message as Properties;
@@ -163,10 +163,10 @@ impl<'a, A: Allocator + Copy> Printer<'a, A> {
             × ShowsMessage false (state_of self.old).view (state_of self.old).before (message_view found.now) text bad
             × Grows text bad (state_of self.old) (state_of self.new)) }
     {
-        self.page.restart(layout_of(self.options.format));
-        begin_message(&mut self.page, found)?;
-        let name = show_attributes(self.json, self.options, &self.links, &mut self.page, found)?;
-        self.put_page()?;
+        let mut page = page_after(&mut self.page, self.alloc, layout_of(self.options.format));
+        begin_message(&mut page, found)?;
+        let name = show_attributes(self.json, self.options, &self.links, &mut page, found)?;
+        self.put_page(page)?;
         self.count_fault(name)
     }
 
