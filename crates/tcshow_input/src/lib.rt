@@ -9,7 +9,6 @@ mod capture;
 mod counts;
 mod first_lines;
 mod lines;
-mod links;
 mod messages;
 mod options;
 mod output;

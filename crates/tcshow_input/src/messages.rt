@@ -8,10 +8,10 @@ ghost use Rattle.tcshow_input.specs.Known.{given_in};
 ghost use Rattle.tcshow_input.specs.Selection.{is_matched, type_in, properties_of};
 
 use crate::attributes::{columns_of, show_attributes};
-use crate::links::Links;
 use crate::options::Options;
 use crate::printer::{Printer, layout_of, page_after, statistics_in};
 use std::alloc::{AllocError, Allocator};
+use tc_columns::LinkNames;
 use tc_lines::Columns;
 use tc_select::Message as Properties;
 use tc_select::header::interface_in;
@@ -42,8 +42,8 @@ fn type_in(header: &Option<NetlinkHeader>) -> Option<u16>
 }
 
 // True if the filter matches a message, with the names of interfaces that are known.
-fn is_matched<'x>(options: &Options<'x>, links: &'x Links, found: &'x Message<'x>) -> bool
-    ensures { result ≡ is_matched (given_in options.now ++ names_in links.now.names) options.now.filter (message_view found.now) }
+fn is_matched<'x>(options: &Options<'x>, links: &'x LinkNames, found: &'x Message<'x>) -> bool
+    ensures { result ≡ is_matched (given_in options.now ++ names_in links.now) options.now.filter (message_view found.now) }
 {
     let columns = columns_of(options, links, found);
     match interface_in(found.holds, found.payload) {
@@ -146,7 +146,7 @@ impl<'a, A: Allocator + Copy> Printer<'a, A> {
         let lines = lines_of_message(
             self.json,
             options.names.names,
-            self.links.names(),
+            &self.links,
             &self.requests,
             statistics,
             options.time,

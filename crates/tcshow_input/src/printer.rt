@@ -6,12 +6,13 @@ ghost use Rattle.tcshow_input.specs.State.{is_json, layout_of, statistics_in};
 
 use crate::counts::{Counts, Summary, SummaryLine};
 use crate::first_lines::FirstLines;
-use crate::links::Links;
 use crate::options::{Options, OutputFormat};
 use crate::output::Output;
 use crate::stop::Stop;
 use std::alloc::{AllocError, Allocator, Global};
+use std::collections::BTreeMap;
 use std::io::Write;
+use tc_columns::LinkNames;
 use tc_outline::{Layout, Page};
 use tcshow_json::{Message, Notice, NoticeLine, json_of, safe_text, text_of};
 use tcshow_lines::Requests;
@@ -31,8 +32,8 @@ pub struct Printer<'a, A: Allocator> {
     /// Text that isn't written yet.
     pub(crate) output: Output<A>,
     pub counts: Counts,
-    /// Names of interfaces in the capture.
-    pub(crate) links: Links,
+    /// The last name of each interface that the kernel named so far.
+    pub(crate) links: LinkNames,
     /// Messages so far, which tell who speaks.
     pub(crate) requests: Requests,
     /// Offset in the input of the current dump, in bytes.
@@ -100,7 +101,7 @@ impl<'a, A: Allocator + Copy> Printer<'a, A> {
             page: None,
             output: Output::new(alloc, is_json(options.format)),
             counts: Counts::default(),
-            links: Links::new(json),
+            links: BTreeMap::new(json),
             requests: Requests::new(json),
             dump_at: 0,
             summary: Summary::new(json),
@@ -113,7 +114,7 @@ impl<'a, A: Allocator + Copy> Printer<'a, A> {
         ensures empty { state_of self.new ≡ record (state_of self.old) { text = []; before = known_first (state_of self.old).before.given } }
     {
         self.output.clear();
-        self.links = Links::new(self.json);
+        self.links = BTreeMap::new(self.json);
         self.requests = Requests::new(self.json);
         self.dump_at = 0;
     }

@@ -107,7 +107,7 @@ impl<'a, A: Allocator + Copy> Printer<'a, A> {
         let text = lines_of_reply(
             self.json,
             options.names.names,
-            self.links.names(),
+            &self.links,
             &self.requests,
             statistics,
             options.time,
@@ -183,7 +183,7 @@ impl<'a, A: Allocator + Copy> Printer<'a, A> {
         let text = lines_of_end(
             self.json,
             options.names.names,
-            self.links.names(),
+            &self.links,
             &self.requests,
             statistics,
             options.time,
