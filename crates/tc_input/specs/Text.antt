@@ -3,8 +3,8 @@ use Rattle.std.specs.Prelude.{ℕ, Bool, not, List, [], ◌∷◌, ◌==◌, if�
 use Rattle.std.specs.List.{take_while}
 use Rattle.tc_select.specs.Pasted.{bytes_of_hex}
 use Rattle.tc_input.specs.Lines.{most_line}
-use Rattle.tc_input.specs.declared.text.OnLine.{OnLine as CodeOnLine}
-use Rattle.tc_input.specs.declared.text.OnLine.TheVariants as code
+use Rattle.tc_input.specs.declared.lines.OnLine.{OnLine as CodeOnLine}
+use Rattle.tc_input.specs.declared.lines.OnLine.TheVariants as code
 
 -- nothing, not hex, too long, or bytes
 pub data OnLine : Type 0 where

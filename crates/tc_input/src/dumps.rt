@@ -7,8 +7,7 @@ ghost use Rattle.tc_select.specs.Pasted.{bytes_of_hex};
 ghost use Rattle.tc_select.specs.DumpView.{line_view};
 
 use crate::input::MOST_PIECE;
-use crate::lines::MOST_LINE;
-use crate::text::{before_comment, bytes_of};
+use crate::lines::{MOST_LINE, before_comment, bytes_of};
 use std::alloc::{AllocError, Allocator};
 use tc_select::{DumpLine, digits_of_line, dump_line, end_of_dump, is_asterisk};
 

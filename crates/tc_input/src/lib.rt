@@ -8,10 +8,8 @@ mod dumps;
 mod input;
 mod lines;
 mod pieces;
-mod text;
 
 pub use dumps::{Dump, Next, Place, place_of};
 pub use input::{Input, MOST_PIECE};
-pub use lines::{LineGap, MOST_LINE};
+pub use lines::{LineGap, MOST_LINE, OnLine, on_line};
 pub use pieces::{Gap, next_piece, read_on};
-pub use text::{OnLine, on_line};

@@ -10,4 +10,4 @@ mod part;
 mod writer;
 
 pub use paint::paint_lines;
-pub use writer::{ColouredLines, Styled};
+pub use writer::ColouredLines;

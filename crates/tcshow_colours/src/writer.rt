@@ -1,7 +1,6 @@
-//! Writers that add colors.
+//! A writer that adds colors.
 
 use crate::paint::paint_lines;
-use program_io::Coloured;
 use std::alloc::Global;
 use std::io::{Error, ErrorKind, Result, Write};
 
@@ -37,31 +36,5 @@ impl<W: Write + Drop> Write for ColouredLines<W> {
 
     fn flush(&mut self) -> Result<()> {
         self.inner.flush()
-    }
-}
-
-/// A writer that adds the colors of lines, of outlines, or none.
-#[derive(Drop)]
-pub enum Styled<W: Write + Drop> {
-    Plain(W),
-    Lines(ColouredLines<W>),
-    Outlines(Coloured<W>),
-}
-
-impl<W: Write + Drop> Write for Styled<W> {
-    fn write(&mut self, buf: &[u8]) -> Result<usize> {
-        match self {
-            Styled::Plain(writer) => writer.write(buf),
-            Styled::Lines(writer) => writer.write(buf),
-            Styled::Outlines(writer) => writer.write(buf),
-        }
-    }
-
-    fn flush(&mut self) -> Result<()> {
-        match self {
-            Styled::Plain(writer) => writer.flush(),
-            Styled::Lines(writer) => writer.flush(),
-            Styled::Outlines(writer) => writer.flush(),
-        }
     }
 }

@@ -1,8 +1,6 @@
 -- Texts appended to the output, one after the other.
 use Rattle.std.proofs.Common.{◌≡◌, ◌∙◌, ℕ, Bool, true, false, List, [], ◌∷◌, ◌++◌, refl, sym, ap, subst, append_assoc, append-nil, true≢false}
-use Rattle.std.specs.BTreeMap.{BTreeMap}
-use Rattle.std.specs.Borrow.{Bor}
-use Rattle.std.specs.Prelude.{◌&&◌, ◌||◌, not, is_some, IsTrue, Option, Some, None, String}
+use Rattle.std.specs.Prelude.{◌&&◌, ◌||◌, not, is_some, IsTrue, Option, Some, None}
 use Rattle.std.proofs.lemmas.List.Elements.{All-push}
 use Rattle.tc_outline.specs.Page.{IsShown, is_shown}
 use Rattle.tc_capture.specs.Message.{Message as Netlink}
@@ -22,7 +20,7 @@ use Rattle.tcshow_input.specs.declared.options.OutputFormat.{OutputFormat}
 use Rattle.tcshow_input.specs.declared.options.OutputFormat.TheVariants.{Lines, Outline, Json}
 use Rattle.tcshow_input.specs.State.{State, Grows, Prints, Puts, laid_out, layout_of, noting, statistics_in, view_with}
 use Rattle.tcshow_lines.specs.Answers.{IsAnswer, IsEnd, dump_of}
-use Rattle.tcshow_lines.specs.Lines.{IsLines, names_after}
+use Rattle.tcshow_lines.specs.Lines.{IsLines}
 use Rattle.tcshow_lines.specs.Past.{Past}
 use Rattle.tcshow_lines.specs.declared.times.TimeFormat.{TimeFormat}
 
@@ -134,10 +132,6 @@ notice_page json text s n is page put = (text, subst (λ j. ShowsNotice j text) 
 pub asked_summary : (json asked : Bool) (s n : State) → asked ≡ true → (text : List ℕ) × ShowsNotice json text × Grows text false s n
     → (text : List ℕ) × ShowsSummary json asked text × Grows text false s n
 asked_summary json asked s n is x = (x.0, subst (λ a. ShowsSummary json a x.0) (sym is) x.1, x.2)
-
--- names of interfaces are those of an equal map
-pub names_same : {A : Type 0} (given : List (ℕ × Bor (List ℕ))) (a b : BTreeMap ℕ (String A)) → a ≡ b → names_after given a ≡ names_after given b
-names_same {A} given a b e = ap (λ (links : BTreeMap ℕ (String A)). names_after given links) e
 
 pub ends_with : (past : Past) (names others : List (ℕ × List ℕ)) (statistics : Bool) (time : TimeFormat) (origin : Origin) (m : Netlink) (text : List ℕ)
     → names ≡ others → IsEnd past names statistics time origin m text → IsEnd past others statistics time origin m text

@@ -13,8 +13,8 @@ use Rattle.tc_input.specs.Dumps.{Dump, Place, begins, goes_on, apart, no_dump, p
 use Rattle.tc_input.specs.Lines.{lines_of, lines_left}
 use Rattle.tc_input.specs.Pieces.{found_in, pieces_left}
 use Rattle.tc_input.specs.Text.{OnLine, nothing, no_hex, too_long, octets, on_line}
+use Rattle.tcshow_input.specs.declared.counts.Packets.{Packets}
 use Rattle.tcshow_input.specs.declared.first_lines.FirstLines.{FirstLines}
-use Rattle.tcshow_input.specs.declared.packets.Packets.{Packets}
 use Rattle.tcshow_input.specs.declared.stop.Stop.{Stop}
 use Rattle.tcshow_input.specs.declared.stop.Stop.TheVariants.{Usage, NoCapture, NoRoute, Closed, Read, Write, NoMemory}
 use Rattle.tcshow_input.specs.Reading.{dump_after, is_hex_text}

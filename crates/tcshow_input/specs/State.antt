@@ -79,7 +79,7 @@ state_of s = record {
   header = s.options.now.without_header;
   filter = s.options.now.filter;
   summary = s.options.now.has_summary;
-  before = record { given = given_in s.options.now; links = names_in s.links.names; past = past_of s.requests };
+  before = record { given = given_in s.options.now; links = names_in s.links; past = past_of s.requests };
   text = s.output.bytes.items;
   bad = is_bad s.counts;
 }

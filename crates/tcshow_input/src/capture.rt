@@ -12,7 +12,8 @@ ghost use Rattle.tcshow_input.specs.Rejected.{capture_rejection, is_rejection, m
 ghost use Rattle.tcshow_input.specs.State.{state_of, Halts, Progress, Puts, Stops};
 ghost use Rattle.tcshow_input.specs.Writing.{GrowsClean};
 
-use crate::packets::Packets;
+use crate::attributes::learn_name;
+use crate::counts::Packets;
 use crate::printer::Printer;
 use crate::stop::Stop;
 use std::alloc::{AllocError, Allocator};
@@ -391,7 +392,7 @@ impl<'a, A: Allocator + Copy> Printer<'a, A> {
         match link_in(message) {
             Some((index, name)) => {
                 self.requests.note_name();
-                self.links.learn(index, name)
+                learn_name(self.json, &mut self.links, index, name)
             }
             None => Ok(()),
         }

@@ -1,11 +1,15 @@
-//! Counts of a run.
+//! Counts of a run: of its messages, of a capture's packets, and the summary by type, kind and fault.
 
 ghost use Rattle.std.specs.Prelude.{◌≡◌, ◌||◌, true};
 ghost use Rattle.tcshow_json.specs.Messages.{is_fault};
 ghost use Rattle.tcshow_input.specs.State.{is_bad};
 
 use serde::Serialize;
-use tcshow_json::Notice;
+use std::alloc::{AllocError, Allocator, Global};
+use std::fmt;
+use tc_capture::{Contents, Link, Packet, Res};
+use tc_outline::Page;
+use tcshow_json::{Notice, show_word};
 
 /// Counts of a run, each at most `u64::MAX`.
 #[derive(Clone, Copy, Default, Serialize)]
@@ -57,4 +61,235 @@ impl Counts {
     {
         self.refused != 0 || self.broken != 0 || self.cut != 0
     }
+}
+
+/// Counts of a capture's packets, and what the first foreign ones hold.
+#[derive(Clone, Copy, Default)]
+pub struct Packets {
+    /// Packets so far.
+    pub count: u64,
+    /// There are packets of route netlink.
+    has_route: bool,
+    /// The first link type other than netlink's.
+    link: Option<u32>,
+    /// The first netlink family other than route netlink.
+    family: Option<u16>,
+}
+
+impl Packets {
+    ghost use Rattle.std.specs.Prelude.{◌≡◌};
+    ghost use Rattle.tc_capture.specs.Outcome.{seen};
+    ghost use Rattle.tc_capture.specs.Packet.{contents_of};
+    ghost use Rattle.tcshow_input.specs.Reading.{count_after, number_after};
+    ghost use Rattle.tcshow_input.specs.Rejected.{is_all_foreign, met_in, met_with, none_met};
+
+    /// No packets yet.
+    pub fn new() -> Packets
+        ensures none { result.count ≡ 0 }
+        ensures met { met_in result ≡ none_met }
+    {
+        Packets::default()
+    }
+
+    /// Counts a packet and returns its number (from 1), or `None` for a stream, which has no packets.
+    pub(crate) fn count(&mut self, packet: &Packet<'_>) -> Option<u64>
+        ensures count { self.new.count ≡ count_after self.old.count packet.now.link }
+        ensures number { result ≡ number_after self.old.count packet.now.link }
+        ensures met { met_in self.new ≡ met_in self.old }
+    {
+        if matches!(packet.link, Link::Plain) {
+            return None;
+        }
+        self.count = self.count.saturating_add(1);
+        Some(self.count)
+    }
+
+    /// Counts the contents of a packet.
+    pub(crate) fn meet(&mut self, contents: &Res<Contents<'_>>)
+        ensures count { self.new.count ≡ self.old.count }
+        ensures met { met_in self.new ≡ met_with (met_in self.old) (seen contents_of contents.now) }
+    {
+        match contents {
+            Ok(Contents::Route { .. }) => self.has_route = true,
+            Ok(Contents::Family(number)) => {
+                self.family.get_or_insert(*number);
+            }
+            Ok(Contents::LinkType(number)) => {
+                self.link.get_or_insert(*number);
+            }
+            Err(_) => {}
+        }
+    }
+
+    /// True if there are packets of another link type or netlink family, and none of route netlink.
+    pub fn are_foreign(&self) -> bool
+        ensures { result ≡ is_all_foreign (met_in self.now) }
+    {
+        !self.has_route && (self.link.is_some() || self.family.is_some())
+    }
+}
+
+/// The complaint about a capture without route netlink.
+impl fmt::Display for Packets {
+    fn fmt<W: fmt::Write>(&self, f: &mut fmt::Formatter<W>) -> fmt::Result {
+        write!(f, "no route netlink in {} packets", self.count)?;
+        if let Some(link) = self.link {
+            write!(f, ", but link type {link}")?;
+        }
+        if let Some(family) = self.family {
+            write!(f, ", but netlink family {family}")?;
+        }
+        Ok(())
+    }
+}
+
+// The most rows; other types and kinds share one more row.
+const MOST_ROWS: usize = 256;
+
+// The longest kind that has a row of its own, in bytes of its text.
+const MOST_KIND: usize = 64;
+
+/// A row: messages of a type and a kind.
+#[derive(Drop, Serialize)]
+pub(crate) struct Count {
+    /// Name of the message type. Empty for the shared row, and without a netlink header.
+    #[serde(rename = "type")]
+    rtm: &'static str,
+    /// The kind as outlines have it.
+    kind: String,
+    count: u64,
+}
+
+/// A row: messages that are refused for a fault.
+#[derive(Drop, Serialize)]
+pub(crate) struct FaultCount {
+    name: &'static str,
+    count: u64,
+}
+
+/// The summary of a run.
+#[derive(Drop, Serialize)]
+pub(crate) struct Summary {
+    messages: Vec<Count>,
+    faults: Vec<FaultCount>,
+}
+
+/// The JSON line of a summary.
+#[derive(Drop, Serialize)]
+pub(crate) struct SummaryLine<'a> {
+    pub(crate) summary: &'a Summary,
+    pub(crate) all: &'a Counts,
+}
+
+impl Summary {
+    pub(crate) fn new(alloc: Global) -> Summary {
+        Summary {
+            messages: Vec::new(alloc),
+            faults: Vec::new(alloc),
+        }
+    }
+
+    /// Counts a message of this type and kind.
+    pub(crate) fn count_message(
+        &mut self,
+        alloc: Global,
+        rtm: &'static str,
+        kind: &str,
+    ) -> Result<(), AllocError> {
+        if self.is_counted(rtm, kind) {
+            return Ok(());
+        }
+        if self.messages.len() < MOST_ROWS && kind.len() <= MOST_KIND {
+            return self.add(alloc, rtm, kind);
+        }
+        self.count_other(alloc)
+    }
+
+    // Counts a message in the shared row.
+    fn count_other(&mut self, alloc: Global) -> Result<(), AllocError> {
+        if self.is_counted("", "others") {
+            return Ok(());
+        }
+        self.add(alloc, "", "others")
+    }
+
+    // Counts a message in the row of its type and kind; false if there is no such row.
+    fn is_counted(&mut self, rtm: &str, kind: &str) -> bool {
+        for row in &mut self.messages {
+            if row.rtm == rtm && row.kind.as_str() == kind {
+                row.count = row.count.saturating_add(1);
+                return true;
+            }
+        }
+        false
+    }
+
+    // Adds a row with one message.
+    fn add(&mut self, alloc: Global, rtm: &'static str, kind: &str) -> Result<(), AllocError> {
+        let kind = String::from_str(alloc, kind)?;
+        Ok(
+            self.messages.push(Count {
+                rtm,
+                kind,
+                count: 1,
+            })?,
+        )
+    }
+
+    /// Counts a fault.
+    pub(crate) fn count_fault(&mut self, name: &'static str) -> Result<(), AllocError> {
+        for row in &mut self.faults {
+            if row.name == name {
+                row.count = row.count.saturating_add(1);
+                return Ok(());
+            }
+        }
+        Ok(self.faults.push(FaultCount { name, count: 1 })?)
+    }
+
+    /// Writes the summary as lines.
+    pub(crate) fn show<A: Allocator>(
+        &self,
+        all: &Counts,
+        page: &mut Page<A>,
+    ) -> Result<(), AllocError> {
+        page.text("summary")?;
+        for row in &self.messages {
+            show_row(page, row.rtm, row.kind.as_str(), row.count)?;
+        }
+        for row in &self.faults {
+            show_row(page, "refused", row.name, row.count)?;
+        }
+        show_counts(page, all)
+    }
+}
+
+fn show_row<A: Allocator>(
+    page: &mut Page<A>,
+    first: &str,
+    second: &str,
+    count: u64,
+) -> Result<(), AllocError> {
+    page.begin(1)?;
+    page.number(count)?;
+    show_word(page, first)?;
+    show_word(page, second)
+}
+
+fn show_counts<A: Allocator>(page: &mut Page<A>, all: &Counts) -> Result<(), AllocError> {
+    for (name, count) in [
+        ("messages", all.shown),
+        ("answers", all.answers),
+        ("refused", all.refused),
+        ("left out", all.left_out),
+        ("other netlink messages", all.others),
+        ("packets of other link types", all.other_links),
+        ("packets of other netlink families", all.other_families),
+        ("cut", all.cut),
+        ("skipped", all.skipped),
+        ("broken", all.broken),
+    ] {
+        show_row(page, name, "", count)?;
+    }
+    page.end()
 }

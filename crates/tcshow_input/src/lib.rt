@@ -4,26 +4,21 @@
 //! with [`Stop::NoMemory`] or `AllocError` if it fails.
 #![tactic(auto)]
 
-mod answer;
 mod attributes;
 mod capture;
 mod counts;
 mod first_lines;
 mod lines;
-mod links;
+mod messages;
 mod options;
 mod output;
-mod packets;
 mod printer;
 mod replies;
-mod selection;
 mod stop;
-mod summary;
 
 pub use capture::show_capture;
-pub use counts::Counts;
+pub use counts::{Counts, Packets};
 pub use lines::{is_hex_text, show_lines};
 pub use options::{Options, OutputFormat};
-pub use packets::Packets;
 pub use printer::Printer;
 pub use stop::Stop;

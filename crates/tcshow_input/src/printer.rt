@@ -1,17 +1,18 @@
 //! Prints messages, notices and the summary.
 
-ghost use Rattle.std.specs.Prelude.{◌≡◌};
+ghost use Rattle.std.specs.Prelude.{◌≡◌, []};
+ghost use Rattle.tc_outline.specs.Text.{has_lines, is_in_lines, text_on};
 ghost use Rattle.tcshow_input.specs.State.{is_json, layout_of, statistics_in};
 
-use crate::counts::Counts;
+use crate::counts::{Counts, Summary, SummaryLine};
 use crate::first_lines::FirstLines;
-use crate::links::Links;
 use crate::options::{Options, OutputFormat};
 use crate::output::Output;
 use crate::stop::Stop;
-use crate::summary::{Summary, SummaryLine};
 use std::alloc::{AllocError, Allocator, Global};
+use std::collections::BTreeMap;
 use std::io::Write;
+use tc_columns::LinkNames;
 use tc_outline::{Layout, Page};
 use tcshow_json::{Message, Notice, NoticeLine, json_of, safe_text, text_of};
 use tcshow_lines::Requests;
@@ -26,13 +27,13 @@ pub struct Printer<'a, A: Allocator> {
     /// Allocator of JSON.
     pub(crate) json: Global,
     pub(crate) options: &'a Options<'a>,
-    /// The outline of one message.
-    pub(crate) page: Page<A>,
+    /// The last page, whose memory the next one takes.
+    pub(crate) page: Option<Page<A>>,
     /// Text that isn't written yet.
     pub(crate) output: Output<A>,
     pub counts: Counts,
-    /// Names of interfaces in the capture.
-    pub(crate) links: Links,
+    /// The last name of each interface that the kernel named so far.
+    pub(crate) links: LinkNames,
     /// Messages so far, which tell who speaks.
     pub(crate) requests: Requests,
     /// Offset in the input of the current dump, in bytes.
@@ -60,6 +61,25 @@ pub(crate) fn statistics_in(form: OutputFormat) -> Option<bool>
     }
 }
 
+/// An empty page in this layout, in the memory of the last one.
+pub(crate) fn page_after<A: Allocator + Copy>(
+    last: &mut Option<Page<A>>,
+    alloc: A,
+    layout: Layout,
+) -> Page<A>
+    ensures form { has_lines result ≡ is_in_lines layout }
+    ensures empty { text_on result ≡ [] }
+{
+    match last.take() {
+        Some(page) => {
+            let mut page = page;
+            page.restart(layout);
+            page
+        }
+        None => Page::new(alloc, layout),
+    }
+}
+
 impl<'a, A: Allocator + Copy> Printer<'a, A> {
     ghost use Rattle.std.specs.Prelude.{◌≡◌, true, false, List, ℕ, [], OnOk, IfErr, is_some, string_bytes};
     ghost use Rattle.tc_outline.specs.Page.{IsShown};
@@ -78,10 +98,10 @@ impl<'a, A: Allocator + Copy> Printer<'a, A> {
             alloc,
             json,
             options,
-            page: Page::new(alloc, layout_of(options.format)),
+            page: None,
             output: Output::new(alloc, is_json(options.format)),
             counts: Counts::default(),
-            links: Links::new(json),
+            links: BTreeMap::new(json),
             requests: Requests::new(json),
             dump_at: 0,
             summary: Summary::new(json),
@@ -94,7 +114,7 @@ impl<'a, A: Allocator + Copy> Printer<'a, A> {
         ensures empty { state_of self.new ≡ record (state_of self.old) { text = []; before = known_first (state_of self.old).before.given } }
     {
         self.output.clear();
-        self.links = Links::new(self.json);
+        self.links = BTreeMap::new(self.json);
         self.requests = Requests::new(self.json);
         self.dump_at = 0;
     }
@@ -107,32 +127,33 @@ impl<'a, A: Allocator + Copy> Printer<'a, A> {
         if self.output.is_json() {
             return Ok(());
         }
-        self.page.restart(Layout::OneLine);
-        show_name(&mut self.page, name)?;
-        self.put_page_line()
+        let mut page = page_after(&mut self.page, self.alloc, Layout::OneLine);
+        show_name(&mut page, name)?;
+        self.put_page_line(page)
     }
 
-    /// Moves the page to the output, as a paragraph or a line.
-    pub(crate) fn put_page(&mut self) -> Result<(), AllocError>
+    /// Moves a page to the output, as a paragraph or a line.
+    pub(crate) fn put_page(&mut self, page: Page<A>) -> Result<(), AllocError>
         ensures form { self.new.output.is_json ≡ self.old.output.is_json }
-        ensures shown { IsShown true (text_on self.old.page) }
-        ensures put { OnOk result (Grows (laid_out self.old.options.now.format (text_on self.old.page)) false (state_of self.old) (state_of self.new)) }
+        ensures shown { IsShown true (text_on page) }
+        ensures put { OnOk result (Grows (laid_out self.old.options.now.format (text_on page)) false (state_of self.old) (state_of self.new)) }
     {
         let format = self.options.format;
-        self.put_page_line()?;
+        self.put_page_line(page)?;
         match format {
             OutputFormat::Outline => self.output.line_feed(),
             OutputFormat::Lines(_) | OutputFormat::Json => Ok(()),
         }
     }
 
-    // Moves the page to the output, with one line feed.
-    fn put_page_line(&mut self) -> Result<(), AllocError>
+    // Moves a page to the output, with one line feed.
+    fn put_page_line(&mut self, page: Page<A>) -> Result<(), AllocError>
         ensures form { self.new.output.is_json ≡ self.old.output.is_json }
-        ensures shown { IsShown true (text_on self.old.page) }
-        ensures put { OnOk result (Grows (ended (text_on self.old.page)) false (state_of self.old) (state_of self.new)) }
+        ensures shown { IsShown true (text_on page) }
+        ensures put { OnOk result (Grows (ended (text_on page)) false (state_of self.old) (state_of self.new)) }
     {
-        self.output.page(&self.page)?;
+        self.output.page(&page)?;
+        self.page = Some(page);
         self.output.line_feed()
     }
 
@@ -164,9 +185,9 @@ impl<'a, A: Allocator + Copy> Printer<'a, A> {
             let line = json_of(self.json, &NoticeLine { note: words, at })?;
             return self.put_json(line);
         }
-        self.page.restart(layout_of(self.options.format));
-        show_notice(&mut self.page, words, at)?;
-        self.put_page()
+        let mut page = page_after(&mut self.page, self.alloc, layout_of(self.options.format));
+        show_notice(&mut page, words, at)?;
+        self.put_page(page)
     }
 
     /// Counts a message in the summary's row with this type and text, if there is a summary.

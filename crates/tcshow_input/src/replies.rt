@@ -6,7 +6,7 @@ ghost use Rattle.tcshow_input.specs.State.{view_of};
 
 use crate::attributes::show_attributes;
 use crate::options::{Options, OutputFormat};
-use crate::printer::{Printer, layout_of, statistics_in};
+use crate::printer::{Printer, layout_of, page_after, statistics_in};
 use itoa::Buffer;
 use std::alloc::{AllocError, Allocator};
 use tc_capture::NetlinkMessage;
@@ -107,7 +107,7 @@ impl<'a, A: Allocator + Copy> Printer<'a, A> {
         let text = lines_of_reply(
             self.json,
             options.names.names,
-            self.links.names(),
+            &self.links,
             &self.requests,
             statistics,
             options.time,
@@ -183,7 +183,7 @@ impl<'a, A: Allocator + Copy> Printer<'a, A> {
         let text = lines_of_end(
             self.json,
             options.names.names,
-            self.links.names(),
+            &self.links,
             &self.requests,
             statistics,
             options.time,
@@ -210,11 +210,11 @@ impl<'a, A: Allocator + Copy> Printer<'a, A> {
         ensures put { OnOk result ((text : List ℕ) × ShowsAnswer false (state_of self.old).view (state_of self.old).before (header_view reply.now.header)
             (reason_of (answer_of reply.now.answer)) (message_view reply.now.request) text × Grows text false (state_of self.old) (state_of self.new)) }
     {
-        self.page.restart(layout_of(self.options.format));
-        show_reason(self.json, &mut self.page, reply)?;
+        let mut page = page_after(&mut self.page, self.alloc, layout_of(self.options.format));
+        show_reason(self.json, &mut page, reply)?;
         let request = self.request_page(reply)?;
-        put_request(&mut self.page, request)?;
-        self.put_page()
+        put_request(&mut page, request)?;
+        self.put_page(page)
     }
 
     fn request_page(&self, reply: &Reply<'_>) -> Result<Page<A>, AllocError> {

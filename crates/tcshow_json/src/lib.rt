@@ -14,7 +14,6 @@ mod pages;
 mod reply;
 mod safe;
 mod serialized;
-mod time;
 mod verdict;
 
 pub use line::{Line, json_of, line_of};

@@ -1,20 +1,22 @@
-//! The JSON line of a message.
+//! The JSON line of a message, and the text of its time.
 
-ghost use Rattle.std.specs.Prelude.{◌≡◌, IfOk, Some, None, [], is_some, option_map, string_bytes, true};
+ghost use Rattle.std.specs.Prelude.{◌≡◌, ◌+◌, ◌≤◌, ◌++◌, IfOk, Some, None, [], is_some, option_map, string_bytes, true};
+ghost use Rattle.arrayvec.specs.ArrayString.{array_string_len};
 ghost use Rattle.serde.specs.Event.{Log};
 ghost use Rattle.serde_json.specs.Sent.{IsTextOf};
 ghost use Rattle.tcshow_json.specs.Grammars.{IsLineOf, is_refused, is_fault};
 ghost use Rattle.tcshow_json.specs.Messages.{message_view};
-ghost use Rattle.tcshow_json.specs.Line.{IsAccepted, IsRefused, IsLine, line_events, read_events, time_of, verdict_events};
+ghost use Rattle.tcshow_json.specs.Line.{IsAccepted, IsRefused, IsLine, last_digits, line_events, read_events, time_of, time_text, verdict_events};
 
 use crate::fault::place_of_fault;
 use crate::message::Message;
 use crate::serialized::{MessageLine, Verdict};
-use crate::time::{borrowed_text, some_time_text};
+use arrayvec::ArrayString;
+use itoa::Buffer;
 use nla_frames::DecodeError;
 use serde::Serialize;
 use std::alloc::{AllocError, Allocator, Global};
-use tc_capture::MessageType;
+use tc_capture::{MessageType, Time};
 use tc_wire::{TcActionMessage, TcMessage, WholeMessage};
 
 /// The JSON of a message, and the name of its fault if the codec refuses it.
@@ -190,4 +192,54 @@ pub fn json_of<T: Serialize>(alloc: Global, value: &T) -> Result<String, AllocEr
         Ok(json) => Ok(json),
         Err(_) => Err(AllocError),
     }
+}
+
+/// The longest text of a time: 20 digits, a point and 9 digits.
+pub(crate) const TIME_TEXT_LEN: usize = 30;
+
+/// A time: seconds, a point and nine digits.
+#[tactic(auto, unfolding(crate::specs::Line::time_text))]
+pub(crate) fn time_text(time: &Time) -> ArrayString<TIME_TEXT_LEN>
+    ensures { result.bytes ≡ time_text time.now }
+{
+    let mut buffer = Buffer::new();
+    let mut text = ArrayString::new();
+    text.push_str(buffer.format(time.seconds));
+    text.push('.');
+    push_digits(&mut text, 9, time.nanoseconds);
+    text
+}
+
+/// The text of a time, if there is one.
+pub(crate) fn some_time_text(time: &Option<Time>) -> Option<ArrayString<TIME_TEXT_LEN>>
+    ensures { option_map (λ text. text.bytes) result ≡ option_map time_text time.now }
+{
+    match time {
+        Some(time) => Some(time_text(time)),
+        None => None,
+    }
+}
+
+/// The same text, borrowed.
+pub(crate) fn borrowed_text(text: &Option<ArrayString<TIME_TEXT_LEN>>) -> Option<&str>
+    ensures { option_map (λ text. text.now) result ≡ option_map (λ text. text.bytes) text.now }
+{
+    match text {
+        Some(text) => Some(text.as_str()),
+        None => None,
+    }
+}
+
+// Appends the last digits of a number.
+#[tactic(auto, using(crate::proofs::Times::last_digits_step))]
+fn push_digits(text: &mut ArrayString<TIME_TEXT_LEN>, count: u8, number: u32)
+    requires { array_string_len text.old + count ≤ 30 }
+    ensures bytes { text.new.bytes ≡ text.old.bytes ++ last_digits count number }
+    ensures len { array_string_len text.new ≡ array_string_len text.old + count }
+{
+    if count == 0 {
+        return;
+    }
+    push_digits(text, count - 1, number / 10);
+    text.push(char::from(b'0' + (number % 10) as u8));
 }

@@ -3,8 +3,8 @@
 ghost use Rattle.std.specs.Prelude.{OnOk};
 ghost use Rattle.tc_outline.specs.Text.{Continues};
 
+use crate::line::time_text;
 use crate::message::{Message, NetlinkHeader, Origin};
-use crate::time::time_text;
 use std::alloc::{AllocError, Allocator};
 use std::str;
 use tc_capture::MessageType;

@@ -7,11 +7,10 @@ ghost use Rattle.tc_texts.specs.Escape.{escaped_byte};
 ghost use Rattle.tcshow_json.specs.Messages.{header_view, message_view, reason_of};
 ghost use Rattle.tcshow_json.specs.Line.{IsAnswered, answered_events, error_events, escaped_text, offset_in_message, pointer_at, some_text, time_of};
 
-use crate::line::json_of;
+use crate::line::{borrowed_text, json_of, some_time_text};
 use crate::message::{Message, NetlinkHeader, Origin, header_of};
 use crate::pages::{show_numbers, show_time_of, show_word, text_of};
 use crate::serialized::{AnswerLine, Reason};
-use crate::time::{borrowed_text, some_time_text};
 use itoa::Buffer;
 use nla_frames::strip_nul;
 use std::alloc::{AllocError, Allocator, Global};

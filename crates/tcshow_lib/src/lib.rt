@@ -4,6 +4,7 @@
 #![tactic(auto)]
 
 pub mod arguments;
+mod complaints;
 mod day;
 pub mod example;
 pub mod filter;
@@ -17,5 +18,4 @@ mod notes;
 pub mod options;
 pub mod program;
 pub mod run;
-pub mod status;
 mod zone;

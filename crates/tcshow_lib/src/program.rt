@@ -1,6 +1,6 @@
 //! The program: its arguments are obeyed, and how it ends is its exit status.
 
-ghost use Rattle.std.specs.Prelude.{◌≡◌, ◌≢◌, ◌⊎◌, ℕ, List, [], Err, None, OnOk, IfErr, IfSome, Some};
+ghost use Rattle.std.specs.Prelude.{◌≡◌, ◌≢◌, ℕ, List, [], None, OnOk, IfErr, IfSome, Some};
 ghost use Rattle.program_io.specs.Streams.{read_failure, reader_inside, write_failure, writer_inside};
 ghost use Rattle.std.specs.Io.KnownBytes.{Appends};
 ghost use Rattle.tcshow_tree.specs.Tree.{tree_of};
@@ -12,6 +12,11 @@ ghost use Rattle.tcshow_input.specs.declared.options.OutputFormat.TheVariants.{J
 ghost use Rattle.tcshow_lib.specs.Streams.{ShowsEnd};
 
 use crate::arguments::{Arguments, Task, TimeChoice, arguments_of};
+use crate::complaints::{
+    INPUT, OUTPUT, complain, complain_of_file, complain_of_filter, complain_of_names,
+    complain_of_zone, fail, fail_to_read, fail_without_memory, say_failure, say_no_memory,
+    say_no_route, say_of,
+};
 use crate::day::first_time;
 use crate::example::EXAMPLE;
 use crate::filter::{FilterError, FilterValues};
@@ -22,20 +27,20 @@ use crate::kinds::{explain, is_known, put_schema_of_line, write_all_kinds};
 use crate::names::names_in;
 use crate::options::{Options, OutputFormat, options_of};
 use crate::run::{Ended, run};
-use crate::zone::{SystemZone, ZoneError};
+use crate::zone::SystemZone;
 use clap::Error;
 use clap::error::ErrorKind;
 use jiff_tz::TimeZone;
-use program_io::{Coloured, Reader, Writer, cause_of, write_all, write_text};
-use std::alloc::{AllocError, Allocator, Global};
+use program_io::{Coloured, Reader, Writer, write_all};
+use std::alloc::{Allocator, Global};
 use std::io::{self, Input, Print, Read, Write};
 use std::rt::{Env, Files};
 use std::{env, fs};
 use tc_input::Input as Begun;
-use tc_select::{Filter, LINK_FORMS};
+use tc_select::Filter;
 use tcmake_lines::OutputFormat as MadeFormat;
-use tcshow_colours::{ColouredLines, Styled};
-use tcshow_input::{Packets, Printer, Stop};
+use tcshow_colours::ColouredLines;
+use tcshow_input::{Printer, Stop};
 use tcshow_tree::tree_lines;
 
 /// The comparison of two inputs (`--diff`). The program brings it, since it needs the crates that make requests of dumps.
@@ -195,7 +200,7 @@ fn show_in<R: AllocGlobal + Files + Input + Print, E: Write>(
     errors: &mut E,
 ) -> Ended {
     match arguments.names {
-        None => show_with(rt, arguments, zone, "", "", errors),
+        None => show_named(rt, arguments, zone, &[], errors),
         Some(path) => match fs::read_to_string(rt, path) {
             Ok(text) => show_with(rt, arguments, zone, path, text.as_str(), errors),
             Err(error) => complain_of_file(rt.alloc(), path, &error, errors),
@@ -411,21 +416,6 @@ fn show_json<R: AllocGlobal + Print, I: Read + Drop, E: Write>(
     }
 }
 
-// Complains about an input whose first bytes can't be read.
-fn fail_to_read<I, E: Write>(
-    alloc: Global,
-    stop: program_io::Stop,
-    name: &str,
-    reader: &Reader<I>,
-    errors: &mut E,
-) -> Ended {
-    if stop != program_io::Stop::Read {
-        return fail_without_memory(errors);
-    }
-    say_failure(alloc, errors, name, reader.failure());
-    Ended::early(Stop::Read)
-}
-
 // Prints the messages of a capture or of lines of hex. A time of day is in the day of its first packet that has a time, which is read before.
 fn show_bytes<R: AllocGlobal + Print, I: Read + Drop, E: Write>(
     rt: &R,
@@ -560,6 +550,32 @@ fn show_each<R: AllocGlobal + Files + Input + Print, E: Write>(
     let options = options_of(arguments, zone, filter, names);
     let mut writer = Writer::new(styled(rt.alloc(), arguments, io::writer(rt)));
     show_each_on(rt, &options, arguments.tree, files, &mut writer, errors)
+}
+
+// A writer that adds the colors of lines, of outlines, or none.
+#[derive(Drop)]
+enum Styled<W: Write + Drop> {
+    Plain(W),
+    Lines(ColouredLines<W>),
+    Outlines(Coloured<W>),
+}
+
+impl<W: Write + Drop> Write for Styled<W> {
+    fn write(&mut self, buf: &[u8]) -> io::Result<usize> {
+        match self {
+            Styled::Plain(writer) => writer.write(buf),
+            Styled::Lines(writer) => writer.write(buf),
+            Styled::Outlines(writer) => writer.write(buf),
+        }
+    }
+
+    fn flush(&mut self) -> io::Result<()> {
+        match self {
+            Styled::Plain(writer) => writer.flush(),
+            Styled::Lines(writer) => writer.flush(),
+            Styled::Outlines(writer) => writer.flush(),
+        }
+    }
 }
 
 // A writer that adds the colors that the arguments ask for.
@@ -746,118 +762,4 @@ fn say_end<R, W, E: Write>(
         Err(Stop::Write) => say_failure(alloc, errors, OUTPUT, writer.failure()),
         Err(Stop::NoMemory) => say_no_memory(errors),
     }
-}
-
-const NO_MEMORY: &str = "tcshow: out of memory\n";
-
-// Names of the streams in complaints.
-const INPUT: &str = "standard input";
-
-const OUTPUT: &str = "standard output";
-
-fn say_no_memory<E: Write>(errors: &mut E) {
-    let _ = write_all(errors, NO_MEMORY.as_bytes());
-}
-
-fn fail_without_memory<E: Write>(errors: &mut E) -> Ended
-    ensures { result.outcome ≡ Err NoMemory }
-{
-    say_no_memory(errors);
-    Ended::early(Stop::NoMemory)
-}
-
-fn complain<E: Write>(errors: &mut E, text: &str, stop: Stop) -> Ended
-    ensures { result.outcome ≡ Err stop }
-{
-    let _ = write_all(errors, text.as_bytes());
-    Ended::early(stop)
-}
-
-// Writes a complaint as a terminal gets it, and ends for this reason.
-fn fail<E: Write>(
-    alloc: Global,
-    errors: &mut E,
-    text: Result<String, AllocError>,
-    stop: Stop,
-) -> Ended
-    ensures { (result.outcome ≡ Err stop) ⊎ (result.outcome ≡ Err NoMemory) }
-{
-    match text {
-        Ok(text) => {
-            let _ = write_text(alloc, errors, text.as_str());
-            Ended::early(stop)
-        }
-        Err(_) => fail_without_memory(errors),
-    }
-}
-
-// Writes what is wrong with a stream.
-fn say_of<E: Write>(alloc: Global, errors: &mut E, name: &str, what: &str) {
-    match format!(in alloc; "tcshow: {name}: {what}\n") {
-        Ok(text) => {
-            let _ = write_text(alloc, errors, text.as_str());
-        }
-        Err(_) => say_no_memory(errors),
-    }
-}
-
-// Writes why a stream failed, if it is known.
-fn say_failure<E: Write>(alloc: Global, errors: &mut E, name: &str, failure: Option<io::Error>) {
-    match failure {
-        Some(error) => say_cause(alloc, errors, name, &error),
-        None => say_of(alloc, errors, name, "failed"),
-    }
-}
-
-fn say_cause<E: Write>(alloc: Global, errors: &mut E, name: &str, error: &io::Error) {
-    match cause_of(alloc, error) {
-        Ok(cause) => say_of(alloc, errors, name, cause.as_str()),
-        Err(_) => say_no_memory(errors),
-    }
-}
-
-// Writes what a capture without route netlink holds.
-fn say_no_route<E: Write>(alloc: Global, errors: &mut E, name: &str, packets: &Packets) {
-    match format!(in alloc; "{packets}") {
-        Ok(text) => say_of(alloc, errors, name, text.as_str()),
-        Err(_) => say_no_memory(errors),
-    }
-}
-
-// Complains about a file that can't be read.
-fn complain_of_file<E: Write>(
-    alloc: Global,
-    path: &str,
-    error: &io::Error,
-    errors: &mut E,
-) -> Ended {
-    say_cause(alloc, errors, path, error);
-    Ended::early(Stop::Usage)
-}
-
-// Complains about the time zone of the system, by where it is named.
-fn complain_of_zone<R: AllocGlobal + Env, E: Write>(
-    rt: &R,
-    error: ZoneError,
-    errors: &mut E,
-) -> Ended {
-    if error == ZoneError::OutOfMemory {
-        return fail_without_memory(errors);
-    }
-    let text = match env::var(rt, "TZ") {
-        Ok(zone) => format!(in rt.alloc(); "tcshow: TZ={zone}: {error}\n"),
-        Err(_) => format!(in rt.alloc(); "tcshow: /etc/localtime: {error}\n"),
-    };
-    fail(rt.alloc(), errors, text, Stop::Usage)
-}
-
-// Complains about a line in a file of names.
-fn complain_of_names<E: Write>(alloc: Global, path: &str, line: u64, errors: &mut E) -> Ended {
-    let text = format!(in alloc; "tcshow: {path}: line {line}: {LINK_FORMS}\n");
-    fail(alloc, errors, text, Stop::Usage)
-}
-
-// Complains about a value of a filter.
-fn complain_of_filter<E: Write>(alloc: Global, none: FilterError<'_>, errors: &mut E) -> Ended {
-    fail(alloc, errors, none.text(alloc), Stop::Usage)
 }

@@ -1,4 +1,4 @@
-//! A run over an input.
+//! A run over an input, and its exit status.
 
 ghost use Rattle.std.specs.Prelude.{◌≡◌, ◌≢◌, ◌⊎◌, false, List, ℕ, [], None, Option, OnOk, IfErr, IfSome};
 ghost use Rattle.tcshow_input.specs.declared.stop.Stop.TheVariants.{NoMemory};
@@ -10,9 +10,9 @@ ghost use Rattle.tcshow_input.specs.declared.options.OutputFormat.TheVariants.{J
 ghost use Rattle.tcshow_input.specs.State.{state_of, Breaks, BreaksIn, Completes, Ends, Halts, Progress, Ran, RanOn};
 ghost use Rattle.tcshow_input.specs.Rejected.{met_in, met_rejection, none_met, rejection_left, rejection_of, Explains};
 ghost use Rattle.tcshow_input.specs.Writing.{GrowsClean};
+ghost use Rattle.tcshow_lib.specs.Status.{refused_status, status_of};
 ghost use Rattle.tcshow_lib.specs.Streams.{ShowsEnd};
 
-use crate::status::status_of;
 use program_io::{Reader, Writer};
 use std::alloc::{Allocator, Global};
 use std::io::{Read, Write};
@@ -75,6 +75,24 @@ impl Ended {
     {
         status_of(self.outcome, self.has_refused)
     }
+}
+
+// The exit status: 3 if a stream failed or memory ran out, 2 for wrong arguments or if the input is neither a capture nor
+// hex or has no route netlink, 1 if something was refused, broken or cut, else 0. A closed output isn't a failure.
+fn status_of(outcome: Result<(), Stop>, has_refused: bool) -> u8
+    ensures { result ≡ status_of outcome has_refused }
+{
+    match outcome {
+        Err(Stop::Read | Stop::Write | Stop::NoMemory) => 3,
+        Err(Stop::Usage | Stop::NoCapture | Stop::NoRoute) => 2,
+        Ok(()) | Err(Stop::Closed) => refused_status(has_refused),
+    }
+}
+
+fn refused_status(has_refused: bool) -> u8
+    ensures { result ≡ refused_status has_refused }
+{
+    if has_refused { 1 } else { 0 }
 }
 
 /// Prints the messages of an input. Text is written before each read, and at the end.

@@ -20,7 +20,7 @@ returns-clause-text g c = λ on.
     let found = c.in_ok-fault.ensures.text on in
     let columns = c.columns_of-columns.result in
     let names : List (ℕ × List ℕ) = names_of columns.interfaces columns.links in
-    let known : List (ℕ × List ℕ) = given_in c.args.options.now ++ names_in c.args.links.now.names in
+    let known : List (ℕ × List ℕ) = given_in c.args.options.now ++ names_in c.args.links.now in
     let lines : List (ℕ × List ℕ) → Root → Bool → List ℕ =
     λ n r a. shown_lines (record { root = root_place r; all = a; interfaces = n }) (form_of r) c.args.found.now.payload.now in
     let about = root_of (message_view c.args.found.now) in

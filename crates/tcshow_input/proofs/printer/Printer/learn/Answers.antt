@@ -16,13 +16,13 @@ returns-in-Some-clause-put g c =
     let l : Link = record { index = c.in-Some.index; name = c.in-Some.name.now } in
     let same = ap link_or_other (sym (ap (option_map name_view) c.in-Some.is) ∙ c.link_in.ensures) in
     let past = past_of c.note_name.new.self in
-    let n = record s { before = record s.before { links = names_in c.learn.new.self.names; past = past } } in
+    let n = record s { before = record s.before { links = names_in c.learn_name.new.links; past = past } } in
     let links = with_name l.index l.name s.before.links in
     let noted = ap (λ (p : Past). record s { before = record s.before { links = links; past = p } }) c.note_name.ensures in
-    on_ok_weaker c.learn.result
+    on_ok_weaker c.learn_name.result
     (λ learned. subst (λ (t : Thing). Puts (t ∷ []) s n) same
     (puts_link l s n (ap (λ (ls : List (ℕ × List ℕ)). record s { before = record s.before { links = ls; past = past } }) learned ∙ noted)))
-    c.learn.ensures
+    c.learn_name.ensures
 
 pub returns-in-None-clause-put : goal.returns-in-None-clause-put
 returns-in-None-clause-put g c =

@@ -1,10 +1,10 @@
-use Rattle.std.proofs.Common.{◌∙◌, ◌++◌, ap}
+use Rattle.std.proofs.Common.{◌∙◌, ◌++◌, ap, refl}
 use Rattle.std.specs.Prelude.{is_some}
 use Rattle.std.proofs.lemmas.Result.{on_ok_weaker}
 use Rattle.tcshow_json.specs.Messages.{message_view}
 use Rattle.tcshow_input.specs.State.{state_of}
 use Rattle.tcshow_lines.specs.Lines.{names_after}
-use Rattle.tcshow_input.proofs.Puts.{grows_counted, is_lines, more_text, names_same}
+use Rattle.tcshow_input.proofs.Puts.{grows_counted, is_lines, more_text}
 use Rattle.tcshow_input.proofs.printer.Printer.put_lines.Goals as goal
 
 pub returns-clause-put : goal.returns-clause-put
@@ -17,8 +17,8 @@ returns-clause-put g c =
     let fault = is_some c.in_ok-lines.lines.fault in
     let now = c.lines.new.self in
     let view = is_lines options.format options.time options.acks options.all s.before c.args.statistics
-    (names_after options.names.names.now c.names.result.now) m text c.requires
-    (names_same options.names.names.now c.names.result.now c.args.self.now.links.names c.names.ensures) found.lines in
+    (names_after options.names.names.now c.args.self.now.links) m text c.requires
+    refl found.lines in
     on_ok_weaker c.count_fault.result
     (λ counted. (
       text,

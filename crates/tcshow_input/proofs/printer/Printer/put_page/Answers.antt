@@ -9,7 +9,7 @@ use Rattle.tcshow_input.proofs.printer.Printer.put_page.Goals as goal
 pub returns-in-Outline-clause-put : goal.returns-in-Outline-clause-put
 returns-in-Outline-clause-put g c =
     let s = state_of c.args.self.now in
-    let page = text_on c.args.self.now.page in
+    let page = text_on c.args.page in
     let now = c.line_feed.new.self in
     let line = state_of c.put_page_line.new.self in
     on_ok_weaker c.line_feed.result

@@ -9,6 +9,6 @@ pub returns-clause-put : goal.returns-clause-put
 returns-clause-put g c =
     let now = c.line_feed.new.self in
     on_ok_weaker c.line_feed.result
-    (page_line (state_of c.args.self.now) now.is_json now.bytes.items c.page.new.self.bytes.items (text_on c.args.self.now.page)
+    (page_line (state_of c.args.self.now) now.is_json now.bytes.items c.page.new.self.bytes.items (text_on c.args.page)
     (c.line_feed.ensures.form ∙ c.page.ensures.form) c.in_ok-page.ensures.put)
     c.line_feed.ensures.put

@@ -1,6 +1,6 @@
 use Rattle.std.proofs.Common.{◌∙◌, arith}
 use Rattle.tc_input.proofs.Comments.{before_is_all, before_is_front}
-use Rattle.tc_input.proofs.text.before_comment.Goals as goal
+use Rattle.tc_input.proofs.lines.before_comment.Goals as goal
 
 pub returns-then-line-place-eq35 : goal.returns-then-line-place-eq35
 returns-then-line-place-eq35 c =
