@@ -474,7 +474,7 @@ fn show_filtered<R: AllocGlobal + Print, I: Read + Drop, E: Write>(
     let alloc = rt.alloc();
     let options = options_of(arguments, zone, filter, names);
     let mut reader = Reader::new(reader);
-    let mut writer = Writer::new(styled(alloc, arguments, io::writer(rt)));
+    let mut writer = Writer::new(with_colours(alloc, arguments, io::writer(rt)));
     if arguments.tree {
         return serve_tree(alloc, &options, name, &mut reader, &mut writer, errors);
     }
@@ -548,7 +548,7 @@ fn show_each<R: AllocGlobal + Files + Input + Print, E: Write>(
     errors: &mut E,
 ) -> Ended {
     let options = options_of(arguments, zone, filter, names);
-    let mut writer = Writer::new(styled(rt.alloc(), arguments, io::writer(rt)));
+    let mut writer = Writer::new(with_colours(rt.alloc(), arguments, io::writer(rt)));
     show_each_on(rt, &options, arguments.tree, files, &mut writer, errors)
 }
 
@@ -579,7 +579,7 @@ impl<W: Write + Drop> Write for Styled<W> {
 }
 
 // A writer that adds the colors that the arguments ask for.
-fn styled<W: Write + Drop>(alloc: Global, arguments: &Arguments<'_>, writer: W) -> Styled<W> {
+fn with_colours<W: Write + Drop>(alloc: Global, arguments: &Arguments<'_>, writer: W) -> Styled<W> {
     match arguments.format {
         OutputFormat::Outline if arguments.in_colours => {
             Styled::Outlines(Coloured::new(alloc, writer))
