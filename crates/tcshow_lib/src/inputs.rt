@@ -1,6 +1,6 @@
 //! Several inputs, one after another.
 
-ghost use Rattle.std.specs.Prelude.{◌≡◌, ◌≢◌, ◌⊎◌, false, max, List, None, OnOk, IfErr, IfSome};
+ghost use Rattle.std.specs.Prelude.{◌≡◌, ◌≢◌, ◌⊎◌, ◌≤◌, false, max, List, None, OnOk, IfErr, IfSome};
 ghost use Rattle.tcshow_input.specs.declared.stop.Stop.TheVariants.{NoMemory};
 ghost use Rattle.program_io.specs.Streams.{read_failure, reader_inside, write_failure, writer_inside};
 ghost use Rattle.tcshow_json.specs.Messages.{Thing};
@@ -103,11 +103,12 @@ fn show_next<A: Allocator + Copy, R: Read, W: Write>(
     Ok(())
 }
 
-/// The end of two runs: the one with the larger status.
+/// The end of two runs: the one with the larger status, the first if it is the same.
 pub fn worse(first: Ended, second: Ended) -> Ended
     ensures one { (result ≡ first) ⊎ (result ≡ second) }
     ensures status { status_of result.outcome result.has_refused
         ≡ max (status_of first.outcome first.has_refused) (status_of second.outcome second.has_refused) }
+    ensures first { status_of second.outcome second.has_refused ≤ status_of first.outcome first.has_refused → result ≡ first }
 {
     if second.status() > first.status() {
         second

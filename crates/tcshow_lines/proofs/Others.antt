@@ -38,7 +38,3 @@ same bytes frames (Some e) = refl
 pub of_message : (bytes : List ℕ) → unwrap_or (after_items (take 20 bytes) (items_of (cut (drop 20 bytes)))) bytes ≡ without_statistics bytes
 of_message bytes =
     all_frames bytes (take 20 bytes) (cut (drop 20 bytes)).frames (cut (drop 20 bytes)).fault ∙ same bytes (cut (drop 20 bytes)).frames (cut (drop 20 bytes)).fault
-
-
-
-

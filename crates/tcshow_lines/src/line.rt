@@ -64,15 +64,7 @@ fn lines_in<W: Words + Drop>(
         links: Some(links),
         all: false,
     };
-    match lines_of(
-        alloc,
-        TcTables,
-        form_of(root),
-        columns,
-        words,
-        said,
-        bytes,
-    ) {
+    match lines_of(alloc, TcTables, form_of(root), columns, words, said, bytes) {
         Ok(text) => Ok(text),
         Err(_) => Err(AllocError),
     }
