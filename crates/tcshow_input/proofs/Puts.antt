@@ -268,6 +268,10 @@ same_requests before t b s n same g = record {
 pub puts_none : (s : State) → Puts [] s s
 puts_none s = ([], false, nothing, same_requests (after_all s.before []) [] false s s refl (grows_none s))
 
+-- nothing is done for no things
+pub puts_same : (things : List Thing) (s n : State) → things ≡ [] → n ≡ s → Puts things s n
+puts_same things s n none same = subst (λ (m : State). Puts things s m) (sym same) (subst (λ (xs : List Thing). Puts xs s s) (sym none) (puts_none s))
+
 pub puts_then : (xs ys : List Thing) (s m n : State) → Puts xs s m → Puts ys m n → Puts (xs ++ ys) s n
 puts_then xs ys s m n h k =
     let g = h.3 in

@@ -280,7 +280,6 @@ impl<'a, A: Allocator + Copy> Printer<'a, A> {
     }
 
     // Prints that the capture holds only the first bytes of a packet, unless a message in them is cut, which is printed with the messages.
-    #[tactic(auto, using(crate::proofs::Puts::puts_none))]
     fn put_cut(&mut self, is_whole: bool, messages: &[u8], at: u64) -> Result<(), AllocError>
         ensures form { self.new.output.is_json ≡ self.old.output.is_json }
         ensures put { OnOk result (Puts (cut_after is_whole messages.now) (state_of self.old) (state_of self.new)) }

@@ -17,9 +17,9 @@ returns-clause-put g c =
     let m = message_view c.args.found.now in
     let page = text_on c.show_attributes.new.page in
     let view : is_in_lines (layout_of options.format) ≡ true → IsOutline names options.all m (ended (ended page)) =
-    λ on. is_outline names options.all m c.page_after.result c.begin_message.new.page (is_some c.in_ok-name.name) page c.page_after.ensures.empty
+    λ on. is_outline names options.all m c.page_after-page.result c.begin_message.new.page (is_some c.in_ok-name.name) page c.page_after-page.ensures.empty
     c.in_ok-begin_message.ensures c.in_ok-name.ensures.fault
-    (c.in_ok-name.ensures.text (c.in_ok-begin_message.ensures.form ∙ c.page_after.ensures.form ∙ ap is_in_lines c.layout_of.ensures ∙ on)) in
+    (c.in_ok-name.ensures.text (c.in_ok-begin_message.ensures.form ∙ c.page_after-page.ensures.form ∙ ap is_in_lines c.layout_of.ensures ∙ on)) in
     on_ok_weaker c.count_fault.result
     (page_counted options.format options.time options.acks options.all s.before m (is_some c.in_ok-name.name) page s (state_of c.put_page.new.self)
     (state_of c.count_fault.new.self) c.requires c.put_page.ensures.shown view c.in_ok-put_page.ensures.put c.in_ok-name.ensures.fault)
