@@ -32,7 +32,7 @@ write_reason k = Write
 -- a failed read and a failed write, if there are any, show that a run over them ended for this reason
 abbrev pub Shows : Option Error → Option Error → Stop → Type 0
 Shows reading writing Read = IsSome reading
-Shows reading writing Write = IsSome writing
-Shows reading writing Closed = IsSomeAnd writing (λ e. error_kind e ≡ kind.BrokenPipe)
+Shows reading writing Write = IsSomeAnd writing (λ e. write_reason (error_kind e) ≡ Write)
+Shows reading writing Closed = IsSomeAnd writing (λ e. write_reason (error_kind e) ≡ Closed)
 Shows reading writing NoMemory = ⊤
 Shows reading writing Usage = ⊥

@@ -97,6 +97,16 @@ impl<W> Writer<W> {
     {
         copied_if_any(&self.failure)
     }
+
+    /// True if the last write that failed ends a run for this reason.
+    pub fn has_failed_for(&self, reason: Stop) -> bool
+        ensures { IsTrue result ↔ IsSomeAnd (write_failure self.now) (λ e. write_reason (error_kind e) ≡ reason) }
+    {
+        match &self.failure {
+            Some(error) => write_reason(error.kind()) == reason,
+            None => false,
+        }
+    }
 }
 
 impl<W: Write> Write for Writer<W> {
@@ -128,8 +138,8 @@ impl<W: Write> Write for Writer<W> {
     }
 }
 
-/// The reason for which a run over these streams ended early, if they show it: reading failed for `Read`, writing failed for
-/// `Write`, and with `EPIPE` for `Closed`. Otherwise `NoMemory`.
+/// The reason for which a run over these streams ended early, if they show it: reading failed for `Read`, writing failed with
+/// `EPIPE` for `Closed`, and with another error for `Write`. Otherwise `NoMemory`.
 pub fn shown_reason<R, W>(reader: &Reader<R>, writer: &Writer<W>, stop: Stop) -> Stop
     ensures shown { Shows (read_failure reader.now) (write_failure writer.now) result }
     ensures kept { Shows (read_failure reader.now) (write_failure writer.now) stop → result ≡ stop }
@@ -137,18 +147,8 @@ pub fn shown_reason<R, W>(reader: &Reader<R>, writer: &Writer<W>, stop: Stop) ->
 {
     match stop {
         Stop::Read if reader.failure.is_some() => stop,
-        Stop::Write if writer.failure.is_some() => stop,
-        Stop::Closed if is_broken_pipe(&writer.failure) => stop,
+        Stop::Write | Stop::Closed if writer.has_failed_for(stop) => stop,
         _ => Stop::NoMemory,
-    }
-}
-
-fn is_broken_pipe(failure: &Option<Error>) -> bool
-    ensures { IsTrue result ↔ IsSomeAnd failure.now (λ e. error_kind e ≡ ErrorKind.BrokenPipe) }
-{
-    match failure {
-        Some(error) => error.kind() == ErrorKind::BrokenPipe,
-        None => false,
     }
 }
 

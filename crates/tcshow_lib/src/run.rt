@@ -1,8 +1,7 @@
 //! A run over an input.
 
-ghost use Rattle.std.specs.Prelude.{◌≡◌, ◌≢◌, ◌⊎◌, ◌↔◌, false, List, ℕ, [], None, Option, OnOk, IfErr, IsTrue, IfSome, IsSomeAnd};
+ghost use Rattle.std.specs.Prelude.{◌≡◌, ◌≢◌, ◌⊎◌, false, List, ℕ, [], None, Option, OnOk, IfErr, IfSome};
 ghost use Rattle.tcshow_input.specs.declared.stop.Stop.TheVariants.{NoMemory};
-ghost use Rattle.std.specs.IoError.{error_kind};
 ghost use Rattle.program_io.specs.Streams.{read_failure, reader_inside, write_failure, writer_inside};
 ghost use Rattle.tc_input.specs.Left.{rest_of, left_of};
 ghost use Rattle.tcshow_json.specs.Messages.{Thing};
@@ -16,7 +15,7 @@ ghost use Rattle.tcshow_lib.specs.Streams.{ShowsEnd};
 use crate::status::status_of;
 use program_io::{Reader, Writer};
 use std::alloc::{Allocator, Global};
-use std::io::{ErrorKind, Read, Write};
+use std::io::{Read, Write};
 use tc_capture::Capture;
 use tc_input::Input;
 use tcshow_input::{Options, Packets, Printer, Stop, is_hex_text, show_capture, show_lines};
@@ -144,18 +143,9 @@ pub(crate) fn shown_end<R, W>(reader: &Reader<R>, writer: &Writer<W>, stop: Stop
         Stop::NoCapture => Stop::NoCapture,
         Stop::NoRoute => Stop::NoRoute,
         Stop::Read if reader.failure().is_some() => Stop::Read,
-        Stop::Write if writer.failure().is_some() => Stop::Write,
-        Stop::Closed if is_broken_pipe(writer) => Stop::Closed,
+        Stop::Write if writer.has_failed_for(program_io::Stop::Write) => Stop::Write,
+        Stop::Closed if writer.has_failed_for(program_io::Stop::Closed) => Stop::Closed,
         _ => Stop::NoMemory,
-    }
-}
-
-fn is_broken_pipe<W>(writer: &Writer<W>) -> bool
-    ensures { IsTrue result ↔ IsSomeAnd (write_failure writer.now) (λ e. error_kind e ≡ ErrorKind.BrokenPipe) }
-{
-    match writer.failure() {
-        Some(error) => error.kind() == ErrorKind::BrokenPipe,
-        None => false,
     }
 }
 
