@@ -62,3 +62,21 @@ returns-in-Err-clause-refused g c = λ names.
 
 pub returns-in-Err-clause-begun : goal.returns-in-Err-clause-begun
 returns-in-Err-clause-begun g c = λ begun. inl (c.without_json.ensures.begun begun)
+
+pub returns-in_err-is_of_save-in-Ok-clause-begun : goal.returns-in_err-is_of_save-in-Ok-clause-begun
+returns-in_err-is_of_save-in-Ok-clause-begun g c =
+    let line = c.args.line.items in
+    let is = subst (λ r. IfOk r (λ json. read line ≡ Some (view json))) c.in-Ok.is c.json_in.ensures.read in
+    λ begun. begun_by (g.T.Tables.parts_of c.args.forms.table) c.args.forms.tc c.args.forms.action line (view c.in-Ok.json) _ is (c.take.ensures.begun begun)
+
+pub returns-then-is_of_save-clause-begun : goal.returns-then-is_of_save-clause-begun
+returns-then-is_of_save-clause-begun g c =
+    let line = c.args.line.items in
+    let is = subst (λ r. IfOk r (λ json. read line ≡ Some (view json))) c.in-Ok.is c.json_in.ensures.read in
+    λ begun. begun_by (g.T.Tables.parts_of c.args.forms.table) c.args.forms.tc c.args.forms.action line (view c.in-Ok.json) _ is (c.take.ensures.begun begun)
+
+pub returns-then-is_answer-clause-begun : goal.returns-then-is_answer-clause-begun
+returns-then-is_answer-clause-begun g c =
+    let line = c.args.line.items in
+    let is = subst (λ r. IfOk r (λ json. read line ≡ Some (view json))) c.in-Ok.is c.json_in.ensures.read in
+    λ begun. begun_by (g.T.Tables.parts_of c.args.forms.table) c.args.forms.tc c.args.forms.action line (view c.in-Ok.json) _ is (c.take.ensures.begun begun)
