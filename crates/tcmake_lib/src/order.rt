@@ -1,7 +1,7 @@
 //! Requests in order: each after all that it needs.
 
-ghost use Rattle.std.specs.Prelude.{◌≢◌, IfErr, IfOk, OnOk};
-ghost use Rattle.program_io.specs.declared.stop.Stop.TheVariants.{Closed, NoMemory};
+ghost use Rattle.std.specs.Prelude.{◌≡◌, ◌≢◌, ◌⊎◌, IfErr, IfOk, OnOk, false};
+ghost use Rattle.program_io.specs.declared.stop.Stop.TheVariants.{Closed, NoMemory, Read};
 ghost use Rattle.tcmake_lib.specs.InOrder.{AreMade, RanInOrder, RanPartlyInOrder};
 
 use crate::arguments::Options;
@@ -39,9 +39,10 @@ pub fn requests_of<T: Tables, R: BufRead>(
     requests: &RequestOptions<'_>,
     reader: &mut R,
 ) -> Result<Restored, Stop>
-    // Without a complaint, every line was accepted.
+    // Without a complaint, every line was accepted. What is refused has a reason.
     ensures made { IfOk result (AreMade (T.parts_of forms.table) forms.tc forms.action requests.entry.now.index requests.entry.now (R.remaining reader.old)) }
     ensures open { IfErr result (λ stop. stop ≢ Closed) }
+    ensures fails { IfErr result (λ stop. (stop ≡ Read) ⊎ (stop ≡ NoMemory)) }
 {
     let reading = Reading {
         source: Source::Wanted,
@@ -68,6 +69,7 @@ fn requests_of_plan<T: Tables>(
     lines: Lines,
 ) -> Result<Restored, Stop>
     ensures open { IfErr result (λ stop. stop ≢ Closed) }
+    ensures fails { IfErr result (λ stop. (stop ≡ Read) ⊎ (stop ≡ NoMemory)) }
 {
     let there = lines_of_now(alloc, forms, index, now)?;
     let wanted = of_interfaces(alloc, &there, lines)?;
@@ -86,6 +88,7 @@ pub(crate) fn restore_in_order<T: Tables, R: BufRead, W: Write, E: Write>(
     errors: &mut E,
     has_refused: &mut bool,
 ) -> Result<(), Stop>
+    requires { has_refused.old ≡ false }
     ensures ran { OnOk result (RanInOrder (T.parts_of forms.table) forms.tc forms.action requests.entry.now.index requests.entry.now options.now.form
         has_refused.new (R.remaining reader.old) (W.contents writer.old) (W.contents writer.new)) }
     ensures partly { IfErr result (λ stop. stop ≢ NoMemory → RanPartlyInOrder (T.parts_of forms.table) forms.tc forms.action requests.entry.now.index

@@ -2,7 +2,7 @@
 use Rattle.std.proofs.Common.{◌≡◌, ◌≢◌, ◌⊎◌, ◌∙◌, inl, inr, List, ℕ, ap, refl, subst, sym}
 use Rattle.tc_restore.specs.declared.restore_error.RestoreError.{RestoreError}
 use Rattle.tc_restore.specs.declared.restore_error.RestoreError.TheVariants.{MadeByKernel, OutOfMemory}
-use Rattle.tcmake_requests.specs.Complaints.{IsAnswerFor, IsOfRestoring, Says}
+use Rattle.tcmake_requests.specs.Complaints.{IsAnswerFor, IsNoMemory, IsOfRestoring, Says}
 use Rattle.tcmake_requests.specs.declared.complaint.Complaint.{Complaint}
 use Rattle.tcmake_requests.specs.declared.complaint.Complaint.TheVariants.{Line, Restore}
 use Rattle.tcmake_lines.specs.Parts.{IsAnswer}
@@ -26,6 +26,12 @@ says_more made made' wrong wrong' e f k (inr (inr (other, w))) = inr (inr (other
 pub line_says : (Wrong wrong : Type 0) (e : LineError) → (Wrong → wrong) → (e ≡ NoMemory) ⊎ Wrong → Says ⊥ wrong (Line e)
 line_says Wrong wrong e f (inl memory) = inl (ap Line memory)
 line_says Wrong wrong e f (inr is) = inr (inr ((λ (same : Line e ≡ Restore MadeByKernel). cc), f is))
+
+-- what is wrong, if no other request makes it
+pub says_or : (wrong : Type 0) (e : Complaint) → Says ⊥ wrong e → IsNoMemory e ⊎ wrong
+says_or wrong e (inl memory) = inl memory
+says_or wrong e (inr (inl (is, made))) = absurd made
+says_or wrong e (inr (inr (other, is))) = inr is
 
 -- the complaint about a dump that isn't restored
 pub restoring_says : (Left : RestoreError → Type 0) (Long : Type 0) (reason : RestoreError) (e : Complaint) → IsOfRestoring reason e → Left reason

@@ -1,7 +1,8 @@
 -- Requests are written.
-use Rattle.std.proofs.Common.{◌≡◌, ◌∙◌, ℕ, ◌<◌, Bool, true, false, List, [], ◌∷◌, ◌++◌, ◌+◌, All, None, drop, length, sym, take, ap, subst, append_assoc, append-nil}
+use Rattle.std.proofs.Common.{◌≡◌, ◌≢◌, ◌∙◌, ℕ, ◌<◌, Bool, true, false, List, [], ◌∷◌, ◌++◌, ◌+◌, All, None, drop, length, sym, take, ap, subst, append_assoc, append-nil}
 use Rattle.std.proofs.KnownBytes.{Appends-trans, Appends-nil}
 use Rattle.std.proofs.Math.Bool.{or-false, or-true}
+use Rattle.std.proofs.lemmas.Bool.{false≢true}
 use Rattle.std.proofs.lemmas.List.{take_more, take-append-drop}
 use Rattle.std.proofs.lemmas.List.Elements.{All-nil, All-push}
 use Rattle.std.specs.Prelude.{Option, ◌||◌, get_or}
@@ -20,6 +21,10 @@ take_then xs i x lt is = sym (subst (λ y. take (i + 1) xs ≡ take i xs ++ y �
 
 pub all_then : {X : Type 0} (xs : List X) (i : ℕ) (x : X) → i < length xs → x ≡ get_or xs i x → xs ≡ (take i xs ++ x ∷ []) ++ drop (i + 1) xs
 all_then xs i x lt is = sym (take-append-drop (i + 1) xs) ∙ ap (λ l. l ++ drop (i + 1) xs) (sym (take_then xs i x lt is))
+
+not_empty : {X : Type 0} (xs : List X) (x : X) → xs ++ x ∷ [] ≢ []
+not_empty [] x is = let same : x ∷ [] ≡ [] = is in cc
+not_empty (y ∷ xs) x is = let same : y ∷ (xs ++ x ∷ []) ≡ [] = is in cc
 
 -- ---- requests are written
 
@@ -168,3 +173,9 @@ module _ (form : OutputFormat) where
   all_writable _ _ _ (writes before msgs bad q w is) =
       All-push (λ (m : Message). IsWritable form m.given m.bytes) msgs (record { given = q.given; bytes = q.bytes.items }) (all_writable before msgs bad w) is
   all_writable _ _ _ (refuses before msgs bad q w not) = all_writable before msgs bad w
+
+  -- there are requests, if one of them can't be written
+  pub some_refused : (qs : List LineRequest) (ms : List Message) (refused : Bool) → AreWritable form qs ms refused → refused ≡ true → qs ≢ []
+  some_refused _ _ _ none wrong = absurd (false≢true wrong)
+  some_refused _ _ _ (writes qs ms bad q w is) wrong = not_empty qs q
+  some_refused _ _ _ (refuses qs ms bad q w not) wrong = not_empty qs q

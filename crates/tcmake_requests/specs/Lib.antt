@@ -3,3 +3,4 @@ pub mod Written
 pub mod Restored
 pub mod Requests
 pub mod Dumps
+pub mod Saves

@@ -2,7 +2,7 @@
 
 ghost use Rattle.std.specs.Prelude.{◌≡◌, ◌≢◌, IsTrue, false};
 ghost use Rattle.tc_restore.specs.declared.restore_error.RestoreError.TheVariants.{MadeByKernel};
-ghost use Rattle.tcmake_requests.specs.Complaints.{IsNoMemory, IsOfRestoring};
+ghost use Rattle.tcmake_requests.specs.Complaints.{IsNoMemory, IsOfRestoring, is_of_all};
 ghost use Rattle.tcmake_requests.specs.declared.complaint.Complaint.TheVariants.{Line, Restore};
 ghost use Rattle.tcmake_messages.specs.declared.error.LineError.TheVariants.{NoMemory};
 
@@ -62,7 +62,9 @@ impl Complaint {
     }
 
     /// True if no request at all is made because of it.
-    pub(crate) fn is_of_all(&self) -> bool {
+    pub(crate) fn is_of_all(&self) -> bool
+        ensures { result ≡ is_of_all self.now }
+    {
         matches!(
             self,
             Complaint::Save(_)

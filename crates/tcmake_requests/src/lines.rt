@@ -1,23 +1,28 @@
 //! Lines of an input, and the dumps in them.
 
-ghost use Rattle.std.specs.Prelude.{◌≡◌, ◌≢◌, ◌≤◌, ◌%◌, ℕ, ℤ, List, [], ◌∷◌, ◌++◌, length, map, IfErr, IfOk, OnOk, IsNone, IsTrue, MatchOption, Option, Some, true, false, ◌⊎◌, ◌↔◌};
+ghost use Rattle.std.specs.Prelude.{◌≡◌, ◌≢◌, ◌||◌, ◌≤◌, ◌%◌, ℕ, ℤ, List, [], ◌∷◌, ◌++◌, length, map, IfErr, IfOk, OnOk, IsNone, IsTrue, MatchOption, Option, Some, true, false, ◌⊎◌, ◌↔◌};
 ghost use Rattle.serde_json.specs.Read.{read};
 ghost use Rattle.serde_json.specs.View.{view};
 ghost use Rattle.forms_values.specs.declared.form.Form.{Form as FormType};
 ghost use Rattle.forms_values.specs.Tables.{Table};
-ghost use Rattle.program_io.specs.declared.stop.Stop.TheVariants.{Closed};
+ghost use Rattle.program_io.specs.declared.stop.Stop.TheVariants.{Closed, NoMemory, Read};
 ghost use Rattle.tcmake_lines.specs.Lines.{IsFound, IsRead, is_end};
-ghost use Rattle.tcmake_requests.specs.Complaints.{Says};
+ghost use Rattle.tcmake_messages.specs.Line.{IsOfKernel};
+ghost use Rattle.tcmake_requests.specs.Complaints.{IsNoMemory, Says};
 ghost use Rattle.tcmake_requests.specs.Dumps.{
   AreRead,
   AreShown,
+  Complains,
+  HasUnshown,
   IsQuiet,
+  IsUnshown,
   TakesLine,
   dump_at,
   given_as,
   has_complaint,
   is_complaint,
   shown_by,
+  voids,
 };
 ghost use Rattle.tcmake_requests.specs.Requests.{
   AsksForDump,
@@ -32,6 +37,8 @@ ghost use Rattle.tcmake_requests.specs.Requests.{
   has_interface,
   with_interface,
 };
+ghost use Rattle.tcmake_requests.specs.Saves.{HasBegun};
+ghost use Rattle.tcmake_requests.specs.declared.complaint.Complaint.TheVariants.{Line};
 
 use crate::complaint::Complaint;
 use crate::names::{Interfaces, mapped};
@@ -139,6 +146,7 @@ impl Lines {
     fn keep_if(&mut self, number: u64, dump: Option<BuiltMessage>) -> Result<(), AllocError>
         ensures dumps { OnOk result (self.new.dumps.items ≡ self.old.dumps.items ++ dump_at number dump) }
         ensures remarks { self.new.remarks.items ≡ self.old.remarks.items }
+        ensures void { self.new.is_void ≡ self.old.is_void }
     {
         match dump {
             Some(made) => self.keep(number, made),
@@ -146,7 +154,7 @@ impl Lines {
         }
     }
 
-    /// Keeps what is wrong with a line.
+    /// Keeps what is wrong with a line. Fails if memory runs out, also for the line.
     pub fn fail_with(
         &mut self,
         alloc: Global,
@@ -155,11 +163,15 @@ impl Lines {
         complaint: &Complaint,
     ) -> Result<(), AllocError>
         ensures kept { self.new.dumps ≡ self.old.dumps }
+        ensures told { OnOk result (Complains source number self.old.remarks.items self.new.remarks.items) }
         ensures wrong { OnOk result (has_complaint self.new.remarks.items ≡ true) }
+        ensures memory { OnOk result (¬ IsNoMemory complaint.now) }
+        ensures void { OnOk result (self.new.is_void ≡ (self.old.is_void || voids source complaint.now)) }
     {
-        if complaint.is_of_all() || source == Source::Now {
-            self.is_void = true;
+        if complaint.is_no_memory() {
+            return Err(AllocError);
         }
+        self.is_void = self.is_void || complaint.is_of_all() || source == Source::Now;
         complain(alloc, source, number, complaint, &mut self.remarks)
     }
 
@@ -172,7 +184,9 @@ impl Lines {
         found: Result<Option<BuiltMessage>, Complaint>,
     ) -> Result<(), AllocError>
         ensures { OnOk result ((table : Table) (tc action : FormType) (index : Option ℤ) (lines : List (List ℕ)) (line : List ℕ)
-            → IfOk found (TakesLine table tc action index line) → AreShown table tc action index lines self.old
+            → IfOk found (TakesLine table tc action index line)
+            → IfErr found (λ complaint. IsNoMemory complaint ⊎ HasUnshown table tc action (lines ++ line ∷ []))
+            → AreShown table tc action index lines self.old
             → AreShown table tc action index (lines ++ line ∷ []) self.new) }
     {
         match found {
@@ -190,7 +204,8 @@ pub fn complain<C: fmt::Display>(
     complaint: &C,
     remarks: &mut Vec<Remark>,
 ) -> Result<(), AllocError>
-    ensures { IfOk result (λ _. has_complaint remarks.new.items ≡ true) }
+    ensures told { OnOk result (Complains source number remarks.old.items remarks.new.items) }
+    ensures wrong { OnOk result (has_complaint remarks.new.items ≡ true) }
 {
     remarks.push(Remark {
         source,
@@ -256,6 +271,7 @@ pub fn read_lines<T: Tables, R: BufRead>(
 ) -> Result<Lines, Stop>
     ensures read { IfOk result (AreRead (T.parts_of forms.table) forms.tc forms.action reading.entry.index reading.entry (R.remaining reader.old)) }
     ensures open { IfErr result (λ stop. stop ≢ Closed) }
+    ensures fails { IfErr result (λ stop. (stop ≡ Read) ⊎ (stop ≡ NoMemory)) }
 {
     let mut lines = Lines::new(alloc);
     let mut save = Save::new();
@@ -282,6 +298,9 @@ fn is_end(found: LineStatus) -> bool
 fn ended(alloc: Global, reading: Reading<'_>, save: Save, lines: Lines) -> Result<Lines, AllocError>
     ensures dumps { IfOk result (λ all. all.dumps ≡ lines.dumps) }
     ensures quiet { IfOk result (λ all. IsQuiet all.remarks.items → IsQuiet lines.remarks.items) }
+    ensures wrong { IsNone reading.entry.names → IfOk result (λ all. has_complaint all.remarks.items ≡ true
+        → (has_complaint lines.remarks.items ≡ true) ⊎ HasBegun save) }
+    ensures void { IfOk result (λ all. all.is_void ≡ true → (lines.is_void ≡ true) ⊎ (has_complaint all.remarks.items ≡ true)) }
 {
     let mut lines = lines;
     end(alloc, reading, &save, &mut lines)?;
@@ -326,6 +345,9 @@ fn end(
 ) -> Result<(), AllocError>
     ensures dumps { OnOk result (lines.new.dumps ≡ lines.old.dumps) }
     ensures quiet { OnOk result (IsQuiet lines.new.remarks.items → IsQuiet lines.old.remarks.items) }
+    ensures wrong { IsNone reading.entry.names → OnOk result (has_complaint lines.new.remarks.items ≡ true
+        → (has_complaint lines.old.remarks.items ≡ true) ⊎ HasBegun save.now) }
+    ensures void { OnOk result (lines.new.is_void ≡ true → (lines.old.is_void ≡ true) ⊎ (has_complaint lines.new.remarks.items ≡ true)) }
 {
     if let Some((number, fault)) = save.fault_at_end() {
         lines.fail_with(alloc, reading.source, number, &Complaint::Save(fault))?;
@@ -347,8 +369,12 @@ fn dump_in<T: Tables>(
     number: u64,
 ) -> Result<Option<BuiltMessage>, Complaint>
     requires { length line.items ≤ 4194304 }
-    ensures { IsNone reading.entry.names → (whole : List ℕ) → IsFound found whole line.items
+    ensures shown { IsNone reading.entry.names → (whole : List ℕ) → IsFound found whole line.items
         → IfOk result (TakesLine (T.parts_of forms.table) forms.tc forms.action reading.entry.index whole) }
+    ensures refused { IsNone reading.entry.names → (whole : List ℕ) → IsFound found whole line.items
+        → IfErr result (λ complaint. IsNoMemory complaint ⊎ HasBegun save.old ⊎ IsUnshown (T.parts_of forms.table) forms.tc forms.action whole) }
+    ensures begun { (whole : List ℕ) → IsFound found whole line.items → HasBegun save.new
+        → HasBegun save.old ⊎ IsUnshown (T.parts_of forms.table) forms.tc forms.action whole }
 {
     match found {
         LineStatus::TooLong => Err(without_json(save, number, LineError::LongLine)),
@@ -366,8 +392,11 @@ fn dump_in_whole<T: Tables>(
     number: u64,
 ) -> Result<Option<BuiltMessage>, Complaint>
     requires { length line.items ≤ 4194304 }
-    ensures { IsNone reading.entry.names
+    ensures shown { IsNone reading.entry.names
         → IfOk result (TakesLine (T.parts_of forms.table) forms.tc forms.action reading.entry.index line.items) }
+    ensures refused { IsNone reading.entry.names → IfErr result (λ complaint. IsNoMemory complaint
+        ⊎ HasBegun save.old ⊎ IsUnshown (T.parts_of forms.table) forms.tc forms.action line.items) }
+    ensures begun { HasBegun save.new → HasBegun save.old ⊎ IsUnshown (T.parts_of forms.table) forms.tc forms.action line.items }
 {
     match content_of(&line) {
         LineContent::ManyValues => Err(without_json(save, number, LineError::ManyValues)),
@@ -377,7 +406,10 @@ fn dump_in_whole<T: Tables>(
 }
 
 // The complaint about a line that isn't read as JSON: that it comes after the end, or this one.
-fn without_json(save: &mut Save, number: u64, error: LineError) -> Complaint {
+fn without_json(save: &mut Save, number: u64, error: LineError) -> Complaint
+    ensures says { (result ≡ Line error) ⊎ HasBegun save.old }
+    ensures begun { HasBegun save.new → HasBegun save.old }
+{
     match save.take_line(number) {
         Ok(()) => Complaint::Line(error),
         Err(fault) => Complaint::Save(fault),
@@ -393,8 +425,11 @@ fn dump_in_text<T: Tables>(
     number: u64,
 ) -> Result<Option<BuiltMessage>, Complaint>
     requires { IsRead line.items }
-    ensures { IsNone reading.entry.names
+    ensures shown { IsNone reading.entry.names
         → IfOk result (TakesLine (T.parts_of forms.table) forms.tc forms.action reading.entry.index line.items) }
+    ensures refused { IsNone reading.entry.names → IfErr result (λ complaint. IsNoMemory complaint
+        ⊎ HasBegun save.old ⊎ ShowsNone (T.parts_of forms.table) forms.tc forms.action line.items) }
+    ensures begun { HasBegun save.new → HasBegun save.old ⊎ ShowsNone (T.parts_of forms.table) forms.tc forms.action line.items }
 {
     match json_in(alloc, line) {
         Ok(json) => {
@@ -418,9 +453,11 @@ fn dump_in_json<T: Tables>(
     saved: Option<&Names>,
     json: Value,
 ) -> Result<Option<BuiltMessage>, Complaint>
-    ensures { (line : List ℕ) → read line ≡ Some (view json) → IsNone reading.entry.names → IfOk result (λ found. MatchOption found
+    ensures shown { (line : List ℕ) → read line ≡ Some (view json) → IsNone reading.entry.names → IfOk result (λ found. MatchOption found
         (IsAsked (T.parts_of forms.table) forms.tc forms.action line)
         (λ dump. ShowsDump (T.parts_of forms.table) forms.tc forms.action reading.entry.index line dump.given dump.bytes.items)) }
+    ensures refused { (line : List ℕ) → read line ≡ Some (view json) → (¬ IsOfKernel (view json)) → IsNone reading.entry.names
+        → IfErr result (Says ⊥ (ShowsNone (T.parts_of forms.table) forms.tc forms.action line)) }
 {
     match (reading.names, saved) {
         (Some(now), Some(saved)) => {

@@ -1,8 +1,9 @@
 //! Requests in order: each after all that it needs.
 
-ghost use Rattle.std.specs.Prelude.{◌≡◌, ◌≢◌, ◌||◌, IfErr, IfOk, OnOk};
-ghost use Rattle.program_io.specs.declared.stop.Stop.TheVariants.{Closed, NoMemory};
-ghost use Rattle.tcmake_requests.specs.Dumps.{IsQuiet};
+ghost use Rattle.std.specs.Prelude.{◌≡◌, ◌≢◌, ◌⊎◌, ◌||◌, [], IfErr, IfOk, OnOk, Some, false, true};
+ghost use Rattle.program_io.specs.declared.stop.Stop.TheVariants.{Closed, NoMemory, Read};
+ghost use Rattle.tcmake_lines.specs.Written.{HasHeader, padded, whole};
+ghost use Rattle.tcmake_requests.specs.Dumps.{AreRead, IsQuiet, of_now};
 ghost use Rattle.tcmake_requests.specs.Written.{WritesAll, WritesSome};
 
 use crate::complaint::Complaint;
@@ -26,7 +27,7 @@ use tc_plan::{
 };
 use tc_restore::{Object, RestoreError, RootTable, actions_of_filter, notice_of, root_table};
 use tcmake_lines::run::put_message;
-use tcmake_lines::{NetlinkHeader, Output, OutputFormat};
+use tcmake_lines::{NetlinkHeader, Output, OutputFormat, check};
 use tcmake_messages::{BuiltMessage, Forms};
 
 /// The request for what a line shows.
@@ -41,24 +42,32 @@ pub struct LineRequest {
 }
 
 impl LineRequest {
-    /// The netlink message, with zeros up to a multiple of four. Fails if memory runs out, or with `Stop::Write` if it is too long.
-    pub fn netlink(&self, alloc: Global) -> Result<Vec<u8>, Stop> {
-        let mut output = Output::new(alloc, OutputFormat::Stream);
-        let mut errors = Vec::new(alloc);
-        if put_message(
-            alloc,
-            &self.given,
-            &self.bytes,
-            &[],
-            self.number,
-            &mut output,
-            &mut errors,
-        )? {
-            return Err(Stop::Write);
+    /// The netlink message, with zeros up to a multiple of four. Fails if memory runs out, or with `Stop::Write` if it is too long, or has no
+    /// message type.
+    pub fn netlink(&self, alloc: Global) -> Result<Vec<u8>, Stop>
+        ensures made { IfOk result (λ made. HasHeader self.now.given self.now.bytes.items
+            × (made.items ≡ padded (whole self.now.given self.now.bytes.items))) }
+        ensures fails { IfErr result (λ stop. (stop ≡ NoMemory)
+            ⊎ ((stop ≡ Stop.Write) × (¬ HasHeader self.now.given self.now.bytes.items))) }
+    {
+        match check(OutputFormat::Stream, &self.given, &self.bytes) {
+            Ok(()) => Ok(self.streamed(alloc)?),
+            Err(_) => Err(Stop::Write),
         }
+    }
+
+    // The netlink message of a request that has a header. A vector takes all its bytes, unless memory runs out.
+    fn streamed(&self, alloc: Global) -> Result<Vec<u8>, AllocError>
+        requires { HasHeader self.now.given self.now.bytes.items }
+        ensures { IfOk result (λ made. made.items ≡ padded (whole self.now.given self.now.bytes.items)) }
+    {
+        let mut output = Output::new(alloc, OutputFormat::Stream);
+        output.put(&self.given, &self.bytes)?;
         let mut bytes = Vec::new(alloc);
-        output.write(&mut bytes)?;
-        Ok(bytes)
+        match output.write(&mut bytes) {
+            Ok(()) => Ok(bytes),
+            Err(_) => Err(AllocError),
+        }
     }
 }
 
@@ -317,6 +326,7 @@ pub fn requests_by_now<T: Tables>(
 ) -> Result<Restored, Stop>
     ensures quiet { IfOk result (λ made. IsQuiet made.remarks.items → IsQuiet lines.remarks.items) }
     ensures open { IfErr result (λ stop. stop ≢ Closed) }
+    ensures fails { IfErr result (λ stop. (stop ≡ Read) ⊎ (stop ≡ NoMemory)) }
 {
     let mut there = lines_of_now(alloc, forms, None, now)?;
     let now = now_of(alloc, &mut there)?;
@@ -328,7 +338,15 @@ pub fn requests_by_now<T: Tables>(
 pub fn requests_of_dumps(
     alloc: Global,
     dumps: Vec<(NetlinkHeader, Vec<u8>)>,
-) -> Result<Restored, Stop> {
+) -> Result<Restored, Stop>
+    // Without dumps there are no requests, and nothing is wrong.
+    ensures none { dumps.items ≡ [] → IfOk result (λ made.
+        (made.requests.items ≡ []) × (made.remarks.items ≡ []) × (made.is_void ≡ false)) }
+    // If something is wrong with all of them, there are none either.
+    ensures void { IfOk result (λ made. made.is_void ≡ true → made.requests.items ≡ []) }
+    // It fails only if memory runs out.
+    ensures memory { IfErr result (λ stop. stop ≡ NoMemory) }
+{
     let lines = lines_of(alloc, dumps)?;
     requests_by(alloc, lines, None, false)
 }
@@ -340,7 +358,9 @@ pub fn lines_of_now<T: Tables>(
     index: Option<i32>,
     text: &[u8],
 ) -> Result<Lines, Stop>
-    ensures { IfErr result (λ stop. stop ≢ Closed) }
+    ensures read { IfOk result (AreRead (T.parts_of forms.table) forms.tc forms.action index (of_now index) (Some text.now)) }
+    ensures open { IfErr result (λ stop. stop ≢ Closed) }
+    ensures fails { IfErr result (λ stop. (stop ≡ Read) ⊎ (stop ≡ NoMemory)) }
 {
     let reading = Reading {
         source: Source::Now,
@@ -371,6 +391,12 @@ pub fn requests_by(
 ) -> Result<Restored, Stop>
     ensures quiet { IfOk result (λ made. IsQuiet made.remarks.items → IsQuiet lines.remarks.items) }
     ensures open { IfErr result (λ stop. stop ≢ Closed) }
+    ensures memory { IfErr result (λ stop. stop ≡ NoMemory) }
+    // Without dumps there are no requests, and nothing more is wrong.
+    ensures none { lines.dumps.items ≡ [] → IfOk result (λ made.
+        (made.requests.items ≡ []) × (made.remarks ≡ lines.remarks) × (made.is_void ≡ lines.is_void)) }
+    // If something is wrong with all lines, there are none either.
+    ensures void { IfOk result (λ made. made.is_void ≡ true → made.requests.items ≡ []) }
 {
     let Lines {
         dumps,
@@ -378,6 +404,13 @@ pub fn requests_by(
         is_void,
         ..
     } = lines;
+    if dumps.is_empty() {
+        return Ok(Restored {
+            requests: Vec::new(alloc),
+            remarks,
+            is_void,
+        });
+    }
     let mut requests = Requests::new(alloc);
     keep_all(
         alloc,

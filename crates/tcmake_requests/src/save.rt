@@ -1,8 +1,9 @@
 //! The first and the last line of a save: `{"save":1,"names":{"2":"wan"},..}` and `{"end":39}`.
 
-ghost use Rattle.std.specs.Prelude.{IfOk, IsTrue};
+ghost use Rattle.std.specs.Prelude.{◌⊎◌, IfOk, IfSome, IsTrue, OnErr};
 ghost use Rattle.serde_json.specs.View.{view};
 ghost use Rattle.tcmake_messages.specs.Line.{IsOfSave};
+ghost use Rattle.tcmake_requests.specs.Saves.{HasBegun};
 
 use crate::complaint::Complaint;
 use serde_json::{Map, Value};
@@ -66,7 +67,9 @@ pub(crate) struct Save {
 
 impl Save {
     /// Nothing is read yet.
-    pub(crate) fn new() -> Save {
+    pub(crate) fn new() -> Save
+        ensures { ¬ HasBegun result }
+    {
         Save {
             names: None,
             devices: None,
@@ -87,7 +90,10 @@ impl Save {
     }
 
     /// Takes a line that isn't blank, and that isn't read as JSON. Fails after the last line of a save.
-    pub(crate) fn take_line(&mut self, number: u64) -> Result<(), SaveFault> {
+    pub(crate) fn take_line(&mut self, number: u64) -> Result<(), SaveFault>
+        ensures begun { HasBegun self.new → HasBegun self.old }
+        ensures refused { OnErr result (HasBegun self.old) }
+    {
         self.last = number;
         self.lines = self.lines.saturating_add(1);
         if self.is_ended {
@@ -103,7 +109,9 @@ impl Save {
         number: u64,
         json: &Value,
     ) -> Result<bool, Complaint>
-        ensures { IfOk result (λ is. IsTrue is → IsOfSave (view json.now)) }
+        ensures is { IfOk result (λ is. IsTrue is → IsOfSave (view json.now)) }
+        ensures begun { HasBegun self.new → HasBegun self.old ⊎ IsOfSave (view json.now) }
+        ensures refused { OnErr result (HasBegun self.old ⊎ IsOfSave (view json.now)) }
     {
         if is_head(json) {
             self.take_head(alloc, number, json)?;
@@ -148,7 +156,9 @@ impl Save {
     }
 
     /// The fault at the end of the input, if there is one, and the number of the last line.
-    pub(crate) fn fault_at_end(&self) -> Option<(u64, SaveFault)> {
+    pub(crate) fn fault_at_end(&self) -> Option<(u64, SaveFault)>
+        ensures { IfSome result (λ _. HasBegun self.now) }
+    {
         if self.names.is_some() && !self.is_ended {
             Some((self.last, SaveFault::NoEnd))
         } else {

@@ -12,7 +12,7 @@ returns-in_err-restored-clause-partly g c =
     let p = err_from_is_err_and c.from_residual.result c.from_residual.ensures.1 in
     rw p.1
     (λ _. run_none (g.T.Tables.parts_of c.args.forms.table) c.args.forms.tc c.args.forms.action c.args.requests.now.index c.args.requests.now
-    c.args.options.now.form _ _ _ _
+    c.args.options.now.form _ _ _ _ c.requires
     (λ closed. c.in_err-restored.ensures.open (cc (p.2, closed))))
 
 pub returns-then-restored-clause-ran : goal.returns-then-restored-clause-ran
