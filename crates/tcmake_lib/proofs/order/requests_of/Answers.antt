@@ -1,4 +1,4 @@
-use Rattle.std.proofs.Common.{◌∙◌, subst, sym}
+use Rattle.std.proofs.Common.{◌∙◌, subst, sym, true≢false}
 use Rattle.std.specs.Prelude.{IsNone}
 use Rattle.std.proofs.lemmas.Bool.{false≢true}
 use Rattle.tcmake_lib.proofs.InOrder.{made_by, made_by_now, made_by_plan}
@@ -21,4 +21,4 @@ returns-else-requests-clause-made g c =
     let read = c.in_ok-lines.ensures.read in
     made_by_now (g.T.Tables.parts_of c.args.forms.table) c.args.forms.tc c.args.forms.action c.args.requests.now.index c.args.requests.now _
     c.in_ok-lines.lines c.requests_by_now.result read.lines read.all (λ d. read.shown d.1) c.requests_by_now.ensures.quiet (subst (λ o. ¬ IsNone o)
-    (sym c.in-Some.is) (λ none. none))
+    (sym c.in-Some.is) (λ none. true≢false none))
