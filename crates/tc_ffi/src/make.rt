@@ -5,7 +5,7 @@ ghost use Rattle.nla_frames.specs.Value.{IsBytes};
 ghost use Rattle.serde_json.specs.Read.{read};
 ghost use Rattle.serde_json.specs.View.{view};
 ghost use Rattle.tc_message_json.specs.Made.{IsGiven, IsMadeOf, IsMemory};
-ghost use Rattle.tc_ffi.specs.Calls.{Keeps};
+ghost use Rattle.tc_ffi.specs.Calls.{Keeps, KeepsNumber};
 ghost use Rattle.tc_ffi.specs.Makes.{HasNameTwice, IsCanonical, IsReadAs, IsText, Makes, MakesAgain};
 
 use crate::place::place;
@@ -30,6 +30,7 @@ pub fn make<M: WholeMessage<Global> + HasForm + Drop>(
     ensures makes { Makes M.form (IsCanonical M.words) (IsMadeOf M.words M.form) text.now buffer.old buffer.new length.new result }
     ensures again { MakesAgain M.form (IsCanonical M.words) text.now buffer.old buffer.new length.new result }
     ensures kept { Keeps buffer.old buffer.new result }
+    ensures len_kept { KeepsNumber length.old length.new result }
     ensures explains { IsText why.old why.new why_length.new }
     ensures quiet { result ≢ 15 → result ≢ 16 → why_length.new ≡ 0 }
 {
@@ -54,6 +55,7 @@ pub fn make_as_given<M: HasForm>(
     ensures makes { Makes M.form IsBytes (IsGiven M.form) text.now buffer.old buffer.new length.new result }
     ensures again { MakesAgain M.form IsBytes text.now buffer.old buffer.new length.new result }
     ensures kept { Keeps buffer.old buffer.new result }
+    ensures len_kept { KeepsNumber length.old length.new result }
     ensures explains { IsText why.old why.new why_length.new }
     ensures quiet { result ≢ 15 → result ≢ 16 → why_length.new ≡ 0 }
 {
