@@ -1,6 +1,6 @@
 //! Messages from JSON.
 
-ghost use Rattle.std.specs.Prelude.{◌≡◌, ◌≢◌, ◌≤◌, ◌⊎◌, IfErr, IfOk, IsUtf8, None, OnOk, length, take};
+ghost use Rattle.std.specs.Prelude.{◌≡◌, ◌≢◌, ◌<◌, ◌≤◌, ◌⊎◌, IfErr, IfOk, IsCharBoundary, IsUtf8, None, OnOk, length, take, ℕ};
 ghost use Rattle.nla_frames.specs.Value.{IsBytes};
 ghost use Rattle.serde_json.specs.Read.{read};
 ghost use Rattle.serde_json.specs.View.{view};
@@ -129,6 +129,7 @@ fn put_text(text: &str, buffer: &mut [u8]) -> usize
     ensures text { IsText buffer.old buffer.new result }
     ensures front { take result buffer.new ≡ take result text.now }
     ensures whole { length text.now ≤ length buffer.old → result ≡ length text.now }
+    ensures most { (end : ℕ) → result < end → end ≤ length buffer.old → ¬ IsCharBoundary text.now end }
 {
     let (front, _) = text.split_at(text.floor_char_boundary(buffer.len()));
     let (place, _) = buffer.split_at_mut(front.len());
