@@ -143,7 +143,8 @@ uint32_t vtc_action_check(const uint8_t *bytes, size_t len, struct vtc_verdict *
 
 /* The following write into `buffer`, which has `room` bytes. VTC_OK: the result is in its first *length bytes.
  * VTC_NO_ROOM: *length is how many bytes are needed; so NULL and 0 ask only for that. Else why there is no result: 1
- * to 11, or VTC_DOES_NOT_FIT. Unless it is VTC_OK, the buffer stays unchanged. */
+ * to 11, or VTC_DOES_NOT_FIT. Unless it is VTC_OK, the buffer stays unchanged, and unless it is that or VTC_NO_ROOM,
+ * *length too. */
 
 /* Reads the bytes as a message, and encodes it. */
 uint32_t vtc_rewrite(const uint8_t *bytes, size_t len, uint8_t *buffer, size_t room, size_t *length);

@@ -12,6 +12,10 @@ use Rattle.tc_status.specs.Status.{status_of}
 abbrev pub Keeps : {T : Type 0} → T → T → ℕ → Type 0
 Keeps old new status = status ≢ 0 → new ≡ old
 
+-- unless the status is 0 or 13, this number is unchanged
+abbrev pub KeepsNumber : ℕ → ℕ → ℕ → Type 0
+KeepsNumber old new status = status ≢ 0 → status ≢ 13 → new ≡ old
+
 -- 0: these bytes are at the front of the buffer; 13: it has no room for them
 pub record IsPlaced (bytes old new : List ℕ) (len status : ℕ) : Type 0 where
   pub counted : len ≡ length bytes
@@ -23,9 +27,10 @@ Shows form bytes old new len status =
     ((text : List ℕ) × IsTextOf (Some (events (shown_of tc_tables form bytes))) text × IsPlaced text old new len status) ⊎ (status ≡ 11)
 
 -- the output of a call that writes JSON
-pub record IsShown (form : Form) (bytes old new : List ℕ) (len status : ℕ) : Type 0 where
+pub record IsShown (form : Form) (bytes old new : List ℕ) (old_len len status : ℕ) : Type 0 where
   pub shows : Shows form bytes old new len status
   pub kept : Keeps old new status
+  pub len_kept : KeepsNumber old_len len status
 
 module _ (words : Words Message) (bytes : List ℕ) where
   -- the bytes read as a message with this property
@@ -57,11 +62,14 @@ module _ (words : Words Message) (bytes : List ℕ) where
   Settles LeadsTo old new len rewrites = Places (λ settled. LeadsTo bytes settled rewrites) old new len
 
   -- the output of a call that rewrites
-  pub record IsRewritten (old new : List ℕ) (len status : ℕ) : Type 0 where
+  pub record IsRewritten (old new : List ℕ) (old_len len status : ℕ) : Type 0 where
     pub rewrites : Rewrites old new len status
     pub kept : Keeps old new status
+    pub len_kept : KeepsNumber old_len len status
 
   -- the output of a call that settles
-  pub record IsSettled (LeadsTo : List ℕ → List ℕ → ℕ → Type 0) (old new : List ℕ) (len rewrites status : ℕ) : Type 0 where
+  pub record IsSettled (LeadsTo : List ℕ → List ℕ → ℕ → Type 0) (old new : List ℕ) (old_len len old_rewrites rewrites status : ℕ) : Type 0 where
     pub settles : Settles LeadsTo old new len rewrites status
     pub kept : Keeps old new status
+    pub len_kept : KeepsNumber old_len len status
+    pub rewrites_kept : KeepsNumber old_rewrites rewrites status

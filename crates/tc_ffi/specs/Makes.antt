@@ -10,7 +10,7 @@ use Rattle.forms_values.specs.declared.form.Form.{Form}
 use Rattle.forms_text.specs.Read.{HasNamesOnce}
 use Rattle.forms_text.specs.Strict.{json_of}
 use Rattle.forms_kinds.specs.Table.{tc_tables}
-use Rattle.tc_ffi.specs.Calls.{Keeps, IsPlaced}
+use Rattle.tc_ffi.specs.Calls.{Keeps, KeepsNumber, IsPlaced}
 
 -- the text is this JSON, in UTF-8, and no object of it has a name twice
 abbrev pub IsReadAs : List ℕ → Data → Type 0
@@ -51,10 +51,11 @@ pub record IsText (old new : List ℕ) (len : ℕ) : Type 0 where
   pub after : drop len new ≡ drop len old
 
 -- the bytes that a call builds, or a text with the reason if the input isn't JSON or builds no bytes
-pub record IsMade (form : Form) (IsWanted : List ℕ → Type 0) (IsMadeOf : Data → List ℕ → Type 0) (text old new : List ℕ) (len : ℕ)
+pub record IsMade (form : Form) (IsWanted : List ℕ → Type 0) (IsMadeOf : Data → List ℕ → Type 0) (text old new : List ℕ) (old_len len : ℕ)
     (why_old why_new : List ℕ) (why_len status : ℕ) : Type 0 where
   pub makes : Makes form IsWanted IsMadeOf text old new len status
   pub again : MakesAgain form IsWanted text old new len status
   pub kept : Keeps old new status
+  pub len_kept : KeepsNumber old_len len status
   pub explains : IsText why_old why_new why_len
   pub quiet : status ≢ 15 → status ≢ 16 → why_len ≡ 0

@@ -37,7 +37,7 @@ pub extern "C" fn vtc_action_rewrite(
     buffer: &mut [u8],
     length: &mut usize,
 ) -> u32
-    ensures { IsRewritten action_words bytes.now buffer.old buffer.new length.new result }
+    ensures { IsRewritten action_words bytes.now buffer.old buffer.new length.old length.new result }
 {
     calls::rewrite::<TcActionMessage>(alloc, bytes, buffer, length)
 }
@@ -51,7 +51,7 @@ pub extern "C" fn vtc_action_settle(
     length: &mut usize,
     rewrites: &mut usize,
 ) -> u32
-    ensures { IsSettled action_words bytes.now SettlesAct buffer.old buffer.new length.new rewrites.new result }
+    ensures { IsSettled action_words bytes.now SettlesAct buffer.old buffer.new length.old length.new rewrites.old rewrites.new result }
 {
     calls::settle::<TcActionMessage>(alloc, bytes, buffer, length, rewrites)
 }
@@ -64,7 +64,7 @@ pub extern "C" fn vtc_action_json(
     buffer: &mut [u8],
     length: &mut usize,
 ) -> u32
-    ensures { IsShown action_message bytes.now buffer.old buffer.new length.new result }
+    ensures { IsShown action_message bytes.now buffer.old buffer.new length.old length.new result }
 {
     calls::json(alloc, ACTION_MESSAGE, bytes, buffer, length)
 }
@@ -80,7 +80,7 @@ pub extern "C" fn vtc_action_make(
     why: &mut [u8],
     why_length: &mut usize,
 ) -> u32
-    ensures { IsMade action_message (IsCanonical action_words) (IsMadeOf action_words action_message) json.now buffer.old buffer.new length.new
+    ensures { IsMade action_message (IsCanonical action_words) (IsMadeOf action_words action_message) json.now buffer.old buffer.new length.old length.new
         why.old why.new why_length.new result }
 {
     make::make::<TcActionMessage>(alloc, json, buffer, length, why, why_length)
@@ -96,7 +96,8 @@ pub extern "C" fn vtc_action_make_as_given(
     why: &mut [u8],
     why_length: &mut usize,
 ) -> u32
-    ensures { IsMade action_message IsBytes (IsGiven action_message) json.now buffer.old buffer.new length.new why.old why.new why_length.new result }
+    ensures { IsMade action_message IsBytes (IsGiven action_message) json.now buffer.old buffer.new length.old length.new
+        why.old why.new why_length.new result }
 {
     make::make_as_given::<TcActionMessage>(alloc, json, buffer, length, why, why_length)
 }

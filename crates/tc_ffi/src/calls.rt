@@ -2,7 +2,7 @@
 
 ghost use Rattle.std.specs.Prelude.{◌≡◌};
 ghost use Rattle.tc_wire.specs.Rewriting.{Settles as LeadsTo};
-ghost use Rattle.tc_ffi.specs.Calls.{Keeps, Rewrites, Settles, Shows};
+ghost use Rattle.tc_ffi.specs.Calls.{Keeps, KeepsNumber, Rewrites, Settles, Shows};
 ghost use Rattle.tc_ffi.specs.Checks.{Checks};
 
 use crate::place::place;
@@ -37,7 +37,7 @@ pub fn check<M: WholeMessage<Global> + HasForm + Drop>(
     }
 }
 
-/// Rewrites a message into the buffer if it fits. `length` is set in any case.
+/// Rewrites a message into the buffer if it fits, and sets its length if it can be encoded.
 pub fn rewrite<M: WholeMessage<Global> + Drop>(
     alloc: Global,
     bytes: &[u8],
@@ -46,6 +46,7 @@ pub fn rewrite<M: WholeMessage<Global> + Drop>(
 ) -> u32
     ensures rewrites { Rewrites M.words bytes.now buffer.old buffer.new length.new result }
     ensures kept { Keeps buffer.old buffer.new result }
+    ensures len_kept { KeepsNumber length.old length.new result }
 {
     match M::read(alloc, bytes) {
         Ok(message) => match message.measure() {
@@ -73,6 +74,8 @@ pub fn settle<M: WholeMessage<Global>>(
 ) -> u32
     ensures settles { Settles M.words bytes.now (LeadsTo M.words M.norm) buffer.old buffer.new length.new rewrites.new result }
     ensures kept { Keeps buffer.old buffer.new result }
+    ensures len_kept { KeepsNumber length.old length.new result }
+    ensures rewrites_kept { KeepsNumber rewrites.old rewrites.new result }
 {
     match M::settle(alloc, bytes) {
         Ok((settled, count)) => {
@@ -89,6 +92,7 @@ pub fn settle<M: WholeMessage<Global>>(
 pub fn json(alloc: Global, form: Form, bytes: &[u8], buffer: &mut [u8], length: &mut usize) -> u32
     ensures shows { Shows form bytes.now buffer.old buffer.new length.new result }
     ensures kept { Keeps buffer.old buffer.new result }
+    ensures len_kept { KeepsNumber length.old length.new result }
 {
     let shown = Shown {
         table: TcTables,

@@ -1,11 +1,11 @@
 //! Messages from JSON.
 
-ghost use Rattle.std.specs.Prelude.{◌≡◌, ◌≢◌, ◌≤◌, ◌⊎◌, IfErr, IfOk, IsUtf8, None, OnOk, length, take};
+ghost use Rattle.std.specs.Prelude.{◌≡◌, ◌≢◌, ◌<◌, ◌≤◌, ◌⊎◌, IfErr, IfOk, IsCharBoundary, IsUtf8, None, OnOk, length, take, ℕ};
 ghost use Rattle.nla_frames.specs.Value.{IsBytes};
 ghost use Rattle.serde_json.specs.Read.{read};
 ghost use Rattle.serde_json.specs.View.{view};
 ghost use Rattle.tc_message_json.specs.Made.{IsGiven, IsMadeOf, IsMemory};
-ghost use Rattle.tc_ffi.specs.Calls.{Keeps};
+ghost use Rattle.tc_ffi.specs.Calls.{Keeps, KeepsNumber};
 ghost use Rattle.tc_ffi.specs.Makes.{HasNameTwice, IsCanonical, IsReadAs, IsText, Makes, MakesAgain};
 
 use crate::place::place;
@@ -30,6 +30,7 @@ pub fn make<M: WholeMessage<Global> + HasForm + Drop>(
     ensures makes { Makes M.form (IsCanonical M.words) (IsMadeOf M.words M.form) text.now buffer.old buffer.new length.new result }
     ensures again { MakesAgain M.form (IsCanonical M.words) text.now buffer.old buffer.new length.new result }
     ensures kept { Keeps buffer.old buffer.new result }
+    ensures len_kept { KeepsNumber length.old length.new result }
     ensures explains { IsText why.old why.new why_length.new }
     ensures quiet { result ≢ 15 → result ≢ 16 → why_length.new ≡ 0 }
 {
@@ -54,6 +55,7 @@ pub fn make_as_given<M: HasForm>(
     ensures makes { Makes M.form IsBytes (IsGiven M.form) text.now buffer.old buffer.new length.new result }
     ensures again { MakesAgain M.form IsBytes text.now buffer.old buffer.new length.new result }
     ensures kept { Keeps buffer.old buffer.new result }
+    ensures len_kept { KeepsNumber length.old length.new result }
     ensures explains { IsText why.old why.new why_length.new }
     ensures quiet { result ≢ 15 → result ≢ 16 → why_length.new ≡ 0 }
 {
@@ -127,6 +129,7 @@ fn put_text(text: &str, buffer: &mut [u8]) -> usize
     ensures text { IsText buffer.old buffer.new result }
     ensures front { take result buffer.new ≡ take result text.now }
     ensures whole { length text.now ≤ length buffer.old → result ≡ length text.now }
+    ensures most { (end : ℕ) → result < end → end ≤ length buffer.old → ¬ IsCharBoundary text.now end }
 {
     let (front, _) = text.split_at(text.floor_char_boundary(buffer.len()));
     let (place, _) = buffer.split_at_mut(front.len());

@@ -37,7 +37,7 @@ pub extern "C" fn vtc_rewrite(
     buffer: &mut [u8],
     length: &mut usize,
 ) -> u32
-    ensures { IsRewritten tc_words bytes.now buffer.old buffer.new length.new result }
+    ensures { IsRewritten tc_words bytes.now buffer.old buffer.new length.old length.new result }
 {
     calls::rewrite::<TcMessage>(alloc, bytes, buffer, length)
 }
@@ -51,7 +51,7 @@ pub extern "C" fn vtc_settle(
     length: &mut usize,
     rewrites: &mut usize,
 ) -> u32
-    ensures { IsSettled tc_words bytes.now SettlesTc buffer.old buffer.new length.new rewrites.new result }
+    ensures { IsSettled tc_words bytes.now SettlesTc buffer.old buffer.new length.old length.new rewrites.old rewrites.new result }
 {
     calls::settle::<TcMessage>(alloc, bytes, buffer, length, rewrites)
 }
@@ -64,7 +64,7 @@ pub extern "C" fn vtc_json(
     buffer: &mut [u8],
     length: &mut usize,
 ) -> u32
-    ensures { IsShown tc_message bytes.now buffer.old buffer.new length.new result }
+    ensures { IsShown tc_message bytes.now buffer.old buffer.new length.old length.new result }
 {
     calls::json(alloc, TC_MESSAGE, bytes, buffer, length)
 }
@@ -80,7 +80,7 @@ pub extern "C" fn vtc_make(
     why: &mut [u8],
     why_length: &mut usize,
 ) -> u32
-    ensures { IsMade tc_message (IsCanonical tc_words) (IsMadeOf tc_words tc_message) json.now buffer.old buffer.new length.new
+    ensures { IsMade tc_message (IsCanonical tc_words) (IsMadeOf tc_words tc_message) json.now buffer.old buffer.new length.old length.new
         why.old why.new why_length.new result }
 {
     make::make::<TcMessage>(alloc, json, buffer, length, why, why_length)
@@ -96,7 +96,8 @@ pub extern "C" fn vtc_make_as_given(
     why: &mut [u8],
     why_length: &mut usize,
 ) -> u32
-    ensures { IsMade tc_message IsBytes (IsGiven tc_message) json.now buffer.old buffer.new length.new why.old why.new why_length.new result }
+    ensures { IsMade tc_message IsBytes (IsGiven tc_message) json.now buffer.old buffer.new length.old length.new
+        why.old why.new why_length.new result }
 {
     make::make_as_given::<TcMessage>(alloc, json, buffer, length, why, why_length)
 }

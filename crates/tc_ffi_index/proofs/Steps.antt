@@ -29,6 +29,7 @@ step bytes rest at f long n inside is first long_is n_is =
       refl,
       record {
         shown = record { same_word = refl; same_len = omega (arith, long_is); value = rw at_value taken };
+        offset = refl;
         rest = after;
         further = omega (arith, t.some);
         inside = omega (arith, t.within, left);

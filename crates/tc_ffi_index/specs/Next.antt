@@ -1,5 +1,5 @@
 -- The result of `vtc_next`.
-use Rattle.std.specs.Prelude.{◌≡◌, ℕ, ◌<◌, ◌≤◌, List, length, take, drop, Ok, Err}
+use Rattle.std.specs.Prelude.{◌≡◌, ℕ, ◌+◌, ◌<◌, ◌≤◌, List, length, take, drop, Ok, Err}
 use Rattle.nla_frames.specs.Fault.{Outcome}
 use Rattle.nla_frames.specs.Frame.{Frame}
 use Rattle.nla_frames.specs.Cutting.{next_frame}
@@ -12,9 +12,10 @@ pub record Shows (bytes : List ℕ) (a : VtcAttr) (f : Frame) : Type 0 where
   pub same_len : a.len ≡ length f.value
   pub value : take a.len (drop a.offset bytes) ≡ f.value
 
--- the frame is at offset `at`, and the bytes after it begin at `next`
+-- the frame is at offset `at`, its value after its header of 4 bytes, and the bytes after it begin at `next`
 pub record Steps (bytes : List ℕ) (at next : ℕ) (a : VtcAttr) (found : Frame × List ℕ) : Type 0 where
   pub shown : Shows bytes a found.0
+  pub offset : a.offset ≡ at + 4
   pub rest : drop next bytes ≡ found.1
   pub further : at < next
   pub inside : next ≤ length bytes
