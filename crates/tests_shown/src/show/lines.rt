@@ -40,7 +40,7 @@ fn lines_are_known(rt: HostRuntime) {
             &options,
             TEXT.as_bytes(),
             1,
-            Written::Begins("new qdisc fq_codel 1: dev 2 root limit {raw"),
+            Written::Begins("new qdisc fq_codel 1: dev 2 root refcnt 0 limit {raw"),
             ""
         )
     );
