@@ -7,6 +7,7 @@ use Rattle.tc_brief.specs.declared.leaf.Section.{Section}
 use Rattle.tc_brief.specs.declared.leaf.Shape.{Shape}
 use Rattle.tc_brief.specs.declared.leaf.Value.{Value as CodeValue}
 use Rattle.tc_brief.specs.declared.leaf.Value.TheVariants as code
+use Rattle.tc_brief.specs.declared.leaf.Way.{Way}
 use Rattle.tc_lines.specs.declared.column.Display.{Display}
 use Rattle.tc_units.specs.Names.{Name, names_view}
 
@@ -57,11 +58,15 @@ value_view (code.Attribute n s) = attribute n s.now
 value_view (code.Opens shape) = opens shape
 value_view (code.Closes shape) = closes shape
 
+-- a row, but for the style
+abbrev pub way_view : Way → Row
+way_view w = record (row_view w.row.now) { style = w.style }
+
 abbrev pub leaf_view : CodeLeaf → Leaf
 leaf_view l =
     record {
       key = l.key.now;
-      row = row_view l.row;
+      row = way_view l.way;
       display = l.display;
       names = names_view l.names.now;
       section = l.section;

@@ -14,9 +14,9 @@ pub record Row : Type 0 where
   pub with : List ℕ
   pub left : LeftOut
 
--- a member without a row: `Name=value`
-abbrev pub plain_row : List ℕ → Row
-plain_row key = record { key = key; word = []; style = Value; with = []; left = Never }
+-- that of a member without one: `Name=value`
+abbrev pub plain_row : Row
+plain_row = record { key = []; word = []; style = Value; with = []; left = Never }
 
 -- the row of a name
 abbrev pub find_row : List Row → List ℕ → Option Row

@@ -5,7 +5,10 @@ use Rattle.serde.specs.Event as event
 use Rattle.serde.specs.Event.{Event}
 use Rattle.serde.specs.declared.name.Case.TheVariants.{AsIs}
 use Rattle.tc_brief.specs.Leaves.{Leaf, Value, attribute, closes, interface, leaves_view, named, nothing, number, opens, raw, signed, text, truth}
-use Rattle.tc_brief.specs.Rows.{Row, find_row, or_row, plain_row, row_view, rows_view}
+use Rattle.tc_brief.specs.Leaves.{way_view}
+use Rattle.tc_brief.specs.Rows.{Row, find_row, or_row, plain_row, rows_view}
+use Rattle.tc_brief.specs.Sections.{displayed, is_actions, is_enum, is_head, is_other, is_passed, is_silent, is_stand_in, item_shape, list_shape, of_kind}
+use Rattle.tc_brief.specs.Sections.{record_shape, styled}
 use Rattle.tc_brief.specs.declared.leaf.Section.{Section}
 use Rattle.tc_brief.specs.declared.leaf.Section.TheVariants as section
 use Rattle.tc_brief.specs.declared.leaf.Shape.{Shape}
@@ -14,7 +17,8 @@ use Rattle.tc_brief.specs.declared.row.LeftOut.TheVariants.{Never}
 use Rattle.tc_brief.specs.declared.row.Style.{Style}
 use Rattle.tc_brief.specs.declared.row.Style.TheVariants as style
 use Rattle.tc_brief.specs.declared.walk.Frame.{Frame as CodeFrame}
-use Rattle.tc_brief.specs.declared.walk.Own.{Own}
+use Rattle.tc_brief.specs.declared.places.Own.{Own}
+use Rattle.tc_brief.specs.declared.places.Places.{Places}
 use Rattle.tc_brief.specs.declared.walk.Walk.{Walk}
 use Rattle.tc_lines.specs.Columns.{Table, column_of, columns_view, is_nested, place_in}
 use Rattle.tc_lines.specs.Lines.{NONE, companion_by, says_block}
@@ -23,11 +27,12 @@ use Rattle.tc_lines.specs.declared.column.Display.TheVariants as display
 use Rattle.tc_lines.specs.declared.column.InfoOf.TheVariants.{Pref}
 use Rattle.tc_units.specs.Names.{Name, number_of}
 
--- an open record or list: the place of its columns, that of its list's without a kind, the section of its leaves, how it
--- is written, whether it is a list, whether it is part of one word, and its row
+-- an open record or list: the place of its columns, that of its list's without a kind, its name, the section of its
+-- leaves, how it is written, whether it is a list, whether it is part of one word, and its row
 pub record Frame : Type 0 where
   pub place : ℕ
   pub base : ℕ
+  pub key : List ℕ
   pub section : Section
   pub shape : Shape
   pub list : Bool
@@ -46,7 +51,8 @@ pub record State : Type 0 where
   pub word : ℕ
 
 abbrev pub first_frame : ℕ → Frame
-first_frame root = record { place = root; base = root; section = section.Words; shape = Silent; list = false; inside = false; row = plain_row [] }
+first_frame root =
+    record { place = root; base = root; key = []; section = section.Words; shape = Silent; list = false; inside = false; row = plain_row }
 
 -- before a message with the columns at a place
 abbrev pub start : ℕ → State
@@ -57,119 +63,9 @@ start root =
       companion = NONE;
       key = [];
       display = display.Inline root;
-      row = plain_row [];
+      row = plain_row;
       word = 0;
     }
-
--- ---- sections and shapes
-
-abbrev pub is_head : Section → Bool
-is_head section.Head = true
-is_head s = false
-
-abbrev pub is_of_action : Section → Bool
-is_of_action section.Begin = true
-is_of_action section.Kind = true
-is_of_action section.Actions = true
-is_of_action section.Control = true
-is_of_action section.ActionStatistics = true
-is_of_action s = false
-
--- the section of a member with this style, in a record or list of this section
-abbrev pub styled : Style → Section → Section
-styled style.Actions s = section.Actions
-styled style.Begin s = if is_of_action s then section.Begin else s
-styled style.Statistics s = if is_of_action s then section.ActionStatistics else section.Statistics
-styled style.Control s = if is_of_action s then section.Control else s
-styled style.Hardware s = if is_of_action s then s else section.Hardware
-styled style.Head s = if is_of_action s then s else section.Head
-styled other s = s
-
--- the section of a member: a header and a message's kind are in the head
-abbrev pub displayed : Display → Section → Section
-displayed (display.SameLine p) s = section.Head
-displayed display.Kind s = if is_of_action s then section.Kind else section.Head
-displayed h s = s
-
--- the section of statistics of this name: those of a kind stand in two attributes, `TCA_STATS_APP` and the older `TCA_XSTATS`
-abbrev pub named_statistics : List ℕ → Section
-named_statistics key =
-    if bytes_eq key (codes "App") then section.KindStatistics
-    else if bytes_eq key (codes "Xstats") then section.OlderStatistics
-    else section.Statistics
-
-abbrev pub of_kind : List ℕ → Section → Section
-of_kind key section.Statistics = named_statistics key
-of_kind key s = s
-
--- statistics that aren't asked for
-abbrev pub is_statistics : Section → Bool
-is_statistics section.Statistics = true
-is_statistics section.KindStatistics = true
-is_statistics section.OlderStatistics = true
-is_statistics section.ActionStatistics = true
-is_statistics s = false
-
-abbrev pub is_passed : Bool → Section → Bool
-is_passed stats s = if stats then false else is_statistics s
-
-abbrev pub kept : Bool → Leaf → List Leaf
-kept stats l = if is_passed stats l.section then [] else l ∷ []
-
-abbrev pub section_in : Frame → Display → Row → Section
-section_in f h r = if f.inside then f.section else displayed h (of_kind r.key (styled r.style f.section))
-
-abbrev pub is_silent : Shape → Bool
-is_silent Silent = true
-is_silent s = false
-
-abbrev pub item_shape : Shape → Shape
-item_shape Brackets = Braces
-item_shape s = Silent
-
--- true if the members are written as if they stood in the place of the record or list
-abbrev pub is_flat : Style → Bool
-is_flat style.Flat = true
-is_flat style.Rate = true
-is_flat style.Actions = true
-is_flat style.Keys = true
-is_flat style.Statistics = true
-is_flat st = false
-
--- the same, by the display: layers, headers and attributes without a line of their own
-abbrev pub is_transparent : Display → Bool
-is_transparent (display.Inline p) = true
-is_transparent (display.Below p) = true
-is_transparent (display.SameLine p) = true
-is_transparent h = false
-
--- an attribute without a row, and the options of any kind
-abbrev pub is_other : List ℕ → Bool
-is_other key = bytes_eq key (codes "Other")
-
-abbrev pub is_stand_in : List ℕ → Bool
-is_stand_in key = is_other key || bytes_eq key (codes "raw")
-
-abbrev pub is_through : List ℕ → Bool
-is_through key = is_other key || bytes_eq key (codes "Options")
-
-abbrev pub goes_through : List ℕ → Display → Style → Bool
-goes_through key h st = is_transparent h || is_flat st || is_through key
-
--- a number with names: one without is `{"Other":9}`
-abbrev pub is_enum : Display → Bool
-is_enum (display.Text p) = true
-is_enum (display.Verdict p) = true
-is_enum (display.Family p) = true
-is_enum h = false
-
-abbrev pub record_shape : List ℕ → Display → Style → Shape
-record_shape key h st = if goes_through key h st || is_enum h then Silent else Braces
-
--- a list of attributes is written like a record
-abbrev pub list_shape : List ℕ → Display → Style → Shape
-list_shape key (display.Nested p) st = if is_flat st || is_through key then Silent else Braces
-list_shape key h st = if goes_through key h st then Silent else Brackets
 
 -- the place of the columns within
 abbrev pub place_within : Display → ℕ
@@ -177,9 +73,15 @@ place_within h = if is_nested h then place_in h else NONE
 
 -- ---- leaves
 
+abbrev pub section_in : Frame → List ℕ → Display → Style → Section
+section_in f key h st = if f.inside then f.section else displayed h (of_kind key (styled st f.section))
+
+abbrev pub kept : Bool → Leaf → List Leaf
+kept stats l = if is_passed stats l.section then [] else l ∷ []
+
 -- the row of the number of a `struct tc_ratespec` has the word of the record's row
 abbrev pub rated : Style → Row → Row → Row
-rated style.OfRate outer row = record { key = row.key; word = outer.word; style = style.OfRate; with = outer.with; left = outer.left }
+rated style.OfRate outer row = record outer { style = style.OfRate }
 rated st outer row = row
 
 abbrev pub key_in : Frame → List ℕ → List ℕ
@@ -198,25 +100,21 @@ opening false key s sec shape =
     if is_silent shape then []
     else record { key = key; row = s.row; display = s.display; names = []; section = sec; value = opens shape } ∷ []
 
-abbrev pub is_actions : Style → Bool
-is_actions style.Actions = true
-is_actions st = false
-
 abbrev pub closing : Frame → List Leaf
 closing f =
     if is_silent f.shape then []
-    else record { key = []; row = plain_row []; display = display.Plain; names = []; section = f.section; value = closes f.shape } ∷ []
+    else record { key = []; row = plain_row; display = display.Plain; names = []; section = f.section; value = closes f.shape } ∷ []
 
 -- after a record, the items of its list have the columns of the kind in it
 abbrev pub settle : ℕ → List Frame → List Frame
 settle place [] = []
 settle place (f ∷ fs) = (if f.list then record f { place = place } else f) ∷ fs
 
-abbrev pub row_in : (ℕ → List Row) → Frame → List ℕ → Row
-row_in rows f key = unwrap_or (or_row (find_row (rows f.place) key) (find_row (rows f.base) key)) (plain_row key)
+abbrev pub row_in : (ℕ → List Row) → ℕ → ℕ → List ℕ → Row
+row_in rows place base key = unwrap_or (or_row (find_row (rows place) key) (find_row (rows base) key)) plain_row
 
 abbrev pub row_at : (ℕ → List Row) → Frame → List ℕ → Row
-row_at rows f key = rated (row_in rows f key).style f.row (row_in rows f key)
+row_at rows f key = rated (row_in rows f.place f.base key).style f.row (row_in rows f.place f.base key)
 
 -- a text, or a name in JSON with its number; instead of a number with names a text that is no name is the hex of malformed bytes
 abbrev pub text_value : Display → List ℕ → Option ℕ → Value
@@ -229,7 +127,8 @@ within list shape s f =
     record {
       place = place_within s.display;
       base = place_within s.display;
-      section = section_in f s.display s.row;
+      key = s.key;
+      section = section_in f s.key s.display s.row.style;
       shape = shape;
       list = list;
       inside = f.inside || (if is_silent shape then false else true);
@@ -239,7 +138,7 @@ within list shape s f =
 abbrev pub opened : Bool → Shape → State → Frame → State
 opened list shape s f =
     record s {
-      out = s.out ++ opening (is_actions s.row.style) (key_in f s.key) s (section_in f s.display s.row) shape;
+      out = s.out ++ opening (is_actions s.row.style) (key_in f s.key) s (section_in f s.key s.display s.row.style) shape;
       frames = within list shape s f ∷ s.frames;
     }
 
@@ -318,7 +217,7 @@ module _ (t : Table) where
 
   abbrev pub leaf_of : State → Frame → Value → Leaf
   leaf_of s f v =
-      record { key = key_in f s.key; row = s.row; display = s.display; names = names_in s.display; section = section_in f s.display s.row; value = v }
+      record { key = key_in f s.key; row = s.row; display = s.display; names = names_in s.display; section = section_in f s.key s.display s.row.style; value = v }
 
   -- a kind selects the columns of the items after it
   abbrev pub note : Event → Display → Frame → Frame
@@ -340,7 +239,7 @@ module _ (t : Table) where
   other_leaf stats e s f = plain_leaf stats e s f
 
   abbrev pub take_leaf : Bool → Event → State → Frame → State
-  take_leaf stats e s f = if is_other f.row.key then other_leaf stats e s f else plain_leaf stats e s f
+  take_leaf stats e s f = if is_other f.key then other_leaf stats e s f else plain_leaf stats e s f
 
   abbrev pub new_key : (ℕ → List Row) → List ℕ → State → Frame → State
   new_key rows key s f = record s { key = key; display = display_at s.companion f key; row = row_at rows f key }
@@ -379,7 +278,16 @@ module _ (t : Table) where
 
 abbrev pub frame_view : CodeFrame → Frame
 frame_view f =
-    record { place = f.place; base = f.base; section = f.section; shape = f.shape; list = f.list; inside = f.inside; row = row_view f.row }
+    record {
+      place = f.place;
+      base = f.base;
+      key = f.key.now;
+      section = f.section;
+      shape = f.shape;
+      list = f.list;
+      inside = f.inside;
+      row = way_view f.way;
+    }
 
 abbrev pub stack_of : List CodeFrame → List Frame
 stack_of fs = map frame_view (reverse fs)
@@ -396,10 +304,13 @@ state_of w =
       companion = w.companion;
       key = w.key.now;
       display = w.display;
-      row = row_view w.row;
+      row = way_view w.way;
       word = w.word;
     }
 
 -- the columns and the rows at a place
 abbrev pub IsOwn : Table → (ℕ → List Row) → Own → Type 0
 IsOwn t rows own = (columns_view own.columns.now ≡ t.columns own.place) × (rows_view own.rows.now ≡ rows own.place)
+
+abbrev pub AreOwn : Table → (ℕ → List Row) → Places → Type 0
+AreOwn t rows places = IsOwn t rows places.own × IsOwn t rows places.before

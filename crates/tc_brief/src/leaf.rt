@@ -1,6 +1,6 @@
 //! The leaves of a message's JSON, each with its column and its row.
 
-use crate::row::Row;
+use crate::row::{Row, Style};
 use tc_lines::Display;
 use tc_units::Name;
 
@@ -62,11 +62,18 @@ pub(crate) enum Value<'t> {
     Closes(Shape),
 }
 
+/// How a leaf is written: by a row, but in this style.
+#[derive(Clone, Copy)]
+pub(crate) struct Way {
+    pub row: &'static Row<'static>,
+    pub style: Style,
+}
+
 /// A leaf: its name in JSON, its row, the display and the names of its column, the section of its words, and its value.
 #[derive(Clone, Copy)]
 pub(crate) struct Leaf<'t> {
     pub key: &'t str,
-    pub row: Row<'t>,
+    pub way: Way,
     pub display: Display,
     pub names: &'static [Name<'static>],
     pub section: Section,

@@ -68,11 +68,11 @@ impl Line {
 
     // Writes the word of a row, or begins a word with the name. The value comes next.
     fn begin_valued(&mut self, leaf: &Leaf<'_>) -> Result<(), AllocError>
-        ensures text { OnOk result (self.new.text.items ≡ self.old.text.items ++ written (own_word (word_before leaf.now.row.style leaf.now.row.word.now))) }
+        ensures text { OnOk result (self.new.text.items ≡ self.old.text.items ++ written (own_word (word_before leaf.now.way.style leaf.now.way.row.now.word.now))) }
         ensures word { OnOk result (self.new.word.items
-            ≡ begun (word_before leaf.now.row.style leaf.now.row.word.now) (name_of_leaf (leaf_view leaf.now) (value_view leaf.now.value))) }
+            ≡ begun (word_before leaf.now.way.style leaf.now.way.row.now.word.now) (name_of_leaf (leaf_view leaf.now) (value_view leaf.now.value))) }
     {
-        let word = word_before(leaf.row.style, leaf.row.word);
+        let word = word_before(leaf.way.style, leaf.way.row.word);
         if word.is_empty() {
             self.begin();
             return put_name_of(&mut self.word, leaf);
@@ -94,12 +94,12 @@ impl Line {
 
     // Writes the word or the name of a leaf that is true.
     fn or_key(&mut self, leaf: &Leaf<'_>) -> Result<(), AllocError>
-        ensures { OnOk result (self.new.text.items ≡ self.old.text.items ++ written (or_key leaf.now.row.word.now leaf.now.key.now ∷ [])) }
+        ensures { OnOk result (self.new.text.items ≡ self.old.text.items ++ written (or_key leaf.now.way.row.now.word.now leaf.now.key.now ∷ [])) }
     {
-        if leaf.row.word.is_empty() {
+        if leaf.way.row.word.is_empty() {
             return self.word(leaf.key.as_bytes());
         }
-        self.word(leaf.row.word.as_bytes())
+        self.word(leaf.way.row.word.as_bytes())
     }
 
     /// Writes `word value` or `Name=value`.
@@ -137,11 +137,11 @@ impl Line {
     #[tactic(auto, using(crate::proofs::Written::written_append))]
     fn masked(&mut self, leaf: &Leaf<'_>, rest: &[Leaf<'_>]) -> Result<(), AllocError>
         ensures { OnOk result (self.new.text.items ≡ self.old.text.items ++ written (valued (leaf_view leaf.now)
-            (value_text (leaf_view leaf.now) (value_view leaf.now.value) ++ mask_text (next_with (leaves_view rest.now) leaf.now.row.with.now)))) }
+            (value_text (leaf_view leaf.now) (value_view leaf.now.value) ++ mask_text (next_with (leaves_view rest.now) leaf.now.way.row.now.with.now)))) }
     {
         self.begin_valued(leaf)?;
         put_value(&mut self.word, leaf)?;
-        put_mask(&mut self.word, next_with(rest, leaf.row.with))?;
+        put_mask(&mut self.word, next_with(rest, leaf.way.row.with))?;
         self.end()
     }
 
@@ -149,11 +149,11 @@ impl Line {
     #[tactic(auto, using(crate::proofs::Written::written_append))]
     fn ranged(&mut self, leaf: &Leaf<'_>, rest: &[Leaf<'_>]) -> Result<(), AllocError>
         ensures { OnOk result (self.new.text.items ≡ self.old.text.items ++ written (valued (leaf_view leaf.now)
-            (value_text (leaf_view leaf.now) (value_view leaf.now.value) ++ end_text (next_with (leaves_view rest.now) leaf.now.row.with.now)))) }
+            (value_text (leaf_view leaf.now) (value_view leaf.now.value) ++ end_text (next_with (leaves_view rest.now) leaf.now.way.row.now.with.now)))) }
     {
         self.begin_valued(leaf)?;
         put_value(&mut self.word, leaf)?;
-        put_end(&mut self.word, next_with(rest, leaf.row.with))?;
+        put_end(&mut self.word, next_with(rest, leaf.way.row.with))?;
         self.end()
     }
 
@@ -175,7 +175,7 @@ impl Line {
             ++ written (valued (leaf_view leaf.now) (burst_text (leaves_view leaves.now) (leaf_view leaf.now)))) }
     {
         self.begin_valued(leaf)?;
-        let rate = rate_named(leaves, leaf.row.with);
+        let rate = rate_named(leaves, leaf.way.row.with);
         put_burst(&mut self.word, rate, number_or_zero(leaf))?;
         self.end()
     }
@@ -331,9 +331,9 @@ impl Line {
     // Writes the word of a number.
     fn choice(&mut self, leaf: &Leaf<'_>) -> Result<(), AllocError>
         ensures { OnOk result (self.new.text.items ≡ self.old.text.items
-            ++ written (chosen (leaf_view leaf.now) (choice leaf.now.row.word.now (number_in (value_view leaf.now.value))))) }
+            ++ written (chosen (leaf_view leaf.now) (choice leaf.now.way.row.now.word.now (number_in (value_view leaf.now.value))))) }
     {
-        let word = choice(leaf.row.word, number_in(&leaf.value));
+        let word = choice(leaf.way.row.word, number_in(&leaf.value));
         if word.is_empty() {
             return self.assigned(leaf);
         }
@@ -358,9 +358,9 @@ impl Line {
         leaf: &Leaf<'_>,
     ) -> Result<(), AllocError>
         ensures { OnOk result (self.new.text.items ≡ self.old.text.items
-            ++ written (styled_words leaf.now.row.style (scope_view scope.now) (leaves_view rest.now) (leaf_view leaf.now))) }
+            ++ written (styled_words leaf.now.way.style (scope_view scope.now) (leaves_view rest.now) (leaf_view leaf.now))) }
     {
-        match leaf.row.style {
+        match leaf.way.style {
             Style::Alone => self.alone_or_raw(leaf),
             Style::Choice => self.choice(leaf),
             Style::Mask => self.masked(leaf, rest),
@@ -461,7 +461,7 @@ impl Line {
 fn says_nothing(leaf: &Leaf<'_>, shape: Shape, rest: &[Leaf<'_>]) -> bool
     ensures { result ≡ says_nothing (leaf_view leaf.now) shape (leaves_view rest.now) }
 {
-    (is_braces(shape) || leaf.row.word.is_empty()) && is_hollow(rest)
+    (is_braces(shape) || leaf.way.row.word.is_empty()) && is_hollow(rest)
 }
 
 /// True if a leaf has words of its own.
@@ -571,7 +571,7 @@ fn is_taken(before: Option<&Leaf<'_>>, leaf: &Leaf<'_>) -> bool
     ensures { result ≡ is_taken (option_map (λ b. leaf_view b.now) before.entry) (leaf_view leaf.now) }
 {
     match before {
-        Some(before) => takes(before.row.style) && is_with(before.row.with, leaf),
+        Some(before) => takes(before.way.style) && is_with(before.way.row.with, leaf),
         None => false,
     }
 }
@@ -620,7 +620,7 @@ pub(crate) fn count_in<'l, 't>(
 {
     let mut left = leaves;
     'each: while let [leaf, rest @ ..] = left {
-        if is_in(section, leaf) && is_count(leaf.row.style) && is_same(leaf.key, key) {
+        if is_in(section, leaf) && is_count(leaf.way.style) && is_same(leaf.key, key) {
             return Some(leaf);
         }
         left = rest;
@@ -675,7 +675,7 @@ fn number_of(leaves: &[Leaf<'_>], key: &str) -> Option<u64>
 fn rate_of(leaves: &[Leaf<'_>], leaf: &Leaf<'_>) -> u64
     ensures { result ≡ rate_of (leaves_view leaves.now) (leaf_view leaf.now) }
 {
-    match number_of(leaves, leaf.row.with) {
+    match number_of(leaves, leaf.way.row.with) {
         Some(rate) => rate,
         None => number_or_zero(leaf),
     }
@@ -693,7 +693,7 @@ fn rate_named(all: &[Leaf<'_>], word: &str) -> u64
 {
     let mut left = all;
     'each: while let [leaf, rest @ ..] = left {
-        if is_rate(leaf.row.style) && is_same(leaf.row.word, word) {
+        if is_rate(leaf.way.style) && is_same(leaf.way.row.word, word) {
             return rate_of(all, leaf);
         }
         left = rest;

@@ -290,7 +290,7 @@ pub(crate) fn is_left_out(leaf: &Leaf<'_>) -> bool
 {
     matches!(leaf.display, Display::Hidden)
         || is_framing(leaf.key)
-        || left_by(leaf.row.left, &leaf.value)
+        || left_by(leaf.way.row.left, &leaf.value)
 }
 
 fn put_comma(out: &mut Vec<u8>, first: bool) -> Result<(), AllocError>
@@ -326,7 +326,7 @@ pub(crate) fn is_skipped(leaf: &Leaf<'_>) -> bool
 {
     match leaf.value {
         Value::Opens(_) | Value::Closes(_) => false,
-        _ => is_left_out(leaf) || (is_count(leaf.row.style) && is_zero(number_in(&leaf.value))),
+        _ => is_left_out(leaf) || (is_count(leaf.way.style) && is_zero(number_in(&leaf.value))),
     }
 }
 

@@ -1,28 +1,24 @@
 //! From the events of JSON to its leaves.
 
-ghost use Rattle.std.specs.Prelude.{IfOk, MatchOption, OnOk, Some, [], option_map, unwrap_or, ◌++◌, ◌∷◌, ◌≡◌};
-ghost use Rattle.tc_lines.specs.Columns.{column_of, columns_view, find, unnamed};
+ghost use Rattle.std.specs.Prelude.{IfOk, MatchOption, OnOk, Some, [], option_map, ◌++◌, ◌∷◌, ◌≡◌};
 ghost use Rattle.tc_lines.specs.Lines.{companion_by, says_block};
 ghost use Rattle.tc_units.specs.Names.{names_view};
 ghost use Rattle.tc_brief.specs.Leaves.{leaf_view, leaves_view, value_view};
-ghost use Rattle.tc_brief.specs.Rows.{find_row, or_row, plain_row, row_view, rows_view};
 ghost use Rattle.tc_brief.specs.Tape.{event_of, events_of};
-ghost use Rattle.tc_brief.specs.Walk.{close_map, close_seq, closing, displayed, frame_view, is_actions, is_enum, is_flat, is_head, is_of_action, is_other};
-ghost use Rattle.tc_brief.specs.Walk.{is_silent, is_stand_in, is_through, is_transparent, item_shape, leaf_of, leaves, list_shape, names_in, note};
-ghost use Rattle.tc_brief.specs.Walk.{begin_row, named_statistics, number_value, of_kind};
-ghost use Rattle.tc_brief.specs.Walk.{open_map, open_seq, opened, opening, option_list, other_leaf, place_within, plain_leaf, rated, record_shape};
-ghost use Rattle.tc_brief.specs.Walk.{rest_of, section_in, stack_of, start, state_of, step, styled, take_key, take_leaf, taken, text_number, IsOwn};
-ghost use Rattle.tc_brief.specs.Walk.{is_passed, is_statistics, kept, passed};
-ghost use Rattle.tc_brief.specs.Walk.{text_value, value_of};
+ghost use Rattle.tc_brief.specs.Walk.{close_map, close_seq, closing, frame_view, kept, leaf_of, leaves, names_in, note, number_value, open_map, open_seq};
+ghost use Rattle.tc_brief.specs.Walk.{opened, opening, option_list, other_leaf, passed, place_within, plain_leaf, rest_of, section_in, stack_of, start};
+ghost use Rattle.tc_brief.specs.Walk.{state_of, step, take_key, take_leaf, taken, text_number, text_value, value_of, AreOwn};
 
 use crate::error::BriefError;
-use crate::leaf::{Leaf, Section, Shape, Value};
-use crate::named::{first_named, is_same};
-use crate::row::{LeftOut, Row, Style, Words};
+use crate::leaf::{Leaf, Section, Shape, Value, Way};
+use crate::places::{NONE, Places, begin_way, display_at, plain_way, way_at};
+use crate::row::{Style, Words};
+use crate::sections::{displayed, is_actions, is_enum, is_head, is_other, is_passed, is_silent, is_stand_in, item_shape, list_shape, of_kind};
+use crate::sections::{record_shape, styled};
 use crate::tape::{Tape, Token};
 use std::alloc::{AllocError, Global};
-use tc_lines::{Column, Columns, Display, InfoOf};
-use tc_units::{Name, Unit, number_of};
+use tc_lines::{Columns, Display, InfoOf};
+use tc_units::{Name, number_of};
 
 /// An open record or list.
 #[derive(Clone, Copy)]
@@ -30,12 +26,13 @@ pub(crate) struct Frame<'t> {
     // The place of its columns, and that of its list's without a kind.
     pub place: usize,
     pub base: usize,
+    pub key: &'t str,
     pub section: Section,
     pub shape: Shape,
     pub list: bool,
     // True if it is part of one word.
     pub inside: bool,
-    pub row: Row<'t>,
+    pub way: Way,
 }
 
 /// The state between events.
@@ -47,364 +44,22 @@ pub(crate) struct Walk<'t> {
     pub around: Vec<Frame<'t>>,
     // The place of the columns that are looked up first: those of the last leaf's companion.
     pub companion: usize,
-    // The name, display and row of the next value.
+    // The name, display and way of the next value.
     pub key: &'t str,
     pub display: Display,
-    pub row: Row<'t>,
+    pub way: Way,
     // The last `nla_type` of an attribute without a row.
     pub word: u64,
 }
 
-// The place without columns.
-const NONE: usize = 65535;
-
-// The display of a name's column.
-#[inline(always)]
-fn find(columns: &[Column<'_>], key: &str) -> Option<Display>
-    ensures { result ≡ option_map (λ c. c.display) (find (columns_view columns.now) key.now) }
-{
-    match first_named(columns, key) {
-        Some(column) => Some(column.display),
-        None => None,
-    }
-}
-
-// The same among the columns of a companion; usually there is none.
-#[inline(always)]
-fn find_companion<C: Columns>(columns: &C, companion: usize, key: &str) -> Option<Display>
-    ensures { result ≡ option_map (λ c. c.display) (find ((C.table (C.options columns.now)).columns companion) key.now) }
-{
-    if companion == NONE {
-        return None;
-    }
-    find(columns.columns(companion), key)
-}
-
-// The row of a name among these.
-#[inline(always)]
-fn find_row(rows: &'static [Row<'static>], key: &str) -> Option<&'static Row<'static>>
-    ensures { option_map (λ r. row_view r.now) result ≡ find_row (rows_view rows.now) key.now }
-{
-    first_named(rows, key)
-}
-
-// The row of a member without one.
-fn plain_row<'t>(key: &'t str) -> Row<'t>
-    ensures { row_view result ≡ plain_row key.now }
-{
-    Row {
-        key,
-        word: "",
-        style: Style::Value,
-        with: "",
-        left: LeftOut::Never,
-    }
-}
-
-// The row of a value without a name, which begins an action.
-fn begin_row<'t>() -> Row<'t>
-    ensures { row_view result ≡ begin_row }
-{
-    Row {
-        key: "Kind",
-        word: "",
-        style: Style::Alone,
-        with: "",
-        left: LeftOut::Never,
-    }
-}
-
-// The columns and the rows at the place of the innermost record or list.
-#[derive(Clone, Copy)]
-pub(crate) struct Own {
-    pub place: usize,
-    pub columns: &'static [Column<'static>],
-    pub rows: &'static [Row<'static>],
-}
-
-// The columns and the rows at a place.
-fn own_at<C: Columns, W: Words>(columns: &C, words: &W, place: usize) -> Own
-    ensures place { result.place ≡ place }
-    ensures columns { columns_view result.columns.now ≡ (C.table (C.options columns.now)).columns place }
-    ensures rows { rows_view result.rows.now ≡ W.rows place }
-{
-    Own {
-        place,
-        columns: columns.columns(place),
-        rows: words.rows(place),
-    }
-}
-
-// The same, given those at the place before, which often is the same.
-#[inline(always)]
-fn own_from<C: Columns, W: Words>(columns: &C, words: &W, own: Own, place: usize) -> Own
-    requires { IsOwn (C.table (C.options columns.now)) W.rows own }
-    ensures place { result.place ≡ place }
-    ensures own { IsOwn (C.table (C.options columns.now)) W.rows result }
-{
-    if own.place == place {
-        return own;
-    }
-    own_at(columns, words, place)
-}
-
-// The row of a name, given the rows at a place.
-fn row_in<'t, W: Words>(words: &W, own: &Own, base: usize, key: &'t str) -> Row<'t>
-    requires { rows_view own.now.rows.now ≡ W.rows own.now.place }
-    ensures { row_view result ≡ unwrap_or (or_row (find_row (W.rows own.now.place) key.now) (find_row (W.rows base) key.now)) (plain_row key.now) }
-{
-    if let Some(row) = find_row(own.rows, key) {
-        return *row;
-    }
-    if base == own.place {
-        return plain_row(key);
-    }
-    if let Some(row) = find_row(words.rows(base), key) {
-        return *row;
-    }
-    plain_row(key)
-}
-
-// The row of a member of a record that has this row.
-fn rated<'t>(outer: &Row<'t>, row: Row<'t>) -> Row<'t>
-    ensures { row_view result ≡ rated row.entry.style (row_view outer.now) (row_view row.entry) }
-{
-    match row.style {
-        Style::OfRate => Row {
-            key: row.key,
-            word: outer.word,
-            style: Style::OfRate,
-            with: outer.with,
-            left: outer.left,
-        },
-        _ => row,
-    }
-}
-
-// The display of a name without a column.
-fn display_without_column(key: &str) -> Display
-    ensures { result ≡ (unnamed key.now).display }
-{
-    if is_same(key, "word") {
-        return Display::Number(Unit::LongHex);
-    }
-    Display::Plain
-}
-
-// The display of a name, among the columns of a companion, of the kind, or of every kind.
-fn display_at<C: Columns>(
-    columns: &C,
-    companion: usize,
-    own: &Own,
-    base: usize,
-    key: &str,
-) -> Display
-    requires { columns_view own.now.columns.now ≡ (C.table (C.options columns.now)).columns own.now.place }
-    ensures { result ≡ (column_of ((C.table (C.options columns.now)).columns companion) ((C.table (C.options columns.now)).columns own.now.place)
-        ((C.table (C.options columns.now)).columns base) key.now).display }
-{
-    if let Some(display) = find_companion(columns, companion, key) {
-        return display;
-    }
-    if let Some(display) = find(own.columns, key) {
-        return display;
-    }
-    if base == own.place {
-        return display_without_column(key);
-    }
-    if let Some(display) = find(columns.columns(base), key) {
-        return display;
-    }
-    display_without_column(key)
-}
-
-fn is_head(section: Section) -> bool
-    ensures { result ≡ is_head section }
-{
-    matches!(section, Section::Head)
-}
-
-fn is_of_action(section: Section) -> bool
-    ensures { result ≡ is_of_action section }
-{
-    matches!(
-        section,
-        Section::Begin
-            | Section::Kind
-            | Section::Actions
-            | Section::Control
-            | Section::ActionStatistics
-    )
-}
-
-// The section of a member with this style, in a record or list of this section.
-fn styled(style: Style, section: Section) -> Section
-    ensures { result ≡ styled style section }
-{
-    let action = is_of_action(section);
-    match style {
-        Style::Actions => Section::Actions,
-        Style::Begin if action => Section::Begin,
-        Style::Statistics if action => Section::ActionStatistics,
-        Style::Statistics => Section::Statistics,
-        Style::Control if action => Section::Control,
-        Style::Hardware if !action => Section::Hardware,
-        Style::Head if !action => Section::Head,
-        _ => section,
-    }
-}
-
-fn displayed(display: &Display, section: Section) -> Section
-    ensures { result ≡ displayed display.now section }
-{
-    match display {
-        Display::SameLine(_) => Section::Head,
-        Display::Kind if is_of_action(section) => Section::Kind,
-        Display::Kind => Section::Head,
-        _ => section,
-    }
-}
-
-// The section of statistics of this name.
-fn named_statistics(key: &str) -> Section
-    ensures { result ≡ named_statistics key.now }
-{
-    if is_same(key, "App") {
-        return Section::KindStatistics;
-    }
-    if is_same(key, "Xstats") {
-        return Section::OlderStatistics;
-    }
-    Section::Statistics
-}
-
-fn of_kind(key: &str, section: Section) -> Section
-    ensures { result ≡ of_kind key.now section }
-{
-    match section {
-        Section::Statistics => named_statistics(key),
-        _ => section,
-    }
-}
-
-fn is_statistics(section: Section) -> bool
-    ensures { result ≡ is_statistics section }
-{
-    matches!(
-        section,
-        Section::Statistics
-            | Section::KindStatistics
-            | Section::OlderStatistics
-            | Section::ActionStatistics
-    )
-}
-
-// True for statistics that aren't asked for.
-#[inline(always)]
-fn is_passed(counted: bool, section: Section) -> bool
-    ensures { result ≡ is_passed counted section }
-{
-    !counted && is_statistics(section)
-}
-
-fn section_in(frame: &Frame<'_>, display: &Display, row: &Row<'_>) -> Section
-    ensures { result ≡ section_in (frame_view frame.now) display.now (row_view row.now) }
+// The section of a member with this name, display and style.
+fn section_in(frame: &Frame<'_>, key: &str, display: &Display, style: Style) -> Section
+    ensures { result ≡ section_in (frame_view frame.now) key.now display.now style }
 {
     if frame.inside {
         return frame.section;
     }
-    displayed(display, of_kind(row.key, styled(row.style, frame.section)))
-}
-
-fn is_silent(shape: Shape) -> bool
-    ensures { result ≡ is_silent shape }
-{
-    matches!(shape, Shape::Silent)
-}
-
-fn item_shape(shape: Shape) -> Shape
-    ensures { result ≡ item_shape shape }
-{
-    match shape {
-        Shape::Brackets => Shape::Braces,
-        _ => Shape::Silent,
-    }
-}
-
-fn is_flat(style: Style) -> bool
-    ensures { result ≡ is_flat style }
-{
-    matches!(
-        style,
-        Style::Flat | Style::Rate | Style::Actions | Style::Keys | Style::Statistics
-    )
-}
-
-fn is_actions(style: Style) -> bool
-    ensures { result ≡ is_actions style }
-{
-    matches!(style, Style::Actions)
-}
-
-fn is_transparent(display: &Display) -> bool
-    ensures { result ≡ is_transparent display.now }
-{
-    matches!(
-        display,
-        Display::Inline(_) | Display::Below(_) | Display::SameLine(_)
-    )
-}
-
-// True for an attribute without a row.
-fn is_other(key: &str) -> bool
-    ensures { result ≡ is_other key.now }
-{
-    is_same(key, "Other")
-}
-
-fn is_through(key: &str) -> bool
-    ensures { result ≡ is_through key.now }
-{
-    is_other(key) || is_same(key, "Options")
-}
-
-fn record_shape(key: &str, display: &Display, style: Style) -> Shape
-    ensures { result ≡ record_shape key.now display.now style }
-{
-    if is_transparent(display) || is_flat(style) || is_through(key) || is_enum(display) {
-        Shape::Silent
-    } else {
-        Shape::Braces
-    }
-}
-
-// True for a number with names.
-fn is_enum(display: &Display) -> bool
-    ensures { result ≡ is_enum display.now }
-{
-    matches!(
-        display,
-        Display::Text(_) | Display::Verdict(_) | Display::Family(_)
-    )
-}
-
-// True for the names of what stands for a number with names: a number without one, or malformed bytes.
-fn is_stand_in(key: &str) -> bool
-    ensures { result ≡ is_stand_in key.now }
-{
-    is_other(key) || is_same(key, "raw")
-}
-
-fn list_shape(key: &str, display: &Display, style: Style) -> Shape
-    ensures { result ≡ list_shape key.now display.now style }
-{
-    if is_transparent(display) || is_flat(style) || is_through(key) {
-        return Shape::Silent;
-    }
-    match display {
-        Display::Nested(_) => Shape::Braces,
-        _ => Shape::Brackets,
-    }
+    displayed(display, of_kind(key, styled(style, frame.section)))
 }
 
 // The place of the columns within.
@@ -538,7 +193,7 @@ fn closing<'t>(frame: &Frame<'t>) -> Option<Leaf<'t>>
     }
     Some(Leaf {
         key: "",
-        row: plain_row(""),
+        way: plain_way(),
         display: Display::Plain,
         names: &[],
         section: frame.section,
@@ -566,11 +221,12 @@ impl<'t> Walk<'t> {
         let top = Frame {
             place: root,
             base: root,
+            key: "",
             section: Section::Words,
             shape: Shape::Silent,
             list: false,
             inside: false,
-            row: plain_row(""),
+            way: plain_way(),
         };
         Ok(Walk {
             out,
@@ -579,24 +235,31 @@ impl<'t> Walk<'t> {
             companion: NONE,
             key: "",
             display: Display::Inline(root),
-            row: plain_row(""),
+            way: plain_way(),
             word: 0,
         })
     }
 
     // The name of the next value.
-    fn take_key<C: Columns, W: Words>(&mut self, columns: &C, words: &W, own: &Own, key: &'t str)
-        requires place { own.now.place ≡ self.old.top.place }
-        requires own { IsOwn (C.table (C.options columns.now)) W.rows own.now }
-        ensures { state_of self.new ≡ take_key (C.table (C.options columns.now)) W.rows key.now (state_of self.old) (frame_view self.old.top) }
+    fn take_key<C: Columns, W: Words>(
+        &mut self,
+        columns: &C,
+        words: &W,
+        places: &mut Places,
+        key: &'t str,
+    )
+        requires { AreOwn (C.table (C.options columns.now)) W.rows places.old }
+        ensures state { state_of self.new ≡ take_key (C.table (C.options columns.now)) W.rows key.now (state_of self.old) (frame_view self.old.top) }
+        ensures own { AreOwn (C.table (C.options columns.now)) W.rows places.new }
     {
         if is_enum(&self.display) && is_stand_in(key) {
             return;
         }
+        places.turn(columns, words, self.top.place);
         let base = self.top.base;
         self.key = key;
-        self.display = display_at(columns, self.companion, own, base, key);
-        self.row = rated(&self.top.row, row_in(words, own, base, key));
+        self.display = display_at(columns, self.companion, &places.own, base, key);
+        self.way = way_at(words, &places.own, base, &self.top.way, key);
     }
 
     // The next value, which has no contents.
@@ -605,10 +268,10 @@ impl<'t> Walk<'t> {
     {
         Leaf {
             key: if self.top.list { "" } else { self.key },
-            row: self.row,
+            way: self.way,
             display: self.display,
             names: names_in(columns, &self.display),
-            section: section_in(&self.top, &self.display, &self.row),
+            section: section_in(&self.top, self.key, &self.display, self.way.style),
             value,
         }
     }
@@ -682,7 +345,7 @@ impl<'t> Walk<'t> {
         ensures { OnOk result (state_of self.new
             ≡ take_leaf (C.table (C.options columns.now)) counted (event_of token.now) (state_of self.old) (frame_view self.old.top)) }
     {
-        if is_other(self.top.row.key) {
+        if is_other(self.top.key) {
             return self.other_leaf(counted, columns, token);
         }
         self.plain_leaf(counted, columns, token)
@@ -699,16 +362,16 @@ impl<'t> Walk<'t> {
         ensures { option_list (option_map leaf_view result) ≡ opening actions key.now (state_of self.now) section shape }
     {
         if actions {
-            if self.row.word.is_empty() {
+            if self.way.row.word.is_empty() {
                 return None;
             }
             return Some(Leaf {
                 key: "Kind",
-                row: begin_row(),
+                way: begin_way(),
                 display: Display::Kind,
                 names: &[],
                 section: Section::Begin,
-                value: Value::Text(self.row.word),
+                value: Value::Text(self.way.row.word),
             });
         }
         if is_silent(shape) {
@@ -716,7 +379,7 @@ impl<'t> Walk<'t> {
         }
         Some(Leaf {
             key,
-            row: self.row,
+            way: self.way,
             display: self.display,
             names: &[],
             section,
@@ -750,20 +413,21 @@ impl<'t> Walk<'t> {
     fn open(&mut self, list: bool, shape: Shape) -> Result<(), AllocError>
         ensures { OnOk result (state_of self.new ≡ opened list shape (state_of self.old) (frame_view self.old.top)) }
     {
-        let section = section_in(&self.top, &self.display, &self.row);
+        let section = section_in(&self.top, self.key, &self.display, self.way.style);
         let key = if self.top.list { "" } else { self.key };
-        let actions = is_actions(self.row.style);
+        let actions = is_actions(self.way.style);
         let leaf = self.opening(actions, key, section, shape);
         put(&mut self.out, leaf)?;
         let place = place_within(&self.display);
         self.enter(Frame {
             place,
             base: place,
+            key: self.key,
             section,
             shape,
             list,
             inside: self.top.inside || !is_silent(shape),
-            row: self.row,
+            way: self.way,
         })
     }
 
@@ -772,7 +436,7 @@ impl<'t> Walk<'t> {
         ensures { OnOk result (state_of self.new ≡ open_map (state_of self.old) (frame_view self.old.top)) }
     {
         if !self.top.list {
-            let shape = record_shape(self.key, &self.display, self.row.style);
+            let shape = record_shape(self.key, &self.display, self.way.style);
             return self.open(false, shape);
         }
         let shape = item_shape(self.top.shape);
@@ -789,7 +453,7 @@ impl<'t> Walk<'t> {
     fn open_seq(&mut self) -> Result<(), AllocError>
         ensures { OnOk result (state_of self.new ≡ open_seq (state_of self.old) (frame_view self.old.top)) }
     {
-        let shape = list_shape(self.key, &self.display, self.row.style);
+        let shape = list_shape(self.key, &self.display, self.way.style);
         self.open(true, shape)
     }
 
@@ -821,17 +485,17 @@ impl<'t> Walk<'t> {
         counted: bool,
         columns: &'t C,
         words: &W,
-        own: &Own,
+        places: &mut Places,
         token: &Token<'t>,
     ) -> Result<(), AllocError>
-        requires place { own.now.place ≡ self.old.top.place }
-        requires own { IsOwn (C.table (C.options columns.now)) W.rows own.now }
-        ensures { OnOk result (state_of self.new
+        requires { AreOwn (C.table (C.options columns.now)) W.rows places.old }
+        ensures state { OnOk result (state_of self.new
             ≡ taken (C.table (C.options columns.now)) counted W.rows (event_of token.now) (state_of self.old) (frame_view self.old.top)) }
+        ensures own { AreOwn (C.table (C.options columns.now)) W.rows places.new }
     {
         match token {
             Token::Key(key) => {
-                self.take_key(columns, words, own, *key);
+                self.take_key(columns, words, places, *key);
                 Ok(())
             }
             Token::BeginMap => self.open_map(),
@@ -861,18 +525,18 @@ impl<'t> Walk<'t> {
         counted: bool,
         columns: &'t C,
         words: &W,
-        own: &Own,
+        places: &mut Places,
         token: &Token<'t>,
     ) -> Result<(), BriefError>
-        requires place { own.now.place ≡ self.old.top.place }
-        requires own { IsOwn (C.table (C.options columns.now)) W.rows own.now }
-        ensures { OnOk result (step (C.table (C.options columns.now)) counted W.rows (event_of token.now) (state_of self.old) ≡ Some (state_of self.new)) }
+        requires { AreOwn (C.table (C.options columns.now)) W.rows places.old }
+        ensures state { OnOk result (step (C.table (C.options columns.now)) counted W.rows (event_of token.now) (state_of self.old) ≡ Some (state_of self.new)) }
+        ensures own { AreOwn (C.table (C.options columns.now)) W.rows places.new }
     {
         match token {
             Token::EndMap => self.close_map()?,
             Token::EndSeq => self.close_seq()?,
             _ if is_passed(counted, self.top.section) => self.passed(token)?,
-            _ => self.taken(counted, columns, words, own, token)?,
+            _ => self.taken(counted, columns, words, places, token)?,
         }
         Ok(())
     }
@@ -889,9 +553,8 @@ pub(crate) fn leaves_of<'t, C: Columns, W: Words>(
     ensures { IfOk result (λ found. leaves (C.table (C.options columns.now)) counted W.rows (C.options columns.now).root (events_of tape.now)
         ≡ Some (leaves_view found.items)) }
 {
-    let mut walk = Walk::new(alloc, columns.root(), tape.kept.len() / 2)?;
-    let mut own = own_at(columns, words, columns.root());
-    let mut before = own;
+    let mut walk = Walk::new(alloc, columns.root(), tape.kept.len() / 4)?;
+    let mut places = Places::new(columns, words);
     let mut texts = tape.texts.as_str();
     let mut left = tape.kept.as_slice();
     'each: while let [kept, others @ ..] = left {
@@ -899,12 +562,7 @@ pub(crate) fn leaves_of<'t, C: Columns, W: Words>(
             Some(parts) => parts,
             None => return Err(BriefError::NotJson),
         };
-        if own.place != walk.top.place {
-            let last = own;
-            own = own_from(columns, words, before, walk.top.place);
-            before = last;
-        }
-        walk.take(counted, columns, words, &own, &token)?;
+        walk.take(counted, columns, words, &mut places, &token)?;
         texts = rest;
         left = others;
     }

@@ -242,12 +242,12 @@ all_sent : (g k : Options) (es : List Event) (before new : Log) → before ≡ m
 all_sent g k es before new e h =
     subst (λ o. Sent es o (marked k new)) e h ∙ ap Some (append_assoc (marks g) [] es)
 
-events_sent : (g k : Options) (es : List Event) (new : Log) → marked k new ≡ Some (marks g ++ es) → new ≡ Some es
+pub events_sent : (g k : Options) (es : List Event) (new : Log) → marked k new ≡ Some (marks g ++ es) → new ≡ Some es
 events_sent g k es None h = absurd (none-some _ h)
 events_sent g k es (Some fs) h =
     ap Some (sym (sent_back k.interfaces fs) ∙ ap (λ l. sent_of (held l)) h ∙ sent_back g.interfaces es)
 
-same_options : (g k : Options) (es : List Event) (new : Log) → marked k new ≡ Some (marks g ++ es) → k ≡ g
+pub same_options : (g k : Options) (es : List Event) (new : Log) → marked k new ≡ Some (marks g ++ es) → k ≡ g
 same_options g k es None h = absurd (none-some _ h)
 same_options g k es (Some fs) h = sym (options_back k fs) ∙ ap (λ l. options_from (held l)) h ∙ options_back g es
 

@@ -29,4 +29,5 @@ mod walk;
 
 pub use column::{Column, ColumnOf, Columns, Display, InfoOf};
 pub use error::LinesError;
+pub use log::{Log, Note};
 pub use outline::lines_of;

@@ -10,7 +10,7 @@ use std::marker::Model;
 
 /// The events that were serialized.
 #[derive(Drop)]
-pub(crate) struct Log {
+pub struct Log {
     ghost events: { Events } by { log_code },
 }
 
@@ -20,7 +20,7 @@ impl Model for Log {
 
 /// One call of a serializer's method. `Lost` if what was written isn't known.
 #[derive(Clone, Copy, Drop)]
-pub(crate) enum Note<'a> {
+pub enum Note<'a> {
     Bool(bool),
     I64(i64),
     U64(u64),
@@ -37,14 +37,16 @@ pub(crate) enum Note<'a> {
 impl Log {
     ghost use Rattle.tc_lines.specs.Log.{noted};
 
-    pub(crate) fn new() -> Log
+    /// No event.
+    pub fn new() -> Log
         ensures { result.events ≡ Some [] }
     {
         Log {}
     }
 
+    /// The events, and what this call serialized.
     #[inline(always)]
-    pub(crate) fn then(&self, _note: &Note<'_>) -> Log
+    pub fn then(&self, _note: &Note<'_>) -> Log
         ensures { result.events ≡ noted self.now.events _note.now }
     {
         Log {}

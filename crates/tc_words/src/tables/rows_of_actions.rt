@@ -84,6 +84,7 @@ pub(crate) fn rows_of_actions_csum() -> &'static [&'static [Row<'static>]]
 #[rattlefmt::skip]
 static ROWS_OF_ACTIONS_CT: [&'static [Row<'static>]; 3] = [
     &[ // 96, `list ct`
+        Row { key: "Ct", word: "", style: Style::Value, with: "", left: LeftOut::Never },
         Row { key: "Parms", word: "", style: Style::Flat, with: "", left: LeftOut::Never },
         Row { key: "Tm", word: "", style: Style::Statistics, with: "", left: LeftOut::Never },
         Row { key: "Action", word: "", style: Style::Bits, with: "", left: LeftOut::Equal(0) },
@@ -91,11 +92,17 @@ static ROWS_OF_ACTIONS_CT: [&'static [Row<'static>]; 3] = [
         Row { key: "Mark", word: "mark", style: Style::Mask, with: "MarkMask", left: LeftOut::Never },
         Row { key: "MarkMask", word: "", style: Style::Value, with: "", left: LeftOut::Equal(4294967295) },
         Row { key: "Labels", word: "label", style: Style::Mask, with: "LabelsMask", left: LeftOut::Never },
+        Row { key: "LabelsMask", word: "", style: Style::Value, with: "", left: LeftOut::Never },
         Row { key: "NatIpv4Min", word: "addr", style: Style::Range, with: "NatIpv4Max", left: LeftOut::Never },
+        Row { key: "NatIpv4Max", word: "", style: Style::Value, with: "", left: LeftOut::Never },
         Row { key: "NatIpv6Min", word: "addr", style: Style::Range, with: "NatIpv6Max", left: LeftOut::Never },
+        Row { key: "NatIpv6Max", word: "", style: Style::Value, with: "", left: LeftOut::Never },
         Row { key: "NatPortMin", word: "port", style: Style::Range, with: "NatPortMax", left: LeftOut::Never },
+        Row { key: "NatPortMax", word: "", style: Style::Value, with: "", left: LeftOut::Never },
         Row { key: "Pad", word: "", style: Style::Value, with: "", left: LeftOut::Always },
         Row { key: "HelperName", word: "helper", style: Style::Value, with: "", left: LeftOut::Never },
+        Row { key: "HelperFamily", word: "", style: Style::Value, with: "", left: LeftOut::Never },
+        Row { key: "HelperProto", word: "", style: Style::Value, with: "", left: LeftOut::Never },
     ],
     &[ // 97, `struct tc_ct`
         Row { key: "generic", word: "", style: Style::Flat, with: "", left: LeftOut::Never },
@@ -115,11 +122,13 @@ pub(crate) fn rows_of_actions_ct() -> &'static [&'static [Row<'static>]]
 #[rattlefmt::skip]
 static ROWS_OF_ACTIONS_CTINFO: [&'static [Row<'static>]; 3] = [
     &[ // 120, `list ctinfo`
+        Row { key: "Ctinfo", word: "", style: Style::Value, with: "", left: LeftOut::Never },
         Row { key: "Pad", word: "", style: Style::Value, with: "", left: LeftOut::Always },
         Row { key: "Tm", word: "", style: Style::Statistics, with: "", left: LeftOut::Never },
         Row { key: "Action", word: "", style: Style::Flat, with: "", left: LeftOut::Never },
         Row { key: "Zone", word: "zone", style: Style::Value, with: "", left: LeftOut::Never },
         Row { key: "ParmsDscpMask", word: "dscp", style: Style::Value, with: "", left: LeftOut::Never },
+        Row { key: "ParmsDscpStatemask", word: "", style: Style::Value, with: "", left: LeftOut::Never },
         Row { key: "ParmsCpmarkMask", word: "cpmark", style: Style::Value, with: "", left: LeftOut::Never },
         Row { key: "StatsDscpSet", word: "dscp_set", style: Style::Statistics, with: "", left: LeftOut::Equal(0) },
         Row { key: "StatsDscpError", word: "dscp_error", style: Style::Statistics, with: "", left: LeftOut::Equal(0) },
@@ -172,6 +181,7 @@ pub(crate) fn rows_of_actions_gact() -> &'static [&'static [Row<'static>]]
 #[rattlefmt::skip]
 static ROWS_OF_ACTIONS_GATE: [&'static [Row<'static>]; 5] = [
     &[ // 168, `list gate`
+        Row { key: "Gate", word: "", style: Style::Value, with: "", left: LeftOut::Never },
         Row { key: "Tm", word: "", style: Style::Statistics, with: "", left: LeftOut::Never },
         Row { key: "Parms", word: "", style: Style::Flat, with: "", left: LeftOut::Never },
         Row { key: "Pad", word: "", style: Style::Value, with: "", left: LeftOut::Always },
@@ -306,6 +316,7 @@ pub(crate) fn rows_of_actions_mirred() -> &'static [&'static [Row<'static>]]
 #[rattlefmt::skip]
 static ROWS_OF_ACTIONS_MPLS: [&'static [Row<'static>]; 4] = [
     &[ // 264, `list mpls`
+        Row { key: "Mpls", word: "", style: Style::Value, with: "", left: LeftOut::Never },
         Row { key: "Tm", word: "", style: Style::Statistics, with: "", left: LeftOut::Never },
         Row { key: "Parms", word: "", style: Style::Flat, with: "", left: LeftOut::Never },
         Row { key: "Pad", word: "", style: Style::Value, with: "", left: LeftOut::Always },
@@ -405,6 +416,7 @@ static ROWS_OF_ACTIONS_POLICE: [&'static [Row<'static>]; 4] = [
         Row { key: "Pktburst64", word: "pkts_burst", style: Style::Value, with: "", left: LeftOut::Never },
     ],
     &[ // 337, `list police`
+        Row { key: "Police", word: "", style: Style::Value, with: "", left: LeftOut::Never },
         Row { key: "Tbf", word: "", style: Style::Flat, with: "", left: LeftOut::Never },
         Row { key: "Rate", word: "", style: Style::Bytes, with: "", left: LeftOut::Never },
         Row { key: "Peakrate", word: "", style: Style::Bytes, with: "", left: LeftOut::Never },
@@ -492,6 +504,7 @@ pub(crate) fn rows_of_actions_simple() -> &'static [&'static [Row<'static>]]
 #[rattlefmt::skip]
 static ROWS_OF_ACTIONS_SKBEDIT: [&'static [Row<'static>]; 3] = [
     &[ // 408, `list skbedit`
+        Row { key: "Skbedit", word: "", style: Style::Value, with: "", left: LeftOut::Never },
         Row { key: "Tm", word: "", style: Style::Statistics, with: "", left: LeftOut::Never },
         Row { key: "Parms", word: "", style: Style::Flat, with: "", left: LeftOut::Never },
         Row { key: "Priority", word: "priority", style: Style::Value, with: "", left: LeftOut::Never },
@@ -499,7 +512,9 @@ static ROWS_OF_ACTIONS_SKBEDIT: [&'static [Row<'static>]; 3] = [
         Row { key: "Mark", word: "mark", style: Style::Mask, with: "Mask", left: LeftOut::Never },
         Row { key: "Pad", word: "", style: Style::Value, with: "", left: LeftOut::Always },
         Row { key: "Ptype", word: "ptype", style: Style::Value, with: "", left: LeftOut::Never },
+        Row { key: "Mask", word: "", style: Style::Value, with: "", left: LeftOut::Never },
         Row { key: "Flags", word: "", style: Style::Bits, with: "", left: LeftOut::Never },
+        Row { key: "QueueMappingMax", word: "", style: Style::Value, with: "", left: LeftOut::Never },
     ],
     &[ // 409, `struct tc_skbedit`
         Row { key: "generic", word: "", style: Style::Flat, with: "", left: LeftOut::Never },
@@ -545,6 +560,7 @@ pub(crate) fn rows_of_actions_skbmod() -> &'static [&'static [Row<'static>]]
 #[rattlefmt::skip]
 static ROWS_OF_ACTIONS_TUNNEL_KEY: [&'static [Row<'static>]; 7] = [
     &[ // 456, `list tunnel_key`
+        Row { key: "TunnelKey", word: "", style: Style::Value, with: "", left: LeftOut::Never },
         Row { key: "Tm", word: "", style: Style::Statistics, with: "", left: LeftOut::Never },
         Row { key: "Parms", word: "", style: Style::Flat, with: "", left: LeftOut::Never },
         Row { key: "EncIpv4Src", word: "src_ip", style: Style::Value, with: "", left: LeftOut::Never },
@@ -555,6 +571,7 @@ static ROWS_OF_ACTIONS_TUNNEL_KEY: [&'static [Row<'static>]; 7] = [
         Row { key: "Pad", word: "", style: Style::Value, with: "", left: LeftOut::Always },
         Row { key: "EncDstPort", word: "dst_port", style: Style::Value, with: "", left: LeftOut::Never },
         Row { key: "NoCsum", word: "csum|nocsum", style: Style::Choice, with: "", left: LeftOut::Never },
+        Row { key: "EncOpts", word: "", style: Style::Value, with: "", left: LeftOut::Never },
         Row { key: "EncTos", word: "tos", style: Style::Value, with: "", left: LeftOut::Never },
         Row { key: "EncTtl", word: "ttl", style: Style::Value, with: "", left: LeftOut::Never },
         Row { key: "NoFrag", word: "nofrag", style: Style::Value, with: "", left: LeftOut::Never },
@@ -583,6 +600,7 @@ pub(crate) fn rows_of_actions_tunnel_key() -> &'static [&'static [Row<'static>]]
 #[rattlefmt::skip]
 static ROWS_OF_ACTIONS_VLAN: [&'static [Row<'static>]; 4] = [
     &[ // 480, `list vlan`
+        Row { key: "Vlan", word: "", style: Style::Value, with: "", left: LeftOut::Never },
         Row { key: "Tm", word: "", style: Style::Statistics, with: "", left: LeftOut::Never },
         Row { key: "Parms", word: "", style: Style::Flat, with: "", left: LeftOut::Never },
         Row { key: "PushVlanId", word: "id", style: Style::Value, with: "", left: LeftOut::Never },

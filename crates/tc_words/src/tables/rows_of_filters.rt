@@ -38,10 +38,14 @@ pub(crate) fn rows_of_filters_basic() -> &'static [&'static [Row<'static>]]
 #[rattlefmt::skip]
 static ROWS_OF_FILTERS_BPF: [&'static [Row<'static>]; 2] = [
     &[ // 576, `list bpf`
+        Row { key: "Bpf", word: "", style: Style::Value, with: "", left: LeftOut::Never },
         Row { key: "Act", word: "", style: Style::Actions, with: "", left: LeftOut::Never },
         Row { key: "Police", word: "police", style: Style::Actions, with: "", left: LeftOut::Never },
         Row { key: "ClassId", word: "classid", style: Style::Value, with: "", left: LeftOut::Never },
+        Row { key: "OpsLen", word: "", style: Style::Value, with: "", left: LeftOut::Never },
         Row { key: "Ops", word: "bytecode", style: Style::Value, with: "", left: LeftOut::Never },
+        Row { key: "ProgFd", word: "", style: Style::Value, with: "", left: LeftOut::Never },
+        Row { key: "ProgName", word: "", style: Style::Value, with: "", left: LeftOut::Never },
         Row { key: "Flags", word: "", style: Style::Bits, with: "", left: LeftOut::Equal(0) },
         Row { key: "FlagsGeneric", word: "", style: Style::Hardware, with: "", left: LeftOut::Equal(0) },
         Row { key: "ProgTag", word: "tag", style: Style::Value, with: "", left: LeftOut::Never },
@@ -83,6 +87,7 @@ pub(crate) fn rows_of_filters_cgroup() -> &'static [&'static [Row<'static>]]
 #[rattlefmt::skip]
 static ROWS_OF_FILTERS_FLOW: [&'static [Row<'static>]; 3] = [
     &[ // 624, `list flow`
+        Row { key: "Flow", word: "", style: Style::Value, with: "", left: LeftOut::Never },
         Row { key: "Keys", word: "keys", style: Style::Value, with: "", left: LeftOut::Never },
         Row { key: "Mode", word: "", style: Style::Alone, with: "", left: LeftOut::Never },
         Row { key: "Baseclass", word: "baseclass", style: Style::Value, with: "", left: LeftOut::Never },
@@ -270,6 +275,7 @@ pub(crate) fn rows_of_filters_tcindex() -> &'static [&'static [Row<'static>]]
 #[rattlefmt::skip]
 static ROWS_OF_FILTERS_U32: [&'static [Row<'static>]; 6] = [
     &[ // 792, `list u32`
+        Row { key: "U32", word: "", style: Style::Value, with: "", left: LeftOut::Never },
         Row { key: "ClassId", word: "classid", style: Style::Value, with: "", left: LeftOut::Never },
         Row { key: "Hash", word: "ht", style: Style::Value, with: "", left: LeftOut::Never },
         Row { key: "Link", word: "link", style: Style::Value, with: "", left: LeftOut::Never },
@@ -287,6 +293,7 @@ static ROWS_OF_FILTERS_U32: [&'static [Row<'static>]; 6] = [
         Row { key: "flags", word: "", style: Style::Value, with: "", left: LeftOut::Equal(1) },
         Row { key: "offshift", word: "", style: Style::Value, with: "", left: LeftOut::Equal(0) },
         Row { key: "nkeys", word: "", style: Style::Value, with: "", left: LeftOut::Always },
+        Row { key: "padding", word: "", style: Style::Value, with: "", left: LeftOut::Never },
         Row { key: "offmask", word: "", style: Style::Value, with: "", left: LeftOut::Equal(0) },
         Row { key: "off", word: "", style: Style::Value, with: "", left: LeftOut::Equal(0) },
         Row { key: "offoff", word: "", style: Style::Value, with: "", left: LeftOut::Equal(0) },
@@ -323,7 +330,8 @@ pub(crate) fn rows_of_filters_u32() -> &'static [&'static [Row<'static>]]
 
 // `list flower`
 #[rattlefmt::skip]
-static ROWS_AT_648: [Row<'static>; 98] = [
+static ROWS_AT_648: [Row<'static>; 112] = [
+    Row { key: "Flower", word: "", style: Style::Value, with: "", left: LeftOut::Never },
     Row { key: "ClassId", word: "classid", style: Style::Value, with: "", left: LeftOut::Never },
     Row { key: "InDev", word: "indev", style: Style::Value, with: "", left: LeftOut::Never },
     Row { key: "Actions", word: "", style: Style::Actions, with: "", left: LeftOut::Never },
@@ -371,6 +379,7 @@ static ROWS_AT_648: [Row<'static>; 98] = [
     Row { key: "EncKeyUdpDstPort", word: "enc_dst_port", style: Style::Mask, with: "EncKeyUdpDstPortMask", left: LeftOut::Never },
     Row { key: "EncKeyUdpDstPortMask", word: "", style: Style::Value, with: "", left: LeftOut::Equal(65535) },
     Row { key: "KeyFlags", word: "ip_flags", style: Style::Mask, with: "KeyFlagsMask", left: LeftOut::Never },
+    Row { key: "KeyFlagsMask", word: "", style: Style::Value, with: "", left: LeftOut::Never },
     Row { key: "Icmpv4Code", word: "icmp_code", style: Style::Mask, with: "Icmpv4CodeMask", left: LeftOut::Never },
     Row { key: "Icmpv4CodeMask", word: "", style: Style::Value, with: "", left: LeftOut::Equal(255) },
     Row { key: "Icmpv4Type", word: "icmp_type", style: Style::Mask, with: "Icmpv4TypeMask", left: LeftOut::Never },
@@ -394,22 +403,33 @@ static ROWS_AT_648: [Row<'static>; 98] = [
     Row { key: "MplsTc", word: "mpls_tc", style: Style::Value, with: "", left: LeftOut::Never },
     Row { key: "MplsLabel", word: "mpls_label", style: Style::Value, with: "", left: LeftOut::Never },
     Row { key: "TcpFlags", word: "tcp_flags", style: Style::Mask, with: "TcpFlagsMask", left: LeftOut::Never },
+    Row { key: "TcpFlagsMask", word: "", style: Style::Value, with: "", left: LeftOut::Never },
     Row { key: "IpTos", word: "ip_tos", style: Style::Mask, with: "IpTosMask", left: LeftOut::Never },
+    Row { key: "IpTosMask", word: "", style: Style::Value, with: "", left: LeftOut::Never },
     Row { key: "IpTtl", word: "ip_ttl", style: Style::Mask, with: "IpTtlMask", left: LeftOut::Never },
+    Row { key: "IpTtlMask", word: "", style: Style::Value, with: "", left: LeftOut::Never },
     Row { key: "CvlanId", word: "cvlan_id", style: Style::Value, with: "", left: LeftOut::Never },
     Row { key: "CvlanPrio", word: "cvlan_prio", style: Style::Value, with: "", left: LeftOut::Never },
     Row { key: "CvlanEthType", word: "cvlan_ethtype", style: Style::Value, with: "", left: LeftOut::Never },
     Row { key: "EncKeyIpTos", word: "enc_tos", style: Style::Mask, with: "EncKeyIpTosMask", left: LeftOut::Never },
+    Row { key: "EncKeyIpTosMask", word: "", style: Style::Value, with: "", left: LeftOut::Never },
     Row { key: "EncKeyIpTtl", word: "enc_ttl", style: Style::Mask, with: "EncKeyIpTtlMask", left: LeftOut::Never },
+    Row { key: "EncKeyIpTtlMask", word: "", style: Style::Value, with: "", left: LeftOut::Never },
+    Row { key: "EncOpts", word: "", style: Style::Value, with: "", left: LeftOut::Never },
+    Row { key: "EncOptsMask", word: "", style: Style::Value, with: "", left: LeftOut::Never },
     Row { key: "InHwCount", word: "in_hw_count", style: Style::Value, with: "", left: LeftOut::Equal(0) },
     Row { key: "PortSrcMin", word: "src_port", style: Style::Range, with: "PortSrcMax", left: LeftOut::Never },
+    Row { key: "PortSrcMax", word: "", style: Style::Value, with: "", left: LeftOut::Never },
     Row { key: "PortDstMin", word: "dst_port", style: Style::Range, with: "PortDstMax", left: LeftOut::Never },
+    Row { key: "PortDstMax", word: "", style: Style::Value, with: "", left: LeftOut::Never },
     Row { key: "CtState", word: "ct_state", style: Style::Mask, with: "CtStateMask", left: LeftOut::Never },
+    Row { key: "CtStateMask", word: "", style: Style::Value, with: "", left: LeftOut::Never },
     Row { key: "CtZone", word: "ct_zone", style: Style::Mask, with: "CtZoneMask", left: LeftOut::Never },
     Row { key: "CtZoneMask", word: "", style: Style::Value, with: "", left: LeftOut::Equal(65535) },
     Row { key: "CtMark", word: "ct_mark", style: Style::Mask, with: "CtMarkMask", left: LeftOut::Never },
     Row { key: "CtMarkMask", word: "", style: Style::Value, with: "", left: LeftOut::Equal(4294967295) },
     Row { key: "CtLabels", word: "ct_label", style: Style::Mask, with: "CtLabelsMask", left: LeftOut::Never },
+    Row { key: "CtLabelsMask", word: "", style: Style::Value, with: "", left: LeftOut::Never },
     Row { key: "MplsOpts", word: "mpls", style: Style::Value, with: "", left: LeftOut::Never },
     Row { key: "KeyHash", word: "hash", style: Style::Mask, with: "KeyHashMask", left: LeftOut::Never },
     Row { key: "KeyHashMask", word: "", style: Style::Value, with: "", left: LeftOut::Equal(4294967295) },
@@ -422,6 +442,7 @@ static ROWS_AT_648: [Row<'static>; 98] = [
     Row { key: "Spi", word: "spi", style: Style::Mask, with: "SpiMask", left: LeftOut::Never },
     Row { key: "SpiMask", word: "", style: Style::Value, with: "", left: LeftOut::Equal(4294967295) },
     Row { key: "EncFlags", word: "enc_flags", style: Style::Mask, with: "EncFlagsMask", left: LeftOut::Never },
+    Row { key: "EncFlagsMask", word: "", style: Style::Value, with: "", left: LeftOut::Never },
 ];
 
 #[tactic(auto, unfolding(crate::specs::Arrays::rows_at_648))]
@@ -433,10 +454,11 @@ pub(crate) fn rows_at_648() -> &'static [Row<'static>]
 
 // `struct tc_u32_sel`, with statistics
 #[rattlefmt::skip]
-static DETAILS_AT_793: [Row<'static>; 9] = [
+static DETAILS_AT_793: [Row<'static>; 10] = [
     Row { key: "flags", word: "", style: Style::Value, with: "", left: LeftOut::Never },
     Row { key: "offshift", word: "", style: Style::Value, with: "", left: LeftOut::Equal(0) },
     Row { key: "nkeys", word: "", style: Style::Value, with: "", left: LeftOut::Always },
+    Row { key: "padding", word: "", style: Style::Value, with: "", left: LeftOut::Never },
     Row { key: "offmask", word: "", style: Style::Value, with: "", left: LeftOut::Equal(0) },
     Row { key: "off", word: "", style: Style::Value, with: "", left: LeftOut::Equal(0) },
     Row { key: "offoff", word: "", style: Style::Value, with: "", left: LeftOut::Equal(0) },

@@ -10,8 +10,10 @@ use tc_brief::{LeftOut, Row, Style};
 static ROWS_OF_MESSAGE: [&'static [Row<'static>]; 11] = [
     &[], &[], &[],
     &[ // 819, `list tc`
+        Row { key: "Kind", word: "", style: Style::Value, with: "", left: LeftOut::Never },
         Row { key: "Stats", word: "", style: Style::Statistics, with: "", left: LeftOut::Never },
         Row { key: "Rate", word: "estimator", style: Style::Value, with: "", left: LeftOut::Never },
+        Row { key: "Fcnt", word: "", style: Style::Value, with: "", left: LeftOut::Never },
         Row { key: "Stats2", word: "", style: Style::Statistics, with: "", left: LeftOut::Never },
         Row { key: "Stab", word: "stab", style: Style::Value, with: "", left: LeftOut::Never },
         Row { key: "Pad", word: "", style: Style::Value, with: "", left: LeftOut::Always },
@@ -20,12 +22,16 @@ static ROWS_OF_MESSAGE: [&'static [Row<'static>]; 11] = [
         Row { key: "HwOffload", word: "|offloaded", style: Style::Choice, with: "", left: LeftOut::Equal(0) },
         Row { key: "IngressBlock", word: "ingress_block", style: Style::Value, with: "", left: LeftOut::Never },
         Row { key: "EgressBlock", word: "egress_block", style: Style::Value, with: "", left: LeftOut::Never },
+        Row { key: "DumpFlags", word: "", style: Style::Value, with: "", left: LeftOut::Never },
+        Row { key: "ExtWarnMsg", word: "", style: Style::Value, with: "", left: LeftOut::Never },
         Row { key: "OptionsRaw", word: "", style: Style::Bytes, with: "", left: LeftOut::Never },
         Row { key: "Xstats", word: "", style: Style::Statistics, with: "", left: LeftOut::Never },
     ],
     &[ // 820, `list tc`: the rows of all kinds
+        Row { key: "Kind", word: "", style: Style::Value, with: "", left: LeftOut::Never },
         Row { key: "Stats", word: "", style: Style::Statistics, with: "", left: LeftOut::Never },
         Row { key: "Rate", word: "estimator", style: Style::Value, with: "", left: LeftOut::Never },
+        Row { key: "Fcnt", word: "", style: Style::Value, with: "", left: LeftOut::Never },
         Row { key: "Stats2", word: "", style: Style::Statistics, with: "", left: LeftOut::Never },
         Row { key: "Stab", word: "stab", style: Style::Value, with: "", left: LeftOut::Never },
         Row { key: "Pad", word: "", style: Style::Value, with: "", left: LeftOut::Always },
@@ -34,6 +40,8 @@ static ROWS_OF_MESSAGE: [&'static [Row<'static>]; 11] = [
         Row { key: "HwOffload", word: "|offloaded", style: Style::Choice, with: "", left: LeftOut::Equal(0) },
         Row { key: "IngressBlock", word: "ingress_block", style: Style::Value, with: "", left: LeftOut::Never },
         Row { key: "EgressBlock", word: "egress_block", style: Style::Value, with: "", left: LeftOut::Never },
+        Row { key: "DumpFlags", word: "", style: Style::Value, with: "", left: LeftOut::Never },
+        Row { key: "ExtWarnMsg", word: "", style: Style::Value, with: "", left: LeftOut::Never },
     ],
     &[ // 821, `list tc`: the rows of other kinds
         Row { key: "OptionsRaw", word: "", style: Style::Bytes, with: "", left: LeftOut::Never },
@@ -56,9 +64,11 @@ pub(crate) fn rows_of_message() -> &'static [&'static [Row<'static>]]
 
 // `list tc`, with statistics
 #[rattlefmt::skip]
-static DETAILS_AT_819: [Row<'static>; 12] = [
+static DETAILS_AT_819: [Row<'static>; 16] = [
+    Row { key: "Kind", word: "", style: Style::Value, with: "", left: LeftOut::Never },
     Row { key: "Stats", word: "", style: Style::Statistics, with: "", left: LeftOut::Never },
     Row { key: "Rate", word: "estimator", style: Style::Value, with: "", left: LeftOut::Never },
+    Row { key: "Fcnt", word: "", style: Style::Value, with: "", left: LeftOut::Never },
     Row { key: "Stats2", word: "", style: Style::Statistics, with: "", left: LeftOut::Never },
     Row { key: "Stab", word: "stab", style: Style::Value, with: "", left: LeftOut::Never },
     Row { key: "Pad", word: "", style: Style::Value, with: "", left: LeftOut::Always },
@@ -67,6 +77,8 @@ static DETAILS_AT_819: [Row<'static>; 12] = [
     Row { key: "HwOffload", word: "|offloaded", style: Style::Choice, with: "", left: LeftOut::Equal(0) },
     Row { key: "IngressBlock", word: "ingress_block", style: Style::Value, with: "", left: LeftOut::Never },
     Row { key: "EgressBlock", word: "egress_block", style: Style::Value, with: "", left: LeftOut::Never },
+    Row { key: "DumpFlags", word: "", style: Style::Value, with: "", left: LeftOut::Never },
+    Row { key: "ExtWarnMsg", word: "", style: Style::Value, with: "", left: LeftOut::Never },
     Row { key: "OptionsRaw", word: "", style: Style::Bytes, with: "", left: LeftOut::Never },
     Row { key: "Xstats", word: "", style: Style::Statistics, with: "", left: LeftOut::Never },
 ];
@@ -80,9 +92,11 @@ pub(crate) fn details_at_819() -> &'static [Row<'static>]
 
 // `list tc`: the rows of all kinds, with statistics
 #[rattlefmt::skip]
-static DETAILS_AT_820: [Row<'static>; 10] = [
+static DETAILS_AT_820: [Row<'static>; 14] = [
+    Row { key: "Kind", word: "", style: Style::Value, with: "", left: LeftOut::Never },
     Row { key: "Stats", word: "", style: Style::Statistics, with: "", left: LeftOut::Never },
     Row { key: "Rate", word: "estimator", style: Style::Value, with: "", left: LeftOut::Never },
+    Row { key: "Fcnt", word: "", style: Style::Value, with: "", left: LeftOut::Never },
     Row { key: "Stats2", word: "", style: Style::Statistics, with: "", left: LeftOut::Never },
     Row { key: "Stab", word: "stab", style: Style::Value, with: "", left: LeftOut::Never },
     Row { key: "Pad", word: "", style: Style::Value, with: "", left: LeftOut::Always },
@@ -91,6 +105,8 @@ static DETAILS_AT_820: [Row<'static>; 10] = [
     Row { key: "HwOffload", word: "|offloaded", style: Style::Choice, with: "", left: LeftOut::Equal(0) },
     Row { key: "IngressBlock", word: "ingress_block", style: Style::Value, with: "", left: LeftOut::Never },
     Row { key: "EgressBlock", word: "egress_block", style: Style::Value, with: "", left: LeftOut::Never },
+    Row { key: "DumpFlags", word: "", style: Style::Value, with: "", left: LeftOut::Never },
+    Row { key: "ExtWarnMsg", word: "", style: Style::Value, with: "", left: LeftOut::Never },
 ];
 
 #[tactic(auto, unfolding(crate::specs::Arrays::details_at_820))]

@@ -35,6 +35,7 @@ pub(crate) fn rows_of_qdiscs_atm() -> &'static [&'static [Row<'static>]]
 #[rattlefmt::skip]
 static ROWS_OF_QDISCS_CAKE: [&'static [Row<'static>]; 10] = [
     &[ // 864, `list cake`
+        Row { key: "Cake", word: "", style: Style::Value, with: "", left: LeftOut::Never },
         Row { key: "Pad", word: "", style: Style::Value, with: "", left: LeftOut::Always },
         Row { key: "BaseRate64", word: "bandwidth", style: Style::Value, with: "", left: LeftOut::Never },
         Row { key: "DiffservMode", word: "", style: Style::Alone, with: "", left: LeftOut::Never },
@@ -42,6 +43,7 @@ static ROWS_OF_QDISCS_CAKE: [&'static [Row<'static>]; 10] = [
         Row { key: "FlowMode", word: "flowblind|srchost|dsthost|hosts|flows|dual-srchost|dual-dsthost|triple-isolate", style: Style::Choice, with: "", left: LeftOut::Never },
         Row { key: "Overhead", word: "overhead", style: Style::Value, with: "", left: LeftOut::Never },
         Row { key: "Rtt", word: "rtt", style: Style::Value, with: "", left: LeftOut::Never },
+        Row { key: "Target", word: "", style: Style::Value, with: "", left: LeftOut::Never },
         Row { key: "Autorate", word: "|autorate-ingress", style: Style::Choice, with: "", left: LeftOut::Equal(0) },
         Row { key: "Memory", word: "memlimit", style: Style::Value, with: "", left: LeftOut::Equal(0) },
         Row { key: "Nat", word: "nonat|nat", style: Style::Choice, with: "", left: LeftOut::Never },
@@ -63,6 +65,7 @@ static ROWS_OF_QDISCS_CAKE: [&'static [Row<'static>]; 10] = [
         Row { key: "MaxNetlen", word: "", style: Style::Value, with: "", left: LeftOut::Equal(0) },
         Row { key: "MinAdjlen", word: "", style: Style::Value, with: "", left: LeftOut::Equal(0) },
         Row { key: "MaxAdjlen", word: "", style: Style::Value, with: "", left: LeftOut::Equal(0) },
+        Row { key: "TinStats", word: "", style: Style::Value, with: "", left: LeftOut::Never },
         Row { key: "Deficit", word: "", style: Style::Value, with: "", left: LeftOut::Equal(0) },
         Row { key: "CobaltCount", word: "", style: Style::Value, with: "", left: LeftOut::Equal(0) },
         Row { key: "Dropping", word: "", style: Style::Value, with: "", left: LeftOut::Equal(0) },
@@ -370,6 +373,7 @@ pub(crate) fn rows_of_qdiscs_fifo() -> &'static [&'static [Row<'static>]]
 #[rattlefmt::skip]
 static ROWS_OF_QDISCS_FQ: [&'static [Row<'static>]; 6] = [
     &[ // 1104, `list fq`
+        Row { key: "Fq", word: "", style: Style::Value, with: "", left: LeftOut::Never },
         Row { key: "Plimit", word: "limit", style: Style::Value, with: "", left: LeftOut::Never },
         Row { key: "FlowPlimit", word: "flow_limit", style: Style::Value, with: "", left: LeftOut::Never },
         Row { key: "Quantum", word: "quantum", style: Style::Value, with: "", left: LeftOut::Never },
@@ -404,6 +408,7 @@ static ROWS_OF_QDISCS_FQ: [&'static [Row<'static>]; 6] = [
         Row { key: "ce_mark", word: "", style: Style::Value, with: "", left: LeftOut::Equal(0) },
         Row { key: "horizon_drops", word: "", style: Style::Value, with: "", left: LeftOut::Equal(0) },
         Row { key: "horizon_caps", word: "", style: Style::Value, with: "", left: LeftOut::Equal(0) },
+        Row { key: "since_6_7", word: "", style: Style::Value, with: "", left: LeftOut::Never },
     ],
     &[ // 1106, `struct fq_stats_6_7`
         Row { key: "fastpath_packets", word: "", style: Style::Value, with: "", left: LeftOut::Equal(0) },
@@ -428,6 +433,7 @@ pub(crate) fn rows_of_qdiscs_fq() -> &'static [&'static [Row<'static>]]
 #[rattlefmt::skip]
 static ROWS_OF_QDISCS_FQ_CODEL: [&'static [Row<'static>]; 7] = [
     &[ // 1128, `list fq_codel`
+        Row { key: "FqCodel", word: "", style: Style::Value, with: "", left: LeftOut::Never },
         Row { key: "Target", word: "target", style: Style::Value, with: "", left: LeftOut::Never },
         Row { key: "Limit", word: "limit", style: Style::Value, with: "", left: LeftOut::Never },
         Row { key: "Interval", word: "interval", style: Style::Value, with: "", left: LeftOut::Never },
@@ -438,6 +444,7 @@ static ROWS_OF_QDISCS_FQ_CODEL: [&'static [Row<'static>]; 7] = [
         Row { key: "DropBatchSize", word: "drop_batch", style: Style::Value, with: "", left: LeftOut::Never },
         Row { key: "MemoryLimit", word: "memory_limit", style: Style::Value, with: "", left: LeftOut::Never },
         Row { key: "CeThresholdSelector", word: "ce_threshold_selector", style: Style::Mask, with: "CeThresholdMask", left: LeftOut::Never },
+        Row { key: "CeThresholdMask", word: "", style: Style::Value, with: "", left: LeftOut::Never },
     ],
     &[],
     &[ // 1130, `struct tc_fq_codel_qd_stats`
@@ -479,6 +486,7 @@ pub(crate) fn rows_of_qdiscs_fq_codel() -> &'static [&'static [Row<'static>]]
 #[rattlefmt::skip]
 static ROWS_OF_QDISCS_FQ_PIE: [&'static [Row<'static>]; 5] = [
     &[ // 1152, `list fq_pie`
+        Row { key: "FqPie", word: "", style: Style::Value, with: "", left: LeftOut::Never },
         Row { key: "Limit", word: "limit", style: Style::Value, with: "", left: LeftOut::Never },
         Row { key: "Flows", word: "flows", style: Style::Value, with: "", left: LeftOut::Never },
         Row { key: "Target", word: "target", style: Style::Value, with: "", left: LeftOut::Never },
@@ -529,12 +537,20 @@ static ROWS_OF_QDISCS_GRED: [&'static [Row<'static>]; 6] = [
         Row { key: "Limit", word: "limit", style: Style::Value, with: "", left: LeftOut::Never },
     ],
     &[ // 1177, `struct tc_gred_qopt`
+        Row { key: "limit", word: "", style: Style::Value, with: "", left: LeftOut::Never },
+        Row { key: "qth_min", word: "", style: Style::Value, with: "", left: LeftOut::Never },
+        Row { key: "qth_max", word: "", style: Style::Value, with: "", left: LeftOut::Never },
+        Row { key: "DP", word: "", style: Style::Value, with: "", left: LeftOut::Never },
         Row { key: "backlog", word: "", style: Style::Value, with: "", left: LeftOut::Equal(0) },
         Row { key: "qave", word: "", style: Style::Value, with: "", left: LeftOut::Equal(0) },
         Row { key: "forced", word: "", style: Style::Value, with: "", left: LeftOut::Equal(0) },
         Row { key: "early", word: "", style: Style::Value, with: "", left: LeftOut::Equal(0) },
         Row { key: "other", word: "", style: Style::Value, with: "", left: LeftOut::Equal(0) },
         Row { key: "pdrop", word: "", style: Style::Value, with: "", left: LeftOut::Equal(0) },
+        Row { key: "Wlog", word: "", style: Style::Value, with: "", left: LeftOut::Never },
+        Row { key: "Plog", word: "", style: Style::Value, with: "", left: LeftOut::Never },
+        Row { key: "Scell_log", word: "", style: Style::Value, with: "", left: LeftOut::Never },
+        Row { key: "prio", word: "", style: Style::Value, with: "", left: LeftOut::Never },
         Row { key: "packets", word: "", style: Style::Value, with: "", left: LeftOut::Equal(0) },
         Row { key: "bytesin", word: "", style: Style::Value, with: "", left: LeftOut::Equal(0) },
     ],
@@ -547,6 +563,7 @@ static ROWS_OF_QDISCS_GRED: [&'static [Row<'static>]; 6] = [
     &[],
     &[ // 1180, `list gred_vq`
         Row { key: "Pad", word: "", style: Style::Value, with: "", left: LeftOut::Always },
+        Row { key: "Dp", word: "", style: Style::Value, with: "", left: LeftOut::Never },
         Row { key: "StatBytes", word: "", style: Style::Value, with: "", left: LeftOut::Equal(0) },
         Row { key: "StatPackets", word: "", style: Style::Value, with: "", left: LeftOut::Equal(0) },
         Row { key: "StatBacklog", word: "", style: Style::Value, with: "", left: LeftOut::Equal(0) },
@@ -647,6 +664,7 @@ pub(crate) fn rows_of_qdiscs_hhf() -> &'static [&'static [Row<'static>]]
 #[rattlefmt::skip]
 static ROWS_OF_QDISCS_HTB: [&'static [Row<'static>]; 7] = [
     &[ // 1248, `list htb`
+        Row { key: "Htb", word: "", style: Style::Value, with: "", left: LeftOut::Never },
         Row { key: "Parms", word: "", style: Style::Flat, with: "", left: LeftOut::Never },
         Row { key: "Init", word: "", style: Style::Flat, with: "", left: LeftOut::Never },
         Row { key: "Ctab", word: "", style: Style::Bytes, with: "", left: LeftOut::Never },
@@ -790,6 +808,7 @@ static ROWS_OF_QDISCS_NETEM: [&'static [Row<'static>]; 11] = [
         Row { key: "Loss", word: "loss", style: Style::Value, with: "", left: LeftOut::Never },
         Row { key: "Rate", word: "", style: Style::Flat, with: "", left: LeftOut::Never },
         Row { key: "Ecn", word: "noecn|ecn", style: Style::Choice, with: "", left: LeftOut::Equal(0) },
+        Row { key: "Rate64", word: "", style: Style::Value, with: "", left: LeftOut::Never },
         Row { key: "Pad", word: "", style: Style::Value, with: "", left: LeftOut::Always },
         Row { key: "Latency64", word: "delay", style: Style::Value, with: "", left: LeftOut::Equal(0) },
         Row { key: "Jitter64", word: "jitter", style: Style::Value, with: "", left: LeftOut::Equal(0) },
@@ -875,6 +894,7 @@ pub(crate) fn rows_of_qdiscs_none() -> &'static [&'static [Row<'static>]]
 #[rattlefmt::skip]
 static ROWS_OF_QDISCS_PIE: [&'static [Row<'static>]; 5] = [
     &[ // 1392, `list pie`
+        Row { key: "Pie", word: "", style: Style::Value, with: "", left: LeftOut::Never },
         Row { key: "Target", word: "target", style: Style::Value, with: "", left: LeftOut::Never },
         Row { key: "Limit", word: "limit", style: Style::Value, with: "", left: LeftOut::Never },
         Row { key: "Tupdate", word: "tupdate", style: Style::Value, with: "", left: LeftOut::Never },
@@ -1150,23 +1170,30 @@ static ROWS_OF_QDISCS_TAPRIO: [&'static [Row<'static>]; 10] = [
         Row { key: "Priomap", word: "", style: Style::Flat, with: "", left: LeftOut::Never },
         Row { key: "SchedEntryList", word: "", style: Style::Flat, with: "", left: LeftOut::Never },
         Row { key: "SchedBaseTime", word: "base-time", style: Style::Value, with: "", left: LeftOut::Never },
+        Row { key: "SchedSingleEntry", word: "", style: Style::Value, with: "", left: LeftOut::Never },
         Row { key: "SchedClockid", word: "clockid", style: Style::Value, with: "", left: LeftOut::Never },
         Row { key: "Pad", word: "", style: Style::Value, with: "", left: LeftOut::Always },
+        Row { key: "AdminSched", word: "", style: Style::Value, with: "", left: LeftOut::Never },
         Row { key: "SchedCycleTime", word: "cycle-time", style: Style::Value, with: "", left: LeftOut::Never },
         Row { key: "SchedCycleTimeExtension", word: "cycle-time-extension", style: Style::Value, with: "", left: LeftOut::Never },
         Row { key: "Flags", word: "flags", style: Style::Value, with: "", left: LeftOut::Never },
         Row { key: "TxtimeDelay", word: "txtime-delay", style: Style::Value, with: "", left: LeftOut::Never },
+        Row { key: "TcEntry", word: "", style: Style::Value, with: "", left: LeftOut::Never },
     ],
     &[ // 1585, `list taprio`
+        Row { key: "Taprio", word: "", style: Style::Value, with: "", left: LeftOut::Never },
         Row { key: "Priomap", word: "", style: Style::Flat, with: "", left: LeftOut::Never },
         Row { key: "SchedEntryList", word: "", style: Style::Flat, with: "", left: LeftOut::Never },
         Row { key: "SchedBaseTime", word: "base-time", style: Style::Value, with: "", left: LeftOut::Never },
+        Row { key: "SchedSingleEntry", word: "", style: Style::Value, with: "", left: LeftOut::Never },
         Row { key: "SchedClockid", word: "clockid", style: Style::Value, with: "", left: LeftOut::Never },
         Row { key: "Pad", word: "", style: Style::Value, with: "", left: LeftOut::Always },
+        Row { key: "AdminSched", word: "", style: Style::Value, with: "", left: LeftOut::Never },
         Row { key: "SchedCycleTime", word: "cycle-time", style: Style::Value, with: "", left: LeftOut::Never },
         Row { key: "SchedCycleTimeExtension", word: "cycle-time-extension", style: Style::Value, with: "", left: LeftOut::Never },
         Row { key: "Flags", word: "flags", style: Style::Value, with: "", left: LeftOut::Never },
         Row { key: "TxtimeDelay", word: "txtime-delay", style: Style::Value, with: "", left: LeftOut::Never },
+        Row { key: "TcEntry", word: "", style: Style::Value, with: "", left: LeftOut::Never },
     ],
     &[ // 1586, `list taprio_entry_list`
         Row { key: "Entry", word: "sched-entry", style: Style::Value, with: "", left: LeftOut::Never },

@@ -17,6 +17,7 @@ static ROWS_OF_STATISTICS: [&'static [Row<'static>]; 8] = [
         Row { key: "pps", word: "", style: Style::Count, with: "", left: LeftOut::Equal(0) },
         Row { key: "qlen", word: "", style: Style::Count, with: "", left: LeftOut::Never },
         Row { key: "backlog", word: "backlog", style: Style::Count, with: "", left: LeftOut::Never },
+        Row { key: "padding", word: "", style: Style::Value, with: "", left: LeftOut::Never },
     ],
     &[ // 1657, `list stats`
         Row { key: "Basic", word: "", style: Style::Flat, with: "", left: LeftOut::Never },

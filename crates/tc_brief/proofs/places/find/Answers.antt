@@ -2,7 +2,7 @@ use Rattle.std.proofs.Common.{◌∙◌, Bor, ap, sym}
 use Rattle.std.specs.Prelude.{option_map}
 use Rattle.tc_brief.proofs.Names.{columns_named}
 use Rattle.tc_lines.specs.Columns.{CodeColumn, Column, column_view}
-use Rattle.tc_brief.proofs.walk.find.Goals as goal
+use Rattle.tc_brief.proofs.places.find.Goals as goal
 
 -- src/walk.rt:61:1
 pub returns-in-Some : goal.returns-in-Some
