@@ -3,5 +3,6 @@ pub mod Choices
 pub mod Names
 pub mod Repeats
 pub mod Stacks
-pub mod Tapes
+pub mod Texts
+pub mod Walked
 pub mod Written

@@ -1,11 +1,11 @@
 -- From the events of JSON to its leaves.
-use Rattle.std.specs.Prelude.{Bool, List, None, Option, Some, [], bytes_eq, codes, false, if◌then◌else◌, option_and_then, option_map, reverse}
+use Rattle.std.specs.Prelude.{Bool, List, None, Option, Some, [], bytes_eq, codes, false, if◌then◌else◌, option_and_then, option_map, reverse, string_bytes}
 use Rattle.std.specs.Prelude.{true, unwrap_or, ℕ, map, ◌&&◌, ◌++◌, ◌||◌, ◌∷◌, ◌≡◌}
 use Rattle.serde.specs.Event as event
 use Rattle.serde.specs.Event.{Event}
 use Rattle.serde.specs.declared.name.Case.TheVariants.{AsIs}
-use Rattle.tc_brief.specs.Leaves.{Leaf, Value, attribute, closes, interface, leaves_view, named, nothing, number, opens, raw, signed, text, truth}
-use Rattle.tc_brief.specs.Leaves.{way_view}
+use Rattle.tc_brief.specs.Kept.{leaves_in}
+use Rattle.tc_brief.specs.Leaves.{Leaf, Value, attribute, closes, interface, named, nothing, number, opens, raw, signed, text, truth, way_view}
 use Rattle.tc_brief.specs.Rows.{Row, find_row, or_row, plain_row, rows_view}
 use Rattle.tc_brief.specs.Sections.{displayed, is_actions, is_enum, is_head, is_other, is_passed, is_silent, is_stand_in, item_shape, list_shape, of_kind}
 use Rattle.tc_brief.specs.Sections.{record_shape, styled}
@@ -16,10 +16,10 @@ use Rattle.tc_brief.specs.declared.leaf.Shape.TheVariants.{Braces, Brackets, Sil
 use Rattle.tc_brief.specs.declared.row.LeftOut.TheVariants.{Never}
 use Rattle.tc_brief.specs.declared.row.Style.{Style}
 use Rattle.tc_brief.specs.declared.row.Style.TheVariants as style
-use Rattle.tc_brief.specs.declared.walk.Frame.{Frame as CodeFrame}
+use Rattle.tc_brief.specs.declared.state.Frame.{Frame as CodeFrame}
 use Rattle.tc_brief.specs.declared.places.Own.{Own}
 use Rattle.tc_brief.specs.declared.places.Places.{Places}
-use Rattle.tc_brief.specs.declared.walk.Walk.{Walk}
+use Rattle.tc_brief.specs.declared.state.Walk.{Walk}
 use Rattle.tc_lines.specs.Columns.{Table, column_of, columns_view, is_nested, place_in}
 use Rattle.tc_lines.specs.Lines.{NONE, companion_by, says_block}
 use Rattle.tc_lines.specs.declared.column.Display.{Display}
@@ -27,12 +27,12 @@ use Rattle.tc_lines.specs.declared.column.Display.TheVariants as display
 use Rattle.tc_lines.specs.declared.column.InfoOf.TheVariants.{Pref}
 use Rattle.tc_units.specs.Names.{Name, number_of}
 
--- an open record or list: the place of its columns, that of its list's without a kind, its name, the section of its
--- leaves, how it is written, whether it is a list, whether it is part of one word, and its row
+-- an open record or list: the place of its columns, that of its list's without a kind, whether it is an attribute without
+-- a row, the section of its leaves, how it is written, whether it is a list, whether it is part of one word, and its row
 pub record Frame : Type 0 where
   pub place : ℕ
   pub base : ℕ
-  pub key : List ℕ
+  pub other : Bool
   pub section : Section
   pub shape : Shape
   pub list : Bool
@@ -52,7 +52,7 @@ pub record State : Type 0 where
 
 abbrev pub first_frame : ℕ → Frame
 first_frame root =
-    record { place = root; base = root; key = []; section = section.Words; shape = Silent; list = false; inside = false; row = plain_row }
+    record { place = root; base = root; other = false; section = section.Words; shape = Silent; list = false; inside = false; row = plain_row }
 
 -- before a message with the columns at a place
 abbrev pub start : ℕ → State
@@ -127,7 +127,7 @@ within list shape s f =
     record {
       place = place_within s.display;
       base = place_within s.display;
-      key = s.key;
+      other = is_other s.key;
       section = section_in f s.key s.display s.row.style;
       shape = shape;
       list = list;
@@ -239,7 +239,7 @@ module _ (t : Table) where
   other_leaf stats e s f = plain_leaf stats e s f
 
   abbrev pub take_leaf : Bool → Event → State → Frame → State
-  take_leaf stats e s f = if is_other f.key then other_leaf stats e s f else plain_leaf stats e s f
+  take_leaf stats e s f = if f.other then other_leaf stats e s f else plain_leaf stats e s f
 
   abbrev pub new_key : (ℕ → List Row) → List ℕ → State → Frame → State
   new_key rows key s f = record s { key = key; display = display_at s.companion f key; row = row_at rows f key }
@@ -281,7 +281,7 @@ frame_view f =
     record {
       place = f.place;
       base = f.base;
-      key = f.key.now;
+      other = f.other;
       section = f.section;
       shape = f.shape;
       list = f.list;
@@ -296,13 +296,13 @@ abbrev pub option_list : {A : Type 0} → Option A → List A
 option_list None = []
 option_list (Some x) = x ∷ []
 
-abbrev pub state_of : Walk → State
-state_of w =
+abbrev pub state_of : Table → Walk → State
+state_of t w =
     record {
-      out = leaves_view w.out.items;
+      out = leaves_in t (string_bytes w.texts) w.out.items;
       frames = frame_view w.top ∷ stack_of w.around.items;
       companion = w.companion;
-      key = w.key.now;
+      key = string_bytes w.key;
       display = w.display;
       row = way_view w.way;
       word = w.word;

@@ -14,6 +14,8 @@
 #![tactic(auto)]
 
 mod error;
+mod events;
+mod kept;
 mod leaf;
 mod line;
 mod named;
@@ -22,7 +24,7 @@ mod parts;
 mod places;
 mod row;
 mod sections;
-mod tape;
+mod state;
 mod values;
 mod walk;
 mod words;

@@ -20,14 +20,14 @@ ghost use Rattle.tc_texts.specs.Handle.{handle_of};
 ghost use Rattle.tc_units.specs.Names.{name_of, names_view};
 
 use crate::error::BriefError;
+use crate::events::walk_of;
+use crate::kept::leaves_in;
 use crate::leaf::{Leaf, Section, Value};
 use crate::named::is_same;
 use crate::numbers::put_signed;
 use crate::parts::{Line, Scope, bare, count_in, is_in, tells};
 use crate::row::Words;
-use crate::tape::tape_of;
 use crate::values::{depth_after, is_left_out, is_opening, number_in, put_interface};
-use crate::walk::leaves_of;
 use forms_json::{Form, Tables};
 use std::alloc::{AllocError, Global};
 use tc_lines::{Columns, Display, InfoOf};
@@ -830,8 +830,8 @@ pub fn lines_of<T: Tables, C: Columns + Drop, W: Words + Drop>(
         × (leaves (C.table (C.options columns)) said.now.statistics W.rows (C.options columns).root (events (shown_of (T.parts_of table) form bytes.now)) ≡ Some found)
         × (text.items ≡ message_lines (said_view said.now) found)) }
 {
-    let tape = tape_of(alloc, table, form, bytes)?;
-    let found = leaves_of(alloc, said.statistics, &columns, &words, &tape)?;
+    let walk = walk_of(alloc, table, form, columns, words, said.statistics, bytes)?;
+    let found = leaves_in(alloc, &columns, walk.texts.as_str(), &walk.out)?;
     let mut line = Line {
         text: Vec::with_capacity(alloc, 256)?,
         word: Vec::with_capacity(alloc, 64)?,

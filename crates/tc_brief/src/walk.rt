@@ -1,59 +1,30 @@
 //! From the events of JSON to its leaves.
 
-ghost use Rattle.std.specs.Prelude.{IfOk, MatchOption, OnOk, Some, [], option_map, ◌++◌, ◌∷◌, ◌≡◌};
+ghost use Rattle.std.specs.Prelude.{MatchOption, OnOk, IfOk, Some, [], length, string_bytes, ◌∷◌, ◌≡◌};
+ghost use Rattle.tc_lines.specs.Columns.{Table};
 ghost use Rattle.tc_lines.specs.Lines.{companion_by, says_block};
 ghost use Rattle.tc_units.specs.Names.{names_view};
-ghost use Rattle.tc_brief.specs.Leaves.{leaf_view, leaves_view, value_view};
-ghost use Rattle.tc_brief.specs.Tape.{event_of, events_of};
-ghost use Rattle.tc_brief.specs.Walk.{close_map, close_seq, closing, frame_view, kept, leaf_of, leaves, names_in, note, number_value, open_map, open_seq};
-ghost use Rattle.tc_brief.specs.Walk.{opened, opening, option_list, other_leaf, passed, place_within, plain_leaf, rest_of, section_in, stack_of, start};
-ghost use Rattle.tc_brief.specs.Walk.{state_of, step, take_key, take_leaf, taken, text_number, text_value, value_of, AreOwn};
+ghost use Rattle.tc_brief.specs.Events.{event_of, text_in};
+ghost use Rattle.tc_brief.specs.Kept.{text_size, value_in};
+ghost use Rattle.tc_brief.specs.Walk.{close_map, close_seq, frame_view, names_in, note, number_value, open_map, open_seq, opened, other_leaf, passed};
+ghost use Rattle.tc_brief.specs.Walk.{place_within, plain_leaf, rest_of, section_in, stack_of, start, state_of, step, take_key, take_leaf, taken};
+ghost use Rattle.tc_brief.specs.Walk.{text_number, text_value, value_of, AreOwn};
 
 use crate::error::BriefError;
-use crate::leaf::{Leaf, Section, Shape, Value, Way};
+use crate::events::Token;
+use crate::kept::{Kept, KeptValue, append};
+use crate::leaf::{Section, Shape};
 use crate::places::{NONE, Places, begin_way, display_at, plain_way, way_at};
 use crate::row::{Style, Words};
 use crate::sections::{displayed, is_actions, is_enum, is_head, is_other, is_passed, is_silent, is_stand_in, item_shape, list_shape, of_kind};
 use crate::sections::{record_shape, styled};
-use crate::tape::{Tape, Token};
+use crate::state::{Frame, Walk};
 use std::alloc::{AllocError, Global};
 use tc_lines::{Columns, Display, InfoOf};
 use tc_units::{Name, number_of};
 
-/// An open record or list.
-#[derive(Clone, Copy)]
-pub(crate) struct Frame<'t> {
-    // The place of its columns, and that of its list's without a kind.
-    pub place: usize,
-    pub base: usize,
-    pub key: &'t str,
-    pub section: Section,
-    pub shape: Shape,
-    pub list: bool,
-    // True if it is part of one word.
-    pub inside: bool,
-    pub way: Way,
-}
-
-/// The state between events.
-#[derive(Drop)]
-pub(crate) struct Walk<'t> {
-    pub out: Vec<Leaf<'t>>,
-    // The innermost open record or list, and those around it, innermost last.
-    pub top: Frame<'t>,
-    pub around: Vec<Frame<'t>>,
-    // The place of the columns that are looked up first: those of the last leaf's companion.
-    pub companion: usize,
-    // The name, display and way of the next value.
-    pub key: &'t str,
-    pub display: Display,
-    pub way: Way,
-    // The last `nla_type` of an attribute without a row.
-    pub word: u64,
-}
-
 // The section of a member with this name, display and style.
-fn section_in(frame: &Frame<'_>, key: &str, display: &Display, style: Style) -> Section
+fn section_in(frame: &Frame, key: &str, display: &Display, style: Style) -> Section
     ensures { result ≡ section_in (frame_view frame.now) key.now display.now style }
 {
     if frame.inside {
@@ -103,22 +74,37 @@ fn text_number<C: Columns>(columns: &C, display: &Display, text: &str) -> Option
     }
 }
 
-fn text_value<'t, C: Columns>(columns: &C, display: &Display, text: &'t str) -> Value<'t>
-    ensures { value_view result ≡ text_value display.now text.now (text_number (C.table (C.options columns.now)) display.now text.now) }
+// The name of a value, unless it is an item of a list.
+fn unless<'k>(list: bool, key: &'k str) -> &'k str
+    ensures { result.now ≡ (if list then [] else key.now) }
+{
+    if list {
+        return "";
+    }
+    key
+}
+
+// A text, as its column says.
+fn text_value<C: Columns>(columns: &C, display: &Display, text: &str) -> KeptValue
+    ensures value { value_in (C.table (C.options columns.now)) text.now result
+        ≡ text_value display.now text.now (text_number (C.table (C.options columns.now)) display.now text.now) }
+    ensures size { text_size result ≡ length text.now }
 {
     match text_number(columns, display, text) {
-        Some(n) => Value::Named(text, n),
-        None if is_enum(display) => Value::Raw(text),
-        None => Value::Text(text),
+        Some(n) => KeptValue::Named(text.len(), n),
+        None if is_enum(display) => KeptValue::Raw(text.len()),
+        None => KeptValue::Text(text.len()),
     }
 }
 
-fn number_value<'t, C: Columns>(columns: &'t C, display: &Display, n: u64) -> Value<'t>
-    ensures { value_view result ≡ number_value (C.table (C.options columns.now)) display.now n }
+// A number, as its column says.
+fn number_value(display: &Display, n: u64) -> KeptValue
+    ensures value { (t : Table) (texts : List ℕ) → value_in t texts result ≡ number_value t display.now n }
+    ensures size { text_size result ≡ 0 }
 {
     match display {
-        Display::Interface | Display::Index(_) => Value::Interface(n, columns.interface(n)),
-        _ => Value::Unsigned(n),
+        Display::Interface | Display::Index(_) => KeptValue::Interface(n),
+        _ => KeptValue::Unsigned(n),
     }
 }
 
@@ -144,23 +130,36 @@ fn says_block(token: &Token<'_>) -> bool
     }
 }
 
-// The value of a token, as its column says.
-fn value_of<'t, C: Columns>(columns: &'t C, display: &Display, token: &Token<'t>) -> Value<'t>
-    ensures { value_view result ≡ value_of (C.table (C.options columns.now)) display.now (event_of token.now) }
+// The text of a token.
+#[inline(always)]
+fn text_of<'t>(token: &Token<'t>) -> &'t str
+    ensures { result.now ≡ text_in token.now }
 {
     match token {
-        Token::Bool(b) => Value::Bool(*b),
-        Token::Unsigned(n) => number_value(columns, display, *n),
-        Token::Signed(z) => Value::Signed(*z),
+        Token::Text(text) => *text,
+        _ => "",
+    }
+}
+
+// The value of a token, as its column says.
+fn value_of<C: Columns>(columns: &C, display: &Display, token: &Token<'_>) -> KeptValue
+    ensures value { value_in (C.table (C.options columns.now)) (text_in token.now) result
+        ≡ value_of (C.table (C.options columns.now)) display.now (event_of token.now) }
+    ensures size { text_size result ≡ length (text_in token.now) }
+{
+    match token {
+        Token::Bool(b) => KeptValue::Bool(*b),
+        Token::Unsigned(n) => number_value(display, *n),
+        Token::Signed(z) => KeptValue::Signed(*z),
         Token::Text(text) => text_value(columns, display, *text),
-        _ => Value::Null,
+        _ => KeptValue::Null,
     }
 }
 
 // Opens a record or list.
 #[tactic(auto, using(crate::proofs::Stacks::reverse_snoc))]
-fn push<'t>(frames: &mut Vec<Frame<'t>>, frame: Frame<'t>) -> Result<(), AllocError>
-    ensures { OnOk result (stack_of frames.new.items ≡ frame_view frame.entry ∷ stack_of frames.old.items) }
+fn push(frames: &mut Vec<Frame>, frame: Frame) -> Result<(), AllocError>
+    ensures { OnOk result (stack_of frames.new.items ≡ frame_view frame ∷ stack_of frames.old.items) }
 {
     frames.push(frame)?;
     Ok(())
@@ -168,7 +167,7 @@ fn push<'t>(frames: &mut Vec<Frame<'t>>, frame: Frame<'t>) -> Result<(), AllocEr
 
 // Removes and returns the innermost.
 #[tactic(auto, using(crate::proofs::Stacks::reverse_snoc))]
-fn pop<'t>(frames: &mut Vec<Frame<'t>>) -> Option<Frame<'t>>
+fn pop(frames: &mut Vec<Frame>) -> Option<Frame>
     ensures { MatchOption result ((stack_of frames.old.items ≡ []) × (stack_of frames.new.items ≡ []))
         (λ f. stack_of frames.old.items ≡ frame_view f ∷ stack_of frames.new.items) }
 {
@@ -176,7 +175,7 @@ fn pop<'t>(frames: &mut Vec<Frame<'t>>) -> Option<Frame<'t>>
 }
 
 // After a kind, the items after it have its columns.
-fn note<C: Columns>(columns: &C, token: &Token<'_>, display: &Display, frame: &mut Frame<'_>)
+fn note<C: Columns>(columns: &C, token: &Token<'_>, display: &Display, frame: &mut Frame)
     ensures { frame_view frame.new ≡ note (C.table (C.options columns.now)) (event_of token.now) display.now (frame_view frame.old) }
 {
     if let (Display::Kind, Token::Text(name)) = (display, token) {
@@ -184,44 +183,19 @@ fn note<C: Columns>(columns: &C, token: &Token<'_>, display: &Display, frame: &m
     }
 }
 
-// The end of a record or list.
-fn closing<'t>(frame: &Frame<'t>) -> Option<Leaf<'t>>
-    ensures { option_list (option_map leaf_view result) ≡ closing (frame_view frame.now) }
-{
-    if is_silent(frame.shape) {
-        return None;
-    }
-    Some(Leaf {
-        key: "",
-        way: plain_way(),
-        display: Display::Plain,
-        names: &[],
-        section: frame.section,
-        value: Value::Closes(frame.shape),
-    })
-}
-
-// Appends a leaf, if there is one.
-fn put<'t>(out: &mut Vec<Leaf<'t>>, leaf: Option<Leaf<'t>>) -> Result<(), AllocError>
-    ensures { OnOk result (leaves_view out.new.items ≡ leaves_view out.old.items ++ option_list (option_map leaf_view leaf.entry)) }
-{
-    if let Some(leaf) = leaf {
-        out.push(leaf)?;
-    }
-    Ok(())
-}
-
-impl<'t> Walk<'t> {
-    // Before a message with the columns of `root`.
-    fn new(alloc: Global, root: usize, room: usize) -> Result<Walk<'t>, AllocError>
-        ensures { IfOk result (λ w. state_of w ≡ start root) }
+impl Walk {
+    /// Before a message with the columns of `root`.
+    pub(crate) fn new(alloc: Global, root: usize, room: usize) -> Result<Walk, AllocError>
+        ensures { IfOk result (λ w. (t : Table) → state_of t w ≡ start root) }
     {
-        let out = Vec::with_capacity(alloc, room)?;
-        let around = Vec::with_capacity(alloc, 8)?;
+        let out = Vec::with_capacity(alloc, 64)?;
+        let around = Vec::with_capacity(alloc, 16)?;
+        let mut texts = String::new(alloc);
+        texts.reserve(room)?;
         let top = Frame {
             place: root,
             base: root,
-            key: "",
+            other: false,
             section: Section::Words,
             shape: Shape::Silent,
             list: false,
@@ -230,10 +204,11 @@ impl<'t> Walk<'t> {
         };
         Ok(Walk {
             out,
+            texts,
             top,
             around,
             companion: NONE,
-            key: "",
+            key: String::new(alloc),
             display: Display::Inline(root),
             way: plain_way(),
             word: 0,
@@ -246,61 +221,67 @@ impl<'t> Walk<'t> {
         columns: &C,
         words: &W,
         places: &mut Places,
-        key: &'t str,
-    )
-        requires { AreOwn (C.table (C.options columns.now)) W.rows places.old }
-        ensures state { state_of self.new ≡ take_key (C.table (C.options columns.now)) W.rows key.now (state_of self.old) (frame_view self.old.top) }
+        key: &str,
+    ) -> Result<(), AllocError>
+        requires own { AreOwn (C.table (C.options columns.now)) W.rows places.old }
+        ensures state { OnOk result (state_of (C.table (C.options columns.now)) self.new
+            ≡ take_key (C.table (C.options columns.now)) W.rows key.now (state_of (C.table (C.options columns.now)) self.old) (frame_view self.old.top)) }
         ensures own { AreOwn (C.table (C.options columns.now)) W.rows places.new }
     {
         if is_enum(&self.display) && is_stand_in(key) {
-            return;
+            return Ok(());
         }
         places.turn(columns, words, self.top.place);
         let base = self.top.base;
-        self.key = key;
         self.display = display_at(columns, self.companion, &places.own, base, key);
         self.way = way_at(words, &places.own, base, &self.top.way, key);
+        self.key.clear();
+        self.key.push_str(key)?;
+        Ok(())
     }
 
-    // The next value, which has no contents.
-    fn leaf_of<C: Columns>(&self, columns: &C, value: Value<'t>) -> Leaf<'t>
-        ensures { leaf_view result ≡ leaf_of (C.table (C.options columns.now)) (state_of self.now) (frame_view self.now.top) (value_view value.entry) }
+    // Appends the next value, which has no contents, unless it is of statistics that aren't asked for.
+    fn keep<C: Columns>(
+        &mut self,
+        counted: bool,
+        columns: &C,
+        value: KeptValue,
+        text: &str,
+    ) -> Result<(), AllocError>
+        requires { text_size value ≡ length text.now }
+        ensures { OnOk result (state_of (C.table (C.options columns.now)) self.new
+            ≡ record (state_of (C.table (C.options columns.now)) self.old) {
+                out = (state_of (C.table (C.options columns.now)) self.old).out ++ kept counted (leaf_of (C.table (C.options columns.now))
+                    (state_of (C.table (C.options columns.now)) self.old) (frame_view self.old.top) (value_in (C.table (C.options columns.now)) text.now value)) }) }
     {
-        Leaf {
-            key: if self.top.list { "" } else { self.key },
+        let section = section_in(&self.top, self.key.as_str(), &self.display, self.way.style);
+        if is_passed(counted, section) {
+            return Ok(());
+        }
+        let key = unless(self.top.list, self.key.as_str());
+        let leaf = Kept {
+            key: key.len(),
             way: self.way,
             display: self.display,
             names: names_in(columns, &self.display),
-            section: section_in(&self.top, self.key, &self.display, self.way.style),
+            section,
             value,
-        }
-    }
-
-    // Appends a leaf, unless it is of statistics that aren't asked for.
-    #[inline(always)]
-    fn keep(&mut self, counted: bool, leaf: Leaf<'t>) -> Result<(), AllocError>
-        ensures { OnOk result (state_of self.new ≡ record (state_of self.old) { out = (state_of self.old).out ++ kept counted (leaf_view leaf.entry) }) }
-    {
-        if is_passed(counted, leaf.section) {
-            return Ok(());
-        }
-        self.out.push(leaf)?;
-        Ok(())
+        };
+        append(&mut self.out, &mut self.texts, leaf, key, text)
     }
 
     // A leaf with a name of its own.
     fn plain_leaf<C: Columns>(
         &mut self,
         counted: bool,
-        columns: &'t C,
-        token: &Token<'t>,
+        columns: &C,
+        token: &Token<'_>,
     ) -> Result<(), AllocError>
-        ensures { OnOk result (state_of self.new
-            ≡ plain_leaf (C.table (C.options columns.now)) counted (event_of token.now) (state_of self.old) (frame_view self.old.top)) }
+        ensures { OnOk result (state_of (C.table (C.options columns.now)) self.new
+            ≡ plain_leaf (C.table (C.options columns.now)) counted (event_of token.now) (state_of (C.table (C.options columns.now)) self.old) (frame_view self.old.top)) }
     {
         let value = value_of(columns, &self.display, token);
-        let leaf = self.leaf_of(columns, value);
-        self.keep(counted, leaf)?;
+        self.keep(counted, columns, value, text_of(token))?;
         let before = if is_head(self.top.section) {
             self.companion
         } else {
@@ -315,11 +296,11 @@ impl<'t> Walk<'t> {
     fn other_leaf<C: Columns>(
         &mut self,
         counted: bool,
-        columns: &'t C,
-        token: &Token<'t>,
+        columns: &C,
+        token: &Token<'_>,
     ) -> Result<(), AllocError>
-        ensures { OnOk result (state_of self.new
-            ≡ other_leaf (C.table (C.options columns.now)) counted (event_of token.now) (state_of self.old) (frame_view self.old.top)) }
+        ensures { OnOk result (state_of (C.table (C.options columns.now)) self.new
+            ≡ other_leaf (C.table (C.options columns.now)) counted (event_of token.now) (state_of (C.table (C.options columns.now)) self.old) (frame_view self.old.top)) }
     {
         match token {
             Token::Unsigned(n) => {
@@ -327,9 +308,8 @@ impl<'t> Walk<'t> {
                 Ok(())
             }
             Token::Text(text) => {
-                let value = Value::Attribute(self.word, *text);
-                let leaf = self.leaf_of(columns, value);
-                self.keep(counted, leaf)
+                let value = KeptValue::Attribute(self.word, text.len());
+                self.keep(counted, columns, value, *text)
             }
             _ => self.plain_leaf(counted, columns, token),
         }
@@ -339,57 +319,82 @@ impl<'t> Walk<'t> {
     fn take_leaf<C: Columns>(
         &mut self,
         counted: bool,
-        columns: &'t C,
-        token: &Token<'t>,
+        columns: &C,
+        token: &Token<'_>,
     ) -> Result<(), AllocError>
-        ensures { OnOk result (state_of self.new
-            ≡ take_leaf (C.table (C.options columns.now)) counted (event_of token.now) (state_of self.old) (frame_view self.old.top)) }
+        ensures { OnOk result (state_of (C.table (C.options columns.now)) self.new
+            ≡ take_leaf (C.table (C.options columns.now)) counted (event_of token.now) (state_of (C.table (C.options columns.now)) self.old) (frame_view self.old.top)) }
     {
-        if is_other(self.top.key) {
+        if self.top.other {
             return self.other_leaf(counted, columns, token);
         }
         self.plain_leaf(counted, columns, token)
     }
 
-    // The beginning of a record or list, if it is a part of its own.
-    fn opening(
-        &self,
-        actions: bool,
-        key: &'t str,
-        section: Section,
-        shape: Shape,
-    ) -> Option<Leaf<'t>>
-        ensures { option_list (option_map leaf_view result) ≡ opening actions key.now (state_of self.now) section shape }
+    // Appends the beginning of actions under a word of their own: the kind of that name.
+    fn begin_actions(&mut self) -> Result<(), AllocError>
+        ensures { OnOk result ((t : Table) (key : List ℕ) (s : Section) (shape : Shape) → state_of t self.new
+            ≡ record (state_of t self.old) { out = (state_of t self.old).out ++ opening true key (state_of t self.old) s shape }) }
     {
-        if actions {
-            if self.way.row.word.is_empty() {
-                return None;
-            }
-            return Some(Leaf {
-                key: "Kind",
-                way: begin_way(),
-                display: Display::Kind,
-                names: &[],
-                section: Section::Begin,
-                value: Value::Text(self.way.row.word),
-            });
+        let word = self.way.row.word;
+        if word.is_empty() {
+            return Ok(());
         }
+        let leaf = Kept {
+            key: 4,
+            way: begin_way(),
+            display: Display::Kind,
+            names: &[],
+            section: Section::Begin,
+            value: KeptValue::Text(word.len()),
+        };
+        append(&mut self.out, &mut self.texts, leaf, "Kind", word)
+    }
+
+    // Appends the beginning of a record or list, if it is one word.
+    fn begin_word(&mut self, list: bool, section: Section, shape: Shape) -> Result<(), AllocError>
+        ensures { OnOk result ((t : Table) → state_of t self.new
+            ≡ record (state_of t self.old) { out = (state_of t self.old).out
+                ++ opening false (if list then [] else (state_of t self.old).key) (state_of t self.old) section shape }) }
+    {
         if is_silent(shape) {
-            return None;
+            return Ok(());
         }
-        Some(Leaf {
-            key,
+        let key = unless(list, self.key.as_str());
+        let leaf = Kept {
+            key: key.len(),
             way: self.way,
             display: self.display,
             names: &[],
             section,
-            value: Value::Opens(shape),
-        })
+            value: KeptValue::Opens(shape),
+        };
+        append(&mut self.out, &mut self.texts, leaf, key, "")
+    }
+
+    // Appends the end of the innermost record or list, if it is one word.
+    fn end_word(&mut self) -> Result<(), AllocError>
+        ensures { OnOk result ((t : Table) → state_of t self.new
+            ≡ record (state_of t self.old) { out = (state_of t self.old).out ++ closing (frame_view self.old.top) }) }
+    {
+        if is_silent(self.top.shape) {
+            return Ok(());
+        }
+        let leaf = Kept {
+            key: 0,
+            way: plain_way(),
+            display: Display::Plain,
+            names: &[],
+            section: self.top.section,
+            value: KeptValue::Closes(self.top.shape),
+        };
+        append(&mut self.out, &mut self.texts, leaf, "", "")
     }
 
     // Opens a record or list.
-    fn enter(&mut self, within: Frame<'t>) -> Result<(), AllocError>
-        ensures { OnOk result (state_of self.new ≡ record (state_of self.old) { frames = frame_view within.entry ∷ (state_of self.old).frames }) }
+    fn enter(&mut self, within: Frame) -> Result<(), AllocError>
+        ensures { OnOk result ((t : Table) → state_of t self.new
+            ≡ record (state_of t self.old) { frames = frame_view within ∷ (state_of t self.old).frames }) }
     {
         push(&mut self.around, self.top)?;
         self.top = within;
@@ -398,7 +403,7 @@ impl<'t> Walk<'t> {
 
     // Closes the innermost record or list.
     fn leave(&mut self) -> Result<(), BriefError>
-        ensures { OnOk result (state_of self.new ≡ record (state_of self.old) { frames = rest_of (state_of self.old).frames }) }
+        ensures { OnOk result ((t : Table) → state_of t self.new ≡ record (state_of t self.old) { frames = rest_of (state_of t self.old).frames }) }
     {
         match pop(&mut self.around) {
             Some(frame) => {
@@ -411,57 +416,59 @@ impl<'t> Walk<'t> {
 
     // Opens a record or list as the value of a name.
     fn open(&mut self, list: bool, shape: Shape) -> Result<(), AllocError>
-        ensures { OnOk result (state_of self.new ≡ opened list shape (state_of self.old) (frame_view self.old.top)) }
+        ensures { OnOk result ((t : Table) → state_of t self.new ≡ opened list shape (state_of t self.old) (frame_view self.old.top)) }
     {
-        let section = section_in(&self.top, self.key, &self.display, self.way.style);
-        let key = if self.top.list { "" } else { self.key };
-        let actions = is_actions(self.way.style);
-        let leaf = self.opening(actions, key, section, shape);
-        put(&mut self.out, leaf)?;
+        let section = section_in(&self.top, self.key.as_str(), &self.display, self.way.style);
+        if is_actions(self.way.style) {
+            self.begin_actions()?;
+        } else {
+            self.begin_word(self.top.list, section, shape)?;
+        }
         let place = place_within(&self.display);
-        self.enter(Frame {
+        let within = Frame {
             place,
             base: place,
-            key: self.key,
+            other: is_other(self.key.as_str()),
             section,
             shape,
             list,
             inside: self.top.inside || !is_silent(shape),
             way: self.way,
-        })
+        };
+        self.enter(within)
     }
 
     // Opens a record.
     fn open_map(&mut self) -> Result<(), AllocError>
-        ensures { OnOk result (state_of self.new ≡ open_map (state_of self.old) (frame_view self.old.top)) }
+        ensures { OnOk result ((t : Table) → state_of t self.new ≡ open_map (state_of t self.old) (frame_view self.old.top)) }
     {
         if !self.top.list {
-            let shape = record_shape(self.key, &self.display, self.way.style);
+            let shape = record_shape(self.key.as_str(), &self.display, self.way.style);
             return self.open(false, shape);
         }
         let shape = item_shape(self.top.shape);
-        let leaf = self.opening(false, "", self.top.section, shape);
-        put(&mut self.out, leaf)?;
-        self.enter(Frame {
+        self.begin_word(true, self.top.section, shape)?;
+        let item = Frame {
             shape,
             list: false,
             ..self.top
-        })
+        };
+        self.enter(item)
     }
 
     // Opens a list.
     fn open_seq(&mut self) -> Result<(), AllocError>
-        ensures { OnOk result (state_of self.new ≡ open_seq (state_of self.old) (frame_view self.old.top)) }
+        ensures { OnOk result ((t : Table) → state_of t self.new ≡ open_seq (state_of t self.old) (frame_view self.old.top)) }
     {
-        let shape = list_shape(self.key, &self.display, self.way.style);
+        let shape = list_shape(self.key.as_str(), &self.display, self.way.style);
         self.open(true, shape)
     }
 
     // Closes a record. After it, the items of its list have the columns of the kind in it.
     fn close_map(&mut self) -> Result<(), BriefError>
-        ensures { OnOk result (state_of self.new ≡ close_map (state_of self.old) (frame_view self.old.top)) }
+        ensures { OnOk result ((t : Table) → state_of t self.new ≡ close_map (state_of t self.old) (frame_view self.old.top)) }
     {
-        put(&mut self.out, closing(&self.top))?;
+        self.end_word()?;
         let place = self.top.place;
         self.leave()?;
         if self.top.list {
@@ -472,9 +479,9 @@ impl<'t> Walk<'t> {
 
     // Closes a list.
     fn close_seq(&mut self) -> Result<(), BriefError>
-        ensures { OnOk result (state_of self.new ≡ close_seq (state_of self.old) (frame_view self.old.top)) }
+        ensures { OnOk result ((t : Table) → state_of t self.new ≡ close_seq (state_of t self.old) (frame_view self.old.top)) }
     {
-        put(&mut self.out, closing(&self.top))?;
+        self.end_word()?;
         self.leave()
     }
 
@@ -483,21 +490,18 @@ impl<'t> Walk<'t> {
     fn taken<C: Columns, W: Words>(
         &mut self,
         counted: bool,
-        columns: &'t C,
+        columns: &C,
         words: &W,
         places: &mut Places,
-        token: &Token<'t>,
+        token: &Token<'_>,
     ) -> Result<(), AllocError>
-        requires { AreOwn (C.table (C.options columns.now)) W.rows places.old }
-        ensures state { OnOk result (state_of self.new
-            ≡ taken (C.table (C.options columns.now)) counted W.rows (event_of token.now) (state_of self.old) (frame_view self.old.top)) }
+        requires own { AreOwn (C.table (C.options columns.now)) W.rows places.old }
+        ensures state { OnOk result (state_of (C.table (C.options columns.now)) self.new
+            ≡ taken (C.table (C.options columns.now)) counted W.rows (event_of token.now) (state_of (C.table (C.options columns.now)) self.old) (frame_view self.old.top)) }
         ensures own { AreOwn (C.table (C.options columns.now)) W.rows places.new }
     {
         match token {
-            Token::Key(key) => {
-                self.take_key(columns, words, places, *key);
-                Ok(())
-            }
+            Token::Key(key) => self.take_key(columns, words, places, *key),
             Token::BeginMap => self.open_map(),
             Token::BeginSeq => self.open_seq(),
             _ => self.take_leaf(counted, columns, token),
@@ -505,31 +509,35 @@ impl<'t> Walk<'t> {
     }
 
     // The same within statistics that aren't asked for.
-    fn passed(&mut self, token: &Token<'t>) -> Result<(), AllocError>
-        ensures { OnOk result (state_of self.new ≡ passed (event_of token.now) (state_of self.old) (frame_view self.old.top)) }
+    fn passed(&mut self, token: &Token<'_>) -> Result<(), AllocError>
+        ensures { OnOk result ((t : Table) → state_of t self.new ≡ passed (event_of token.now) (state_of t self.old) (frame_view self.old.top)) }
     {
         match token {
-            Token::BeginMap | Token::BeginSeq => self.enter(Frame {
-                shape: Shape::Silent,
-                list: false,
-                ..self.top
-            }),
+            Token::BeginMap | Token::BeginSeq => {
+                let within = Frame {
+                    shape: Shape::Silent,
+                    list: false,
+                    ..self.top
+                };
+                self.enter(within)
+            }
             _ => Ok(()),
         }
     }
 
-    // One event.
+    /// One event.
     #[inline(always)]
-    fn take<C: Columns, W: Words>(
+    pub(crate) fn take<C: Columns, W: Words>(
         &mut self,
         counted: bool,
-        columns: &'t C,
+        columns: &C,
         words: &W,
         places: &mut Places,
-        token: &Token<'t>,
+        token: &Token<'_>,
     ) -> Result<(), BriefError>
-        requires { AreOwn (C.table (C.options columns.now)) W.rows places.old }
-        ensures state { OnOk result (step (C.table (C.options columns.now)) counted W.rows (event_of token.now) (state_of self.old) ≡ Some (state_of self.new)) }
+        requires own { AreOwn (C.table (C.options columns.now)) W.rows places.old }
+        ensures state { OnOk result (step (C.table (C.options columns.now)) counted W.rows (event_of token.now)
+            (state_of (C.table (C.options columns.now)) self.old) ≡ Some (state_of (C.table (C.options columns.now)) self.new)) }
         ensures own { AreOwn (C.table (C.options columns.now)) W.rows places.new }
     {
         match token {
@@ -540,32 +548,4 @@ impl<'t> Walk<'t> {
         }
         Ok(())
     }
-}
-
-/// The leaves of a message with these columns and rows, given the events of its JSON; those of statistics only if they are asked for.
-pub(crate) fn leaves_of<'t, C: Columns, W: Words>(
-    alloc: Global,
-    counted: bool,
-    columns: &'t C,
-    words: &W,
-    tape: &'t Tape,
-) -> Result<Vec<Leaf<'t>>, BriefError>
-    ensures { IfOk result (λ found. leaves (C.table (C.options columns.now)) counted W.rows (C.options columns.now).root (events_of tape.now)
-        ≡ Some (leaves_view found.items)) }
-{
-    let mut walk = Walk::new(alloc, columns.root(), tape.kept.len() / 4)?;
-    let mut places = Places::new(columns, words);
-    let mut texts = tape.texts.as_str();
-    let mut left = tape.kept.as_slice();
-    'each: while let [kept, others @ ..] = left {
-        let (token, rest) = match kept.read(texts) {
-            Some(parts) => parts,
-            None => return Err(BriefError::NotJson),
-        };
-        walk.take(counted, columns, words, &mut places, &token)?;
-        texts = rest;
-        left = others;
-    }
-    let Walk { out, .. } = walk;
-    Ok(out)
 }
