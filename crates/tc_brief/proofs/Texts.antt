@@ -3,7 +3,7 @@ use Rattle.std.proofs.Common.{◌≡◌, ◌≤◌, ◌+◌, ℕ, List, [], ◌�
 use Rattle.std.proofs.lemmas.List.{append_assoc, take-append-le, drop-append-le, length-append, length-drop}
 use Rattle.std.proofs.Math.Seq.{drop-append_seam, take-append_seam}
 use Rattle.std.specs.Prelude.{take}
-use Rattle.tc_brief.specs.Leaves.{Leaf, Value, attribute, named, raw, text}
+use Rattle.tc_brief.specs.Leaves.{Leaf, attribute, named, raw, text}
 use Rattle.tc_brief.specs.declared.kept.Kept.{Kept}
 use Rattle.tc_brief.specs.declared.kept.KeptValue.{KeptValue}
 use Rattle.tc_brief.specs.declared.kept.KeptValue.TheVariants as kept
@@ -69,4 +69,5 @@ module _ (t : Table) where
 pub sized : (texts mid new key v : List ℕ) (ks js : List Kept) (k : Kept) → mid ≡ texts ++ key → new ≡ mid ++ v → js ≡ ks ++ k ∷ []
     → sizes ks ≡ length texts → k.key ≡ length key → text_size k.value ≡ length v → sizes js ≡ length new
 sized texts mid new key v ks js k by_name by_value pushed same name value =
-    ap sizes pushed ∙ (omega (arith, sizes_append ks k, same, name, value, length-append mid v, length-append texts key, ap length by_name) ∙ sym (ap length by_value))
+    ap sizes pushed
+    ∙ (omega (arith, sizes_append ks k, same, name, value, length-append mid v, length-append texts key, ap length by_name) ∙ sym (ap length by_value))

@@ -1,5 +1,6 @@
 -- Events in sequence, and what the caller gave, which doesn't change meanwhile.
-use Rattle.std.proofs.Common.{◌≡◌, ◌++◌, ◌∷◌, [], Bool, List, None, Option, Some, ap, append_assoc, false, option_and_then, option_map, refl, subst, sym, ◌∙◌, ℕ}
+use Rattle.std.proofs.Common.{◌≡◌, ◌++◌, ◌∷◌, [], Bool, List, None, Option, Some, ap, append_assoc, false, option_and_then, refl}
+use Rattle.std.proofs.Common.{subst, ◌∙◌, ℕ}
 use Rattle.std.proofs.lemmas.Option.{none-some}
 use Rattle.forms_values.specs.Sent.{Sent}
 use Rattle.serde.specs.Event as event

@@ -12,7 +12,7 @@ use Rattle.tc_brief.specs.Sections.{record_shape, styled}
 use Rattle.tc_brief.specs.declared.leaf.Section.{Section}
 use Rattle.tc_brief.specs.declared.leaf.Section.TheVariants as section
 use Rattle.tc_brief.specs.declared.leaf.Shape.{Shape}
-use Rattle.tc_brief.specs.declared.leaf.Shape.TheVariants.{Braces, Brackets, Silent}
+use Rattle.tc_brief.specs.declared.leaf.Shape.TheVariants.{Silent}
 use Rattle.tc_brief.specs.declared.row.LeftOut.TheVariants.{Never}
 use Rattle.tc_brief.specs.declared.row.Style.{Style}
 use Rattle.tc_brief.specs.declared.row.Style.TheVariants as style
@@ -91,11 +91,15 @@ key_in f key = if f.list then [] else key
 abbrev pub begin_row : Row
 begin_row = record { key = codes "Kind"; word = []; style = style.Alone; with = []; left = Never }
 
--- the beginning of a record or list that is one word; of actions under a word of their own, the kind of that name
-abbrev pub opening : Bool → List ℕ → State → Section → Shape → List Leaf
-opening true key s sec shape =
+-- the beginning of actions under a word of their own: the kind of that name
+abbrev pub actions_opening : State → List Leaf
+actions_opening s =
     if bytes_eq s.row.word [] then []
     else record { key = codes "Kind"; row = begin_row; display = display.Kind; names = []; section = section.Begin; value = text s.row.word } ∷ []
+
+-- the beginning of actions, or of another record or list that is one word
+abbrev pub opening : Bool → List ℕ → State → Section → Shape → List Leaf
+opening true key s sec shape = actions_opening s
 opening false key s sec shape =
     if is_silent shape then []
     else record { key = key; row = s.row; display = s.display; names = []; section = sec; value = opens shape } ∷ []
@@ -217,7 +221,14 @@ module _ (t : Table) where
 
   abbrev pub leaf_of : State → Frame → Value → Leaf
   leaf_of s f v =
-      record { key = key_in f s.key; row = s.row; display = s.display; names = names_in s.display; section = section_in f s.key s.display s.row.style; value = v }
+      record {
+        key = key_in f s.key;
+        row = s.row;
+        display = s.display;
+        names = names_in s.display;
+        section = section_in f s.key s.display s.row.style;
+        value = v;
+      }
 
   -- a kind selects the columns of the items after it
   abbrev pub note : Event → Display → Frame → Frame

@@ -134,8 +134,8 @@ impl<C: Columns + Drop, W: Words + Drop> Events<C, W> {
 
     fn into_walk(self) -> Walk
         ensures { (es : List Event) → self.log.events ≡ Some es
-            → walked (C.table (C.options self.columns)) self.counted W.rows es (Some (start (C.options self.columns).root))
-            ≡ Some (state_of (C.table (C.options self.columns)) result) }
+            → ∥ walked (C.table (C.options self.columns)) self.counted W.rows es (Some (start (C.options self.columns).root))
+            ≡ Some (state_of (C.table (C.options self.columns)) result) ∥₁ }
     {
         let Events { walk, .. } = self;
         walk
@@ -268,8 +268,8 @@ pub(crate) fn walk_of<T: Tables, C: Columns + Drop, W: Words + Drop>(
     counted: bool,
     bytes: &[u8],
 ) -> Result<Walk, BriefError>
-    ensures { IfOk result (λ w. walked (C.table (C.options columns)) counted W.rows (events (shown_of (T.parts_of table) form bytes.now))
-        (Some (start (C.options columns).root)) ≡ Some (state_of (C.table (C.options columns)) w)) }
+    ensures { IfOk result (λ w. ∥ walked (C.table (C.options columns)) counted W.rows (events (shown_of (T.parts_of table) form bytes.now))
+        (Some (start (C.options columns).root)) ≡ Some (state_of (C.table (C.options columns)) w) ∥₁) }
 {
     let mut all = Events::new(alloc, counted, columns, words, 1024)?;
     send_shown(table, form, bytes, alloc, &mut all)?;

@@ -163,7 +163,7 @@ pub(crate) fn append(
 // Appends a leaf.
 #[inline(always)]
 fn put<'t>(found: &mut Vec<Leaf<'t>>, leaf: Leaf<'t>) -> Result<(), AllocError>
-    ensures { OnOk result (leaves_view found.new.items ≡ leaves_view found.old.items ++ leaf_view leaf ∷ []) }
+    ensures { OnOk result (leaves_view found.new.items ≡ leaves_view found.old.items ++ leaf_view leaf.entry ∷ []) }
 {
     found.push(leaf)?;
     Ok(())
@@ -179,12 +179,12 @@ pub(crate) fn leaves_in<'t, C: Columns>(
     ensures { IfOk result (λ found. leaves_view found.items ≡ leaves_in (C.table (C.options columns.now)) texts.now kept.now) }
 {
     let mut found = Vec::with_capacity(alloc, kept.len())?;
-    let mut texts = texts;
+    let mut ahead = texts;
     let mut left = kept;
     'each: while let [first, others @ ..] = left {
-        let (leaf, rest) = first.read(columns, texts)?;
+        let (leaf, rest) = first.read(columns, ahead)?;
         put(&mut found, leaf)?;
-        texts = rest;
+        ahead = rest;
         left = others;
     }
     Ok(found)

@@ -1,7 +1,7 @@
 //! Messages as one line an object, as short as `tc` writes it.
 //!
-//! [`lines_of`] serializes bytes as `forms_json` does, and keeps the events. From them it makes leaves: each value with its
-//! column (`tc_lines`) and its row ([`Words`]), in the order of the bytes. A leaf stands in one section of the line: the
+//! [`lines_of`] serializes bytes as `forms_json` does, into a serde format that makes leaves: each value with its column
+//! (`tc_lines`) and its row ([`Words`]), in the order of the bytes. A leaf stands in one section of the line: the
 //! head, the kind's words, hardware flags, statistics, or an action. The line has the words of each section's leaves, in
 //! the order of the leaves, without the ones that their rows leave out. Statistics are leaves only if they are asked for:
 //!

@@ -4,7 +4,7 @@ ghost use Rattle.std.specs.Prelude.{IfOk, List, None, OnOk, Some, [], bytes_eq, 
 ghost use Rattle.std.specs.Prelude.{◌++◌, ◌∷◌, ◌≡◌, ◌≤◌};
 ghost use Rattle.forms_json.specs.Shown.{shown_of};
 ghost use Rattle.forms_values.specs.Sent.{events};
-ghost use Rattle.tc_brief.specs.Leaves.{Leaf as LeafView, leaf_view, leaves_view, value_view};
+ghost use Rattle.tc_brief.specs.Leaves.{leaf_view, leaves_view, value_view};
 ghost use Rattle.tc_brief.specs.Lines.{action_kind, action_of, action_words, actions, all_statistics, body, chain_words, counted, counted_action};
 ghost use Rattle.tc_brief.specs.Lines.{has_statistics, kind_statistics, object_statistics, own_statistics};
 ghost use Rattle.tc_brief.specs.Lines.{counted_bare, counts, dev_words, estimated, estimates, family_words, handle_in};
@@ -826,9 +826,9 @@ pub fn lines_of<T: Tables, C: Columns + Drop, W: Words + Drop>(
     said: &Said<'_>,
     bytes: &[u8],
 ) -> Result<Vec<u8>, BriefError>
-    ensures { IfOk result (λ text. (found : List LeafView)
-        × (leaves (C.table (C.options columns)) said.now.statistics W.rows (C.options columns).root (events (shown_of (T.parts_of table) form bytes.now)) ≡ Some found)
-        × (text.items ≡ message_lines (said_view said.now) found)) }
+    ensures { IfOk result (λ text. option_map (message_lines (said_view said.now))
+        (leaves (C.table (C.options columns)) said.now.statistics W.rows (C.options columns).root (events (shown_of (T.parts_of table) form bytes.now)))
+        ≡ Some text.items) }
 {
     let walk = walk_of(alloc, table, form, columns, words, said.statistics, bytes)?;
     let found = leaves_in(alloc, &columns, walk.texts.as_str(), &walk.out)?;

@@ -68,7 +68,8 @@ impl Line {
 
     // Writes the word of a row, or begins a word with the name. The value comes next.
     fn begin_valued(&mut self, leaf: &Leaf<'_>) -> Result<(), AllocError>
-        ensures text { OnOk result (self.new.text.items ≡ self.old.text.items ++ written (own_word (word_before leaf.now.way.style leaf.now.way.row.now.word.now))) }
+        ensures text { OnOk result (self.new.text.items
+            ≡ self.old.text.items ++ written (own_word (word_before leaf.now.way.style leaf.now.way.row.now.word.now))) }
         ensures word { OnOk result (self.new.word.items
             ≡ begun (word_before leaf.now.way.style leaf.now.way.row.now.word.now) (name_of_leaf (leaf_view leaf.now) (value_view leaf.now.value))) }
     {

@@ -1,14 +1,15 @@
 //! From the events of JSON to its leaves.
 
-ghost use Rattle.std.specs.Prelude.{MatchOption, OnOk, IfOk, Some, [], length, string_bytes, ◌∷◌, ◌≡◌};
+ghost use Rattle.std.specs.Prelude.{List, MatchOption, OnOk, IfOk, Some, [], false, if◌then◌else◌, length, ℕ, ◌++◌, ◌∷◌, ◌≡◌};
 ghost use Rattle.tc_lines.specs.Columns.{Table};
 ghost use Rattle.tc_lines.specs.Lines.{companion_by, says_block};
 ghost use Rattle.tc_units.specs.Names.{names_view};
 ghost use Rattle.tc_brief.specs.Events.{event_of, text_in};
 ghost use Rattle.tc_brief.specs.Kept.{text_size, value_in};
-ghost use Rattle.tc_brief.specs.Walk.{close_map, close_seq, frame_view, names_in, note, number_value, open_map, open_seq, opened, other_leaf, passed};
-ghost use Rattle.tc_brief.specs.Walk.{place_within, plain_leaf, rest_of, section_in, stack_of, start, state_of, step, take_key, take_leaf, taken};
-ghost use Rattle.tc_brief.specs.Walk.{text_number, text_value, value_of, AreOwn};
+ghost use Rattle.tc_brief.specs.Sections.{is_actions};
+ghost use Rattle.tc_brief.specs.Walk.{actions_opening, close_map, close_seq, closing, frame_view, kept, key_in, leaf_of, names_in, note, opening};
+ghost use Rattle.tc_brief.specs.Walk.{number_value, open_map, open_seq, opened, other_leaf, passed, place_within, plain_leaf, rest_of, section_in};
+ghost use Rattle.tc_brief.specs.Walk.{stack_of, start, state_of, step, take_key, take_leaf, taken, text_number, text_value, value_of, AreOwn};
 
 use crate::error::BriefError;
 use crate::events::Token;
@@ -16,8 +17,10 @@ use crate::kept::{Kept, KeptValue, append};
 use crate::leaf::{Section, Shape};
 use crate::places::{NONE, Places, begin_way, display_at, plain_way, way_at};
 use crate::row::{Style, Words};
-use crate::sections::{displayed, is_actions, is_enum, is_head, is_other, is_passed, is_silent, is_stand_in, item_shape, list_shape, of_kind};
-use crate::sections::{record_shape, styled};
+use crate::sections::{
+    displayed, is_actions, is_enum, is_head, is_other, is_passed, is_silent, is_stand_in,
+    item_shape, list_shape, of_kind, record_shape, styled,
+};
 use crate::state::{Frame, Walk};
 use std::alloc::{AllocError, Global};
 use tc_lines::{Columns, Display, InfoOf};
@@ -192,6 +195,8 @@ impl Walk {
         let around = Vec::with_capacity(alloc, 16)?;
         let mut texts = String::new(alloc);
         texts.reserve(room)?;
+        let mut key = String::new(alloc);
+        key.reserve(32)?;
         let top = Frame {
             place: root,
             base: root,
@@ -208,7 +213,7 @@ impl Walk {
             top,
             around,
             companion: NONE,
-            key: String::new(alloc),
+            key,
             display: Display::Inline(root),
             way: plain_way(),
             word: 0,
@@ -251,8 +256,9 @@ impl Walk {
         requires { text_size value ≡ length text.now }
         ensures { OnOk result (state_of (C.table (C.options columns.now)) self.new
             ≡ record (state_of (C.table (C.options columns.now)) self.old) {
-                out = (state_of (C.table (C.options columns.now)) self.old).out ++ kept counted (leaf_of (C.table (C.options columns.now))
-                    (state_of (C.table (C.options columns.now)) self.old) (frame_view self.old.top) (value_in (C.table (C.options columns.now)) text.now value)) }) }
+              out = (state_of (C.table (C.options columns.now)) self.old).out ++ kept counted (leaf_of (C.table (C.options columns.now))
+                  (state_of (C.table (C.options columns.now)) self.old) (frame_view self.old.top) (value_in (C.table (C.options columns.now)) text.now value));
+            }) }
     {
         let section = section_in(&self.top, self.key.as_str(), &self.display, self.way.style);
         if is_passed(counted, section) {
@@ -278,7 +284,8 @@ impl Walk {
         token: &Token<'_>,
     ) -> Result<(), AllocError>
         ensures { OnOk result (state_of (C.table (C.options columns.now)) self.new
-            ≡ plain_leaf (C.table (C.options columns.now)) counted (event_of token.now) (state_of (C.table (C.options columns.now)) self.old) (frame_view self.old.top)) }
+            ≡ plain_leaf (C.table (C.options columns.now)) counted (event_of token.now)
+            (state_of (C.table (C.options columns.now)) self.old) (frame_view self.old.top)) }
     {
         let value = value_of(columns, &self.display, token);
         self.keep(counted, columns, value, text_of(token))?;
@@ -300,7 +307,8 @@ impl Walk {
         token: &Token<'_>,
     ) -> Result<(), AllocError>
         ensures { OnOk result (state_of (C.table (C.options columns.now)) self.new
-            ≡ other_leaf (C.table (C.options columns.now)) counted (event_of token.now) (state_of (C.table (C.options columns.now)) self.old) (frame_view self.old.top)) }
+            ≡ other_leaf (C.table (C.options columns.now)) counted (event_of token.now)
+            (state_of (C.table (C.options columns.now)) self.old) (frame_view self.old.top)) }
     {
         match token {
             Token::Unsigned(n) => {
@@ -323,7 +331,8 @@ impl Walk {
         token: &Token<'_>,
     ) -> Result<(), AllocError>
         ensures { OnOk result (state_of (C.table (C.options columns.now)) self.new
-            ≡ take_leaf (C.table (C.options columns.now)) counted (event_of token.now) (state_of (C.table (C.options columns.now)) self.old) (frame_view self.old.top)) }
+            ≡ take_leaf (C.table (C.options columns.now)) counted (event_of token.now)
+            (state_of (C.table (C.options columns.now)) self.old) (frame_view self.old.top)) }
     {
         if self.top.other {
             return self.other_leaf(counted, columns, token);
@@ -333,8 +342,8 @@ impl Walk {
 
     // Appends the beginning of actions under a word of their own: the kind of that name.
     fn begin_actions(&mut self) -> Result<(), AllocError>
-        ensures { OnOk result ((t : Table) (key : List ℕ) (s : Section) (shape : Shape) → state_of t self.new
-            ≡ record (state_of t self.old) { out = (state_of t self.old).out ++ opening true key (state_of t self.old) s shape }) }
+        ensures { OnOk result ((t : Table) → state_of t self.new
+            ≡ record (state_of t self.old) { out = (state_of t self.old).out ++ actions_opening (state_of t self.old) }) }
     {
         let word = self.way.row.word;
         if word.is_empty() {
@@ -354,8 +363,10 @@ impl Walk {
     // Appends the beginning of a record or list, if it is one word.
     fn begin_word(&mut self, list: bool, section: Section, shape: Shape) -> Result<(), AllocError>
         ensures { OnOk result ((t : Table) → state_of t self.new
-            ≡ record (state_of t self.old) { out = (state_of t self.old).out
-                ++ opening false (if list then [] else (state_of t self.old).key) (state_of t self.old) section shape }) }
+            ≡ record (state_of t self.old) {
+              out = (state_of t self.old).out
+                  ++ opening false (if list then [] else (state_of t self.old).key) (state_of t self.old) section shape;
+            }) }
     {
         if is_silent(shape) {
             return Ok(());
@@ -370,6 +381,21 @@ impl Walk {
             value: KeptValue::Opens(shape),
         };
         append(&mut self.out, &mut self.texts, leaf, key, "")
+    }
+
+    // Appends the beginning of a record or list as the value of a name.
+    fn begin(&mut self, section: Section, shape: Shape) -> Result<(), AllocError>
+        ensures { OnOk result ((t : Table) → state_of t self.new
+            ≡ record (state_of t self.old) {
+              out = (state_of t self.old).out
+                  ++ opening (is_actions (state_of t self.old).row.style) (key_in (frame_view self.old.top) (state_of t self.old).key)
+                  (state_of t self.old) section shape;
+            }) }
+    {
+        if is_actions(self.way.style) {
+            return self.begin_actions();
+        }
+        self.begin_word(self.top.list, section, shape)
     }
 
     // Appends the end of the innermost record or list, if it is one word.
@@ -419,11 +445,7 @@ impl Walk {
         ensures { OnOk result ((t : Table) → state_of t self.new ≡ opened list shape (state_of t self.old) (frame_view self.old.top)) }
     {
         let section = section_in(&self.top, self.key.as_str(), &self.display, self.way.style);
-        if is_actions(self.way.style) {
-            self.begin_actions()?;
-        } else {
-            self.begin_word(self.top.list, section, shape)?;
-        }
+        self.begin(section, shape)?;
         let place = place_within(&self.display);
         let within = Frame {
             place,
@@ -497,7 +519,8 @@ impl Walk {
     ) -> Result<(), AllocError>
         requires own { AreOwn (C.table (C.options columns.now)) W.rows places.old }
         ensures state { OnOk result (state_of (C.table (C.options columns.now)) self.new
-            ≡ taken (C.table (C.options columns.now)) counted W.rows (event_of token.now) (state_of (C.table (C.options columns.now)) self.old) (frame_view self.old.top)) }
+            ≡ taken (C.table (C.options columns.now)) counted W.rows (event_of token.now)
+            (state_of (C.table (C.options columns.now)) self.old) (frame_view self.old.top)) }
         ensures own { AreOwn (C.table (C.options columns.now)) W.rows places.new }
     {
         match token {

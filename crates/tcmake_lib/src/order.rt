@@ -39,7 +39,7 @@ pub fn requests_of<T: Tables, R: BufRead>(
     requests: &RequestOptions<'_>,
     reader: &mut R,
 ) -> Result<Restored, Stop>
-    // Without a complaint, every line was accepted. What is refused has a reason.
+    // Without a complaint, every line was accepted.
     ensures made { IfOk result (AreMade (T.parts_of forms.table) forms.tc forms.action requests.entry.now.index requests.entry.now (R.remaining reader.old)) }
     ensures open { IfErr result (λ stop. stop ≢ Closed) }
     ensures fails { IfErr result (λ stop. (stop ≡ Read) ⊎ (stop ≡ NoMemory)) }

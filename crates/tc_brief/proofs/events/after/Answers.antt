@@ -8,7 +8,7 @@ use Rattle.tc_brief.specs.Events.{Follows, event_of, marked}
 use Rattle.tc_brief.specs.Rows.{Row}
 use Rattle.tc_brief.specs.Walk.{State, start, step, walked}
 use Rattle.tc_lines.specs.Columns.{Options, Table}
-use Rattle.tc_lines.specs.Log.{marks, noted}
+use Rattle.tc_lines.specs.Log.{marks}
 use Rattle.tc_brief.proofs.events.after.Goals as goal
 
 extends : (t : Table) (stats : Bool) (rows : ℕ → List Row) (root : ℕ) (old new : State) (log : Log) (event : Option Event)

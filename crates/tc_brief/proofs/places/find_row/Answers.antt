@@ -1,7 +1,7 @@
 use Rattle.std.proofs.Common.{◌∙◌, ap}
 use Rattle.std.specs.Prelude.{option_map}
 use Rattle.tc_brief.proofs.Names.{option_map_of, rows_named}
-use Rattle.tc_brief.specs.Rows.{CodeRow, row_view}
+use Rattle.tc_brief.specs.Rows.{row_view}
 use Rattle.tc_brief.proofs.places.find_row.Goals as goal
 
 -- src/walk.rt:84:1

@@ -17,6 +17,5 @@ returns-in-Ok g c =
     let options = options_with names c.args.root in
     let stats = c.args.said.now.statistics in
     let lines = option_map (message_lines (said_view c.args.said.now)) in
-    let found = c.in-Ok.ensures in
     ap (λ (form : Form). lines (leaves (kind_table options) stats g.W.Words.rows options.root (events (shown_of tc_tables form c.args.bytes.now))))
-    (sym c.form_of.ensures) ∙ ap lines found.1 ∙ ap Some (sym found.2)
+    (sym c.form_of.ensures) ∙ c.in-Ok.ensures
