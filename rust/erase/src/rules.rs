@@ -10,7 +10,7 @@ pub(crate) const STOOD_FOR: &[(&str, &str)] = &[
     ("forms_text::read", "pub use crate::strict::*;"),
     ("forms_text::repeated", ""),
     ("program_io::copied", "pub(crate) use crate::host::{copied, copied_if_any};"),
-    ("tc_lines::log", ""),
+    ("tc_lines::log", "pub enum Note {}"),
     ("tcshow_lib::zone", "pub(crate) use crate::zones::{SystemZone, ZoneError};"),
 ];
 
@@ -38,9 +38,6 @@ pub(crate) const GHOSTS: &[Rule] = &[
     ("requires $n { $;c }", "(required $n: $;c)"),
     ("pub ghost", "ghost"),
     ("ghost use $*p ;", ""),
-    ("use crate::log::{Log, Note};", ""),
-    ("pub use log::{Log, Note};", ""),
-    ("use tc_lines::{Columns, Log, Note};", "use tc_lines::Columns;"),
     ("ghost $n : { $;t } = { $;v } ;", ""),
     ("ghost $n : { $;t } ;", ""),
     ("ghost $n : { $;t } ,", ""),
@@ -221,7 +218,6 @@ pub(crate) const USER_RULES: &[Rule] = &[
     ("# [ inline ( always ) ] fn unit ( & mut self ) -> $-r { $;b }", ""),
     ("fn $x ( & mut self $*p ) -> Result < ( ) , $e > { Err ( $e :: NotJson ) }", ""),
     ("fn key_cased ( $*a , case : Case ) -> $-r { match case { Case :: AsIs => $*x , _ => { $;y } } }", "fn key($*a) -> $-r {$*x}"),
-    ("fn unit ( & mut self ) -> Result < ( ) , BriefError > { $;b }", ""),
     ("fn key_cased ( $*a , case : Case ) -> $-r { match case { Case :: AsIs => { $;x } _ => $*y , } }", "fn key($*a) -> $-r {$;x}"),
     // What the shims of `clap` and `arrayvec` do without.
     ("value_parser ! ( $t )", "clap::builder::ValueParser(::clap::value_parser!($t).into())"),
