@@ -4,14 +4,11 @@ include!("crates.rs");
 
 /// Modules that the codec doesn't use, but forms do.
 const OMITTED: &[&str] = &["tc_texts::address", "tc_texts::hex_text"];
-/// The lines of outlines, and what has to do with them.
-const OMITTED_OF_FORMS: &[&str] =
-    &["tc_outline::message", "tc_lines", "tc_columns", "tc_outline::what::of_root", "tc_outline::what::tc_columns"];
 
 fn main() {
     let here = std::env::var_os("CARGO_MANIFEST_DIR").expect("cargo names the folder of the package");
     let has_forms = std::env::var_os("CARGO_FEATURE_SERDE").is_some();
-    let (users, omitted) = if has_forms { (FORMS, OMITTED_OF_FORMS) } else { (&[][..], OMITTED) };
+    let (users, omitted) = if has_forms { (FORMS, &[][..]) } else { (&[][..], OMITTED) };
     write_erased(&Path::new(&here).join("../../crates"), users, omitted, "codec.rs");
     if std::env::var_os("CARGO_FEATURE_KINDS").is_some() {
         write_types(&Path::new(&here).join("../../kinds"));

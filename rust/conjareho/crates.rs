@@ -6,7 +6,7 @@ const CODEC: &[&str] = &["tc_wire", "tc_index", "tc_requests", "tc_restore", "tc
 
 /// The crates of forms, and the places of faults.
 #[allow(dead_code)] // programs have more
-const FORMS: &[&str] = &["forms_json", "forms_text", "forms_kinds", "tc_outline", "tc_paths"];
+const FORMS: &[&str] = &["forms_json", "forms_text", "forms_kinds", "tc_faults", "tc_paths"];
 
 /// These crates of a folder and those below them, by the `crates.txt` beside it, but for these others.
 fn below(folder: &Path, roots: &[&str], others: &[String]) -> Vec<String> {

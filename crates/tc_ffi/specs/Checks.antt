@@ -1,8 +1,8 @@
 -- The result of a check.
 use Rattle.std.specs.Prelude.{◌≡◌, ◌⊎◌, ℕ, List, ◌≤◌, Bool, length, unwrap_or, if◌then◌else◌}
 use Rattle.tc_wire.specs.Facade.{Message, Words}
-use Rattle.tc_outline.specs.declared.what.What.{What}
-use Rattle.tc_outline.specs.Located.{items_of_message, message_offset}
+use Rattle.tc_faults.specs.declared.what.What.{What}
+use Rattle.tc_faults.specs.Located.{items_of_message, message_offset}
 use Rattle.tc_status.specs.Status.{numbers_of}
 use Rattle.tc_ffi.specs.Calls.{Keeps, ReadsSome, Refuses}
 use Rattle.tc_ffi.specs.declared.verdict.VtcVerdict.{VtcVerdict}

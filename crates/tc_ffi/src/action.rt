@@ -4,7 +4,7 @@ ghost use Rattle.nla_frames.specs.Value.{IsBytes};
 ghost use Rattle.tc_wire.specs.Facade.{action_words};
 ghost use Rattle.tc_wire.specs.Rewriting.{SettlesAct};
 ghost use Rattle.forms_kinds.specs.Table.{action_message};
-ghost use Rattle.tc_outline.specs.declared.what.What.TheVariants.{Action};
+ghost use Rattle.tc_faults.specs.declared.what.What.TheVariants.{Action};
 ghost use Rattle.tc_message_json.specs.Made.{IsGiven, IsMadeOf};
 ghost use Rattle.tc_ffi.specs.Calls.{IsRewritten, IsSettled, IsShown};
 ghost use Rattle.tc_ffi.specs.Checks.{IsChecked};

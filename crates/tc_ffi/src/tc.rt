@@ -4,7 +4,7 @@ ghost use Rattle.nla_frames.specs.Value.{IsBytes};
 ghost use Rattle.tc_wire.specs.Facade.{tc_words};
 ghost use Rattle.tc_wire.specs.Rewriting.{SettlesTc};
 ghost use Rattle.forms_kinds.specs.Table.{tc_message};
-ghost use Rattle.tc_outline.specs.declared.what.What.TheVariants.{Qdisc};
+ghost use Rattle.tc_faults.specs.declared.what.What.TheVariants.{Qdisc};
 ghost use Rattle.tc_message_json.specs.Made.{IsGiven, IsMadeOf};
 ghost use Rattle.tc_ffi.specs.Calls.{IsRewritten, IsSettled, IsShown};
 ghost use Rattle.tc_ffi.specs.Checks.{IsChecked};

@@ -5,8 +5,8 @@ ghost use Rattle.tc_status.specs.Status.{numbers_of};
 ghost use Rattle.tc_ffi.specs.Checks.{IsJudged, IsCounted, Numbers, Says, fault_offset};
 
 use std::alloc::Global;
+use tc_faults::{What, locate};
 use tc_message_json::HasForm;
-use tc_outline::{What, locate};
 use tc_status::numbers_of;
 use tc_wire::{DecodeError, WholeMessage};
 

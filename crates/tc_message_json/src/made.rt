@@ -14,7 +14,7 @@ use forms_kinds::TcTables;
 use forms_text::{Difference, differences, made_strictly, shown_json};
 use serde_json::Value;
 use std::alloc::{AllocError, Global};
-use tc_outline::{Layout, Page, locate};
+use tc_faults::locate;
 use tc_wire::{DecodeError, WholeMessage};
 
 /// The bytes whose JSON this is.
@@ -99,11 +99,11 @@ fn refused<M: HasForm>(alloc: Global, given: &[u8], fault: DecodeError) -> NoMes
 
 // The place of the first fault of bytes.
 fn place_of<M: HasForm>(alloc: Global, given: &[u8]) -> Result<String, AllocError> {
-    let mut page = Page::new(alloc, Layout::OneLine);
+    let mut path = String::new(alloc);
     if let Some(fault) = locate(given, M::what()) {
-        fault.path.show(&mut page)?;
+        fault.path.put(&mut path)?;
     }
-    String::from_utf8_lossy(alloc, page.bytes())
+    Ok(path)
 }
 
 // The error for bytes whose message isn't settled.

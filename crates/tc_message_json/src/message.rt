@@ -3,13 +3,13 @@
 ghost use Rattle.std.specs.Prelude.{◌≡◌};
 ghost use Rattle.forms_values.specs.declared.form.Form.{Form};
 ghost use Rattle.forms_kinds.specs.Table.{tc_message, action_message};
-ghost use Rattle.tc_outline.specs.declared.what.What.{What as WhatType};
-ghost use Rattle.tc_outline.specs.declared.what.What.TheVariants.{Action, Qdisc};
+ghost use Rattle.tc_faults.specs.declared.what.What.{What as WhatType};
+ghost use Rattle.tc_faults.specs.declared.what.What.TheVariants.{Action, Qdisc};
 
 use forms_json::Form;
 use forms_kinds::{ACTION_MESSAGE, TC_MESSAGE};
 use std::alloc::Allocator;
-use tc_outline::What;
+use tc_faults::What;
 use tc_wire::{Emitable, TcActionMessage, TcMessage};
 
 /// A type of messages whose bytes have a form in `TcTables`.

@@ -11,8 +11,8 @@ use Rattle.forms_kinds.specs.Table.{action_message, tc_message, tc_tables}
 use Rattle.tc_lines.specs.Columns.{Options}
 use Rattle.tc_lines.specs.Lines.{lines}
 use Rattle.tc_outline.specs.Page.{shown}
-use Rattle.tc_outline.specs.declared.what.What.{What}
-use Rattle.tc_outline.specs.declared.what.What.TheVariants as what
+use Rattle.tc_faults.specs.declared.what.What.{What}
+use Rattle.tc_faults.specs.declared.what.What.TheVariants as what
 
 -- the message type of a root
 abbrev pub what_of : Root → What

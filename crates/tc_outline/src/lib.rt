@@ -2,24 +2,15 @@
 //!
 //! [`outline`] writes a message on a [`Page`]: its header, then each attribute on a line of its own, indented by its
 //! depth, in wire order, with the columns of its kind (`tc_columns`). After the lines of a malformed message comes a
-//! line with the fault, its numbers, its offset and its path. [`locate`] only finds that fault. A page holds only
+//! line with the fault, its numbers, its offset and its path. A page holds only
 //! printable ASCII and line feeds.
 #![tactic(auto)]
 
-mod check;
 mod fault;
 mod message;
 mod names;
 mod page;
-mod path;
-mod reader;
-mod tree;
-mod what;
 
-pub use fault::Fault;
-pub use message::outline;
+pub use message::{outline, what_of};
 pub use names::Interfaces;
 pub use page::{Layout, Page};
-pub use path::Path;
-pub use reader::locate;
-pub use what::What;

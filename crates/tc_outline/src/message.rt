@@ -1,18 +1,17 @@
 //! The outline of a message.
 
 ghost use Rattle.std.specs.Prelude.{◌≡◌, ◌≤◌, ◌++◌, [], List, ℕ, None, true, length, IfOk, IfSome, option_map};
-ghost use Rattle.tc_outline.specs.Located.{items_of_message, message_fault};
+ghost use Rattle.tc_faults.specs.Located.{items_of_message, message_fault};
 ghost use Rattle.tc_outline.specs.Outline.{form_of, options_of, shown_lines, what_of};
 ghost use Rattle.tc_outline.specs.Text.{has_lines, text_on};
 
-use crate::fault::Fault;
+use crate::fault::show;
 use crate::page::{Layout, Page};
-use crate::reader::locate;
-use crate::what::What;
 use forms_json::Form;
 use forms_kinds::{ACTION_MESSAGE, TC_MESSAGE, TcTables};
 use std::alloc::{AllocError, Allocator, Global};
 use tc_columns::{KindColumns, Root};
+use tc_faults::{Fault, What, locate};
 use tc_lines::lines_of;
 
 // The form of messages of this root.
@@ -25,11 +24,24 @@ fn form_of(root: Root) -> Form
     }
 }
 
+// The object of messages with these columns.
+pub fn what_of(root: Root) -> What
+    ensures { result ≡ what_of root }
+{
+    match root {
+        Root::Action | Root::Flush => What::Action,
+        Root::Filter | Root::U32Filter => What::Filter,
+        Root::Qdisc => What::Qdisc,
+        Root::Class => What::Class,
+        Root::Chain => What::Chain,
+    }
+}
+
 // The line that reports a fault.
 fn line_of(alloc: Global, fault: &Fault) -> Result<Page<Global>, AllocError> {
     let mut line = Page::new(alloc, Layout::Lines);
     line.begin(0)?;
-    fault.show(&mut line)?;
+    show(alloc, fault, &mut line)?;
     Ok(line)
 }
 
@@ -55,7 +67,7 @@ pub fn outline<A: Allocator>(
         Ok(text) => page.lines(&text)?,
         Err(_) => return Err(AllocError),
     }
-    let fault = locate(bytes, What::of_root(columns.root));
+    let fault = locate(bytes, what_of(columns.root));
     if let Some(fault) = &fault {
         page.lines(line_of(alloc, fault)?.bytes())?;
     }

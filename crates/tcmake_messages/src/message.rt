@@ -17,9 +17,8 @@ use forms_text::{Difference, StrictError, check_shown, differences, shown_json};
 use nla_frames::DecodeError;
 use serde_json::Value;
 use std::alloc::{AllocError, Global};
-use std::str;
 use tc_capture::MessageType;
-use tc_outline::{Layout, Page, What, locate};
+use tc_faults::{What, locate};
 use tc_wire::{RewriteError, settle_action, settle_tc};
 
 /// The longest message that is made, in bytes: 256 KiB. The JSON that is shown of it takes no more memory than that of a line.
@@ -259,9 +258,9 @@ fn path_of_fault(alloc: Global, holds: MessageType, bytes: &[u8]) -> Result<Stri
         MessageType::Tc => What::Qdisc,
         MessageType::Action => What::Action,
     };
-    let mut page = Page::new(alloc, Layout::OneLine);
+    let mut path = String::new(alloc);
     if let Some(fault) = locate(bytes, what) {
-        fault.path.show(&mut page)?;
+        fault.path.put(&mut path)?;
     }
-    String::from_str(alloc, str::from_utf8(page.bytes()).unwrap_or(""))
+    Ok(path)
 }

@@ -3,7 +3,7 @@ use Rattle.std.specs.Prelude.{◌≡◌, ℕ, Bool, true, false, not, ◌&&◌, 
 use Rattle.tc_capture.specs.Message.{Message as Netlink}
 use Rattle.tc_columns.specs.Kinds.{root_place}
 use Rattle.tc_select.specs.declared.filter.Filter.{Filter}
-use Rattle.tc_outline.specs.Located.{items_of_message, message_fault}
+use Rattle.tc_faults.specs.Located.{items_of_message, message_fault}
 use Rattle.tc_outline.specs.Outline.{form_of, shown_lines, what_of}
 use Rattle.tc_outline.specs.Page.{IsShown}
 use Rattle.tcshow_json.specs.Grammars.{is_refused, IsLineOf}

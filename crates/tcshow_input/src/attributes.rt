@@ -11,7 +11,8 @@ ghost use Rattle.tcshow_input.specs.Shown.{has_fault, lines_with};
 use crate::options::Options;
 use std::alloc::{AllocError, Allocator, Global};
 use tc_columns::{KindColumns, LinkNames};
-use tc_outline::{Fault, Page, outline};
+use tc_faults::Fault;
+use tc_outline::{Page, outline};
 use tcshow_json::Message;
 
 /// Keeps the name of an interface. Its last one counts.

@@ -6,7 +6,7 @@ use Rattle.nla_frames.specs.declared.error.DecodeError.TheVariants as fault
 use Rattle.std.specs.Prelude.{List, None, Option, Some, [], codes, if◌then◌else◌, nat_lt, option_map, unwrap_or, ℕ, ◌-◌}
 use Rattle.tc_capture.specs.declared.kind.MessageType.{MessageType}
 use Rattle.tc_capture.specs.declared.kind.MessageType.TheVariants.{Action, Tc}
-use Rattle.tc_outline.specs.Located.{items_of_message, message_fault, message_offset}
+use Rattle.tc_faults.specs.Located.{items_of_message, message_fault, message_offset}
 use Rattle.tc_outline.specs.Outline.{what_of}
 use Rattle.tc_paths.specs.Paths.{Path, fault_path_in}
 use Rattle.tcshow_json.specs.Messages.{Message}

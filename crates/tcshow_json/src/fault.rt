@@ -6,7 +6,7 @@ ghost use Rattle.tcshow_json.specs.Messages.{message_view};
 
 use crate::message::Message;
 use std::alloc::{AllocError, Global};
-use tc_outline::Fault;
+use tc_faults::Fault;
 use tc_paths::Path;
 
 /// The offset and the pointer of a message's first fault.

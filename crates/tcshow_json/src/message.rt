@@ -14,7 +14,8 @@ use nla_frames::{DecodeError, NLA_HEADER_SIZE, NlasIterator, strip_nul};
 use std::alloc::{AllocError, Global};
 use tc_capture::{MessageType, NetlinkMessage, Time, rtm_of};
 use tc_columns::Root;
-use tc_outline::{Fault, What, locate};
+use tc_faults::{Fault, What, locate};
+use tc_outline::what_of;
 use tc_paths::{Path, fault_path_in, path_in};
 use tc_select::{is_filter_kind, kind_of};
 
@@ -111,7 +112,7 @@ impl<'a> Message<'a> {
     pub fn what(&self) -> What
         ensures { result ≡ what_of (root_of (message_view self.now)) }
     {
-        What::of_root(self.root())
+        what_of(self.root())
     }
 
     /// The path of the attribute that begins at an offset in its bytes. `None` if none begins there.

@@ -8,7 +8,7 @@ ghost use Rattle.tcshow_lines.specs.Lines.{error_words, lengths_words, malformed
 use nla_frames::DecodeError;
 use std::alloc::{AllocError, Global};
 use tc_brief::put_word;
-use tc_outline::Fault;
+use tc_faults::Fault;
 use tc_units::put_decimal;
 use tcshow_json::Message;
 

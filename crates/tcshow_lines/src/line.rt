@@ -18,7 +18,7 @@ use forms_kinds::{ACTION_MESSAGE, TC_MESSAGE, TcTables};
 use std::alloc::{AllocError, Global};
 use tc_brief::{Said, Words, lines_of, lines_of_nothing};
 use tc_columns::{KindColumns, LinkNames, Root};
-use tc_outline::Fault;
+use tc_faults::Fault;
 use tc_words::{TcDetails, TcWords};
 use tcshow_json::Message;
 

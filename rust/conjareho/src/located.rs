@@ -2,7 +2,7 @@
 
 use crate::DecodeError;
 use crate::forms_kinds::{ACTION_MESSAGE, TC_MESSAGE};
-use crate::tc_outline::{self, Layout, Page, Path, What};
+use crate::tc_faults::{self, Path, What};
 use crate::tc_paths::path_in;
 use alloc::string::String;
 use core::fmt;
@@ -29,14 +29,14 @@ impl fmt::Display for Located {
 impl core::error::Error for Located {}
 
 fn text_of(path: &Path) -> String {
-    let mut page = Page::new(Layout::Lines);
-    // A page without memory is shorter.
-    _ = path.show(&mut page);
-    String::from_utf8_lossy(page.bytes()).into_owned()
+    let mut text = String::new();
+    // Without memory it is shorter.
+    _ = path.put(&mut text);
+    text
 }
 
 fn locate(bytes: &[u8], what: What) -> Option<Located> {
-    let fault = tc_outline::locate(bytes, what)?;
+    let fault = tc_faults::locate(bytes, what)?;
     Some(Located { path: text_of(&fault.path), offset: fault.offset, error: fault.error })
 }
 

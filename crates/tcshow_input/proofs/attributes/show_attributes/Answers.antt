@@ -3,7 +3,7 @@ use Rattle.std.specs.Prelude.{Option, Some, None, is_some, option_map}
 use Rattle.tc_columns.specs.Kinds.{root_place}
 use Rattle.tc_columns.specs.Names.{names_in, names_of}
 use Rattle.tc_columns.specs.declared.root.Root.{Root}
-use Rattle.tc_outline.specs.Located.{items_of_message, message_fault}
+use Rattle.tc_faults.specs.Located.{items_of_message, message_fault}
 use Rattle.tc_outline.specs.Outline.{form_of, shown_lines, what_of}
 use Rattle.tc_outline.specs.Text.{text_on}
 use Rattle.tcshow_json.specs.Messages.{message_view}

@@ -1,5 +1,5 @@
 use Rattle.std.proofs.Common.{◌∙◌, ap}
-use Rattle.tc_outline.specs.Located.{items_of_message, message_fault, message_offset}
+use Rattle.tc_faults.specs.Located.{items_of_message, message_fault, message_offset}
 use Rattle.tcshow_json.proofs.message.Message.first_fault.Goals as goal
 
 pub returns-clause-error : goal.returns-clause-error

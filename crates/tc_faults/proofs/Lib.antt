@@ -1,0 +1,3 @@
+pub mod OwnKinds
+pub mod Checks
+pub mod Offsets

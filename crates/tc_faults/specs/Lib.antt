@@ -1,0 +1,4 @@
+pub mod Fault
+pub mod Check
+pub mod Located
+pub mod Places

@@ -1,8 +1,0 @@
-use Rattle.std.proofs.Common.{◌≡◌}
-use Rattle.nla_frames.specs.Iterator.{items_left}
-use Rattle.tc_outline.specs.Fault.{action_fault}
-use Rattle.tc_outline.proofs.OwnKinds.{error_after}
-use Rattle.tc_outline.proofs.fault.action.own_error.Given as goal
-
-abbrev pub invariant-loop-frame : goal.invariant-loop-frame
-invariant-loop-frame l = error_after l.kinds (items_left l.frame-iterator) ≡ action_fault l.value
