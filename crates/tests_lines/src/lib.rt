@@ -1,4 +1,4 @@
-//! Tests of the lines of messages, of the values in them, of colors, of trees, and of bytes through JSON and back.
+//! Tests of the lines of messages, of the values in them, of colors, and of trees.
 #![tactic(auto)]
 
 #[cfg(test)]
@@ -7,8 +7,6 @@ mod brief;
 mod by_kind;
 #[cfg(test)]
 mod colours;
-#[cfg(test)]
-mod forms;
 #[cfg(test)]
 mod known;
 #[cfg(test)]

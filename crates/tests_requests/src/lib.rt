@@ -2,10 +2,4 @@
 #![tactic(auto)]
 
 #[cfg(test)]
-mod build;
-#[cfg(test)]
-mod changes;
-#[cfg(test)]
-mod message_json;
-#[cfg(test)]
 mod requests;

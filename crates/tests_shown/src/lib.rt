@@ -2,8 +2,6 @@
 #![tactic(auto)]
 
 #[cfg(test)]
-mod as_json;
-#[cfg(test)]
 mod outline;
 #[cfg(test)]
 mod show;

@@ -1,7 +1,5 @@
 //! Attributes with their places, messages as lines, faults with their places, and allocations that fail.
 
-mod faults;
-mod index;
 mod memory;
 mod messages;
 mod paths;

@@ -1,0 +1,5 @@
+//! Tests alone, of plans of changes.
+#![tactic(auto)]
+
+#[cfg(test)]
+mod changes;
