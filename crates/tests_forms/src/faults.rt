@@ -2,7 +2,7 @@
 
 use std::alloc::Global;
 use std::test::Fail;
-use tc_outline::{What, locate};
+use tc_faults::{What, locate};
 use tc_wire::{DecodeError, RewriteError, rewrite_action, rewrite_tc};
 use tests_data::{Form, Input, Row, all_around, captured, cut_and_changed, made};
 

@@ -3,7 +3,8 @@
 use std::alloc::Global;
 use std::str;
 use tc_columns::{KindColumns, Root};
-use tc_outline::{Fault, Layout, Page, What, locate, outline};
+use tc_faults::{Fault, What, locate};
+use tc_outline::{Layout, Page, outline};
 
 // The object that a message describes, its bytes in hex, and its last line.
 static REFUSED: [(What, &str, &str); 18] = [
