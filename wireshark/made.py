@@ -44,7 +44,7 @@ def attribute(kind, payload, order='<'):
 
 
 def stored_messages():
-    with open(f'{TOP}/crates/tcmake_stored_shown/data/messages') as file:
+    with open(f'{TOP}/rust/conjareho-tools/testdata/tcmake_stored_shown/data/messages') as file:
         return [bytes.fromhex(line) for line in file]
 
 

@@ -2,11 +2,11 @@ use std::fs;
 use std::path::Path;
 
 /// The crates that the codec, its requests, index and captures are made of, with those below them.
-const CODEC: &[&str] = &["tc_wire", "tc_index", "tc_requests", "tc_restore", "tc_capture"];
+const CODEC: &[&str] = &["tc_wire", "tc_index", "tc_capture", "tc_texts"];
 
 /// The crates of forms, and the places of faults.
 #[allow(dead_code)] // programs have more
-const FORMS: &[&str] = &["forms_json", "forms_text", "forms_kinds", "tc_faults", "tc_paths"];
+const FORMS: &[&str] = &["forms_text", "tc_faults"];
 
 /// These crates of a folder and those below them, by the `crates.txt` beside it, but for these others.
 fn below(folder: &Path, roots: &[&str], others: &[String]) -> Vec<String> {

@@ -1,9 +1,9 @@
 //! The interfaces that a line of JSON names by their indices: in each column with the unit `ifindex`, so that a kind that comes later needs nothing
 //! here. Those of the extended match `meta` are under a condition, so they are no columns: `tcmake --names` has a list of them.
 
-use crate::tc_columns::{KindColumns, Root};
-use crate::tc_lines::{Column, Columns, Display};
-use crate::tcmake_requests::interfaces::{META_NUMBER, OF_META, Side};
+use crate::show::columns::{KindColumns, Root};
+use crate::show::attributes::{Column, Columns, Display};
+use crate::make::requests::interfaces::{META_NUMBER, OF_META, Side};
 use ::serde_json::Value;
 use std::collections::BTreeSet;
 

@@ -52,6 +52,29 @@ use small::arrayvec;
 use user::memchr;
 use zones::{jiff_core, jiff_tz};
 
+#[allow(dead_code, missing_docs, unused_doc_comments, unused_imports, unused_labels, unused_must_use, unused_variables, clippy::complexity, clippy::perf, clippy::style, clippy::manual_unwrap_or_default, clippy::unnecessary_get_then_check, clippy::derived_hash_with_manual_eq, rustdoc::broken_intra_doc_links)]
+#[path = "../../conjareho/src/paths/mod.rs"]
+mod paths;
+#[allow(dead_code, missing_docs, unused_doc_comments, unused_imports, unused_labels, unused_must_use, unused_variables, clippy::complexity, clippy::perf, clippy::style, clippy::manual_unwrap_or_default, clippy::unnecessary_get_then_check, clippy::derived_hash_with_manual_eq, rustdoc::broken_intra_doc_links)]
+#[path = "../../conjareho/src/restore/mod.rs"]
+mod restore;
+#[allow(dead_code, missing_docs, unused_doc_comments, unused_imports, unused_labels, unused_must_use, unused_variables, clippy::complexity, clippy::perf, clippy::style, clippy::manual_unwrap_or_default, clippy::unnecessary_get_then_check, clippy::derived_hash_with_manual_eq, rustdoc::broken_intra_doc_links)]
+#[path = "../../conjareho/src/typed_requests/mod.rs"]
+mod typed_requests;
+#[allow(dead_code, missing_docs, unused_doc_comments, unused_imports, unused_labels, unused_must_use, unused_variables, clippy::complexity, clippy::perf, clippy::style, clippy::manual_unwrap_or_default, clippy::unnecessary_get_then_check, clippy::derived_hash_with_manual_eq, rustdoc::broken_intra_doc_links)]
+mod make;
+#[allow(dead_code, missing_docs, unused_doc_comments, unused_imports, unused_labels, unused_must_use, unused_variables, clippy::complexity, clippy::perf, clippy::style, clippy::manual_unwrap_or_default, clippy::unnecessary_get_then_check, clippy::derived_hash_with_manual_eq, rustdoc::broken_intra_doc_links)]
+mod plan;
+#[allow(dead_code, missing_docs, unused_doc_comments, unused_imports, unused_labels, unused_must_use, unused_variables, clippy::complexity, clippy::perf, clippy::style, clippy::manual_unwrap_or_default, clippy::unnecessary_get_then_check, clippy::derived_hash_with_manual_eq, rustdoc::broken_intra_doc_links)]
+mod read;
+#[allow(dead_code, missing_docs, unused_doc_comments, unused_imports, unused_labels, unused_must_use, unused_variables, clippy::complexity, clippy::perf, clippy::style, clippy::manual_unwrap_or_default, clippy::unnecessary_get_then_check, clippy::derived_hash_with_manual_eq, rustdoc::broken_intra_doc_links)]
+mod show;
+#[allow(dead_code, missing_docs, unused_doc_comments, unused_imports, unused_labels, unused_must_use, unused_variables, clippy::complexity, clippy::perf, clippy::style, clippy::manual_unwrap_or_default, clippy::unnecessary_get_then_check, clippy::derived_hash_with_manual_eq, rustdoc::broken_intra_doc_links)]
+mod streams;
+#[cfg(test)]
+#[allow(dead_code, missing_docs, unused_doc_comments, unused_imports, unused_labels, unused_must_use, unused_variables, clippy::complexity, clippy::perf, clippy::style, clippy::manual_unwrap_or_default, clippy::unnecessary_get_then_check, clippy::derived_hash_with_manual_eq, rustdoc::broken_intra_doc_links)]
+mod tests;
+
 // The erased crates, each a private module.
 include!(concat!(env!("OUT_DIR"), "/programs.rs"));
 
@@ -62,17 +85,17 @@ use host::HostRuntime;
 use std::io::IsTerminal as _;
 use std::process::ExitCode;
 use forms_kinds::{ACTION_MESSAGE, TC_MESSAGE, TcTables};
-use tcmake_messages::Forms;
+use crate::make::messages::Forms;
 
 /// Shows the traffic control messages of a capture, or of lines of hex.
 pub fn tcshow() -> ExitCode {
-    ExitCode::from(tcshow_lib::program::tcshow(&HostRuntime, std::io::stdout().is_terminal(), &tc_differences::StateDiffer, &mut HostRuntime.stderr()).status())
+    ExitCode::from(crate::show::program::program::tcshow(&HostRuntime, std::io::stdout().is_terminal(), &crate::show::differences::StateDiffer, &mut HostRuntime.stderr()).status())
 }
 
 /// Makes traffic control messages of JSON.
 pub fn tcmake() -> ExitCode {
     let forms = Forms { table: TcTables, tc: TC_MESSAGE, action: ACTION_MESSAGE };
-    ExitCode::from(tcmake_lib::program::tcmake(&HostRuntime, forms, &mut HostRuntime.stderr()).status())
+    ExitCode::from(crate::make::program::program::tcmake(&HostRuntime, forms, &mut HostRuntime.stderr()).status())
 }
 
 /// Reads a traffic control message as hex text, and reports on it.

@@ -8,7 +8,7 @@ use crate::netlink::{Fault, Kernel, Refusal, Transport};
 use crate::shown::line_of;
 use crate::status::{Ending, Status};
 use crate::tc_capture::MessageType;
-use crate::tcshow_json::Message;
+use crate::show::json::Message;
 
 /// What pcap, with times in microseconds and in nanoseconds, and pcapng begin with, in both orders of bytes.
 const CAPTURES: [[u8; 4]; 5] = [

@@ -1,11 +1,11 @@
 //! Messages as `tcshow` prints them: lines of JSON, and lines for people.
 
 use crate::netlink::Fault;
-use crate::program_io::{Reader, Writer};
-use crate::tc_select::Filter;
-use crate::tc_outline::Interfaces;
-use crate::tcshow_lib::options::{Options, OutputFormat, TimeFormat};
-use crate::tcshow_lib::program::serve;
+use crate::streams::{Reader, Writer};
+use crate::read::select::Filter;
+use crate::show::outline::Interfaces;
+use crate::show::program::options::{Options, OutputFormat, TimeFormat};
+use crate::show::program::program::serve;
 
 /// What `tcshow --json` writes of messages.
 #[derive(Clone, PartialEq, Eq, Debug, Default)]

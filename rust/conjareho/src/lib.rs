@@ -46,6 +46,14 @@ mod verb;
 use serde::json as serde_json;
 use small::{arrayvec, itoa};
 
+#[cfg(feature = "serde")]
+#[allow(dead_code, missing_docs, unused_doc_comments, unused_imports, unused_labels, unused_must_use, unused_variables, clippy::complexity, clippy::perf, clippy::style, clippy::manual_unwrap_or_default, clippy::unnecessary_get_then_check, clippy::derived_hash_with_manual_eq, rustdoc::broken_intra_doc_links)]
+mod paths;
+#[allow(dead_code, missing_docs, unused_doc_comments, unused_imports, unused_labels, unused_must_use, unused_variables, clippy::complexity, clippy::perf, clippy::style, clippy::manual_unwrap_or_default, clippy::unnecessary_get_then_check, clippy::derived_hash_with_manual_eq, rustdoc::broken_intra_doc_links)]
+mod restore;
+#[allow(dead_code, missing_docs, unused_doc_comments, unused_imports, unused_labels, unused_must_use, unused_variables, clippy::complexity, clippy::perf, clippy::style, clippy::manual_unwrap_or_default, clippy::unnecessary_get_then_check, clippy::derived_hash_with_manual_eq, rustdoc::broken_intra_doc_links)]
+mod typed_requests;
+
 // The erased crates, each a private module.
 include!(concat!(env!("OUT_DIR"), "/codec.rs"));
 
@@ -107,11 +115,11 @@ pub mod tc {
 /// # fn main() {}
 /// ```
 pub mod requests {
-    pub use crate::tc_requests::{
+    pub use crate::typed_requests::{
         ActionKindOption, FilterOption, OfKind, OptionOf, QdiscOption, RequestError, Target, TcKindOption, TcText,
         action, action_message, chain, filter, plain_qdisc, qdisc, raw_action,
     };
-    pub use crate::tc_restore::{
+    pub use crate::restore::{
         NEW_FLAGS, Notice, Object, RTM_NEWACTION, Request, RestoreError, RootTable, Use, kind_of_action, notice_of,
         request_of, request_of_actions, root_table, standalone_index, use_of_action,
     };

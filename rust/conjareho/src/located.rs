@@ -3,7 +3,7 @@
 use crate::DecodeError;
 use crate::forms_kinds::{ACTION_MESSAGE, TC_MESSAGE};
 use crate::tc_faults::{self, Path, What};
-use crate::tc_paths::path_in;
+use crate::paths::path_in;
 use alloc::string::String;
 use core::fmt;
 

@@ -33,7 +33,7 @@ fn safe(json: &str) -> String {
 fn the_json_of_labelled_messages_is_that_stored() {
     let top = Path::new(env!("CARGO_MANIFEST_DIR")).join("../..");
     let labelled = std::fs::read_to_string(top.join("model/labelled")).expect("the messages");
-    let stored = std::fs::read_to_string(top.join("crates/tcmake_stored_shown/stdout")).expect("the stored lines");
+    let stored = std::fs::read_to_string(top.join("rust/conjareho-tools/testdata/tcmake_stored_shown/stdout")).expect("the stored lines");
     let json: Vec<String> = labelled.lines().filter(|line| !line.starts_with('#')).map(json_of).collect();
     let lines: Vec<&str> = stored.lines().filter(|line| line.starts_with('{')).collect();
     assert_eq!(lines.len(), json.len());

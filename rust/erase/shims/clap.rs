@@ -44,6 +44,10 @@ impl Error {
     pub fn kind(&self) -> error::ErrorKind {
         self.0.as_ref().map_or(error::ErrorKind::OutOfMemory, |e| error::ErrorKind::Other(e.kind()))
     }
+    #[cfg(test)]
+    pub fn exit_code(&self) -> i32 {
+        self.0.as_ref().map_or(3, |e| if e.use_stderr() { 2 } else { 0 })
+    }
     pub fn use_stderr(&self) -> bool {
         self.0.as_ref().is_none_or(|e| e.use_stderr())
     }
@@ -54,6 +58,8 @@ impl std::fmt::Display for Error {
         self.0.as_ref().map_or(Ok(()), |e| write!(f, "{e}"))
     }
 }
+
+impl std::error::Error for Error {}
 
 type Res<T> = Result<T, AllocError>;
 

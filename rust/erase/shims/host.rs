@@ -71,6 +71,10 @@ pub mod io {
         pub fn new(reader: R) -> Result<Self> {
             Ok(BufReader(std::io::BufReader::new(reader)))
         }
+        #[cfg(test)]
+        pub fn with_capacity(most: usize, reader: R) -> Self {
+            BufReader(std::io::BufReader::with_capacity(most, reader))
+        }
         pub fn get_ref(&self) -> &R {
             self.0.get_ref()
         }

@@ -5,7 +5,7 @@ use super::messages::{Action, actions_of, listed_in, payload_of, replaces, type_
 use crate::netlink::message::{MAGIC_BLOCK, RTM_NEWTFILTER, is_action, tcmsg_of};
 use crate::nla_frames::ParseableBytes as _;
 use crate::tc_messages::TcMessage;
-use crate::tc_restore::actions_of_filter;
+use crate::restore::actions_of_filter;
 use std::collections::{BTreeMap, BTreeSet};
 
 /// The actions of dumps, and how often the filters of these dumps hold each.

@@ -9,7 +9,7 @@ use crate::nla_frames::{Emitable as _, ParseableBytes as _};
 use crate::tc_action_messages::{TcActionMessage, TcActionMessageAttribute};
 use crate::tc_actions::TcAction;
 use crate::tc_messages::TcMessage;
-use crate::tc_restore::{Use, actions_of_filter, kind_of_action, standalone_index, unheld, use_of_action};
+use crate::restore::{Use, actions_of_filter, kind_of_action, standalone_index, unheld, use_of_action};
 
 /// Flags of `linux/netlink.h`.
 pub(crate) const NLM_F_REPLACE: u16 = 0x100;

@@ -9,9 +9,9 @@ use crate::netlink::Devices;
 use crate::netlink::message::{
     RTM_NEWACTION, RTM_NEWCHAIN, RTM_NEWQDISC, RTM_NEWTCLASS, RTM_NEWTFILTER, is_action, tcmsg_of,
 };
-use crate::tc_brief::{self, Said, lines_of};
-use crate::tc_columns::{KindColumns, Root};
-use crate::tc_words::TcWords;
+use crate::show::brief::{self, Said, lines_of};
+use crate::show::columns::{KindColumns, Root};
+use crate::show::words::TcWords;
 use ::serde_json::Value;
 use std::collections::BTreeMap;
 
@@ -260,14 +260,14 @@ fn line_of(sign: &str, message: &[u8], devices: &Devices) -> String {
 }
 
 // What a message is about.
-fn root_of(message: &[u8]) -> Option<(Root, tc_brief::Object)> {
+fn root_of(message: &[u8]) -> Option<(Root, brief::Object)> {
     match type_of(&as_new(message)) {
-        RTM_NEWQDISC => Some((Root::Qdisc, tc_brief::Object::Qdisc)),
-        RTM_NEWTCLASS => Some((Root::Class, tc_brief::Object::Class)),
-        RTM_NEWTFILTER if kind_of(message) == Some(b"u32") => Some((Root::U32Filter, tc_brief::Object::Filter)),
-        RTM_NEWTFILTER => Some((Root::Filter, tc_brief::Object::Filter)),
-        RTM_NEWCHAIN => Some((Root::Chain, tc_brief::Object::Chain)),
-        RTM_NEWACTION => Some((Root::Action, tc_brief::Object::Action)),
+        RTM_NEWQDISC => Some((Root::Qdisc, brief::Object::Qdisc)),
+        RTM_NEWTCLASS => Some((Root::Class, brief::Object::Class)),
+        RTM_NEWTFILTER if kind_of(message) == Some(b"u32") => Some((Root::U32Filter, brief::Object::Filter)),
+        RTM_NEWTFILTER => Some((Root::Filter, brief::Object::Filter)),
+        RTM_NEWCHAIN => Some((Root::Chain, brief::Object::Chain)),
+        RTM_NEWACTION => Some((Root::Action, brief::Object::Action)),
         _ => None,
     }
 }

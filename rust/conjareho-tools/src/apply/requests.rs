@@ -3,13 +3,13 @@
 use super::messages::payload_of;
 use crate::forms_kinds::{ACTION_MESSAGE, TC_MESSAGE, TcTables};
 use crate::netlink::message::{Header, header_of, is_action};
-use crate::program_io::Stop;
+use crate::streams::Stop;
 use crate::tc_capture::{MessageType, Time};
-use crate::tcmake_lib::order::{RequestOptions, requests_of};
-use crate::tcmake_lines::{NetlinkHeader, packet_at};
-use crate::tcmake_messages::Forms;
-use crate::tcmake_requests::lines::RemarkKind;
-use crate::tcmake_requests::order::{Restored, requests_of_dumps};
+use crate::make::program::order::{RequestOptions, requests_of};
+use crate::make::lines::{NetlinkHeader, packet_at};
+use crate::make::messages::Forms;
+use crate::make::requests::lines::RemarkKind;
+use crate::make::requests::order::{Restored, requests_of_dumps};
 use std::collections::BTreeSet;
 
 /// The head of a save, a line before those that complaints number.

@@ -15,8 +15,8 @@ use crate::forms_kinds::{ACTION_MESSAGE, TC_MESSAGE, TcTables};
 use crate::netlink::message::{RTM_NEWQDISC, RTM_NEWTCLASS, Tcmsg, is_action, request, tcmsg_of};
 use crate::netlink::{Devices, Transport};
 use crate::tc_texts::handle_text;
-use crate::tcmake_messages::Forms;
-use crate::tcmake_requests::lines::{Dumped, Reading, RemarkKind, Source, read_lines};
+use crate::make::messages::Forms;
+use crate::make::requests::lines::{Dumped, Reading, RemarkKind, Source, read_lines};
 use std::collections::{BTreeMap, BTreeSet};
 
 /// What a script begins with.

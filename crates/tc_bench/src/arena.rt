@@ -1,6 +1,0 @@
-//! Operations in an arena.
-
-mod calls;
-mod in_arena;
-mod mode;
-mod timed;

@@ -1,5 +1,0 @@
-use Rattle.std.proofs.Common.{length}
-use Rattle.tc_brief.proofs.values.+put_names.Given as goal
-
-abbrev pub decreases-put_names : goal.decreases-put_names
-decreases-put_names l = length l.names.now

@@ -1,4 +1,0 @@
-pub mod Names
-pub mod Arrays
-pub mod Kinds
-pub mod Tables

@@ -1,6 +1,0 @@
-pub mod Left
-pub mod Comments
-pub mod LineSteps
-pub mod PieceSteps
-pub mod LongLines
-pub mod Alone

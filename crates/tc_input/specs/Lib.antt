@@ -1,5 +1,0 @@
-pub mod Left
-pub mod Pieces
-pub mod Lines
-pub mod Text
-pub mod Dumps

@@ -1,4 +1,0 @@
-pub mod Indents
-pub mod Stacks
-pub mod Walked
-pub mod Walks

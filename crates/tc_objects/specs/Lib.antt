@@ -1,9 +1,0 @@
-pub mod Names
-pub mod Needs
-pub mod Rules
-pub mod Sent
-pub mod Confined
-pub mod States
-pub mod Contents
-pub mod Put
-pub mod Renamings

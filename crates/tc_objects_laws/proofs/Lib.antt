@@ -1,5 +1,0 @@
-mod Frames
-mod Values
-mod Changes
-mod Actions
-mod Again

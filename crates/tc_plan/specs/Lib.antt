@@ -1,4 +1,0 @@
-pub mod Fates
-pub mod Needs
-pub mod Now
-pub mod SharedActions

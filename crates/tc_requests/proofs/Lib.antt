@@ -1,4 +1,0 @@
-mod Firsts
-mod Placing
-mod Naming
-mod Settling

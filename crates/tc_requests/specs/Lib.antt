@@ -1,4 +1,0 @@
-pub mod HandleText
-pub mod Requests
-pub mod Named
-pub mod Places

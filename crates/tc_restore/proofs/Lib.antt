@@ -1,9 +1,0 @@
-mod SoleKind
-mod Steps
-mod Trees
-mod Anys
-mod Again
-mod Parts
-mod Nests
-mod Steadying
-mod NoActions

@@ -1,8 +1,0 @@
-use Rattle.std.proofs.Common.{◌≡◌, drop}
-use Rattle.std.specs.List.{list_any}
-use Rattle.tc_restore.specs.RootTables.{is_single}
-use Rattle.tc_restore.proofs.root_tables.any_single_among.Given as goal
-
--- one of those to come is such if one of all is
-abbrev pub invariant-loop-option : goal.invariant-loop-option
-invariant-loop-option g l = list_any is_single (drop l.option-index l.options) ≡ list_any is_single l.options

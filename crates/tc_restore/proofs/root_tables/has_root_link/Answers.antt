@@ -1,5 +1,0 @@
-use Rattle.std.proofs.Common.{refl}
-use Rattle.tc_restore.proofs.root_tables.has_root_link.Goals as goal
-
-pub returns-in-Options : goal.returns-in-Options
-returns-in-Options g c = rw (c.in-Options.is, c.any_root_link_among.ensures, c.deref.ensures.value) refl

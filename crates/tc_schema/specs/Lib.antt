@@ -1,4 +1,0 @@
-pub mod Explained
-pub mod Json
-pub mod Notes
-pub mod Texts

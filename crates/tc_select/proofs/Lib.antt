@@ -1,4 +1,0 @@
-pub mod Frames
-pub mod Listed
-pub mod Pushing
-pub mod Years

@@ -1,3 +1,0 @@
-mod Planned
-mod Runs
-mod InOrder

@@ -1,5 +1,0 @@
-pub mod Ends
-pub mod Lines
-pub mod Written
-pub mod Parts
-pub mod State

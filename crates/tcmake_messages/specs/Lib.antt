@@ -1,4 +1,0 @@
-pub mod Line
-pub mod Verdict
-pub mod Built
-pub mod Answer

@@ -1,3 +1,0 @@
-pub mod Complaints
-mod Dumps
-pub mod Written

@@ -1,6 +1,0 @@
-use Rattle.tcmake_requests.specs.Dumps.{IsQuiet}
-use Rattle.tcmake_requests.proofs.order.keep_all.Given as goal
-
--- what was wrong before is still so
-abbrev pub invariant-loop-dump : goal.invariant-loop-dump
-invariant-loop-dump l = IsQuiet l.remarks.items → IsQuiet l.fn.remarks.items

@@ -1,6 +1,0 @@
-use Rattle.tcmake_requests.specs.Dumps.{IsQuiet}
-use Rattle.tcmake_requests.proofs.order.say_left.Given as goal
-
--- what was wrong before is still so
-abbrev pub invariant-loop-step : goal.invariant-loop-step
-invariant-loop-step l = IsQuiet l.remarks.items → IsQuiet l.fn.remarks.items

@@ -1,4 +1,0 @@
-pub mod Json
-pub mod Status
-pub mod Streams
-pub mod Times

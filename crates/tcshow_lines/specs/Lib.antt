@@ -1,7 +1,0 @@
-pub mod Answers
-pub mod Bare
-pub mod Begins
-pub mod Lines
-pub mod Past
-pub mod Times
-pub mod Verbs

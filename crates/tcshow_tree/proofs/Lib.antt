@@ -1,4 +1,0 @@
-pub mod Firsts
-pub mod Lines
-pub mod Links
-pub mod Walks

@@ -1,4 +1,0 @@
-pub mod Forest
-pub mod Nodes
-pub mod Tree
-pub mod Words

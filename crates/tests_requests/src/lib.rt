@@ -1,5 +1,0 @@
-//! Tests alone, of requests of clients, built and made of dumps; of messages and JSON; and of plans of changes.
-#![tactic(auto)]
-
-#[cfg(test)]
-mod requests;

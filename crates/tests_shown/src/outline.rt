@@ -1,7 +1,0 @@
-//! Attributes with their places, messages as lines, faults with their places, and allocations that fail.
-
-mod memory;
-mod messages;
-mod paths;
-mod places;
-mod shown;

@@ -1,0 +1,28 @@
+//! Messages of lines of JSON, as `tcshow --json` writes them.
+//!
+//! [`made_of`] makes the message of a line, and [`MessageMaker`] the messages of all lines of an input. A line that no message is
+//! made of has a [`LineError`], which says where the mistake is.
+//!
+//! Calls that take an allocator fail with `LineError::NoMemory` or `AllocError` if it fails.
+
+use crate::user::prelude::*;
+mod built;
+mod error;
+mod given;
+mod maker;
+mod making;
+mod members;
+mod message;
+mod save;
+mod unknown;
+mod verdict;
+
+pub use built::{BuiltMessage, json_in, made_of, made_of_json};
+pub use error::{Actual, LineError, Notice, Place};
+pub use given::is_answer;
+pub use maker::{MessageMaker, notices_of};
+pub use making::Making;
+pub use members::{Numbered, number_of, wrong};
+pub use message::{Forms, MOST_MESSAGE};
+pub use save::{is_end, is_head, is_of_save};
+pub use verdict::{Said, Verdict};

@@ -1,0 +1,87 @@
+//! The message that is built from a line.
+
+use crate::user::prelude::*;
+
+use crate::forms_json::Tables;
+use crate::forms_text::{Difference, ReadError, read_json};
+use crate::make::lines::NetlinkHeader;
+use crate::make::messages::error::LineError;
+use crate::make::messages::given::{given_of, is_answer};
+use crate::make::messages::making::Making;
+use crate::make::messages::message::{Forms, Message, message_of};
+use crate::make::messages::save::is_of_save;
+use crate::serde_json::Value;
+use crate::tc_capture::MessageType;
+
+/// A message that is built from a line, with the netlink header that the line describes.
+pub struct BuiltMessage {
+    pub given: NetlinkHeader,
+    pub bytes: Vec<u8>,
+    /// The places that settling changed.
+    pub settled: Vec<Difference>,
+}
+
+/// The message of a line, which is freed once it is read. An answer of the kernel, and the first and the last line of a save, have none.
+///
+/// # Errors
+///
+/// A [`LineError`].
+pub fn made_of<T: Tables>(forms: Forms<T>, line: Vec<u8>, making: Making) -> Result<Option<BuiltMessage>, LineError> {
+    let json = json_in(line)?;
+    if is_answer(&json) || is_of_save(&json) {
+        return Ok(None);
+    }
+    let made = made_of_json(forms, &json, making)?;
+    Ok(Some(made))
+}
+
+/// The JSON of a line, which is freed.
+///
+/// # Errors
+///
+/// A [`LineError`].
+pub fn json_in(line: Vec<u8>) -> Result<Value, LineError> {
+    match read_json(&line) {
+        Ok(json) => Ok(json),
+        Err(error) => Err(unread(error, &line)),
+    }
+}
+
+/// The message of JSON that isn't an answer of the kernel, nor the first or the last line of a save.
+///
+/// # Errors
+///
+/// A [`LineError`].
+pub fn made_of_json<T: Tables>(forms: Forms<T>, json: &Value, making: Making) -> Result<BuiltMessage, LineError> {
+    let given = given_of(json)?;
+    let message = message_in(forms, making, given.holds, json)?;
+    Ok(BuiltMessage { given, bytes: message.bytes, settled: message.settled })
+}
+
+// The message that is made of a line's.
+fn message_in<T: Tables>(
+    forms: Forms<T>,
+    making: Making,
+    holds: MessageType,
+    json: &Value,
+) -> Result<Message, LineError> {
+    match json.get("message") {
+        Some(message) => message_of(forms, making, holds, json, message),
+        None => message_of(forms, making, holds, json, json),
+    }
+}
+
+// Why a line isn't read as JSON.
+fn unread(error: ReadError, line: &[u8]) -> LineError {
+    match error {
+        ReadError::OutOfMemory => LineError::NoMemory,
+        ReadError::NotJson { .. } if is_one_part(line) => LineError::OnePart,
+        error => LineError::Read(error),
+    }
+}
+
+// True of a line of JSON that is written on several lines: a bracket alone, or what is indented.
+fn is_one_part(line: &[u8]) -> bool {
+    matches!(line.trim_ascii(), b"{" | b"}" | b"}," | b"[" | b"]" | b"],")
+        || matches!(line, [b' ', b' ', ..] | [b'\t', ..])
+}

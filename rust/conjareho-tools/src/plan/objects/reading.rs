@@ -1,0 +1,427 @@
+//! The objects of single dumps.
+
+use crate::user::prelude::*;
+
+use crate::plan::configs::config::MADE;
+use crate::plan::configs::configured::plain;
+use crate::plan::configs::requested::config_of_action;
+use crate::plan::configs::{Configured, Sort, config_of};
+use crate::plan::objects::classes::classes_of;
+use crate::plan::objects::dump::Dump;
+use crate::plan::objects::dumped_object::DumpedObject;
+use crate::plan::objects::known::Known;
+use crate::plan::objects::made::{handle_named, is_by_kernel};
+use crate::plan::objects::objects::key_of;
+use crate::plan::objects::state_error::StateError;
+use crate::plan::restored::{
+    Dependencies, Fate, Key as PlanKey, Named, dependencies_of, has_action, name_of_action, newest_first,
+};
+use crate::restore::{Object, actions_of_filter, kind_of_message, standalone_index};
+use crate::tc_action_messages::{TcActionMessage, TcActionMessageAttribute};
+use crate::tc_actions::TcAction;
+use crate::tc_changes::Key;
+use crate::tc_messages::TcMessage;
+use std::collections::HashSet;
+
+/// The origin of an object.
+#[derive(Clone, Copy, PartialEq, Eq, Debug)]
+pub struct Origin {
+    /// The number of its dump, from 0.
+    pub place: usize,
+    /// Its handle there (`tcm_handle`): of a filter in a root table of u32 with the number of that table.
+    pub handle: u32,
+}
+
+/// An object as a dump shows it, and its origin.
+pub(crate) struct Reading {
+    pub(crate) shown: DumpedObject,
+    pub(crate) origin: Origin,
+    /// The filters that the kernel keeps newest first, if it is one of these.
+    pub(crate) group: Option<PlanKey>,
+}
+
+/// The objects of dumps.
+pub(crate) struct Readings {
+    pub(crate) all: Vec<Reading>,
+    /// The priorities among them, and what is in blocks that interfaces share, which each of these dumps.
+    pub(crate) seen: HashSet<Key>,
+}
+
+/// The objects of these dumps.
+pub(crate) fn readings_of(known: &Known, dumps: Vec<Dump>) -> Result<Vec<Reading>, StateError> {
+    let readings = Readings { all: Vec::new(), seen: HashSet::new() };
+    let made = put_dumps(known, dumps, readings)?;
+    Ok(made.all)
+}
+
+fn put_dumps(known: &Known, dumps: Vec<Dump>, readings: Readings) -> Result<Readings, StateError> {
+    let mut readings = readings;
+    let mut place = 0;
+    for dump in dumps {
+        readings = put_dump(known, place, dump, readings)?;
+        place = usize::saturating_add(place, 1);
+    }
+    Ok(readings)
+}
+
+fn put_dump(known: &Known, place: usize, dump: Dump, readings: Readings) -> Result<Readings, StateError> {
+    match dump {
+        Dump::Of(object, message) => put_object(known, place, object, message, readings),
+        Dump::Actions(message) => put_actions(known, place, message, readings),
+    }
+}
+
+// Readings, and one more.
+fn with_reading(readings: Readings, reading: Reading) -> Result<Readings, AllocError> {
+    let Readings { all, seen } = readings;
+    let mut all = all;
+    all.try_push(reading)?;
+    Ok(Readings { all, seen })
+}
+
+// The same, unless it was seen: the priority of a filter, and what is in a block that interfaces share, which each of these dumps.
+fn with_new(readings: Readings, reading: Reading) -> Result<Readings, AllocError> {
+    let key = key_of(&reading.shown);
+    if readings.seen.contains(&key) {
+        return Ok(readings);
+    }
+    let Readings { all, seen } = readings;
+    let mut all = all;
+    let mut seen = seen;
+    seen.insert(key);
+    all.try_push(reading)?;
+    Ok(Readings { all, seen })
+}
+
+// What the keys of a dump say.
+#[derive(Clone, Copy)]
+struct Whereabouts {
+    sort: Sort,
+    index: i32,
+    parent: u32,
+    chain: u32,
+    priority: u32,
+}
+
+fn whereabouts_of(known: &Known, object: Object, message: &TcMessage, dependencies: &Dependencies) -> Whereabouts {
+    let index = message.header.index;
+    match (object, dependencies.objects.first()) {
+        (Object::Chain, Some(PlanKey::Chain { parent, number, .. })) => {
+            Whereabouts { sort: Sort::Chain, index, parent: *parent, chain: *number, priority: 0 }
+        }
+        (Object::Filter, Some(PlanKey::Filter { parent, number, info, .. })) => Whereabouts {
+            sort: sort_of_filter(known, dependencies),
+            index,
+            parent: *parent,
+            chain: *number,
+            priority: *info / 0x1_0000,
+        },
+        _ => Whereabouts {
+            sort: sort_of_node(object),
+            index,
+            parent: u32::from(message.header.parent),
+            chain: 0,
+            priority: 0,
+        },
+    }
+}
+
+// A class, or a qdisc.
+fn sort_of_node(object: Object) -> Sort {
+    match object {
+        Object::Class => Sort::Class,
+        _ => Sort::Qdisc,
+    }
+}
+
+// A hash table of u32, or a filter.
+fn sort_of_filter(known: &Known, dependencies: &Dependencies) -> Sort {
+    for key in &dependencies.provides {
+        if let Some(Some(_)) = known.tables.get(key) {
+            return Sort::Table;
+        }
+    }
+    Sort::Filter
+}
+
+// Puts what a dump shows, unless the kernel makes it itself or with something else.
+fn put_object(
+    known: &Known,
+    place: usize,
+    object: Object,
+    message: TcMessage,
+    readings: Readings,
+) -> Result<Readings, StateError> {
+    let dependencies = dependencies_of(0, Fate::Request, object, &known.ingress, &message)?;
+    let at = whereabouts_of(known, object, &message, &dependencies);
+    let before = put_priority(known, place, object, at, &message, readings)?;
+    if is_left_out(known, object, at.chain, &message, &dependencies) {
+        return Ok(before);
+    }
+    let reading = reading_of(known, place, object, at, &dependencies, message)?;
+    let made = put_reading(before, reading)?;
+    Ok(made)
+}
+
+// Readings, and one more; of what is in a block that interfaces share, only the first.
+fn put_reading(readings: Readings, reading: Reading) -> Result<Readings, AllocError> {
+    if reading.shown.index == SHARED { with_new(readings, reading) } else { with_reading(readings, reading) }
+}
+
+// True if the kernel makes it itself or with something else.
+fn is_left_out(known: &Known, object: Object, chain: u32, message: &TcMessage, dependencies: &Dependencies) -> bool {
+    is_implied(known, object, chain, message, dependencies) || is_by_kernel(&known.roots, object, message)
+}
+
+// The reading of an object that the kernel doesn't make itself.
+fn reading_of(
+    known: &Known,
+    place: usize,
+    object: Object,
+    at: Whereabouts,
+    dependencies: &Dependencies,
+    message: TcMessage,
+) -> Result<Reading, StateError> {
+    let origin = Origin { place, handle: u32::from(message.header.handle) };
+    let group = newest_first(object, &known.ingress, &message);
+    let others = match at.sort {
+        Sort::Table | Sort::Chain => with_places(Vec::new(), known, at)?,
+        _ => tables_of(known, dependencies)?,
+    };
+    let shown = shown_of(known, place, object, at, others, message)?;
+    Ok(Reading { shown, origin, group })
+}
+
+// The interface of what is in a block that interfaces share: `TCM_IFINDEX_MAGIC_BLOCK`.
+const SHARED: i32 = -1;
+
+// Keys, and those of the qdiscs of a shared block; the key of the block itself, which no object has, if it isn't any qdisc's.
+fn with_places(keys: Vec<Key>, known: &Known, at: Whereabouts) -> Result<Vec<Key>, AllocError> {
+    let mut keys = keys;
+    if at.index == SHARED {
+        let mut is_known = false;
+        for (number, place) in &known.blocks {
+            if *number == at.parent {
+                keys.try_push(*place)?;
+                is_known = true;
+            }
+        }
+        if !is_known {
+            keys.try_push(Key::Block { number: at.parent })?;
+        }
+    }
+    Ok(keys)
+}
+
+// True for chain 0 without a template, and for another one without a template that has a filter: the kernel makes it with the filter.
+fn is_implied(known: &Known, object: Object, chain: u32, message: &TcMessage, dependencies: &Dependencies) -> bool {
+    match &dependencies.made_by {
+        Some(key) => chain == 0 || known.filled.contains(key),
+        None => false,
+    }
+}
+
+// The hash tables that a filter is in or links to; a table that no dump shows is one that no object is.
+fn tables_of(known: &Known, dependencies: &Dependencies) -> Result<Vec<Key>, AllocError> {
+    let mut keys = Vec::new();
+    for key in &dependencies.needs {
+        if let PlanKey::Table { index, parent, number } = key {
+            match known.tables.get(key) {
+                Some(Some(table)) => keys.try_push(*table)?,
+                Some(None) => {}
+                None => keys.try_push(Key::Filter {
+                    index: *index,
+                    parent: *parent,
+                    number: 0,
+                    priority: 0,
+                    handle: *number,
+                })?,
+            }
+        }
+    }
+    Ok(keys)
+}
+
+// Puts the priority of a filter.
+fn put_priority(
+    known: &Known,
+    place: usize,
+    object: Object,
+    at: Whereabouts,
+    message: &TcMessage,
+    readings: Readings,
+) -> Result<Readings, AllocError> {
+    match object {
+        Object::Filter => with_priority(known, place, at, message, readings),
+        Object::Qdisc => Ok(readings),
+        Object::Class => Ok(readings),
+        Object::Chain => Ok(readings),
+    }
+}
+
+fn with_priority(
+    known: &Known,
+    place: usize,
+    at: Whereabouts,
+    message: &TcMessage,
+    readings: Readings,
+) -> Result<Readings, AllocError> {
+    let config = priority_config(message)?;
+    let others = with_places(Vec::new(), known, at)?;
+    let shown = priority_shown(at, others, config);
+    with_new(readings, Reading { shown, origin: Origin { place, handle: 0 }, group: None })
+}
+
+// The configuration of a priority: the protocol and the kind of its filters.
+fn priority_config(message: &TcMessage) -> Result<Vec<u8>, AllocError> {
+    let protocol = message.header.info % 0x1_0000;
+    let mut text = fallible::copy(&protocol.to_le_bytes())?;
+    text.try_extend(kind_of_message(message).as_bytes())?;
+    plain(MADE, &text)
+}
+
+fn priority_shown(at: Whereabouts, others: Vec<Key>, config: Vec<u8>) -> DumpedObject {
+    DumpedObject {
+        sort: Sort::Priority,
+        index: at.index,
+        handle: 0,
+        parent: at.parent,
+        chain: at.chain,
+        priority: at.priority,
+        classes: Vec::new(),
+        others,
+        config,
+    }
+}
+
+// What a dump shows.
+fn shown_of(
+    known: &Known,
+    place: usize,
+    object: Object,
+    at: Whereabouts,
+    others: Vec<Key>,
+    message: TcMessage,
+) -> Result<DumpedObject, StateError> {
+    let handle = handle_named(&known.roots, object, &message);
+    let classes = match object {
+        Object::Filter => classes_of(&message)?,
+        _ => Vec::new(),
+    };
+    let Some(configured) = config_of(&known.roots, object, at.sort, at.parent, message)? else {
+        return Err(StateError::TooLong { place });
+    };
+    let Configured { message, config } = configured;
+    let others = match object {
+        Object::Filter => with_shared(others, actions_of_filter(message)?)?,
+        _ => others,
+    };
+    Ok(shown_at(at, handle, classes, others, config))
+}
+
+fn shown_at(at: Whereabouts, handle: u32, classes: Vec<u32>, others: Vec<Key>, config: Vec<u8>) -> DumpedObject {
+    DumpedObject {
+        sort: at.sort,
+        index: at.index,
+        handle,
+        parent: at.parent,
+        chain: at.chain,
+        priority: at.priority,
+        classes,
+        others,
+        config,
+    }
+}
+
+// Keys, and those of the actions that a filter shares.
+fn with_shared(keys: Vec<Key>, actions: Vec<TcAction>) -> Result<Vec<Key>, AllocError> {
+    let mut keys = keys;
+    for action in &actions {
+        if let (Some(_), Some(name)) = (standalone_index(action), name_of_action(action)) {
+            let Named { kind, index } = name;
+            keys.try_push(Key::Action { kind, index })?;
+        }
+    }
+    Ok(keys)
+}
+
+// Puts the actions of a dump, but for those that are one filter's own.
+fn put_actions(
+    known: &Known,
+    place: usize,
+    message: TcActionMessage,
+    readings: Readings,
+) -> Result<Readings, StateError> {
+    let mut readings = readings;
+    for attribute in message.attributes {
+        readings = put_attribute(known, place, attribute, readings)?;
+    }
+    Ok(readings)
+}
+
+fn put_attribute(
+    known: &Known,
+    place: usize,
+    attribute: TcActionMessageAttribute,
+    readings: Readings,
+) -> Result<Readings, StateError> {
+    let actions = actions_of(attribute);
+    put_all(known, place, actions, readings)
+}
+
+fn actions_of(attribute: TcActionMessageAttribute) -> Vec<TcAction> {
+    match attribute {
+        TcActionMessageAttribute::Actions(actions) => actions,
+        _ => Vec::new(),
+    }
+}
+
+fn put_all(known: &Known, place: usize, actions: Vec<TcAction>, readings: Readings) -> Result<Readings, StateError> {
+    let mut readings = readings;
+    for action in actions {
+        readings = put_action(known, place, action, readings)?;
+    }
+    Ok(readings)
+}
+
+fn put_action(known: &Known, place: usize, action: TcAction, readings: Readings) -> Result<Readings, StateError> {
+    let Some(name) = name_of_action(&action) else {
+        return Err(StateError::Unnamed { place });
+    };
+    let Some(index) = standalone_index(&action) else {
+        return Ok(readings);
+    };
+    let reading = reading_of_action(known, place, name, index, action)?;
+    let made = with_reading(readings, reading)?;
+    Ok(made)
+}
+
+// The reading of a standalone action with this name.
+fn reading_of_action(
+    known: &Known,
+    place: usize,
+    name: Named,
+    index: u32,
+    action: TcAction,
+) -> Result<Reading, StateError> {
+    let sort = Sort::Action(name.kind);
+    let by_filters = has_action(&known.by_filters, name);
+    let Some(config) = config_of_action(sort, by_filters, action)? else {
+        return Err(StateError::TooLong { place });
+    };
+    Ok(Reading { shown: of_action(sort, index, config), origin: Origin { place, handle: index }, group: None })
+}
+
+fn of_action(sort: Sort, index: u32, config: Vec<u8>) -> DumpedObject {
+    DumpedObject {
+        sort,
+        index: 0,
+        handle: index,
+        parent: 0,
+        chain: 0,
+        priority: 0,
+        classes: Vec::new(),
+        others: Vec::new(),
+        config,
+    }
+}

@@ -1,0 +1,2 @@
+use crate::user::prelude::*;
+pub enum Note {}

@@ -1,0 +1,10 @@
+//! The columns of Linux's traffic control, for `tc_lines`: the name and display of each attribute and field of every
+//! kind. They are generated from the files below `kinds/`, as the tables of `forms_kinds` are.
+
+use crate::user::prelude::*;
+mod names;
+mod root;
+mod tables;
+
+pub use names::LinkNames;
+pub use root::{KindColumns, Root, kernel_name};

@@ -1,0 +1,23 @@
+//! Data for tests: messages, made by hand and captured, and others made from them (cut, changed, with attributes of all
+//! types and many lengths); captures of them in each format; dumps in hex; streams that fail.
+
+use crate::user::prelude::*;
+mod captures;
+mod changes;
+pub mod dumps;
+mod input;
+mod large;
+mod long;
+mod row;
+mod rows;
+pub mod streams;
+mod sweep;
+
+pub use captures::{FORMATS, Format, MICROSECONDS, SECONDS, beginning, file_of, message, messages, put_packet};
+pub use changes::cut_and_changed;
+pub use input::{Form, Input};
+pub use large::{MANY_ATTRIBUTES, MANY_KEYS, MANY_LETTERS, MANY_NULS, large_messages};
+pub use long::too_long;
+pub use row::{Expected, Row, row_of};
+pub use rows::{captured, made};
+pub use sweep::{ACTION_KINDS, KINDS, LAST_TYPE, LENGTHS, all_around, swept};

@@ -1,0 +1,5 @@
+//! Tests alone, of words and lines that people give.
+
+use crate::user::prelude::*;
+#[cfg(test)]
+mod words;
