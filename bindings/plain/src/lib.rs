@@ -30,6 +30,7 @@ mod strict;
 mod user;
 
 use ::itoa;
+use serde::json as serde_json;
 use small::arrayvec;
 
 // The erased crates, each a private module.

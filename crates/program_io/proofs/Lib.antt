@@ -1,3 +1,1 @@
 pub mod Fronts
-pub mod Reading
-pub mod Adding

@@ -6,12 +6,10 @@ ghost use Rattle.std.specs.Io.KnownBytes.{Appends, Keeps, WriteAppends};
 ghost use Rattle.program_io.specs.Written.{GrowsByFront};
 
 use crate::retries::MOST_RETRIES;
-use crate::stop::Stop;
-use crate::streams::write_reason;
 use std::io::{Error, ErrorKind, Write};
 
 /// Writes all bytes. If it fails, some of them may have been written. A write that is interrupted is tried again.
-pub fn write_all<W: Write>(writer: &mut W, bytes: &[u8]) -> Result<(), Stop>
+pub fn write_all<W: Write>(writer: &mut W, bytes: &[u8]) -> Result<(), Error>
     ensures front { (rest : List ℕ) × GrowsByFront (W.contents writer.old) (W.contents writer.new) bytes.now rest
         × OnOk result (rest ≡ []) }
 {
@@ -19,7 +17,7 @@ pub fn write_all<W: Write>(writer: &mut W, bytes: &[u8]) -> Result<(), Stop>
     'parts: while !rest.is_empty() {
         let count = write_some(writer, rest)?;
         if count == 0 {
-            return Err(Stop::Write);
+            return Err(Error::from(ErrorKind::WriteZero));
         }
         let (_, after) = rest.split_at(count);
         rest = after;
@@ -28,14 +26,14 @@ pub fn write_all<W: Write>(writer: &mut W, bytes: &[u8]) -> Result<(), Stop>
 }
 
 // Writes some of the bytes once, and returns their number.
-fn write_some<W: Write>(writer: &mut W, bytes: &[u8]) -> Result<usize, Stop>
+fn write_some<W: Write>(writer: &mut W, bytes: &[u8]) -> Result<usize, Error>
     ensures inside { IfOk result (λ count. count ≤ length bytes.now) }
     ensures front { IfOk result (λ count. Appends (W.contents writer.old) (W.contents writer.new) (take count bytes.now)) }
     ensures none { OnErr result (Keeps (W.contents writer.old) (W.contents writer.new)) }
 {
     match write_retrying(writer, bytes) {
         Ok(count) => Ok(count),
-        Err(error) => Err(write_reason(error.kind())),
+        Err(error) => Err(error),
     }
 }
 

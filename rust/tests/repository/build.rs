@@ -7,13 +7,16 @@ const TESTS: &[&str] = &[
     "tests_data",
     "tc_vectors",
     "tests_input",
-    "tests_lines",
+    "tests_forms",
 ];
 
 /// Tests of how large Rattle's values are, of refused memory, of random bytes, and of lines of a program. Where a text isn't JSON,
 /// `serde_json` says another column than Rattle's.
 const OMITTED: &[&str] = &[
     "failing_alloc",
+    "tc_message_json",
+    "tests_forms::build::broken",
+    "tests_forms::message_json",
     "tests_data::streams",
     "tcrewrite_lib",
     "tc_vectors::hostile",
@@ -26,9 +29,9 @@ const OMITTED: &[&str] = &[
     "tc_vectors::parts::actions::is_read",
     "tc_vectors::parts::actions::is_written_without_memory",
     "tc_vectors::parts::refusals",
-    "tests_lines::forms::random",
-    "tests_lines::forms::wrong::texts",
-    "tests_lines::forms::wrong::a_thousand_levels",
+    "tests_forms::forms::random",
+    "tests_forms::forms::wrong::texts",
+    "tests_forms::forms::wrong::a_thousand_levels",
 ];
 
 fn main() {

@@ -1,4 +1,0 @@
-//! Outlines in colors, for a terminal.
-
-pub(crate) mod lines;
-pub(crate) mod writer;
