@@ -1,5 +1,5 @@
-//! What one expects of a crate beside what the sources have: `Hash` where there is `Eq` and `Clone` of errors, of the codec, and
-//! `#[must_use]` and `# Errors` in the documentation, of all.
+//! What one expects of a crate beside what the sources have: `Hash` where there is `Eq`, `Clone` of errors and `#[inline]` of each
+//! function, of the codec, and `#[must_use]` and `# Errors` in the documentation, of all.
 
 use crate::Fault;
 use crate::items::{Function, functions};
@@ -8,6 +8,7 @@ use crate::token::{Token, after_group, text_of, tokens};
 pub(crate) fn add(all: &mut Vec<Token>, is_user: bool) -> Result<(), Fault> {
     if !is_user {
         add_derives(all)?;
+        add_inline(all)?;
     }
     let is_pub = |all: &[Token], at: usize| at > 0 && all[at - 1].is("pub");
     let body = |at: usize| all[at..].iter().position(|token| token.is("{")).and_then(|len| Some(at..after_group(all, at + len).ok()?));
@@ -44,6 +45,26 @@ fn add_derives(all: &mut Vec<Token>) -> Result<(), Fault> {
     Ok(())
 }
 
+/// `#[inline]` on each function with a body: a user's crate then sees through the small ones (a header's field, a text without its
+/// NUL) in cargo's default profile too, which has neither link-time optimization nor one unit of code a crate.
+fn add_inline(all: &mut Vec<Token>) -> Result<(), Fault> {
+    for function in functions(all)?.iter().rev() {
+        let is_said = all[function.start..function.at].iter().any(|token| token.is("inline") || token.is("cold"));
+        if all[function.body].is("{") && !is_said {
+            insert_attribute("#[inline]", function.start, all)?;
+        }
+    }
+    Ok(())
+}
+
+/// Puts an attribute before an item, after its comment.
+fn insert_attribute(attribute: &'static str, start: usize, all: &mut Vec<Token>) -> Result<(), Fault> {
+    let mut new = tokens(attribute, all[start].file, all[start].line)?;
+    new[0].before = std::mem::replace(&mut all[start].before, "\n");
+    all.splice(start..start, new);
+    Ok(())
+}
+
 /// The last type of `Result < .. , E >`, or the codec's error of `Res`.
 fn error_of(returned: &[Token]) -> Option<String> {
     match returned.first()?.text {
@@ -63,10 +84,7 @@ fn add_to(all: &mut Vec<Token>, function: &Function) -> Result<(), Fault> {
             all[start].before = format!("{comment}///\n{indent}/// # Errors\n{indent}///\n{indent}/// A {link}.\n{indent}").leak();
         }
         None if !function.writes && !all[start..function.at].iter().any(|token| token.is("must_use")) => {
-            let mut new = tokens("#[must_use]", all[start].file, all[start].line)?;
-            new[0].before = comment;
-            all[start].before = "\n";
-            all.splice(start..start, new);
+            insert_attribute("#[must_use]", start, all)?;
         }
         _ => {}
     }

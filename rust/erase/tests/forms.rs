@@ -19,7 +19,12 @@ fn left_of(test: &str, files: &[(&str, &str)]) -> Result<String, String> {
     Ok(bundle.lines().filter(|line| !line.trim().is_empty()).map(|line| format!("{line}\n")).collect())
 }
 
+/// What is left of one file, without the `#[inline]` that each function gets.
 fn left_of_one(test: &str, text: &str) -> Result<String, String> {
+    Ok(inlined_of_one(test, text)?.replace("#[inline]\n", ""))
+}
+
+fn inlined_of_one(test: &str, text: &str) -> Result<String, String> {
     let all = left_of(test, &[("one/src/lib.rt", text)])?;
     let (_, inner) = all.split_once("mod one {\n").expect("the module");
     let inner = inner.strip_prefix("use crate::fallible::prelude::*;\n").expect("its prelude");
@@ -105,6 +110,13 @@ fn what_one_expects_of_a_crate_is_added() {
     let types = "#[derive(Clone, PartialEq, Eq)]\npub struct One(u8);\n#[derive(Clone)]\npub struct Two(u8);\nimpl Eq for Two {}\n#[derive(Clone)]\npub struct Three(u8);\n";
     let left = left_of_one("hash", types).unwrap();
     assert_eq!(left, types.replace("PartialEq, Eq)", "PartialEq, Eq, Hash)").replace("(Clone)]\npub struct Two", "(Clone, Hash)]\npub struct Two"));
+}
+
+#[test]
+fn each_function_is_inlined_where_a_user_calls_it() {
+    let text = "/// One.\nfn one(n: &mut u8) {\n    g(n)\n}\n#[cold]\nfn two(n: &mut u8) {\n    g(n)\n}\ntrait Read: Copy {\n    fn read(&mut self);\n    fn more(&mut self) {\n    g(self)\n    }\n}\n";
+    let left = text.replace("fn one", "#[inline]\nfn one").replace("    fn more", "    #[inline]\nfn more");
+    assert_eq!(inlined_of_one("inlined", text).unwrap(), left);
 }
 
 #[test]
