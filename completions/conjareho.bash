@@ -3,21 +3,33 @@
 _conjareho_kinds="atm basic bfifo blackhole bpf cake cbq cbs cgroup choke clsact codel connmark csum ct ctinfo drr dsmark etf ets flow flower fq fq_codel fq_pie fw gact gate gred hfsc hhf htb ife ingress ipt matchall mirred mpls mq mqprio multiq nat netem noop noqueue pedit pfifo pfifo_fast pfifo_head_drop pie plug police prio qfq red route rr rsvp rsvp6 sample sfb sfq simple skbedit skbmod skbprio taprio tbf tcindex teql0 tunnel_key u32 vlan xt"
 _conjareho_types="qdisc tclass tfilter chain action newqdisc delqdisc getqdisc newtclass deltclass gettclass newtfilter deltfilter gettfilter newchain delchain getchain newaction delaction getaction"
 
-# Those of these words that begin as the current one.
+# Offers those of these words that begin as the current one, quoted. None is expanded: an interface may be called `$(id)`.
 _conjareho_words() {
-    COMPREPLY=($(compgen -W "$*" -- "$current"))
+    local word quoted typed=${cur#[\"\']}
+    for word in "$@"; do
+        printf -v quoted %q "$word"
+        # After an opening quote come only words that need no quotes.
+        [[ $typed != "$cur" && $quoted != "$word" ]] && continue
+        [[ $word == "$typed"* || $quoted == "$typed"* ]] && COMPREPLY+=("$quoted")
+    done
 }
 
 _conjareho_devices() {
-    _conjareho_words $(ls /sys/class/net 2>/dev/null)
+    local path names=()
+    for path in /sys/class/net/*; do
+        [[ -d $path ]] && names+=("${path##*/}")
+    done
+    _conjareho_words "${names[@]}"
 }
 
 _conjareho() {
-    local current previous words of command word
-    current=${COMP_WORDS[COMP_CWORD]}
+    # `_filedir` of bash-completion reads `cur`.
+    local cur previous words of command word
+    cur=${COMP_WORDS[COMP_CWORD]}
     previous=${COMP_WORDS[COMP_CWORD - 1]}
     of=${COMP_WORDS[0]##*/}
     words=
+    COMPREPLY=()
     if [[ $of == tcnl ]]; then
         for word in "${COMP_WORDS[@]:1:COMP_CWORD-1}"; do
             [[ " dump monitor send clear " == *" $word "* ]] && command=$word && break
@@ -100,7 +112,7 @@ _conjareho() {
         words="-h --help"
         ;;
     esac
-    if [[ $current == -* ]]; then
+    if [[ $cur == -* ]]; then
         _conjareho_words $words
         return
     fi
@@ -126,7 +138,8 @@ _conjareho() {
 
 # Where bash-completion isn't there.
 declare -F _filedir >/dev/null || _filedir() {
-    COMPREPLY=($(compgen "-${1:+d}${1:-f}" -- "$current"))
+    compopt -o filenames 2>/dev/null
+    mapfile -t COMPREPLY < <(compgen "${1:--f}" -- "$cur")
 }
 
 complete -F _conjareho tcshow tcmake tcrewrite tcsave tcrestore tcapply tcnl
