@@ -49,7 +49,7 @@ fn add_derives(all: &mut Vec<Token>) -> Result<(), Fault> {
 /// NUL) in cargo's default profile too, which has neither link-time optimization nor one unit of code a crate.
 fn add_inline(all: &mut Vec<Token>) -> Result<(), Fault> {
     for function in functions(all)?.iter().rev() {
-        let is_said = all[function.start..function.at].iter().any(|token| token.is("inline") || token.is("cold"));
+        let is_said = all[function.start..function.at].iter().any(|token| token.is("inline"));
         if all[function.body].is("{") && !is_said {
             insert_attribute("#[inline]", function.start, all)?;
         }

@@ -114,7 +114,7 @@ fn what_one_expects_of_a_crate_is_added() {
 
 #[test]
 fn each_function_is_inlined_where_a_user_calls_it() {
-    let text = "/// One.\nfn one(n: &mut u8) {\n    g(n)\n}\n#[cold]\nfn two(n: &mut u8) {\n    g(n)\n}\ntrait Read: Copy {\n    fn read(&mut self);\n    fn more(&mut self) {\n    g(self)\n    }\n}\n";
+    let text = "/// One.\nfn one(n: &mut u8) {\n    g(n)\n}\ntrait Read: Copy {\n    fn read(&mut self);\n    fn more(&mut self) {\n    g(self)\n    }\n}\n";
     let left = text.replace("fn one", "#[inline]\nfn one").replace("    fn more", "    #[inline]\nfn more");
     assert_eq!(inlined_of_one("inlined", text).unwrap(), left);
 }
