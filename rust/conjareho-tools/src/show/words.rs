@@ -1,5 +1,5 @@
-//! `tc`'s words for Linux's traffic control, for `tc_brief`: how a line for people writes each attribute and field of every kind, and when it leaves one
-//! out. They are generated from the files below `kinds/`, as the columns of `tc_columns` are.
+//! `tc`'s words for Linux's traffic control: how a line for people writes each attribute and field of every kind, and
+//! when it leaves one out. They are generated from the files below `kinds/`, as the columns are.
 
 use crate::user::prelude::*;
 mod tables;

@@ -1,12 +1,10 @@
 //! The members of a message in JSON that are indices of interfaces: written by `kinds/interfaces` from the tables of `kinds/`.
 
-use crate::user::prelude::*;
-
 /// The members of a message's header whose numbers are indices.
-pub(crate) const OF_HEADERS: [&'static str; 1] = ["index"];
+pub(crate) const OF_HEADERS: [&str; 1] = ["index"];
 
 /// The members of attributes and records whose numbers are indices.
-pub(crate) const OF_ATTRIBUTES: [&'static str; 2] = ["Iif", "ifindex"];
+pub(crate) const OF_ATTRIBUTES: [&str; 2] = ["Iif", "ifindex"];
 
 /// A side of an extended match `meta`.
 #[derive(Clone, Copy, PartialEq, Eq, Debug)]

@@ -104,7 +104,7 @@ fn is_time(kind: &[u8], option: u16) -> bool {
     times_of_action(kind).contains(&option)
 }
 
-fn times_of_action(kind: &[u8]) -> &'static [u16] {
+pub(crate) fn times_of_action(kind: &[u8]) -> &'static [u16] {
     if kind == b"mpls".as_slice() { &[1, 3] } else { only_dumped(kind) }
 }
 

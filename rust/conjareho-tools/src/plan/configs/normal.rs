@@ -225,3 +225,33 @@ fn value_of_option(kind: &str, option: u16, value: &[u8]) -> Result<Vec<u8>, All
 fn is_inner(value: &[u8]) -> bool {
     40 <= value.len() && number_at(value, 36) != 0
 }
+
+#[cfg(test)]
+mod tests {
+    use super::{counts_of, is_padding};
+    use crate::plan::configs::actions::times_of_action;
+    use crate::plan::configs::kinds::LEFT_OUT;
+
+    // Rate tables of a police action are in no dump, so `kinds/` doesn't say that the normal form leaves them out.
+    const OF_REQUESTS: [(&str, u16); 2] = [("police", 2), ("police", 3)];
+
+    #[test]
+    fn options_that_the_tables_leave_out_are_left_out() {
+        for &(sort, kind, option) in LEFT_OUT {
+            assert!(is_left_out(sort, kind, option), "{sort} {kind} {option}");
+        }
+        let kinds = LEFT_OUT.iter().map(|&(sort, kind, _)| (sort, kind));
+        for ((sort, kind), option) in kinds.flat_map(|it| (0..512).map(move |option| (it, option))) {
+            let is_listed = LEFT_OUT.contains(&(sort, kind, option)) || OF_REQUESTS.contains(&(kind, option));
+            assert_eq!(is_left_out(sort, kind, option), is_listed, "{sort} {kind} {option}");
+        }
+    }
+
+    fn is_left_out(sort: &str, kind: &str, option: u16) -> bool {
+        match sort {
+            "qdisc" => is_padding(kind, option),
+            "filter" => counts_of(kind).contains(&option),
+            _ => times_of_action(kind.as_bytes()).contains(&option),
+        }
+    }
+}

@@ -2,10 +2,5 @@
 
 use crate::user::prelude::*;
 
-mod actions;
-mod classes;
 mod exact;
-mod filters;
 mod known;
-mod others;
-mod qdiscs;

@@ -1,78 +1,87 @@
-//! Known lines.
+//! Known lines: those of `model/printed`, which an independent model and `tc` agree with, and lines that show a rule.
 
-use crate::user::prelude::*;
-
-use super::{actions, classes, filters, others, qdiscs};
 use crate::forms_kinds::TcTables;
 use crate::show::brief::{Object, Said, lines_of};
 use crate::show::columns::{KindColumns, Root};
 use crate::show::words::{TcDetails, TcWords};
 
-/// A message: its object, what it does and who sent it, its bytes in hex, and its lines without and with statistics, if these are others.
-pub(crate) struct Known {
-    pub(crate) root: Root,
-    pub(crate) object: Object,
-    pub(crate) verb: &'static str,
-    pub(crate) port: u64,
-    pub(crate) digits: &'static [&'static str],
-    pub(crate) line: &'static [&'static str],
-    pub(crate) counted: &'static [&'static str],
+const PRINTED: &str = include_str!("../../../../testdata/lines/printed");
+const OTHERS: &str = include_str!("../../../../testdata/lines/others");
+
+/// A message and its lines.
+struct Known<'a> {
+    label: &'a str,
+    root: Root,
+    object: Object,
+    verb: &'a str,
+    port: u64,
+    bytes: Vec<u8>,
+    lines: String,
+    /// Its lines with statistics, if they are tested.
+    counted: Option<String>,
 }
 
-fn joined(parts: &[&str], end: &str) -> Result<Vec<u8>, AllocError> {
-    let mut text = Vec::new();
-    for part in parts {
-        text.try_extend(part.as_bytes())?;
+/// The root and the object with this name.
+fn object_of(name: &str) -> (Root, Object) {
+    match name {
+        "qdisc" => (Root::Qdisc, Object::Qdisc),
+        "class" => (Root::Class, Object::Class),
+        "filter" => (Root::Filter, Object::Filter),
+        "u32_filter" => (Root::U32Filter, Object::Filter),
+        "chain" => (Root::Chain, Object::Chain),
+        "action" => (Root::Action, Object::Action),
+        "flush" => (Root::Flush, Object::Action),
+        _ => panic!("no object is called {name}"),
     }
-    text.try_extend(end.as_bytes())?;
-    Ok(text)
 }
 
-// The line of a message. Fails as if out of memory if the hex is malformed.
-fn text_of(known: &Known, statistics: bool) -> Result<Vec<u8>, AllocError> {
+/// The rows of an item that begin with a mark, a line each.
+fn marked(item: &str, mark: &str) -> Option<String> {
+    let lines: String = item.lines().filter_map(|row| row.strip_prefix(mark)).map(|line| format!("{line}\n")).collect();
+    (!lines.is_empty()).then_some(lines)
+}
+
+fn known(item: &str) -> Option<Known<'_>> {
+    let label = item.lines().find(|row| !row.starts_with('#'))?;
+    let (_, about) = item.split_once("\n: ")?;
+    let mut words = about.lines().next()?.split(' ');
+    let (root, object) = object_of(words.next()?);
+    let (verb, port) = (words.next()?, words.next()?.parse().ok()?);
+    let bytes = crate::hex::decode(marked(item, "= ")?.trim().as_bytes()).ok()?;
+    Some(Known { label, root, object, verb, port, bytes, lines: marked(item, "> ")?, counted: marked(item, "+ ") })
+}
+
+/// The messages of a file. Remarks alone are none.
+fn all(text: &str) -> impl Iterator<Item = Known<'_>> {
+    let items = text.split("\n\n").filter(|item| item.lines().any(|row| !row.starts_with('#')));
+    items.map(|item| known(item).unwrap_or_else(|| panic!("{item}")))
+}
+
+fn text_of(known: &Known, statistics: bool) -> String {
     let columns = KindColumns { root: known.root, interfaces: &[], links: None, all: false };
     let said = Said { begin: known.verb.as_bytes(), object: known.object, statistics, port: known.port, end: &[] };
-    let digits = joined(known.digits, "")?;
-    let bytes = match crate::hex::decode(digits.as_slice()) {
-        Ok(bytes) => bytes,
-        Err(_) => return Err(AllocError),
-    };
     let form = known.root.form();
     let text = if statistics {
-        lines_of(TcTables, form, columns, TcDetails, &said, &bytes)
+        lines_of(TcTables, form, columns, TcDetails, &said, &known.bytes)
     } else {
-        lines_of(TcTables, form, columns, TcWords, &said, &bytes)
+        lines_of(TcTables, form, columns, TcWords, &said, &known.bytes)
     };
-    match text {
-        Ok(text) => Ok(text),
-        Err(_) => Err(AllocError),
-    }
-}
-
-// True if a message has this line.
-fn is_known(known: &Known, statistics: bool) -> bool {
-    let line = if statistics { known.counted } else { known.line };
-    match (text_of(known, statistics), joined(line, "\n")) {
-        (Ok(text), Ok(line)) => text.as_slice() == line.as_slice(),
-        _ => false,
-    }
-}
-
-// True if these messages have their lines, and their lines with statistics if there are others.
-fn are_known(all: &[&'static Known]) -> bool {
-    for known in all {
-        if !is_known(known, false) || !known.counted.is_empty() && !is_known(known, true) {
-            return false;
-        }
-    }
-    true
+    String::from_utf8(text.expect("memory")).expect("lines are text")
 }
 
 #[test]
 fn lines_are_known() {
-    assert!(are_known(&actions::all()), "actions");
-    assert!(are_known(&classes::all()), "classes");
-    assert!(are_known(&filters::all()), "filters");
-    assert!(are_known(&qdiscs::all()), "qdiscs");
-    assert!(are_known(&others::all()), "others");
+    for known in all(PRINTED).chain(all(OTHERS)) {
+        assert_eq!(text_of(&known, false), known.lines, "{}", known.label);
+        if let Some(counted) = &known.counted {
+            assert_eq!(text_of(&known, true), *counted, "{}, with statistics", known.label);
+        }
+    }
+}
+
+#[test]
+fn no_message_is_passed_over() {
+    assert_eq!(all(PRINTED).count(), PRINTED.matches("\n= ").count());
+    assert_eq!(all(OTHERS).count(), OTHERS.matches("\n= ").count());
+    assert!(all(PRINTED).any(|known| known.counted.is_some()));
 }

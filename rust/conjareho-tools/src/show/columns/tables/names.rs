@@ -1,21 +1,161 @@
-//! The names of bits, and of numbers that JSON has as numbers. Written by `kinds/columns`.
+//! The names of bits and numbers, by their places. Written by `kinds/columns`.
 
-use crate::user::prelude::*;
-
+use crate::show::columns::Table;
 use crate::show::units::Name;
 
 #[rustfmt::skip]
-static NAMES_OF_NAMES_1000: [&'static [Name<'static>]; 8] = [
-    &[ // 24000, `bits tca_act_flags`
+pub(crate) static NAMES: Table<Name<'static>> = &[
+    (7, &[ // `enum tc_act` for people
+        Name { number: 4294967295, name: "unspec", kernel: "TC_ACT_UNSPEC" },
+        Name { number: 0, name: "ok", kernel: "TC_ACT_OK" },
+        Name { number: 1, name: "reclassify", kernel: "TC_ACT_RECLASSIFY" },
+        Name { number: 2, name: "shot", kernel: "TC_ACT_SHOT" },
+        Name { number: 3, name: "pipe", kernel: "TC_ACT_PIPE" },
+        Name { number: 4, name: "stolen", kernel: "TC_ACT_STOLEN" },
+        Name { number: 5, name: "queued", kernel: "TC_ACT_QUEUED" },
+        Name { number: 6, name: "repeat", kernel: "TC_ACT_REPEAT" },
+        Name { number: 7, name: "redirect", kernel: "TC_ACT_REDIRECT" },
+        Name { number: 8, name: "trap", kernel: "TC_ACT_TRAP" },
+    ]),
+    (147, &[ // `enum pgact` for people
+        Name { number: 0, name: "none", kernel: "PGACT_NONE" },
+        Name { number: 1, name: "netrand", kernel: "PGACT_NETRAND" },
+        Name { number: 2, name: "determ", kernel: "PGACT_DETERM" },
+    ]),
+    (242, &[ // `enum tca_mirred` for people
+        Name { number: 1, name: "egress_redir", kernel: "TCA_EGRESS_REDIR" },
+        Name { number: 2, name: "egress_mirror", kernel: "TCA_EGRESS_MIRROR" },
+        Name { number: 3, name: "ingress_redir", kernel: "TCA_INGRESS_REDIR" },
+        Name { number: 4, name: "ingress_mirror", kernel: "TCA_INGRESS_MIRROR" },
+    ]),
+    (266, &[ // `enum tca_mpls_act` for people
+        Name { number: 1, name: "pop", kernel: "TCA_MPLS_ACT_POP" },
+        Name { number: 2, name: "push", kernel: "TCA_MPLS_ACT_PUSH" },
+        Name { number: 3, name: "modify", kernel: "TCA_MPLS_ACT_MODIFY" },
+        Name { number: 4, name: "dec_ttl", kernel: "TCA_MPLS_ACT_DEC_TTL" },
+        Name { number: 5, name: "mac_push", kernel: "TCA_MPLS_ACT_MAC_PUSH" },
+    ]),
+    (314, &[ // the name of each element
+        Name { number: 0, name: "key", kernel: "" },
+    ]),
+    (317, &[ // `enum pedit_header_type` for people
+        Name { number: 0, name: "network", kernel: "TCA_PEDIT_KEY_EX_HDR_TYPE_NETWORK" },
+        Name { number: 1, name: "eth", kernel: "TCA_PEDIT_KEY_EX_HDR_TYPE_ETH" },
+        Name { number: 2, name: "ip4", kernel: "TCA_PEDIT_KEY_EX_HDR_TYPE_IP4" },
+        Name { number: 3, name: "ip6", kernel: "TCA_PEDIT_KEY_EX_HDR_TYPE_IP6" },
+        Name { number: 4, name: "tcp", kernel: "TCA_PEDIT_KEY_EX_HDR_TYPE_TCP" },
+        Name { number: 5, name: "udp", kernel: "TCA_PEDIT_KEY_EX_HDR_TYPE_UDP" },
+    ]),
+    (318, &[ // `enum pedit_cmd` for people
+        Name { number: 0, name: "set", kernel: "TCA_PEDIT_KEY_EX_CMD_SET" },
+        Name { number: 1, name: "add", kernel: "TCA_PEDIT_KEY_EX_CMD_ADD" },
+    ]),
+    (482, &[ // `enum tca_vlan_act` for people
+        Name { number: 1, name: "pop", kernel: "TCA_VLAN_ACT_POP" },
+        Name { number: 2, name: "push", kernel: "TCA_VLAN_ACT_PUSH" },
+        Name { number: 3, name: "modify", kernel: "TCA_VLAN_ACT_MODIFY" },
+        Name { number: 4, name: "pop_eth", kernel: "TCA_VLAN_ACT_POP_ETH" },
+        Name { number: 5, name: "push_eth", kernel: "TCA_VLAN_ACT_PUSH_ETH" },
+    ]),
+    (541, &[ // `enum tcf_em_opnd` for people
+        Name { number: 0, name: "eq", kernel: "TCF_EM_OPND_EQ" },
+        Name { number: 1, name: "gt", kernel: "TCF_EM_OPND_GT" },
+        Name { number: 2, name: "lt", kernel: "TCF_EM_OPND_LT" },
+    ]),
+    (545, &[ // the name of each element
+        Name { number: 0, name: "id", kernel: "" },
+    ]),
+    (625, &[ // `enum flow_mode` for people
+        Name { number: 0, name: "map", kernel: "FLOW_MODE_MAP" },
+        Name { number: 1, name: "hash", kernel: "FLOW_MODE_HASH" },
+    ]),
+    (794, &[ // the name of each element
+        Name { number: 0, name: "key", kernel: "" },
+    ]),
+    (818, &[ // `enum address_family` for people
+        Name { number: 0, name: "unspec", kernel: "AF_UNSPEC" },
+        Name { number: 1, name: "unix", kernel: "AF_UNIX" },
+        Name { number: 2, name: "inet", kernel: "AF_INET" },
+        Name { number: 7, name: "bridge", kernel: "AF_BRIDGE" },
+        Name { number: 10, name: "inet6", kernel: "AF_INET6" },
+        Name { number: 16, name: "netlink", kernel: "AF_NETLINK" },
+        Name { number: 17, name: "packet", kernel: "AF_PACKET" },
+        Name { number: 28, name: "mpls", kernel: "AF_MPLS" },
+    ]),
+    (867, &[ // `enum cake_diffserv` for people
+        Name { number: 0, name: "diffserv3", kernel: "CAKE_DIFFSERV_DIFFSERV3" },
+        Name { number: 1, name: "diffserv4", kernel: "CAKE_DIFFSERV_DIFFSERV4" },
+        Name { number: 2, name: "diffserv8", kernel: "CAKE_DIFFSERV_DIFFSERV8" },
+        Name { number: 3, name: "besteffort", kernel: "CAKE_DIFFSERV_BESTEFFORT" },
+        Name { number: 4, name: "precedence", kernel: "CAKE_DIFFSERV_PRECEDENCE" },
+    ]),
+    (868, &[ // `enum cake_atm` for people
+        Name { number: 0, name: "none", kernel: "CAKE_ATM_NONE" },
+        Name { number: 1, name: "atm", kernel: "CAKE_ATM_ATM" },
+        Name { number: 2, name: "ptm", kernel: "CAKE_ATM_PTM" },
+    ]),
+    (869, &[ // `enum cake_flow` for people
+        Name { number: 0, name: "none", kernel: "CAKE_FLOW_NONE" },
+        Name { number: 1, name: "src_ip", kernel: "CAKE_FLOW_SRC_IP" },
+        Name { number: 2, name: "dst_ip", kernel: "CAKE_FLOW_DST_IP" },
+        Name { number: 3, name: "hosts", kernel: "CAKE_FLOW_HOSTS" },
+        Name { number: 4, name: "flows", kernel: "CAKE_FLOW_FLOWS" },
+        Name { number: 5, name: "dual_src", kernel: "CAKE_FLOW_DUAL_SRC" },
+        Name { number: 6, name: "dual_dst", kernel: "CAKE_FLOW_DUAL_DST" },
+        Name { number: 7, name: "triple", kernel: "CAKE_FLOW_TRIPLE" },
+    ]),
+    (870, &[ // `enum cake_ack` for people
+        Name { number: 0, name: "none", kernel: "CAKE_ACK_NONE" },
+        Name { number: 1, name: "filter", kernel: "CAKE_ACK_FILTER" },
+        Name { number: 2, name: "aggressive", kernel: "CAKE_ACK_AGGRESSIVE" },
+    ]),
+    (1106, &[ // the name of each element
+        Name { number: 0, name: "since", kernel: "" },
+    ]),
+    (1177, &[ // the name of each element
+        Name { number: 0, name: "queue", kernel: "" },
+    ]),
+    (1299, &[ // `enum tc_mqprio_mode` for people
+        Name { number: 0, name: "dcb", kernel: "TC_MQPRIO_MODE_DCB" },
+        Name { number: 1, name: "channel", kernel: "TC_MQPRIO_MODE_CHANNEL" },
+    ]),
+    (1300, &[ // `enum tc_mqprio_shaper` for people
+        Name { number: 0, name: "dcb", kernel: "TC_MQPRIO_SHAPER_DCB" },
+        Name { number: 1, name: "bw_rate", kernel: "TC_MQPRIO_SHAPER_BW_RATE" },
+    ]),
+    (1417, &[ // `enum tcq_plug` for people
+        Name { number: 0, name: "buffer", kernel: "TCQ_PLUG_BUFFER" },
+        Name { number: 1, name: "release_one", kernel: "TCQ_PLUG_RELEASE_ONE" },
+        Name { number: 2, name: "release_indefinite", kernel: "TCQ_PLUG_RELEASE_INDEFINITE" },
+        Name { number: 3, name: "limit", kernel: "TCQ_PLUG_LIMIT" },
+    ]),
+    (1588, &[ // `enum tc_taprio_cmd` for people
+        Name { number: 0, name: "set_gates", kernel: "TC_TAPRIO_CMD_SET_GATES" },
+        Name { number: 1, name: "set_and_hold", kernel: "TC_TAPRIO_CMD_SET_AND_HOLD" },
+        Name { number: 2, name: "set_and_release", kernel: "TC_TAPRIO_CMD_SET_AND_RELEASE" },
+    ]),
+    (1633, &[ // `enum tc_linklayer` for people
+        Name { number: 0, name: "unaware", kernel: "TC_LINKLAYER_UNAWARE" },
+        Name { number: 1, name: "ethernet", kernel: "TC_LINKLAYER_ETHERNET" },
+        Name { number: 2, name: "atm", kernel: "TC_LINKLAYER_ATM" },
+    ]),
+    (1637, &[ // the name of each element
+        Name { number: 0, name: "op", kernel: "" },
+    ]),
+    (1638, &[ // `enum tc_fp` for people
+        Name { number: 1, name: "express", kernel: "TC_FP_EXPRESS" },
+        Name { number: 2, name: "preemptible", kernel: "TC_FP_PREEMPTIBLE" },
+    ]),
+    (24000, &[ // `bits tca_act_flags`
         Name { number: 1, name: "no_percpu_stats", kernel: "TCA_ACT_FLAGS_NO_PERCPU_STATS" },
         Name { number: 2, name: "skip_hw", kernel: "TCA_ACT_FLAGS_SKIP_HW" },
         Name { number: 4, name: "skip_sw", kernel: "TCA_ACT_FLAGS_SKIP_SW" },
-    ],
-    &[ // 24001, `bits tca_act_hw_stats`
+    ]),
+    (24001, &[ // `bits tca_act_hw_stats`
         Name { number: 1, name: "immediate", kernel: "TCA_ACT_HW_STATS_IMMEDIATE" },
         Name { number: 2, name: "delayed", kernel: "TCA_ACT_HW_STATS_DELAYED" },
-    ],
-    &[ // 24002, `bits tca_csum_update_flag`
+    ]),
+    (24002, &[ // `bits tca_csum_update_flag`
         Name { number: 1, name: "ipv4hdr", kernel: "TCA_CSUM_UPDATE_FLAG_IPV4HDR" },
         Name { number: 2, name: "icmp", kernel: "TCA_CSUM_UPDATE_FLAG_ICMP" },
         Name { number: 4, name: "igmp", kernel: "TCA_CSUM_UPDATE_FLAG_IGMP" },
@@ -23,16 +163,16 @@ static NAMES_OF_NAMES_1000: [&'static [Name<'static>]; 8] = [
         Name { number: 16, name: "udp", kernel: "TCA_CSUM_UPDATE_FLAG_UDP" },
         Name { number: 32, name: "udplite", kernel: "TCA_CSUM_UPDATE_FLAG_UDPLITE" },
         Name { number: 64, name: "sctp", kernel: "TCA_CSUM_UPDATE_FLAG_SCTP" },
-    ],
-    &[ // 24003, `bits tca_ct_act`
+    ]),
+    (24003, &[ // `bits tca_ct_act`
         Name { number: 1, name: "commit", kernel: "TCA_CT_ACT_COMMIT" },
         Name { number: 2, name: "force", kernel: "TCA_CT_ACT_FORCE" },
         Name { number: 4, name: "clear", kernel: "TCA_CT_ACT_CLEAR" },
         Name { number: 8, name: "nat", kernel: "TCA_CT_ACT_NAT" },
         Name { number: 16, name: "nat_src", kernel: "TCA_CT_ACT_NAT_SRC" },
         Name { number: 32, name: "nat_dst", kernel: "TCA_CT_ACT_NAT_DST" },
-    ],
-    &[ // 24004, `names ip_proto`
+    ]),
+    (24004, &[ // `names ip_proto`
         Name { number: 1, name: "icmp", kernel: "IPPROTO_ICMP" },
         Name { number: 2, name: "igmp", kernel: "IPPROTO_IGMP" },
         Name { number: 4, name: "ipencap", kernel: "IPPROTO_IPIP" },
@@ -49,14 +189,14 @@ static NAMES_OF_NAMES_1000: [&'static [Name<'static>]; 8] = [
         Name { number: 115, name: "l2tp", kernel: "IPPROTO_L2TP" },
         Name { number: 132, name: "sctp", kernel: "IPPROTO_SCTP" },
         Name { number: 136, name: "udplite", kernel: "IPPROTO_UDPLITE" },
-    ],
-    &[ // 24005, `names clockid`
+    ]),
+    (24005, &[ // `names clockid`
         Name { number: 0, name: "REALTIME", kernel: "CLOCK_REALTIME" },
         Name { number: 1, name: "MONOTONIC", kernel: "CLOCK_MONOTONIC" },
         Name { number: 7, name: "BOOTTIME", kernel: "CLOCK_BOOTTIME" },
         Name { number: 11, name: "TAI", kernel: "CLOCK_TAI" },
-    ],
-    &[ // 24006, `names eth_p`
+    ]),
+    (24006, &[ // `names eth_p`
         Name { number: 1, name: "802_3", kernel: "ETH_P_802_3" },
         Name { number: 3, name: "all", kernel: "ETH_P_ALL" },
         Name { number: 4, name: "802_2", kernel: "ETH_P_802_2" },
@@ -78,29 +218,21 @@ static NAMES_OF_NAMES_1000: [&'static [Name<'static>]; 8] = [
         Name { number: 34978, name: "aoe", kernel: "ETH_P_AOE" },
         Name { number: 34984, name: "802.1ad", kernel: "ETH_P_8021AD" },
         Name { number: 35018, name: "tipc", kernel: "ETH_P_TIPC" },
-    ],
-    &[ // 24007, `bits ife`
+    ]),
+    (24007, &[ // `bits ife`
         Name { number: 1, name: "encode", kernel: "IFE_ENCODE" },
-    ],
-];
-
-pub(crate) fn names_of_names_1000() -> &'static [&'static [Name<'static>]] {
-    &NAMES_OF_NAMES_1000
-}
-
-#[rustfmt::skip]
-static NAMES_OF_NAMES_1001: [&'static [Name<'static>]; 11] = [
-    &[ // 24024, `names nat_direction`
+    ]),
+    (24024, &[ // `names nat_direction`
         Name { number: 0, name: "ingress", kernel: "TCA_NAT_FLAG_NONE" },
         Name { number: 1, name: "egress", kernel: "TCA_NAT_FLAG_EGRESS" },
-    ],
-    &[ // 24025, `names packet_type`
+    ]),
+    (24025, &[ // `names packet_type`
         Name { number: 0, name: "host", kernel: "PACKET_HOST" },
         Name { number: 1, name: "broadcast", kernel: "PACKET_BROADCAST" },
         Name { number: 2, name: "multicast", kernel: "PACKET_MULTICAST" },
         Name { number: 3, name: "otherhost", kernel: "PACKET_OTHERHOST" },
-    ],
-    &[ // 24026, `bits skbedit_f`
+    ]),
+    (24026, &[ // `bits skbedit_f`
         Name { number: 1, name: "priority", kernel: "SKBEDIT_F_PRIORITY" },
         Name { number: 2, name: "queue_mapping", kernel: "SKBEDIT_F_QUEUE_MAPPING" },
         Name { number: 4, name: "mark", kernel: "SKBEDIT_F_MARK" },
@@ -108,33 +240,33 @@ static NAMES_OF_NAMES_1001: [&'static [Name<'static>]; 11] = [
         Name { number: 16, name: "mask", kernel: "SKBEDIT_F_MASK" },
         Name { number: 32, name: "inheritdsfield", kernel: "SKBEDIT_F_INHERITDSFIELD" },
         Name { number: 64, name: "txq_skbhash", kernel: "SKBEDIT_F_TXQ_SKBHASH" },
-    ],
-    &[ // 24027, `bits skbmod_f`
+    ]),
+    (24027, &[ // `bits skbmod_f`
         Name { number: 1, name: "dmac", kernel: "SKBMOD_F_DMAC" },
         Name { number: 2, name: "smac", kernel: "SKBMOD_F_SMAC" },
         Name { number: 4, name: "etype", kernel: "SKBMOD_F_ETYPE" },
         Name { number: 8, name: "swapmac", kernel: "SKBMOD_F_SWAPMAC" },
         Name { number: 16, name: "ecn", kernel: "SKBMOD_F_ECN" },
-    ],
-    &[ // 24028, `names tunnel_key_act`
+    ]),
+    (24028, &[ // `names tunnel_key_act`
         Name { number: 1, name: "set", kernel: "TCA_TUNNEL_KEY_ACT_SET" },
         Name { number: 2, name: "release", kernel: "TCA_TUNNEL_KEY_ACT_RELEASE" },
-    ],
-    &[ // 24029, `bits tcf_em`
+    ]),
+    (24029, &[ // `bits tcf_em`
         Name { number: 1, name: "and", kernel: "TCF_EM_REL_AND" },
         Name { number: 2, name: "or", kernel: "TCF_EM_REL_OR" },
         Name { number: 4, name: "invert", kernel: "TCF_EM_INVERT" },
         Name { number: 8, name: "simple", kernel: "TCF_EM_SIMPLE" },
-    ],
-    &[ // 24030, `names em_align`
+    ]),
+    (24030, &[ // `names em_align`
         Name { number: 1, name: "u8", kernel: "TCF_EM_ALIGN_U8" },
         Name { number: 2, name: "u16", kernel: "TCF_EM_ALIGN_U16" },
         Name { number: 4, name: "u32", kernel: "TCF_EM_ALIGN_U32" },
         Name { number: 17, name: "u8_trans", kernel: "TCF_EM_ALIGN_U8|TCF_EM_CMP_TRANS<<4" },
         Name { number: 18, name: "u16_trans", kernel: "TCF_EM_ALIGN_U16|TCF_EM_CMP_TRANS<<4" },
         Name { number: 20, name: "u32_trans", kernel: "TCF_EM_ALIGN_U32|TCF_EM_CMP_TRANS<<4" },
-    ],
-    &[ // 24031, `names em_layer_opnd`
+    ]),
+    (24031, &[ // `names em_layer_opnd`
         Name { number: 0, name: "link_eq", kernel: "TCF_LAYER_LINK|TCF_EM_OPND_EQ<<4" },
         Name { number: 1, name: "network_eq", kernel: "TCF_LAYER_NETWORK|TCF_EM_OPND_EQ<<4" },
         Name { number: 2, name: "transport_eq", kernel: "TCF_LAYER_TRANSPORT|TCF_EM_OPND_EQ<<4" },
@@ -144,18 +276,18 @@ static NAMES_OF_NAMES_1001: [&'static [Name<'static>]; 11] = [
         Name { number: 32, name: "link_lt", kernel: "TCF_LAYER_LINK|TCF_EM_OPND_LT<<4" },
         Name { number: 33, name: "network_lt", kernel: "TCF_LAYER_NETWORK|TCF_EM_OPND_LT<<4" },
         Name { number: 34, name: "transport_lt", kernel: "TCF_LAYER_TRANSPORT|TCF_EM_OPND_LT<<4" },
-    ],
-    &[ // 24032, `bits tca_bpf_flag`
+    ]),
+    (24032, &[ // `bits tca_bpf_flag`
         Name { number: 1, name: "act_direct", kernel: "TCA_BPF_FLAG_ACT_DIRECT" },
-    ],
-    &[ // 24033, `bits tca_cls_flags`
+    ]),
+    (24033, &[ // `bits tca_cls_flags`
         Name { number: 1, name: "skip_hw", kernel: "TCA_CLS_FLAGS_SKIP_HW" },
         Name { number: 2, name: "skip_sw", kernel: "TCA_CLS_FLAGS_SKIP_SW" },
         Name { number: 4, name: "in_hw", kernel: "TCA_CLS_FLAGS_IN_HW" },
         Name { number: 8, name: "not_in_hw", kernel: "TCA_CLS_FLAGS_NOT_IN_HW" },
         Name { number: 16, name: "verbose", kernel: "TCA_CLS_FLAGS_VERBOSE" },
-    ],
-    &[ // 24034, `bits flow_key`
+    ]),
+    (24034, &[ // `bits flow_key`
         Name { number: 1, name: "src", kernel: "FLOW_KEY_SRC" },
         Name { number: 2, name: "dst", kernel: "FLOW_KEY_DST" },
         Name { number: 4, name: "proto", kernel: "FLOW_KEY_PROTO" },
@@ -174,16 +306,8 @@ static NAMES_OF_NAMES_1001: [&'static [Name<'static>]; 11] = [
         Name { number: 32768, name: "skgid", kernel: "FLOW_KEY_SKGID" },
         Name { number: 65536, name: "vlan_tag", kernel: "FLOW_KEY_VLAN_TAG" },
         Name { number: 131072, name: "rxhash", kernel: "FLOW_KEY_RXHASH" },
-    ],
-];
-
-pub(crate) fn names_of_names_1001() -> &'static [&'static [Name<'static>]] {
-    &NAMES_OF_NAMES_1001
-}
-
-#[rustfmt::skip]
-static NAMES_OF_NAMES_1002: [&'static [Name<'static>]; 2] = [
-    &[ // 24048, masks of mac
+    ]),
+    (24048, &[ // masks of mac
         Name { number: 48, name: "ff:ff:ff:ff:ff:ff", kernel: "" },
         Name { number: 47, name: "ff:ff:ff:ff:ff:fe", kernel: "" },
         Name { number: 46, name: "ff:ff:ff:ff:ff:fc", kernel: "" },
@@ -233,8 +357,8 @@ static NAMES_OF_NAMES_1002: [&'static [Name<'static>]; 2] = [
         Name { number: 2, name: "c0:00:00:00:00:00", kernel: "" },
         Name { number: 1, name: "80:00:00:00:00:00", kernel: "" },
         Name { number: 0, name: "00:00:00:00:00:00", kernel: "" },
-    ],
-    &[ // 24049, masks of ipv4
+    ]),
+    (24049, &[ // masks of ipv4
         Name { number: 32, name: "255.255.255.255", kernel: "" },
         Name { number: 31, name: "255.255.255.254", kernel: "" },
         Name { number: 30, name: "255.255.255.252", kernel: "" },
@@ -268,16 +392,8 @@ static NAMES_OF_NAMES_1002: [&'static [Name<'static>]; 2] = [
         Name { number: 2, name: "192.0.0.0", kernel: "" },
         Name { number: 1, name: "128.0.0.0", kernel: "" },
         Name { number: 0, name: "0.0.0.0", kernel: "" },
-    ],
-];
-
-pub(crate) fn names_of_names_1002() -> &'static [&'static [Name<'static>]] {
-    &NAMES_OF_NAMES_1002
-}
-
-#[rustfmt::skip]
-static NAMES_OF_NAMES_1003: [&'static [Name<'static>]; 1] = [
-    &[ // 24072, masks of ipv6
+    ]),
+    (24072, &[ // masks of ipv6
         Name { number: 128, name: "ffff:ffff:ffff:ffff:ffff:ffff:ffff:ffff", kernel: "" },
         Name { number: 127, name: "ffff:ffff:ffff:ffff:ffff:ffff:ffff:fffe", kernel: "" },
         Name { number: 126, name: "ffff:ffff:ffff:ffff:ffff:ffff:ffff:fffc", kernel: "" },
@@ -407,28 +523,20 @@ static NAMES_OF_NAMES_1003: [&'static [Name<'static>]; 1] = [
         Name { number: 2, name: "c000::", kernel: "" },
         Name { number: 1, name: "8000::", kernel: "" },
         Name { number: 0, name: "::", kernel: "" },
-    ],
-];
-
-pub(crate) fn names_of_names_1003() -> &'static [&'static [Name<'static>]] {
-    &NAMES_OF_NAMES_1003
-}
-
-#[rustfmt::skip]
-static NAMES_OF_NAMES_1004: [&'static [Name<'static>]; 12] = [
-    &[ // 24096, `bits flower_key_flags`
+    ]),
+    (24096, &[ // `bits flower_key_flags`
         Name { number: 1, name: "is_fragment", kernel: "TCA_FLOWER_KEY_FLAGS_IS_FRAGMENT" },
         Name { number: 2, name: "frag_is_first", kernel: "TCA_FLOWER_KEY_FLAGS_FRAG_IS_FIRST" },
         Name { number: 4, name: "tunnel_csum", kernel: "TCA_FLOWER_KEY_FLAGS_TUNNEL_CSUM" },
         Name { number: 8, name: "tunnel_dont_fragment", kernel: "TCA_FLOWER_KEY_FLAGS_TUNNEL_DONT_FRAGMENT" },
         Name { number: 16, name: "tunnel_oam", kernel: "TCA_FLOWER_KEY_FLAGS_TUNNEL_OAM" },
         Name { number: 32, name: "tunnel_crit_opt", kernel: "TCA_FLOWER_KEY_FLAGS_TUNNEL_CRIT_OPT" },
-    ],
-    &[ // 24097, `names arp_op`
+    ]),
+    (24097, &[ // `names arp_op`
         Name { number: 1, name: "request", kernel: "ARPOP_REQUEST" },
         Name { number: 2, name: "reply", kernel: "ARPOP_REPLY" },
-    ],
-    &[ // 24098, `bits tcp_flags`
+    ]),
+    (24098, &[ // `bits tcp_flags`
         Name { number: 1, name: "fin", kernel: "TCPHDR_FIN" },
         Name { number: 2, name: "syn", kernel: "TCPHDR_SYN" },
         Name { number: 4, name: "rst", kernel: "TCPHDR_RST" },
@@ -437,57 +545,110 @@ static NAMES_OF_NAMES_1004: [&'static [Name<'static>]; 12] = [
         Name { number: 32, name: "urg", kernel: "TCPHDR_URG" },
         Name { number: 64, name: "ece", kernel: "TCPHDR_ECE" },
         Name { number: 128, name: "cwr", kernel: "TCPHDR_CWR" },
-    ],
-    &[ // 24099, `bits flower_ct_flags`
+    ]),
+    (24099, &[ // `bits flower_ct_flags`
         Name { number: 1, name: "new", kernel: "TCA_FLOWER_KEY_CT_FLAGS_NEW" },
         Name { number: 2, name: "established", kernel: "TCA_FLOWER_KEY_CT_FLAGS_ESTABLISHED" },
         Name { number: 4, name: "related", kernel: "TCA_FLOWER_KEY_CT_FLAGS_RELATED" },
         Name { number: 8, name: "tracked", kernel: "TCA_FLOWER_KEY_CT_FLAGS_TRACKED" },
         Name { number: 16, name: "invalid", kernel: "TCA_FLOWER_KEY_CT_FLAGS_INVALID" },
         Name { number: 32, name: "reply", kernel: "TCA_FLOWER_KEY_CT_FLAGS_REPLY" },
-    ],
-    &[ // 24100, `bits tc_u32`
+    ]),
+    (24100, &[ // `bits tc_u32`
         Name { number: 1, name: "terminal", kernel: "TC_U32_TERMINAL" },
         Name { number: 2, name: "offset", kernel: "TC_U32_OFFSET" },
         Name { number: 4, name: "var_offset", kernel: "TC_U32_VAROFFSET" },
         Name { number: 8, name: "eat", kernel: "TC_U32_EAT" },
-    ],
-    &[ // 24101, `bits tca_dump_flags`
+    ]),
+    (24101, &[ // `bits tca_dump_flags`
         Name { number: 1, name: "terse", kernel: "TCA_DUMP_FLAGS_TERSE" },
-    ],
-    &[ // 24102, `bits tca_act_flag`
+    ]),
+    (24102, &[ // `bits tca_act_flag`
         Name { number: 1, name: "large_dump_on", kernel: "TCA_ACT_FLAG_LARGE_DUMP_ON" },
         Name { number: 2, name: "terse_dump", kernel: "TCA_ACT_FLAG_TERSE_DUMP" },
-    ],
-    &[ // 24103, `bits tcf_cbq_lss_change`
+    ]),
+    (24103, &[ // `bits tcf_cbq_lss_change`
         Name { number: 1, name: "flags", kernel: "TCF_CBQ_LSS_FLAGS" },
         Name { number: 2, name: "ewma", kernel: "TCF_CBQ_LSS_EWMA" },
         Name { number: 4, name: "maxidle", kernel: "TCF_CBQ_LSS_MAXIDLE" },
         Name { number: 8, name: "minidle", kernel: "TCF_CBQ_LSS_MINIDLE" },
         Name { number: 16, name: "offtime", kernel: "TCF_CBQ_LSS_OFFTIME" },
         Name { number: 32, name: "avpkt", kernel: "TCF_CBQ_LSS_AVPKT" },
-    ],
-    &[ // 24104, `bits tcf_cbq_lss_flags`
+    ]),
+    (24104, &[ // `bits tcf_cbq_lss_flags`
         Name { number: 1, name: "bounded", kernel: "TCF_CBQ_LSS_BOUNDED" },
         Name { number: 2, name: "isolated", kernel: "TCF_CBQ_LSS_ISOLATED" },
-    ],
-    &[ // 24105, `bits tc_red`
+    ]),
+    (24105, &[ // `bits tc_red`
         Name { number: 1, name: "ecn", kernel: "TC_RED_ECN" },
         Name { number: 2, name: "harddrop", kernel: "TC_RED_HARDDROP" },
         Name { number: 4, name: "adaptative", kernel: "TC_RED_ADAPTATIVE" },
         Name { number: 8, name: "nodrop", kernel: "TC_RED_NODROP" },
-    ],
-    &[ // 24106, `bits tc_etf`
+    ]),
+    (24106, &[ // `bits tc_etf`
         Name { number: 1, name: "deadline_mode_on", kernel: "TC_ETF_DEADLINE_MODE_ON" },
         Name { number: 2, name: "offload_on", kernel: "TC_ETF_OFFLOAD_ON" },
         Name { number: 4, name: "skip_sock_check", kernel: "TC_ETF_SKIP_SOCK_CHECK" },
-    ],
-    &[ // 24107, `bits taprio_flag`
+    ]),
+    (24107, &[ // `bits taprio_flag`
         Name { number: 1, name: "txtime_assist", kernel: "TCA_TAPRIO_ATTR_FLAG_TXTIME_ASSIST" },
         Name { number: 2, name: "full_offload", kernel: "TCA_TAPRIO_ATTR_FLAG_FULL_OFFLOAD" },
-    ],
+    ]),
+    (30000, &[ // its name
+        Name { number: 0, name: "nat_ipv4_max", kernel: "" },
+    ]),
+    (30001, &[ // its name
+        Name { number: 0, name: "nat_ipv6_max", kernel: "" },
+    ]),
+    (30002, &[ // its name
+        Name { number: 0, name: "nat_port_max", kernel: "" },
+    ]),
+    (30003, &[ // its name
+        Name { number: 0, name: "eth_dst_mask", kernel: "" },
+    ]),
+    (30004, &[ // its name
+        Name { number: 0, name: "eth_src_mask", kernel: "" },
+    ]),
+    (30005, &[ // its name
+        Name { number: 0, name: "ipv4_src_mask", kernel: "" },
+    ]),
+    (30006, &[ // its name
+        Name { number: 0, name: "ipv4_dst_mask", kernel: "" },
+    ]),
+    (30007, &[ // its name
+        Name { number: 0, name: "ipv6_src_mask", kernel: "" },
+    ]),
+    (30008, &[ // its name
+        Name { number: 0, name: "ipv6_dst_mask", kernel: "" },
+    ]),
+    (30009, &[ // its name
+        Name { number: 0, name: "enc_key_ipv4_src_mask", kernel: "" },
+    ]),
+    (30010, &[ // its name
+        Name { number: 0, name: "enc_key_ipv4_dst_mask", kernel: "" },
+    ]),
+    (30011, &[ // its name
+        Name { number: 0, name: "enc_key_ipv6_src_mask", kernel: "" },
+    ]),
+    (30012, &[ // its name
+        Name { number: 0, name: "enc_key_ipv6_dst_mask", kernel: "" },
+    ]),
+    (30013, &[ // its name
+        Name { number: 0, name: "arp_sip_mask", kernel: "" },
+    ]),
+    (30014, &[ // its name
+        Name { number: 0, name: "arp_tip_mask", kernel: "" },
+    ]),
+    (30015, &[ // its name
+        Name { number: 0, name: "arp_sha_mask", kernel: "" },
+    ]),
+    (30016, &[ // its name
+        Name { number: 0, name: "arp_tha_mask", kernel: "" },
+    ]),
+    (30017, &[ // its name
+        Name { number: 0, name: "port_src_max", kernel: "" },
+    ]),
+    (30018, &[ // its name
+        Name { number: 0, name: "port_dst_max", kernel: "" },
+    ]),
 ];
-
-pub(crate) fn names_of_names_1004() -> &'static [&'static [Name<'static>]] {
-    &NAMES_OF_NAMES_1004
-}
