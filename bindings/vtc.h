@@ -28,7 +28,10 @@ extern "C" {
 /* The version of this header. */
 #define VTC_VERSION UINT32_C(0x000300) /* 0.3.0 */
 
-/* In the version of a library that was built from plain Rust, made of the proved sources. */
+/* In the version of a library that was built from plain Rust, made of the proved sources. If memory runs out, its
+ * vtc_json, vtc_make, vtc_make_as_given and their vtc_action_* abort the program (SIGABRT), where a proved library
+ * returns VTC_OUT_OF_MEMORY. All other calls return it too. A program that has to go on bounds the lengths that it
+ * hands to these, or runs them in a process of their own. */
 #define VTC_PLAIN_RUST UINT32_C(0x80000000)
 
 /* The version of the library: major * 65536 + minor * 256 + patch, plus VTC_PLAIN_RUST if it was built so. */
@@ -53,7 +56,7 @@ enum vtc_status {
     VTC_XSTATS_SHORT = 8,       /* statistics of fq_codel have `first` bytes, and take 4 at least */
     VTC_MISSING_KIND = 9,       /* an action has no kind */
     VTC_DUPLICATE_KIND = 10,    /* an action has two kinds or more */
-    VTC_OUT_OF_MEMORY = 11,     /* malloc or realloc failed */
+    VTC_OUT_OF_MEMORY = 11,     /* malloc or realloc failed; but see VTC_PLAIN_RUST */
     VTC_DOES_NOT_FIT = 12,      /* what was read can't be written: a value would have more than 65531 bytes */
     VTC_NO_ROOM = 13,           /* the buffer is too small; it is unchanged, and *length is how many bytes are needed */
     VTC_END = 14,               /* no attribute is left */

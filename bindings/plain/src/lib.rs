@@ -1,5 +1,6 @@
 //! `libvtc` built from plain Rust. The calls are those of the crates `tc_ffi` and `tc_ffi_index`, without their contracts; `../vtc.h`
-//! says what each does, and what its caller has to see to. What is proved of the sources isn't proved of this library.
+//! says what each does, and what its caller has to see to. What is proved of the sources isn't proved of this library. If memory
+//! runs out, the calls that show or make JSON abort (`VTC_PLAIN_RUST` of the header).
 #![allow(clippy::missing_safety_doc, clippy::too_many_arguments)]
 
 extern crate alloc;

@@ -19,7 +19,9 @@ which begins with struct tcamsg), else one about qdiscs, classes, filters or cha
 
 The library is the file that the environment variable VTC_LIBRARY names, or else the one in this package's folder, which a wheel
 has, or else libvtc.so.0 where the system finds it. One that isn't for this module is an ImportError. `is_proved` tells whether
-it was built by the proofs' toolchain; that of a wheel is built from plain Rust, made of the proved sources.
+it was built by the proofs' toolchain; that of a wheel is built from plain Rust, made of the proved sources. If memory runs
+out, each call raises MemoryError, but `json`, `make` and `make_as_given` of plain Rust end the process (SIGABRT): bound the
+length of what you hand to these.
 
 On the command line, with a message as hex, or as JSON:
 
@@ -333,7 +335,8 @@ def version() -> Tuple[int, int, int]:
 
 
 def is_proved() -> bool:
-    """True if the library was built by the proofs' toolchain, False if it was built from plain Rust."""
+    """True if the library was built by the proofs' toolchain, False if it was built from plain Rust, where `json`, `make` and
+    `make_as_given` end the process if memory runs out."""
     return not _lib.vtc_version() & _PLAIN_RUST
 
 
@@ -397,17 +400,17 @@ def settle(message: Bytes, action: bool = False) -> Tuple[bytes, int]:
 
 
 def json(message: Bytes, action: bool = False) -> str:
-    """The JSON of bytes, whatever they are."""
+    """The JSON of bytes, whatever they are. If memory runs out: MemoryError, or SIGABRT unless `is_proved()`."""
     return _written("json", message, action).decode()
 
 
 def make(text: str, action: bool = False) -> bytes:
-    """The canonical bytes of the message that this JSON stands for. Raises MakeError."""
+    """The canonical bytes of the message that this JSON stands for. Raises MakeError; without memory as `json`."""
     return _made("make", text, action)
 
 
 def make_as_given(text: str, action: bool = False) -> bytes:
-    """The bytes of which this JSON is shown, whatever they are. Raises MakeError."""
+    """The bytes of which this JSON is shown, whatever they are. Raises MakeError; without memory as `json`."""
     return _made("make_as_given", text, action)
 
 

@@ -261,7 +261,8 @@ pub fn version() -> Version {
     Version { major, minor, patch }
 }
 
-/// True if the library was built by the proofs' toolchain, false if it was built from plain Rust.
+/// True if the library was built by the proofs' toolchain, false if it was built from plain Rust. If memory runs out there,
+/// [`Form::json`], [`Form::make`] and [`Form::make_as_given`] abort the program instead of returning an error.
 pub fn is_proved() -> bool {
     // SAFETY: it takes nothing.
     unsafe { sys::vtc_version() & PLAIN_RUST == 0 }
