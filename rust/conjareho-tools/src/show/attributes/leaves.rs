@@ -18,10 +18,7 @@ fn is_plain(b: u8) -> bool {
 
 // True if all bytes are plain.
 fn are_plain(text: &[u8]) -> bool {
-    match text.split_first() {
-        Some((first, others)) => is_plain(*first) && are_plain(others),
-        None => true,
-    }
+    text.iter().all(|byte| is_plain(*byte))
 }
 
 // True if a text needs no quotes.
