@@ -28,10 +28,10 @@ Examples:
   tcapply --try 30 wan.json            back again unless Enter is pressed within 30 seconds
   tcapply --dev wan -- ./shaper.sh     what a script of tc commands makes where nothing is
 
-What is the same isn't touched: its counters go on. If a request is refused, or a signal comes, what
-was there before is made again, by a plan from what is there then. If another program changes the
-interface meanwhile, tcapply stops. At the end it compares what there is with FILE. It takes
-CAP_NET_ADMIN.
+What is the same isn't touched, unless what it is under is made again. If a request is refused, or
+a signal comes, what was there before is made again, by a plan from what is there then. If another
+program changes the interface meanwhile, tcapply stops. At the end it compares what there is with
+FILE. It takes CAP_NET_ADMIN.
 
 A script of commands needs set -e (#!/bin/sh -e): otherwise it goes on after a command that failed,
 and what that was to make is deleted. It runs where nothing is, so a first tc qdisc del fails there:
