@@ -1,6 +1,7 @@
-// The first process of a User Mode Linux guest: it sends the requests of $DIR/script over route netlink, writes to
-// $DIR/answers what comes back, and powers the guest off. Each try of the script gets a process and a network
-// namespace of its own.
+// The first process of a guest: it sends the requests of $DIR/script over route netlink, writes to $DIR/answers what
+// comes back, and powers the guest off. Each try of the script gets a process and a network namespace of its own. The
+// kernel's modules are below $MODULES; time limits are $SLOWNESS times as long. In qemu it begins in an initial file
+// system, and first goes on to the machine's files.
 //
 // script:   try NAME                    what follows up to the next try belongs to NAME
 //           link NUMBER [QUEUES]        makes the dummy link dNUMBER, which stays down, so that no packet is counted
@@ -16,6 +17,7 @@
 //           kill FILE PART COMMAND      runs a program, and kills it before it sends a request that makes, changes or deletes something: the
 //                                       one at this part of those in a file that `watch` wrote
 //           spoil FILE PART COMMAND     the same, but that request is sent with a kind or a type that no kernel has
+//           stop FILE PART COMMAND      the same, but that request is sent, and SIGTERM comes meanwhile
 // answers:  try NAME
 //           got TYPE PAYLOAD            a message that came back, masked (see `mask`)
 //           ack ERRNO OFFSET SENTENCE   how the request ended: offset is that of the attribute at fault in the
@@ -60,11 +62,12 @@ static FILE *answers;
 // ---- Modules
 
 static char modules[512];
+static int slowness = 1;
 
-static void insert(const char *file) {
+static void insert(const char *folder, const char *file) {
     char path[1024];
 
-    snprintf(path, sizeof path, "%s/%s", modules, file);
+    snprintf(path, sizeof path, "%s/%s", folder, file);
     int fd = open(path, O_RDONLY | O_CLOEXEC);
     if (fd < 0)
         return;
@@ -76,8 +79,9 @@ static void insert(const char *file) {
 // `FILE: FILE FILE ..`, the dependencies from the last to be loaded to the first. A module that is already there
 // fails quietly.
 static void load_modules(void) {
-    static const char *wanted[] = {"kernel/drivers/net/dummy.ko", "kernel/drivers/net/nlmon.ko", "kernel/net/sched/sch_",
-                                   "kernel/net/sched/cls_", "kernel/net/sched/act_", "kernel/net/sched/em_"};
+    static const char *wanted[] = {"kernel/drivers/net/dummy.ko", "kernel/drivers/net/ifb.ko", "kernel/drivers/net/nlmon.ko",
+                                   "kernel/drivers/net/veth.ko",  "kernel/drivers/net/netdevsim/", "kernel/net/sched/sch_",
+                                   "kernel/net/sched/cls_",       "kernel/net/sched/act_",     "kernel/net/sched/em_"};
     char path[1024], *line = NULL;
     size_t room = 0;
 
@@ -91,11 +95,37 @@ static void load_modules(void) {
         for (word = strtok(line, ": \n"); is_wanted && word && count < 64; word = strtok(NULL, ": \n"))
             words[count++] = word;
         while (count)
-            insert(words[--count]);
+            insert(modules, words[--count]);
     }
     free(line);
     if (list)
         fclose(list);
+}
+
+// ---- The machine's files, in qemu
+
+static void share(const char *tag, const char *place, const char *how) {
+    char options[200];
+
+    snprintf(options, sizeof options, "trans=virtio,version=9p2000.L,msize=512000,cache=%s", how);
+    if (mount(tag, place, "9p", 0, options))
+        fprintf(stderr, "guest: %s isn't mounted: %s\n", tag, strerror(errno));
+}
+
+// Loads the modules of the initial file system, mounts the machine's files as the guest's, and the folder below which $DIR is, where others read what is written.
+static void go_to_machine(const char *out) {
+    char number[8];
+
+    for (int i = 0; i < 100; i++) {
+        snprintf(number, sizeof number, "%02d", i);
+        insert("/first", number);
+    }
+    share("machine", "/host", "loose");
+    if (chdir("/host") || mount(".", "/", NULL, MS_MOVE, NULL) || chroot(".") || chdir("/"))
+        fprintf(stderr, "guest: no machine's files: %s\n", strerror(errno));
+    share("out", out, "mmap");
+    mount("devtmpfs", "/dev", "devtmpfs", 0, NULL);
+    mount("sysfs", "/sys", "sysfs", 0, NULL);
 }
 
 // ---- What differs from one run to the next is set to 0 before it is written
@@ -633,8 +663,8 @@ static void spoil(int memory, unsigned char *bytes, unsigned long place) {
         fprintf(answers, "ack %d - not spoilt\n", errno);
 }
 
-// Goes with a process up to its request of this number, and kills it before that, or spoils the request. Returns how it ended.
-static int traced(pid_t child, int is_killed, int number) {
+// Goes with a process up to its request of this number, and there does what the word says: kills it, stops it, or spoils the request. Returns how it ended.
+static int traced(pid_t child, const char *word, int number) {
     static unsigned char bytes[1 << 17] __attribute__((aligned(NLMSG_ALIGNTO)));
     char path[40];
     int status, signal = 0, count = 0, is_entry = 0;
@@ -650,10 +680,12 @@ static int traced(pid_t child, int is_killed, int number) {
         signal = WSTOPSIG(status) & 0x80 ? 0 : WSTOPSIG(status);
         if (signal || !(is_entry = !is_entry) || !(place = about_to_send(child, memory, bytes, sizeof bytes)))
             continue;
-        if (++count == number && is_killed)
-            kill(child, SIGKILL);
-        else if (count == number)
+        if (++count < number)
+            continue;
+        if (!strcmp(word, "spoil"))
             spoil(memory, bytes, place);
+        else
+            kill(child, !strcmp(word, "kill") ? SIGKILL : SIGTERM);
     }
     close(memory);
     if (WIFSTOPPED(status)) {
@@ -678,7 +710,7 @@ static pid_t start(char *command, const char *to, int is_traced, FILE **said) {
     if (!child) {
         dup2(to ? open(to, O_WRONLY | O_CREAT | O_TRUNC, 0644) : ends[1], 1), dup2(ends[1], 2);
         close(ends[0]), close(ends[1]);
-        alarm(100);
+        alarm(100 * slowness);
         if (is_traced)
             ptrace(PTRACE_TRACEME, 0, NULL, NULL);
         execv(words[0], words);
@@ -712,9 +744,9 @@ static void call(const char *to, char *command) {
     write_status(status);
 }
 
-static void cut(int is_killed, int number, char *command) {
+static void cut(const char *word, int number, char *command) {
     FILE *said = NULL;
-    int status = traced(start(command, NULL, 1, &said), is_killed, number);
+    int status = traced(start(command, NULL, 1, &said), word, number);
 
     write_said(said);
     write_status(status);
@@ -724,7 +756,7 @@ static void cut(int is_killed, int number, char *command) {
 
 static void open_namespace(void) {
     int one = 1, size = 1 << 21;
-    struct timeval wait = {.tv_sec = 5};
+    struct timeval wait = {.tv_sec = 5 * slowness};
 
     if (unshare(CLONE_NEWNET | CLONE_NEWNS))
         fprintf(answers, "ack %d - no namespace\n", errno);
@@ -802,7 +834,7 @@ static void try(char *line) {
         else if (!strcmp(line, "unwatch"))
             unwatch();
         else if (sscanf(line, "%9s %1023s %lf %n", word, path, &part, &at) == 3)
-            cut(*word == 'k', request_at(path, part), line + at);
+            cut(word, request_at(path, part), line + at);
         else
             fprintf(answers, "%s\n", line);
         if (stream)
@@ -828,12 +860,16 @@ int main(void) {
     char path[1024], *from, *to;
     struct utsname system;
 
-    if (getpid() != 1 || !folder) {
+    if (getpid() != 1 || !folder || !getenv("MODULES")) {
         fputs("guest: this is the first process of a guest, and nothing else\n", stderr);
         return 1;
     }
+    if (getenv("SLOWNESS"))
+        slowness = atoi(getenv("SLOWNESS"));
+    if (!access("/first", F_OK))
+        go_to_machine(getenv("OUT"));
     uname(&system);
-    snprintf(modules, sizeof modules, "/usr/lib/uml/modules/%s", system.release);
+    snprintf(modules, sizeof modules, "%s/%s", getenv("MODULES"), system.release);
     snprintf(path, sizeof path, "%s/answers", folder);
     int fd = open(path, O_WRONLY | O_CREAT | O_TRUNC, 0644);
     answers = fdopen(dup2(fd, ANSWERS), "w");
@@ -842,6 +878,7 @@ int main(void) {
         fprintf(answers, "kernel %s\n", system.release);
         setenv("PATH", "/usr/sbin:/usr/bin:/sbin:/bin", 1);
         mount("proc", "/proc", "proc", 0, NULL);
+        mount("tmpfs", "/run", "tmpfs", 0, "mode=755"); // what programs keep there is not of the machine
         load_modules();
         open_program();
         for (from = script; *from; from = to) {

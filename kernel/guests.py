@@ -10,10 +10,13 @@ import subprocess
 import sys
 import time
 
+import kernels
+
 HERE = os.path.dirname(os.path.abspath(__file__))
 TOP = os.path.dirname(HERE)
 OUT = f"{HERE}/out"
 SILENCE = 900  # seconds in which a guest writes nothing, before it is stopped; a busy machine stops it for minutes
+BOOT = 180  # seconds in which it has begun to write
 
 failures = []
 
@@ -46,18 +49,36 @@ def compile_guest():
     subprocess.run([compiler, *flags[:3], *own, "-shared", "-fPIC", "-o", f"{OUT}/traced.so", f"{HERE}/traced.c"], check=True)
 
 
-def linux():
-    """The path of the kernel."""
-    path = shutil.which("linux.uml")
-    if not path or not os.path.isdir("/usr/lib/uml/modules"):
-        lacks("The package user-mode-linux is not installed, which has the kernel that is asked.")
-    return path
-
-
 def environment():
-    """The environment of a kernel: its calls are those of traced.c. Its memory is a file, which is in memory where there is room for such files."""
+    """The environment of a kernel that is a process: its calls are those of traced.c. Its memory is a file, which is in memory where there is room for such files."""
     folder = "/dev/shm" if os.access("/dev/shm", os.W_OK) and not os.statvfs("/dev/shm").f_flag & os.ST_NOEXEC else OUT
     return {**os.environ, "TMPDIR": folder, "LD_PRELOAD": f"{OUT}/traced.so"}
+
+
+def choose(name, with_kvm=True):
+    """Guests have this kernel from here on: `uml`, or a version of Debian's, such as `6.12`."""
+    try:
+        CHOSEN[:] = [kernels.uml() if name == "uml" else kernels.debian(name, f"{OUT}/guest", with_kvm)]
+    except kernels.Lacking as it:
+        lacks(str(it))
+    return CHOSEN[0]
+
+
+CHOSEN = []
+
+
+def chosen():
+    """The kernel that guests have."""
+    return CHOSEN[0] if CHOSEN else choose("uml")
+
+
+def booting(folder):
+    """The words that boot a guest with this folder."""
+    kernel = chosen()
+    own = [f"DIR={folder}", f"OUT={OUT}", f"MODULES={kernel.modules}", f"SLOWNESS={kernel.slowness}", "quiet"]
+    if kernel.is_uml:
+        return [*kernel.words, "mem=256M", "rootfstype=hostfs", "rw", "con=null", "con0=fd:0,fd:1", f"uml_dir={folder}/", "umid=guest", f"init={OUT}/guest", *own]
+    return [*kernel.words, "-append", " ".join(["console=ttyS0", "panic=-1", *own])]
 
 
 # How a request ended, and the (type, bytes) that came back before that; `offset` is None if the kernel names no
@@ -90,14 +111,12 @@ class Guest:
     def run(self, silence=SILENCE):
         with open(f"{self.folder}/script", "w") as file:
             file.writelines(f"try {number}\n{text}\n" for text, number in self.tries.items())
-        words = [linux(), "mem=256M", "rootfstype=hostfs", "rw", "quiet", "con=null", "con0=fd:0,fd:1"]
-        words += [f"uml_dir={self.folder}/", "umid=guest", f"init={OUT}/guest", f"DIR={self.folder}"]
         began = time.monotonic()
         with open(f"{self.folder}/console", "w") as console:
             how = {"stdin": subprocess.DEVNULL, "stdout": console, "stderr": console, "start_new_session": True}
-            guest = subprocess.Popen(words, env=environment(), **how)
+            guest = subprocess.Popen(booting(self.folder), env=environment() if chosen().is_uml else None, **how)
             try:
-                self.wait(guest, silence)
+                self.wait(guest, silence * chosen().slowness)
             finally:
                 try:
                     os.killpg(guest.pid, signal.SIGKILL)
@@ -115,8 +134,8 @@ class Guest:
             now = os.path.getsize(path) if os.path.exists(path) else 0
             if now != size:
                 size, since = now, time.monotonic()
-            elif time.monotonic() - since > silence:
-                return fail(f"the guest in {self.folder} wrote nothing for {silence} seconds")
+            elif time.monotonic() - since > (limit := silence if size else BOOT * chosen().slowness):
+                return fail(f"the guest in {self.folder} wrote nothing for {limit} seconds; see the file console there")
 
     def read(self):
         number, got, said, lines = None, [], [], []

@@ -1,5 +1,5 @@
 """Pairs of random interfaces: from what the one has to what the other has, by tcapply; killed before a random request and applied again; a random
-request is refused, so that it goes back; and by the proved plan's requests, with a look at what there is after each."""
+request is refused, or SIGTERM comes while it is sent, so that it goes back; and by the plan's requests, with a look at what there is after each."""
 
 import collections
 import concurrent.futures
@@ -32,16 +32,16 @@ def least(command):
 
 
 def pairs(seed, count):
-    """The commands of what there is and of what is wanted, which aren't the same, and two parts of a plan, at which something goes wrong: each second
+    """The commands of what there is and of what is wanted, which aren't the same, and the parts of a plan at which something goes wrong: each second
     time the wanted ones are most of those that there are, and some others."""
-    chance, own = random.Random(seed), ([least(it) for it in some] for some in endless(seed, comes_back=True))
+    chance, places, own = random.Random(seed), random.Random(f"stop {seed}"), ([least(it) for it in some] for some in endless(seed, comes_back=True))
     for number in range(count):
         before = wanted = []
         while len(set(before) ^ set(wanted)) < 1 + number % 2 * 4:
             before, wanted = next(own), next(own)
             if number % 2:
                 wanted = [it for it in before if chance.random() < 0.8] + [it for it in wanted if chance.random() < 0.2]
-        yield before, wanted, [f"{chance.random():.3f}" for _ in range(2)]
+        yield before, wanted, [f"{it.random():.3f}" for it in (chance, chance, places)]
 
 
 class Pair:
@@ -65,6 +65,7 @@ class Pair:
         self.add([*before, ("", f"watch {sent}"), ("apply", f"call - {apply}"), ("", "unwatch"), *last])
         self.add([*before, ("cut", f"kill {sent} {parts[0]} {apply}"), ("apply", f"call - {apply}"), *last])
         self.add([*before, ("cut", f"spoil {sent} {parts[1]} {apply}"), last[0]])
+        self.add([*before, ("cut", f"stop {sent} {parts[2]} {apply}"), last[0]])
         plan = programs.command(f"$TCMAKE --plan {now} --stream < {save} > {stream} 2> /dev/null")
         self.add([*before, ("save", f"call {now} {saving}"), ("plan", f"run {plan}"), ("steps", f"steps {numbers} {stream}")])
 
@@ -91,7 +92,7 @@ class Pair:
             return None
         self.sent, self.steps, self.ends, self.wanted = 0, collections.Counter(), [], tries[0]["wanted"]
         self.kinds = self.state(self.wanted).kinds() | self.state(tries[1]["before"]).kinds()
-        ways = (self.judge_saved, self.judge_whole, self.judge_killed, self.judge_refused, self.judge_stepped)
+        ways = (self.judge_saved, self.judge_whole, self.judge_killed, self.judge_refused, self.judge_stopped, self.judge_stepped)
         return [f"{way.__name__[6:]}: {wrong}" for way, it in zip(ways, tries) for wrong in [way(it)] if wrong]
 
     def state(self, answer, defaults_in=LEAVES_NOTHING):
@@ -126,11 +127,18 @@ class Pair:
         return self.is_wanted(answers)
 
     def judge_refused(self, answers):
+        return self.judge_back(answers, "refused")
+
+    def judge_stopped(self, answers):
+        return self.judge_back(answers, "stopped")
+
+    def judge_back(self, answers, why):
+        """What there was is there again."""
         if not self.sent:
             return ""
         if answers["cut"].status != CAME_BACK:
             return f"{answers['cut']}"
-        self.ends.append("came back")
+        self.ends.append(f"{why} and back")
         return self.unlike(self.state(answers["before"]), self.state(answers["after"]))
 
     def judge_stepped(self, answers):

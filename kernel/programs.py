@@ -1,66 +1,42 @@
 """The programs that save and restore, as commands for the guest's shell. All that depends on which programs these are is here."""
 
-import glob
+import json
 import os
 import shutil
 import subprocess
-import sys
-import time
 
-from guests import HERE, OUT, TOP, lacks
+from guests import OUT, TOP, chosen, lacks
 
-PROVED, SOCKETS = ("tcshow", "tcmake"), ("tcnl", "tcsave", "tcrestore", "tcapply")
+NAMES = ("tcrewrite", "tcshow", "tcmake", "tcnl", "tcsave", "tcrestore", "tcapply")
 
 
-def built(name, folder):
-    """The path of a program: in a folder, or as its crate is built."""
-    if folder:
-        path = f"{folder}/{name}"
-        return path if os.path.exists(path) else lacks(f"There is no {path}.")
-    crate = f"{TOP}/crates/{name}"
-    path = f"{crate}/out/{name}"
-    if os.path.exists(path):
-        at = os.path.getmtime(path)
-        sources = glob.glob(f"{TOP}/crates/*/src/**/*.rt", recursive=True)
-        newer = sum(os.path.getmtime(it) > at for it in sources)
-        print(f"crates/{name}/out/{name} of {time.ctime(at)}, {newer} source files newer", flush=True)
-        return path
-    if not shutil.which("rt"):
-        lacks(f"The toolchain's rt is not on the path, and crates/{name} is not built.")
-    print(f"crates/{name}: rt run proves and builds it and all crates below it, in up to an hour", flush=True)
-    with open(f"{crate}/stdin") as text:
-        done = subprocess.run(["rt", "run"], cwd=crate, stdin=text, stdout=sys.stderr)
-    if done.returncode or not os.path.exists(path):
-        sys.exit(f"crates/{name} was not proved and built.")
-    return path
-
-
-def linked(names, folder):
-    """The paths of programs of rust/conjareho-tools, linked statically: in a folder if they are there, else as cargo builds them."""
-    own = {name: f"{folder}/{name}" for name in names}
-    if folder and all(map(os.path.exists, own.values())):
-        return own
+def built(profile):
+    """The folder with the programs as cargo builds them from rust/conjareho-tools, in `target` or where CARGO_TARGET_DIR is. What cargo says goes to standard error."""
     if not shutil.which("cargo"):
-        lacks("There is no cargo, which builds the programs of rust/conjareho-tools.")
-    done = subprocess.run([f"{TOP}/rust/conjareho-tools/static"], stdout=subprocess.PIPE, text=True)
-    if done.returncode:
-        lacks("rust/conjareho-tools was not built; its README.md says what it needs.")
-    return {name: f"{done.stdout.strip()}/{name}" for name in names}
+        lacks("There is no cargo, which builds the programs: ./set-up --install installs it.")
+    if subprocess.run(["cargo", "build", "--locked", "--profile", profile, "-p", "conjareho-tools", "--bins"], cwd=TOP).returncode:
+        lacks("cargo didn't build the programs; ./set-up --install installs what they need.")
+    metadata = subprocess.run(["cargo", "metadata", "--locked", "--no-deps", "--format-version", "1"], cwd=TOP, stdout=subprocess.PIPE, check=True)
+    return f"{json.loads(metadata.stdout)['target_directory']}/{'debug' if profile == 'dev' else profile}"
 
 
 class Programs:
     """The programs, those of a folder if one is named, and the shell's text that starts each of them."""
 
-    def __init__(self, folder=None):
-        self.folder = folder and os.path.abspath(folder)
-        self.paths = {**{it: built(it, self.folder) for it in PROVED}, **linked(SOCKETS, self.folder)}
+    def __init__(self, folder=None, profile="release"):
+        self.folder = os.path.abspath(folder) if folder else built(profile)
+        self.paths = {name: f"{self.folder}/{name}" for name in NAMES}
+        for path in self.paths.values():
+            if not os.access(path, os.X_OK):
+                lacks(f"There is no program {path}.")
+        os.makedirs(OUT, exist_ok=True)
         with open(f"{OUT}/programs", "w") as file:
             file.writelines(f"{name.upper()}={path}\nexport {name.upper()}\n" for name, path in self.paths.items())
             file.write(f"TMPDIR={OUT}\nexport TMPDIR\n")
 
     def rewriting(self):
         """The path of tcrewrite."""
-        return built("tcrewrite", self.folder)
+        return self.paths["tcrewrite"]
 
     def command(self, text):
         return f". {OUT}/programs; {text}"
@@ -71,11 +47,11 @@ class Programs:
 
     def restore(self, file, state, options=""):
         """Restores a save. What was there before is kept in the folder `state`."""
-        return self.command(f"timeout 60 $TCRESTORE --state {state} {options} {file}")
+        return self.command(f"timeout {60 * chosen().slowness} $TCRESTORE --state {state} {options} {file}")
 
     def apply(self, file, state):
         """Applies a save. What was there before is kept in the folder `state`."""
-        return self.command(f"timeout 100 $TCAPPLY --state {state} {file}")
+        return self.command(f"timeout {100 * chosen().slowness} $TCAPPLY --state {state} {file}")
 
     def words(self, name, *options):
         """The words that start a program, without a shell."""

@@ -135,5 +135,8 @@ def judged(programs, save, state, sent, options="", names="", has_others=False):
     wrong, words = leftovers(sent), options.split()
     if wrong or {"--map", "--partial"} & set(words):
         return wrong
-    now = actions_of(glob.glob(f"{state}/*.json")[0], "--clear" in words, has_others)
+    kept = glob.glob(f"{state}/*.json")
+    if not kept:  # so nothing was to be done
+        return f"{len(requests_in(asked(sent), ALL))} requests are sent, and no state is kept" if requests_in(asked(sent), ALL) else ""
+    now = actions_of(kept[0], "--clear" in words, has_others)
     return as_made(sent, programs.requests(save, "--plan", now, *(["--names", names] if names else [])))
