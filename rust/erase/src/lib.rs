@@ -4,6 +4,7 @@
 //! It takes out nothing else, and rewrites only what the tables of `rules.rs` name, by the patterns of `pattern.rs`. A form that it
 //! doesn't know is a [`Fault`] with its file and line. `laws.rs` takes out laws and their calls, `duties.rs` checks and documents
 //! what a `requires` asked, `finish.rs` applies the tables, and `additions.rs` adds what one expects of a crate in Rust.
+#![deny(missing_docs)]
 
 mod additions;
 mod duties;

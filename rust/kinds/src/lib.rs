@@ -5,6 +5,7 @@
 //! `names.rs` has Rust's names for them, `uses.rs` finds the widths of numbers, `write.rs` writes the types, and `usage.rs` the
 //! examples in the documentation. Mistakes in the tables are reported by `kinds/generate`. This reader takes them as checked, and
 //! skips the columns, lines and blocks that it doesn't know.
+#![deny(missing_docs)]
 
 mod names;
 mod notation;

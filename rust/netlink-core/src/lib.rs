@@ -1,4 +1,5 @@
 #![doc = include_str!("../README.md")]
+#![deny(missing_docs)]
 
 use conjareho::constants::{RTM_GETACTION, RTM_NEWACTION};
 use conjareho::kinds::{ActionMessage, Message};

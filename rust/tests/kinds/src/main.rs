@@ -1,6 +1,6 @@
 //! `kinds COUNT EVERY FILE..`: reads the messages of files as typed values, writes them, and compares the bytes; and the JSON of typed
 //! values with that of the proved forms. Then the bytes alone of so many messages that are made of them, and the JSON of each
-//! EVERYth. The changes are the same each time. The JSON is compared with the feature `json`.
+//! EVERYth. The changes are the same each time. The JSON is compared if all of it is built with `--cfg kinds_json`.
 //!
 //! A file is a capture, or has lines: of the words `tc` or `action` and a message without its netlink header in hex, after a name or none; or
 //! of a netlink message in hex.
@@ -69,7 +69,7 @@ fn again(is_action: bool, bytes: &[u8]) -> Option<Vec<u8>> {
 }
 
 /// Whether the JSON of the typed value is that of the forms.
-#[cfg(feature = "json")]
+#[cfg(kinds_json)]
 fn has_same_json(is_action: bool, bytes: &[u8]) -> bool {
     use conjareho::forms::{ACTION_MESSAGE, Shown, TC_MESSAGE, TcTables};
     let form = if is_action { ACTION_MESSAGE } else { TC_MESSAGE };
@@ -86,7 +86,7 @@ fn has_same_json(is_action: bool, bytes: &[u8]) -> bool {
     is_same
 }
 
-#[cfg(not(feature = "json"))]
+#[cfg(not(kinds_json))]
 fn has_same_json(_is_action: bool, _bytes: &[u8]) -> bool {
     true
 }
@@ -109,7 +109,7 @@ impl Counts {
             self.other_bytes += 1;
             println!("other bytes: {}", bytes.iter().map(|octet| format!("{octet:02x}")).collect::<String>());
         }
-        if compares {
+        if compares && cfg!(kinds_json) {
             self.compared += 1;
             self.other_json += usize::from(!has_same_json(*is_action, bytes));
         }

@@ -58,7 +58,7 @@ static WRITE_FAILED: (u8, &str) = (3, "tcmake: standard output: timed out\n");
 
 #[test]
 fn each_read_fails() {
-    let (all) = (reads_of_all());
+    let all = reads_of_all();
     for count in 0..all {
         let written = captured(calls(count, 1), calls(999, 1), READ_FAILED);
         assert!(written.is_some(), "{count} reads");
@@ -72,7 +72,7 @@ fn each_read_fails() {
 
 #[test]
 fn each_write_fails() {
-    let (all) = (calls(999, 0));
+    let all = calls(999, 0);
     for count in 0..4usize {
         let written = captured(all, calls(count, 0), WRITE_FAILED);
         assert!(written.is_some(), "{count} writes");
