@@ -41,6 +41,7 @@ _conjareho() {
     "tcshow")
         case $previous in
             -r|--read) _filedir; return ;;
+            --example) _conjareho_words whole broken; return ;;
             --no-header) _conjareho_words tc action; return ;;
             --names) _filedir; return ;;
             --time) _conjareho_words local date epoch delta relative; return ;;

@@ -113,6 +113,8 @@ alone-example: tcshow --example
 alone-example-outline: tcshow --example --outline --time date
 alone-example-json: tcshow --example --json
 alone-example-tree: tcshow --example --tree -s
+alone-example-broken: tcshow --example broken
+alone-example-broken-json: tcshow --example broken --json
 alone-version: tcshow --version
 alone-help: tcshow --help
 alone-make-version: tcmake --version

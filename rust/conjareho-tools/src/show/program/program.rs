@@ -19,7 +19,6 @@ use crate::show::program::complaints::{
     fail_to_read, fail_without_memory, say_failure, say_no_memory, say_no_route, say_of,
 };
 use crate::show::program::day::first_time;
-use crate::show::program::example::EXAMPLE;
 use crate::show::program::filter::{FilterError, FilterValues};
 use crate::show::program::hint::{HINT, lacks_header};
 use crate::show::program::inputs::{run_next, worse};
@@ -211,7 +210,7 @@ fn show_named<R: Files + Input + Print, E: Write>(
     }
 }
 
-// Prints the messages of all files, of standard input, or of the stored capture.
+// Prints the messages of all files, of standard input, or of a stored capture.
 fn show_files<R: Files + Input + Print, E: Write>(
     rt: &R,
     arguments: &Arguments<'_>,
@@ -220,8 +219,8 @@ fn show_files<R: Files + Input + Print, E: Write>(
     values: FilterValues<'_, '_>,
     errors: &mut E,
 ) -> Ended {
-    if arguments.example {
-        return show_reader(rt, arguments, zone, names, values, "example", EXAMPLE, errors);
+    if let Some(example) = arguments.example {
+        return show_reader(rt, arguments, zone, names, values, "example", example.bytes(), errors);
     }
     match arguments.files.as_slice() {
         [] => show_reader(rt, arguments, zone, names, values, INPUT, rt.reader(), errors),

@@ -2,6 +2,7 @@
 
 use crate::user::prelude::*;
 
+use crate::show::program::example::Example;
 use crate::show::program::arguments::{Arguments, Colours, Task, TimeChoice, arguments_of};
 use crate::show::program::options::OutputFormat;
 use crate::tc_capture::MessageType;
@@ -13,7 +14,7 @@ enum Part {
     Format(OutputFormat),
     Time(TimeChoice),
     Acks,
-    Example,
+    Example(Example),
     Files(&'static [&'static str]),
     Names(&'static str),
     WithoutHeader(MessageType),
@@ -40,7 +41,7 @@ fn has(arguments: &Arguments<'_>, part: Part) -> bool {
         Part::Format(form) => arguments.format == form,
         Part::Time(format) => arguments.time == format,
         Part::Acks => arguments.acks,
-        Part::Example => arguments.example,
+        Part::Example(example) => arguments.example == Some(example),
         Part::Files(files) => arguments.files.as_slice() == files,
         Part::Names(file) => arguments.names == Some(file),
         Part::WithoutHeader(holds) => arguments.without_header == Some(holds),
@@ -66,7 +67,7 @@ fn is_default(arguments: &Arguments<'_>) -> bool {
         && arguments.files.is_empty()
         && arguments.time == TimeChoice::Clock
         && !arguments.acks
-        && !arguments.example
+        && arguments.example.is_none()
         && arguments.names.is_none()
         && arguments.without_header.is_none()
         && !arguments.all
@@ -85,7 +86,7 @@ fn chooses_all(arguments: &Arguments<'_>) -> bool {
 }
 
 // Words, and what they say.
-static WORDS: [(&[&str], &[Part]); 19] = [
+static WORDS: [(&[&str], &[Part]); 20] = [
     (&["tcshow"], &[Part::Defaults]),
     (&["tcshow", "-s"], &[Part::Format(OutputFormat::Lines(true))]),
     (&["tcshow", "-v"], &[Part::Format(OutputFormat::Outline)]),
@@ -94,7 +95,8 @@ static WORDS: [(&[&str], &[Part]); 19] = [
         &[Part::Format(OutputFormat::Lines(true)), Part::Time(TimeChoice::Delta), Part::Acks],
     ),
     (&["tcshow", "--time", "local"], &[Part::Time(TimeChoice::Local)]),
-    (&["tcshow", "--time", "date", "--example"], &[Part::Time(TimeChoice::Date), Part::Example]),
+    (&["tcshow", "--time", "date", "--example"], &[Part::Time(TimeChoice::Date), Part::Example(Example::Whole)]),
+    (&["tcshow", "--example", "broken"], &[Part::Example(Example::Broken)]),
     (
         &["tcshow", "-r", "a", "--json", "--names", "b", "--kind", "u32"],
         &[Part::Format(OutputFormat::Json), Part::Files(&["a"]), Part::Names("b"), Part::Kinds(&["u32"])],
