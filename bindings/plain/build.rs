@@ -12,4 +12,5 @@ fn main() {
     let here = std::env::var_os("CARGO_MANIFEST_DIR").expect("cargo names the folder of the package");
     let users = [FORMS, CALLS].concat();
     write_erased(&Path::new(&here).join("../../crates"), &users, OMITTED, "calls.rs");
+    println!("cargo::rustc-cdylib-link-arg=-Wl,-soname,libvtc.so.0");
 }

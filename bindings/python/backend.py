@@ -1,7 +1,7 @@
 """Builds the wheel, as pip asks of a backend (PEP 517). It needs cargo, and no Python package.
 
-The library in the wheel is built from plain Rust (`../plain`), over Debian's crates and without the network where those are there. VTC_LIBRARY
-names another one, as the proved library of `make -C bindings`, to be taken instead.
+The library in the wheel is built from plain Rust (`../plain`), over Debian's crates and without the network where `../../set-up` finds them.
+VTC_LIBRARY names another one, as the proved library of `make -C bindings`, to be taken instead.
 """
 
 import base64
@@ -10,13 +10,12 @@ import os
 import platform
 import re
 import subprocess
+import tempfile
 import zipfile
 
 HERE = os.path.dirname(os.path.abspath(__file__))
-PLAIN = f"{os.path.dirname(HERE)}/plain"
-TARGET = f"{os.path.dirname(HERE)}/out/plain"
-# Where Debian has the crates of others.
-REGISTRY = "/usr/share/cargo/registry"
+TOP = os.path.dirname(os.path.dirname(HERE))
+TARGET = os.environ.get("CARGO_TARGET_DIR") or f"{tempfile.gettempdir()}/conjareho-target"
 
 
 def version():
@@ -28,12 +27,11 @@ def library():
     """The file of the library, built if none is named."""
     if os.environ.get("VTC_LIBRARY"):
         return os.environ["VTC_LIBRARY"]
-    words = ["cargo", "build", "--release", "--quiet"]
-    if os.path.isdir(REGISTRY):
-        words += ["--offline", "--config", 'source.crates-io.replace-with="debian"', "--config", f'source.debian.directory="{REGISTRY}"']
-    flags = os.environ.get("RUSTFLAGS", "") + " -C link-arg=-Wl,-soname,libvtc.so.0"
-    subprocess.run(words, cwd=PLAIN, check=True, env={**os.environ, "CARGO_TARGET_DIR": TARGET, "RUSTFLAGS": flags.strip()})
-    return f"{TARGET}/release/libvtc.so"
+    if not os.path.exists(f"{TOP}/.cargo/config.toml"):
+        subprocess.run([f"{TOP}/set-up"], check=True)
+    words = ["cargo", "build", "--profile", "library", "--locked", "--quiet"]
+    subprocess.run(words, cwd=f"{TOP}/bindings/plain", check=True, env={**os.environ, "CARGO_TARGET_DIR": TARGET})
+    return f"{TARGET}/library/libvtc.so"
 
 
 def get_requires_for_build_wheel(config_settings=None):
