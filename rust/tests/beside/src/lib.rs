@@ -29,9 +29,6 @@ type Check = unsafe extern "C" fn(*const u8, usize, &mut Verdict, &mut Fault) ->
 type Rewrite = unsafe extern "C" fn(*const u8, usize, *mut u8, usize, &mut usize) -> u32;
 type Settle = unsafe extern "C" fn(*const u8, usize, *mut u8, usize, &mut usize, &mut usize) -> u32;
 type Canonical = unsafe extern "C" fn(*const u8, usize) -> u8;
-type Parse = unsafe extern "C" fn(*const u8, usize) -> u32;
-type Length = unsafe extern "C" fn(*const u8, usize, *mut usize, usize) -> u32;
-type Emit = unsafe extern "C" fn(*const u8, usize, *mut u8, usize, usize) -> u32;
 
 mod tc {
     use super::*;
@@ -46,10 +43,7 @@ mod tc {
             length: &mut usize,
             count: &mut usize,
         ) -> u32;
-        pub fn bench_tc_canonical(bytes: *const u8, len: usize) -> u8;
-        pub fn bench_tc_parse(bytes: *const u8, len: usize) -> u32;
-        pub fn bench_tc_length(bytes: *const u8, len: usize, lengths: *mut usize, count: usize) -> u32;
-        pub fn bench_tc_emit(bytes: *const u8, len: usize, buffer: *mut u8, room: usize, again: usize) -> u32;
+        pub fn vtc_is_canonical(bytes: *const u8, len: usize) -> u8;
     }
 }
 
@@ -66,10 +60,7 @@ mod action {
             length: &mut usize,
             count: &mut usize,
         ) -> u32;
-        pub fn bench_action_canonical(bytes: *const u8, len: usize) -> u8;
-        pub fn bench_action_parse(bytes: *const u8, len: usize) -> u32;
-        pub fn bench_action_length(bytes: *const u8, len: usize, lengths: *mut usize, count: usize) -> u32;
-        pub fn bench_action_emit(bytes: *const u8, len: usize, buffer: *mut u8, room: usize, again: usize) -> u32;
+        pub fn vtc_action_is_canonical(bytes: *const u8, len: usize) -> u8;
     }
 }
 
@@ -89,9 +80,6 @@ pub struct Library {
     rewrite: Rewrite,
     settle: Settle,
     canonical: Canonical,
-    parse: Parse,
-    length: Length,
-    emit: Emit,
 }
 
 pub const LIBRARY: [Library; 2] = [
@@ -99,19 +87,13 @@ pub const LIBRARY: [Library; 2] = [
         check: tc::vtc_check,
         rewrite: tc::vtc_rewrite,
         settle: tc::vtc_settle,
-        canonical: tc::bench_tc_canonical,
-        parse: tc::bench_tc_parse,
-        length: tc::bench_tc_length,
-        emit: tc::bench_tc_emit,
+        canonical: tc::vtc_is_canonical,
     },
     Library {
         check: action::vtc_action_check,
         rewrite: action::vtc_action_rewrite,
         settle: action::vtc_action_settle,
-        canonical: action::bench_action_canonical,
-        parse: action::bench_action_parse,
-        length: action::bench_action_length,
-        emit: action::bench_action_emit,
+        canonical: action::vtc_action_is_canonical,
     },
 ];
 
@@ -135,24 +117,15 @@ impl Library {
         Said { read, rewritten, settled, canonical }
     }
 
-    pub fn parse(&self, bytes: &[u8]) -> u32 {
+    pub fn check(&self, bytes: &[u8]) -> u32 {
+        let (mut verdict, mut fault) = (Verdict::default(), Fault::default());
         // SAFETY: the pointer is that of a slice of this length.
-        unsafe { (self.parse)(bytes.as_ptr(), bytes.len()) }
-    }
-
-    pub fn length(&self, bytes: &[u8], lengths: &mut [usize]) -> u32 {
-        // SAFETY: the pointers are those of slices of these lengths.
-        unsafe { (self.length)(bytes.as_ptr(), bytes.len(), lengths.as_mut_ptr(), lengths.len()) }
-    }
-
-    pub fn emit(&self, bytes: &[u8], buffer: &mut [u8], again: usize) -> u32 {
-        // SAFETY: as above.
-        unsafe { (self.emit)(bytes.as_ptr(), bytes.len(), buffer.as_mut_ptr(), buffer.len(), again) }
+        unsafe { (self.check)(bytes.as_ptr(), bytes.len(), &mut verdict, &mut fault) }
     }
 
     pub fn rewrite(&self, bytes: &[u8], buffer: &mut [u8]) -> u32 {
         let mut length = 0;
-        // SAFETY: as above.
+        // SAFETY: the pointers are those of slices of these lengths.
         unsafe { (self.rewrite)(bytes.as_ptr(), bytes.len(), buffer.as_mut_ptr(), buffer.len(), &mut length) }
     }
 }
@@ -206,28 +179,15 @@ pub trait Erased: ParseableBytes + Emitable {
     }
 
     #[inline(never)]
-    fn timed_parse(bytes: &[u8]) -> u32 {
-        match Self::parse(bytes) {
-            Ok(_message) => 0,
-            Err(fault) => number_of(&fault).0,
-        }
-    }
-
-    #[inline(never)]
-    fn timed_length(bytes: &[u8], lengths: &mut [usize]) -> u32 {
-        let Ok(message) = Self::parse(bytes) else { return 1 };
-        for place in lengths {
-            *place = black_box(&message).checked_len().unwrap_or(0);
-        }
-        0
-    }
-
-    #[inline(never)]
-    fn timed_emit(bytes: &[u8], buffer: &mut [u8], again: usize) -> u32 {
-        let Ok(message) = Self::parse(bytes) else { return 1 };
-        for _ in 0..=again {
-            black_box(&message).emit(black_box(&mut *buffer));
-        }
+    fn timed_check(bytes: &[u8]) -> u32 {
+        let message = match Self::parse(bytes) {
+            Ok(message) => message,
+            Err(fault) => return number_of(&fault).0,
+        };
+        black_box(message.checked_len());
+        black_box(message.fits());
+        black_box(message.settled());
+        black_box(Self::canonical(bytes));
         0
     }
 

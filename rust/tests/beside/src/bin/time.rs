@@ -5,8 +5,7 @@ use conjareho::tc::{TcActionMessage, TcMessage};
 use std::hint::black_box;
 use std::time::Instant;
 
-const OPERATIONS: [&str; 4] = ["parse", "length", "emit", "rewrite"];
-const AGAIN: usize = 63;
+const OPERATIONS: [&str; 2] = ["check", "rewrite"];
 const PASSES: usize = 40;
 
 /// The least nanoseconds that a call takes.
@@ -20,39 +19,27 @@ fn least(least: &mut f64, times: usize, mut call: impl FnMut() -> u32) {
 }
 
 /// One sample of each operation of both: the erased codec first.
-fn sample<M: Erased>(form: usize, bytes: &[u8], buffer: &mut [u8], took: &mut [[f64; 2]; 4]) {
-    let (library, mut lengths) = (&LIBRARY[form], [0; AGAIN + 1]);
+fn sample<M: Erased>(form: usize, bytes: &[u8], buffer: &mut [u8], took: &mut [[f64; 2]; 2]) {
+    let library = &LIBRARY[form];
     let times = 1 + 40_000 / (bytes.len() + 100);
-    least(&mut took[0][0], times, || M::timed_parse(black_box(bytes)));
-    least(&mut took[0][1], times, || library.parse(black_box(bytes)));
-    let few = 1 + times / 8;
-    least(&mut took[1][0], few, || M::timed_length(black_box(bytes), &mut lengths));
-    least(&mut took[1][1], few, || library.length(black_box(bytes), &mut lengths));
-    least(&mut took[2][0], few, || M::timed_emit(black_box(bytes), buffer, AGAIN));
-    least(&mut took[2][1], few, || library.emit(black_box(bytes), buffer, AGAIN));
-    least(&mut took[3][0], times, || M::timed_rewrite(black_box(bytes), buffer));
-    least(&mut took[3][1], times, || library.rewrite(black_box(bytes), buffer));
+    least(&mut took[0][0], times, || M::timed_check(black_box(bytes)));
+    least(&mut took[0][1], times, || library.check(black_box(bytes)));
+    least(&mut took[1][0], times, || M::timed_rewrite(black_box(bytes), buffer));
+    least(&mut took[1][1], times, || library.rewrite(black_box(bytes), buffer));
 }
 
 fn main() {
     let all = messages(&std::env::args().nth(1).expect("a file"));
-    let mut logs = [0.0; 4];
+    let mut logs = [0.0; 2];
     println!("| message | {} |", OPERATIONS.join(" | "));
-    println!("|---|{}", "---:|".repeat(4));
+    println!("|---|{}", "---:|".repeat(2));
     for (form, bytes) in &all {
-        let mut took = [[f64::MAX; 2]; 4];
+        let mut took = [[f64::MAX; 2]; 2];
         let mut buffer = vec![0; 2 * bytes.len() + 4096];
         for _ in 0..PASSES {
             match form {
                 0 => sample::<TcMessage>(*form, bytes, &mut buffer, &mut took),
                 _ => sample::<TcActionMessage>(*form, bytes, &mut buffer, &mut took),
-            }
-        }
-        let parse = took[0];
-        for operation in [1, 2] {
-            // Reading the message is taken off.
-            for side in 0..2 {
-                took[operation][side] = (took[operation][side] - parse[side]).max(0.1) / (AGAIN + 1) as f64;
             }
         }
         let row = took.map(|[erased, proved]| format!("{erased:.1} / {proved:.1} = {:.2}", erased / proved));
