@@ -2,7 +2,8 @@
 
 use crate::interfaces::indices_in;
 use crate::netlink::{Device, Devices};
-use ::serde::ser::{Serialize, SerializeMap, Serializer};
+use crate::show::json::safe_text;
+use ::serde::ser::{Error as _, Serialize, SerializeMap, Serializer};
 use ::serde_json::{Error, from_str, to_string};
 use std::collections::{BTreeMap, BTreeSet};
 use std::time::SystemTime;
@@ -13,6 +14,7 @@ pub const VERSION: u32 = 1;
 /// The text of a save of some interfaces. `lines` are those of their objects, `devices` all interfaces of the namespace.
 pub fn save_of(saved: &[&Device], devices: &Devices, lines: &str) -> Result<String, Error> {
     let head = to_string(&Head { saved, names: &names_of(saved, devices, lines)? })?;
+    let head = safe_text(head).map_err(|_| Error::custom("out of memory"))?;
     let end = format!("{{\"end\":{}}}\n", lines.lines().count());
     Ok([&head, "\n", lines, &end].concat())
 }
