@@ -2,9 +2,10 @@
 
 use super::after::same;
 use super::blocks::{Others, without};
-use super::compare::{Key, Objects, by_place};
+use super::compare::{Key, Objects};
 use super::messages::is_read;
 use super::named::named;
+use super::places::by_place;
 use super::plan::{Fault, plan};
 use super::sending::Sending;
 use super::status::Status;

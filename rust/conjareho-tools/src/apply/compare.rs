@@ -4,6 +4,7 @@
 //! chooses in a field of a configuration, and what it shows otherwise from one dump to the next.
 
 use super::messages::{actions_of, chain_of, kind_of, payload_of, type_of};
+use super::places::CHOSEN;
 use crate::forms_json::Shown;
 use crate::forms_kinds::{ACTION_MESSAGE, TC_MESSAGE, TcTables};
 use crate::netlink::message::{
@@ -82,26 +83,6 @@ impl Key {
     /// True for an action, which belongs to no interface.
     pub(crate) fn is_action(&self) -> bool {
         matches!(self, Key::Action(..))
-    }
-
-    // Interface, parent and handle of a qdisc whose handle the kernel chose.
-    fn chosen(&self) -> Option<(i32, u32, u32)> {
-        match self {
-            Key::Object { kind: RTM_NEWQDISC, index, parent, handle, .. } if CHOSEN.contains(&(handle >> 16)) => {
-                Some((*index, *parent, *handle))
-            }
-            _ => None,
-        }
-    }
-
-    fn moved(mut self, majors: &Majors) -> Key {
-        if let Key::Object { kind: RTM_NEWQDISC | RTM_NEWTCLASS, index, handle, .. } = &mut self {
-            *handle = moved(majors, *index, *handle);
-        }
-        if let Key::Object { index, parent, .. } | Key::Order { index, parent, .. } = &mut self {
-            *parent = moved(majors, *index, *parent);
-        }
-        self
     }
 
     /// The number of the shared block that it is in.
@@ -243,33 +224,6 @@ fn put_object(request: &[u8], header: Tcmsg, is_ingress: bool, objects: &mut Obj
         }
     }
     objects.insert(Key::Object { kind, index, parent, chain, info, handle }, Held::Request(request.to_vec()));
-}
-
-/// The upper halves of the handles that the kernel chooses for qdiscs.
-pub(crate) const CHOSEN: std::ops::RangeInclusive<u32> = 0x8000..=0xFFFE;
-
-/// Objects with the handles that the kernel chose as if it had chosen them by place: the same for each state that differs in nothing else.
-pub(crate) fn by_place(objects: Objects) -> Objects {
-    let qdiscs: Vec<(i32, u32, u32)> = objects.keys().filter_map(Key::chosen).collect();
-    let mut majors = BTreeMap::new();
-    loop {
-        let is_next = |(index, parent, handle): &(i32, u32, u32)| {
-            !majors.contains_key(&(*index, handle >> 16))
-                && (!CHOSEN.contains(&(parent >> 16)) || majors.contains_key(&(*index, parent >> 16)))
-        };
-        let next = qdiscs.iter().copied().filter(is_next);
-        let next = next.min_by_key(|(index, parent, _)| (*index, moved(&majors, *index, *parent)));
-        let Some((index, _, handle)) = next else { break };
-        majors.insert((index, handle >> 16), CHOSEN.start() + majors.len() as u32);
-    }
-    objects.into_iter().map(|(key, held)| (key.moved(&majors), held)).collect()
-}
-
-// The new upper halves of handles, by interface and upper half.
-type Majors = BTreeMap<(i32, u32), u32>;
-
-fn moved(majors: &Majors, index: i32, handle: u32) -> u32 {
-    majors.get(&(index, handle >> 16)).map_or(handle, |major| major << 16 | handle & 0xFFFF)
 }
 
 /// What a request or a notification is about.
@@ -446,22 +400,6 @@ mod tests {
     fn passed_over(mut value: Value) -> Value {
         pass_over(&mut value);
         value
-    }
-
-    #[test]
-    fn chosen_handles_are_those_of_their_places() {
-        let object = |kind, parent, handle| Key::Object { kind, index: 7, parent, chain: 0, info: 0, handle };
-        let state = |one: u32, two: u32| -> Vec<Key> {
-            let keys = [
-                object(RTM_NEWQDISC, 0x1_0010, one << 16),
-                object(RTM_NEWQDISC, 0x1_0020, two << 16),
-                object(RTM_NEWTCLASS, two << 16, two << 16 | 1),
-                object(RTM_NEWTFILTER, two << 16, 1),
-            ];
-            by_place(keys.into_iter().map(|key| (key, Held::Handles(Vec::new()))).collect()).into_keys().collect()
-        };
-        assert_eq!(state(0x8001, 0x8002), state(0x8055, 0x8003));
-        assert_ne!(state(0x8001, 0x20), state(0x8001, 0x8002));
     }
 
     #[test]

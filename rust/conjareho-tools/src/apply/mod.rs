@@ -2,6 +2,7 @@
 
 mod actions;
 mod after;
+mod anew;
 mod arguments;
 mod back;
 mod blocks;
@@ -14,6 +15,7 @@ mod lock;
 mod messages;
 mod named;
 mod outline;
+mod places;
 mod plan;
 mod prepare;
 mod requests;
@@ -34,7 +36,8 @@ mod world;
 use after::{check_after, same};
 use arguments::{Arguments, Way};
 use blocks::without;
-use compare::{Held, Key, by_place};
+use compare::{Held, Key};
+use places::by_place;
 use plan::plan_anew;
 use prepare::{Planned, Prepared, planned, prepare};
 use sending::Sending;

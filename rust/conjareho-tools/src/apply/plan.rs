@@ -1,9 +1,9 @@
 //! Plans: the requests that bring what there is to what is wanted, by the proved plan.
 
+use super::anew::marked;
 use super::compare::{Key, key_of};
 use super::messages::{actions_of, chain_of, deletes, kind_of, payload_of, replaces, type_of};
 use super::requests::{LINES_BEFORE, dumps_of, requests_of_dump};
-use crate::netlink::attributes::put;
 use crate::netlink::message::{HEADER, RTM_NEWCHAIN, RTM_NEWQDISC, RTM_NEWTCLASS, RTM_NEWTFILTER, is_action, tcmsg_of};
 use crate::nla_frames::ParseableBytes as _;
 use crate::streams::Stop;
@@ -14,11 +14,9 @@ use crate::plan::objects::KindRules;
 use crate::restore::{Object, request_of, request_of_actions};
 use crate::make::program::plans::plan_of_dumps;
 use crate::make::requests::lines::{Remark, RemarkKind, Source};
-use std::collections::{BTreeMap, BTreeSet};
+use std::collections::BTreeSet;
 
 const RTM_DELTFILTER: u16 = RTM_NEWTFILTER + 1;
-/// The parents of root qdiscs and of ingress and clsact, and all above.
-const TOPS: u32 = 0xFFFF_FFF1;
 
 /// The requests of a plan in their order, or why there is none.
 pub(crate) type Plan = Result<Vec<Vec<u8>>, Vec<Fault>>;
@@ -132,77 +130,32 @@ fn requests(
     if planned.is_void || !faults.is_empty() {
         return Ok(Err(faults));
     }
-    let made = planned.requests.iter().map(|request| Ok(with_priority(request.netlink()?, now)));
+    let cgroups = filters_of_cgroup(now);
+    let made = planned.requests.iter().map(|request| Ok(with_priority(request.netlink()?, &cgroups)));
     made.collect::<Result<Vec<_>, _>>().map(Ok)
 }
 
+// What a filter is found by: interface, parent, priority, handle and chain.
+type OfFilter = (i32, u32, u32, u32, u32);
+
+fn of_filter(message: &[u8]) -> Option<OfFilter> {
+    tcmsg_of(message).map(|it| (it.index, it.parent, it.info >> 16, it.handle, chain_of(message)))
+}
+
+fn filters_of_cgroup(now: &[Vec<u8>]) -> BTreeSet<OfFilter> {
+    let is_it = |dump: &&Vec<u8>| type_of(dump) == RTM_NEWTFILTER && kind_of(dump) == Some(b"cgroup");
+    now.iter().filter(is_it).filter_map(|dump| of_filter(dump)).collect()
+}
+
 // The request that deletes a filter. Linux deletes one of cgroup only with its priority, which has no other filter.
-fn with_priority(request: Vec<u8>, now: &[Vec<u8>]) -> Vec<u8> {
-    let place =
-        |message: &[u8]| tcmsg_of(message).map(|it| (it.index, it.parent, it.info >> 16, it.handle, chain_of(message)));
-    let is_it = |dump: &Vec<u8>| {
-        type_of(dump) == RTM_NEWTFILTER && kind_of(dump) == Some(b"cgroup") && place(dump) == place(&request)
-    };
-    let is_of_cgroup = type_of(&request) == RTM_DELTFILTER && now.iter().any(is_it);
+fn with_priority(request: Vec<u8>, cgroups: &BTreeSet<OfFilter>) -> Vec<u8> {
+    let is_of_cgroup =
+        type_of(&request) == RTM_DELTFILTER && of_filter(&request).is_some_and(|filter| cgroups.contains(&filter));
     let mut request = request;
     if let Some(handle) = request.get_mut(HEADER + 8..HEADER + 12).filter(|_| is_of_cgroup) {
         handle.fill(0);
     }
     request
-}
-
-// ---- Qdiscs that are made anew
-
-// In a class of these kinds Linux leaves nothing, if the qdisc there is deleted: packets are dropped. The one that was there at first comes back only with
-// the whole.
-const LEAVES_NOTHING: [&[u8]; 8] = [b"tbf", b"sfb", b"red", b"multiq", b"mq", b"mqprio", b"taprio", b"atm"];
-
-// An attribute that no kernel knows.
-const MARK: u16 = 0x3FF0;
-
-// The place of a qdisc: its interface, and the minor numbers of the classes on the way to it, from the root, whatever the handles are.
-type Way = (i32, Vec<u32>);
-
-// What is there now. Qdiscs that lose another one, which nothing follows, are marked, so that they aren't what is wanted, and are made anew.
-fn marked(now: &[Vec<u8>], wanted: &[Vec<u8>]) -> Vec<Vec<u8>> {
-    let (old, new) = (ways(now), ways(wanted));
-    let above = |way: &Way| Some((way.0, way.1.split_last().filter(|(_, rest)| !rest.is_empty())?.1.to_vec()));
-    let emptied: BTreeSet<Way> = old.keys().filter(|way| !new.contains_key(*way)).filter_map(above).collect();
-    let stays = |way: &Way| Some((now.get(*old.get(way)?)?, wanted.get(*new.get(way)?)?));
-    let is_marked = |way: &&Way| {
-        let is_emptied = |kind: &[u8]| LEAVES_NOTHING.contains(&kind);
-        stays(*way).is_some_and(|(was, is)| kind_of(was) == kind_of(is) && kind_of(was).is_some_and(is_emptied))
-    };
-    let mut marked = now.to_vec();
-    for place in emptied.iter().filter(is_marked).filter_map(|way| old.get(way)) {
-        let mut message = marked[*place].clone();
-        put(&mut message, MARK, b"anew");
-        let len = message.len() as u32;
-        message[..4].copy_from_slice(&len.to_ne_bytes());
-        marked[*place] = message;
-    }
-    marked
-}
-
-// The dump of each qdisc that has a handle, by its way.
-fn ways(dumps: &[Vec<u8>]) -> BTreeMap<Way, usize> {
-    let qdiscs = dumps.iter().enumerate().filter(|(_, dump)| type_of(dump) == RTM_NEWQDISC);
-    let own: BTreeMap<(i32, u32), (u32, usize)> = qdiscs
-        .filter_map(|(place, dump)| tcmsg_of(dump).map(|it| ((it.index, it.handle >> 16), (it.parent, place))))
-        .filter(|((_, major), _)| *major != 0)
-        .collect();
-    let way = |(index, major): (i32, u32)| {
-        let (mut steps, mut at) = (Vec::new(), major);
-        // No qdisc is below itself, but a save that was edited may say so.
-        while let Some((parent, _)) = own.get(&(index, at)).filter(|_| steps.len() <= own.len()) {
-            let is_top = *parent >= TOPS;
-            steps.push(if is_top { *parent } else { *parent & 0xFFFF });
-            at = if is_top { 0 } else { *parent >> 16 };
-        }
-        steps.reverse();
-        (index, steps)
-    };
-    own.iter().map(|(key, (_, place))| (way(*key), *place)).collect()
 }
 
 // What may change although no wanted dump names it: the interfaces and blocks of now, and the actions that may go.
@@ -234,6 +187,7 @@ fn others(now: &[Vec<u8>], wanted: &[Vec<u8>], may_go: impl Fn(&Key) -> bool) ->
 #[cfg(test)]
 mod tests {
     use super::*;
+    use crate::netlink::attributes::put;
     use crate::netlink::message::{Tcmsg, tc_request};
 
     #[test]
@@ -246,44 +200,7 @@ mod tests {
             message
         };
         let now = [of(RTM_NEWTFILTER, 1, "cgroup"), of(RTM_NEWTFILTER, 2, "basic")];
-        let handle = |number| tcmsg_of(&with_priority(of(RTM_DELTFILTER, number, ""), &now)).map(|it| it.handle);
+        let handle = |number| tcmsg_of(&with_priority(of(RTM_DELTFILTER, number, ""), &filters_of_cgroup(&now))).map(|it| it.handle);
         assert_eq!([1, 2, 3].map(handle), [Some(0), Some(2), Some(3)]);
-    }
-
-    fn qdisc(handle: u32, parent: u32, name: &str) -> Vec<u8> {
-        let mut message = tc_request(RTM_NEWQDISC, 0, Tcmsg { index: 7, handle, parent, info: 0 });
-        put(&mut message, 1, &[name.as_bytes(), &[0]].concat());
-        let len = message.len() as u32;
-        message[..4].copy_from_slice(&len.to_ne_bytes());
-        message
-    }
-
-    fn sent(now: &[Vec<u8>], wanted: &[Vec<u8>]) -> Vec<(u16, u32)> {
-        let steps = plan(now, wanted, |_| false).expect("a plan");
-        steps.iter().map(|step| (type_of(step), tcmsg_of(step).expect("a header").parent)).collect()
-    }
-
-    #[test]
-    fn what_would_be_left_without_a_qdisc_is_made_anew() {
-        const ROOT: u32 = 0xFFFF_FFFF;
-        let of = |kind, child: Option<&str>| {
-            [vec![qdisc(0x1_0000, ROOT, kind)], child.map(|name| qdisc(0x2_0000, 0x1_0001, name)).into_iter().collect()]
-                .concat()
-        };
-        for kind in ["tbf", "sfb", "multiq", "mq", "mqprio", "taprio"] {
-            assert_eq!(sent(&of(kind, Some("sfq")), &of(kind, None)), [(37, ROOT), (36, ROOT)], "{kind}");
-            assert!(sent(&of(kind, Some("sfq")), &of(kind, Some("sfq"))).is_empty(), "{kind}");
-            assert_eq!(
-                sent(&of(kind, Some("sfq")), &of(kind, Some("drr"))),
-                [(37, 0x1_0001), (36, 0x1_0001)],
-                "{kind}"
-            );
-        }
-        assert_eq!(sent(&of("prio", Some("sfq")), &of("prio", None)), [(37, 0x1_0001)]);
-        // The handles that the kernel chose differ.
-        let (now, wanted) = (qdisc(0x8001_0000, ROOT, "tbf"), qdisc(0x8005_0000, ROOT, "tbf"));
-        let below = |handle: u32| qdisc(0x2_0000, handle | 1, "sfq");
-        assert!(sent(&[now.clone(), below(0x8001_0000)], &[wanted.clone(), below(0x8005_0000)]).is_empty());
-        assert_eq!(sent(&[now, below(0x8001_0000)], &[wanted]), [(37, ROOT), (36, ROOT)]);
     }
 }

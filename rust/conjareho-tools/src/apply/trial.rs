@@ -3,8 +3,8 @@
 use super::arguments::Arguments;
 use super::check_after;
 use super::command;
-use super::compare::by_place;
 use super::messages::{blocks_of, deletes};
+use super::places::by_place;
 use super::plan::plan;
 use super::prepare::{Planned, planned};
 use super::requests::requests_of_dump;
