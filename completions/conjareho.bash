@@ -78,14 +78,14 @@ _conjareho() {
             --dev) _conjareho_devices; return ;;
             --state) _filedir -d; return ;;
         esac
-        words="--dev --map --clear --partial --replace-actions --no-rollback --state -h --help -V --version"
+        words="--dev --map --clear --partial --replace-actions --allow-down --no-rollback --state -h --help -V --version"
         ;;
     "tcapply")
         case $previous in
             --dev) _conjareho_devices; return ;;
             --state) _filedir -d; return ;;
         esac
-        words="-h --help -V --version -n --dry-run --check --spare-actions --wait -q --quiet --dev --map --try --no-rollback --state"
+        words="-h --help -V --version -n --dry-run --check --replace-actions --allow-down --wait -q --quiet --dev --map --try --no-rollback --state"
         ;;
     "tcnl")
         case $previous in

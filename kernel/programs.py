@@ -8,6 +8,8 @@ import subprocess
 from guests import OUT, TOP, chosen, lacks
 
 NAMES = ("tcrewrite", "tcshow", "tcmake", "tcnl", "tcsave", "tcrestore", "tcapply")
+# Interfaces of guests are down, and random ones share actions.
+ALLOWED = {"tcrestore": "--allow-down", "tcapply": "--allow-down --replace-actions"}
 
 
 def built(profile):
@@ -47,15 +49,15 @@ class Programs:
 
     def restore(self, file, state, options=""):
         """Restores a save. What was there before is kept in the folder `state`."""
-        return self.command(f"timeout {60 * chosen().slowness} $TCRESTORE --state {state} {options} {file}")
+        return self.command(f"timeout {60 * chosen().slowness} $TCRESTORE {ALLOWED['tcrestore']} --state {state} {options} {file}")
 
     def apply(self, file, state):
         """Applies a save. What was there before is kept in the folder `state`."""
-        return self.command(f"timeout {100 * chosen().slowness} $TCAPPLY --state {state} {file}")
+        return self.command(f"timeout {100 * chosen().slowness} $TCAPPLY {ALLOWED['tcapply']} --state {state} {file}")
 
     def words(self, name, *options):
         """The words that start a program, without a shell."""
-        return " ".join([self.paths[name], *options])
+        return " ".join([self.paths[name], *filter(None, [ALLOWED.get(name)]), *options])
 
     def clear(self, dev="d7"):
         return self.command(f"$TCNL clear dev {dev}")

@@ -60,3 +60,48 @@ many() {
     tc qdisc add dev "$1" root handle 1: htb
     for n in $(seq 1 "$2"); do echo "class add dev $1 parent 1: classid 1:$(printf %x "$n") htb rate 1mbit"; done | tc -batch -
 }
+
+# tcapply with a folder of its own for the states before
+apply() { tcapply --state "$PWD/state" "$@"; }
+# plan STATUS FILE REGEX..: the plan ends with this status, and has a line for each of these.
+plan() {
+    wanted=$1 file=$2
+    shift 2
+    run "$wanted" tcapply -n "$file"
+    for line in "$@"; do says "$line"; done
+}
+
+# What was sent: the requests of a run, by the notifications of them.
+listen() {
+    tcnl monitor > heard &
+    monitor=$!
+    trap "kill $monitor" EXIT
+    sleep 0.3
+}
+
+heard() {
+    sleep 0.3
+    kill $monitor
+    wait $monitor 2> /dev/null
+    tcshow --json heard | grep -c '"type":"RTM_'
+}
+
+# Runs a command, whatever its status is: that is in `got`.
+run_any() {
+    "$@" > said 2>&1
+    got=$?
+}
+
+# A save with a kind that this kernel lacks, instead of the last qdisc.
+none_such() {
+    line='{"type":"RTM_NEWQDISC","message":{"header":{"family":"Unspec","index":7,"handle":"20:","parent":"1:20","info":2},"attributes":[{"Kind":"none_such"}]}}'
+    sed "s/.*\"handle\":\"20:\".*\"Kind\":\"pfifo\".*/$line/; s/{\"end\":.*/{\"end\":true}/" "$1"
+}
+
+# The cases of a script: `SCRIPT list` prints their names, `SCRIPT NAME` runs one.
+main() {
+    case ${1:-list} in
+        list) sed -n 's/^case_\([a-z0-9_]*\)().*/\1/p' "$0" ;;
+        *) "case_$1" ;;
+    esac
+}

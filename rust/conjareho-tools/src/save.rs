@@ -1,29 +1,37 @@
 //! A save: a head, a line of JSON for each object, and an end that counts them.
 
 use crate::interfaces::indices_in;
-use crate::netlink::{Device, Devices};
+use crate::netlink::devices::is_name;
+use crate::netlink::{Device, Devices, Fault};
 use crate::show::json::safe_text;
-use ::serde::ser::{Error as _, Serialize, SerializeMap, Serializer};
-use ::serde_json::{Error, from_str, to_string};
+use ::serde::ser::{Serialize, SerializeMap, Serializer};
+use ::serde_json::{from_str, to_string};
 use std::collections::{BTreeMap, BTreeSet};
 use std::time::SystemTime;
 
 /// The version of the format, `save` of the head.
 pub const VERSION: u32 = 1;
 
-/// The text of a save of some interfaces. `lines` are those of their objects, `devices` all interfaces of the namespace.
-pub fn save_of(saved: &[&Device], devices: &Devices, lines: &str) -> Result<String, Error> {
-    let head = to_string(&Head { saved, names: &names_of(saved, devices, lines)? })?;
-    let head = safe_text(head).map_err(|_| Error::custom("out of memory"))?;
+/// The text of a save of some interfaces. `lines` are those of their objects, `devices` all interfaces of the namespace. The error is that one that it has
+/// to name has no name that is UTF-8.
+pub fn save_of(saved: &[&Device], devices: &Devices, lines: &str) -> Result<String, Fault> {
+    let names = names_of(saved, devices, lines)?;
+    if let Some((index, _)) = names.iter().find(|(_, name)| !is_name(name)) {
+        return Err(Fault::NoName(*index));
+    }
+    let head = to_string(&Head { saved, names: &names }).ok().and_then(|head| safe_text(head).ok()).ok_or(NO_LINE)?;
     let end = format!("{{\"end\":{}}}\n", lines.lines().count());
     Ok([&head, "\n", lines, &end].concat())
 }
 
-// The name of each interface that a line has the index of, as far as it is there.
-fn names_of(saved: &[&Device], devices: &Devices, lines: &str) -> Result<BTreeMap<u32, String>, Error> {
+// A line isn't JSON, or memory ran out.
+const NO_LINE: Fault = Fault::Broken("a message that isn't shown as JSON");
+
+// The name of each interface that is saved or that a line has the index of, as far as it is there.
+fn names_of(saved: &[&Device], devices: &Devices, lines: &str) -> Result<BTreeMap<u32, String>, Fault> {
     let mut indices: BTreeSet<u32> = saved.iter().map(|device| device.index).collect();
     for line in lines.lines() {
-        indices.extend(indices_in(&from_str(line)?));
+        indices.extend(indices_in(&from_str(line).map_err(|_| NO_LINE)?));
     }
     Ok(indices.into_iter().filter_map(|index| Some((index, devices.at(index)?.name.clone()))).collect())
 }

@@ -2,7 +2,9 @@
 
 use crate::netlink::Fault;
 use crate::netlink::fault::Printable;
-use ::clap::{ArgMatches, Command};
+use ::clap::builder::StyledStr;
+use ::clap::error::{ContextKind, ContextValue};
+use ::clap::{ArgMatches, Command, Error};
 use std::fmt;
 use std::process::ExitCode;
 
@@ -43,9 +45,12 @@ impl Ending {
 impl From<Fault> for Ending {
     fn from(fault: Fault) -> Ending {
         let status = match fault {
-            Fault::Refused(_) | Fault::Cut(_) | Fault::Interrupted | Fault::Changing(_) | Fault::NoInterface(_) => {
-                Status::Refused
-            }
+            Fault::Refused(_)
+            | Fault::Cut(_)
+            | Fault::Interrupted
+            | Fault::Changing(_)
+            | Fault::NoInterface(_)
+            | Fault::NoName(_) => Status::Refused,
             Fault::Socket(..) | Fault::Silent | Fault::Broken(_) | Fault::Lost => Status::Stream,
         };
         Ending::new(status, fault)
@@ -65,7 +70,66 @@ pub fn words_of(program: &str, command: Command) -> Result<ArgMatches, ExitCode>
         return Err(Ending::new(Status::Usage, "an argument is no text").say(program));
     };
     command.try_get_matches_from(words).map_err(|error| {
-        let _ = error.print();
-        if error.use_stderr() { ExitCode::from(Status::Usage as u8) } else { ExitCode::SUCCESS }
+        let is_wrong = error.use_stderr();
+        print(error);
+        if is_wrong { ExitCode::from(Status::Usage as u8) } else { ExitCode::SUCCESS }
     })
+}
+
+/// Prints a help, or a complaint about arguments, in which these can't control a terminal.
+pub fn print(error: Error) {
+    // What can't be printed isn't.
+    let _ = printable(error).print();
+}
+
+// What a complaint has of the arguments is escaped. The rest is clap's own, and may be coloured.
+fn printable(mut error: Error) -> Error {
+    let safe = |text: &String| Printable(text).to_string();
+    let escaped: Vec<(ContextKind, ContextValue)> = error
+        .context()
+        .filter_map(|(kind, value)| match value {
+            ContextValue::String(text) => Some((kind, ContextValue::String(safe(text)))),
+            ContextValue::Strings(texts) => Some((kind, ContextValue::Strings(texts.iter().map(safe).collect()))),
+            ContextValue::StyledStrs(texts) => {
+                let texts = texts.iter().map(|text| StyledStr::from(safe(&text.to_string())));
+                Some((kind, ContextValue::StyledStrs(texts.collect())))
+            }
+            _ => None,
+        })
+        .collect();
+    for (kind, value) in escaped {
+        error.insert(kind, value);
+    }
+    error
+}
+
+#[cfg(test)]
+mod tests {
+    use super::*;
+    use ::clap::{Arg, value_parser};
+
+    #[test]
+    fn arguments_are_escaped_in_complaints() {
+        let command = || {
+            let number = Arg::new("wait").long("wait").value_parser(value_parser!(u64));
+            let choice = Arg::new("kind").long("kind").value_parser(["htb", "tbf"]);
+            Command::new("it").arg(number).arg(choice).subcommand(Command::new("dump")).arg(Arg::new("file"))
+        };
+        for words in [
+            ["--\u{1b}[31mx", "a"],
+            ["--wait", "\u{1b}[31m"],
+            ["--kind", "h\u{202e}tb"],
+            ["a", "\u{1b}]0;x\u{7}"],
+            ["--wait=1\n2", "a"],
+            ["--\u{9b}31mx=\r", "a"],
+        ] {
+            let error = command().try_get_matches_from(["it"].iter().chain(&words)).expect_err("refused");
+            let said = printable(error).to_string();
+            let is_safe = |letter: char| letter == '\n' || (' '..='~').contains(&letter);
+            assert!(said.chars().all(is_safe), "{words:?}: {said:?}");
+            assert!(said.contains('\\'), "{words:?}: {said:?}");
+        }
+        let error = command().try_get_matches_from(["it", "--wait", "1\n2"]).expect_err("refused");
+        assert!(printable(error).to_string().contains("1\\n2"));
+    }
 }

@@ -5,7 +5,7 @@ use crate::netlink::fault::Printable;
 use crate::netlink::{Devices, Fault, Kernel, Listener, Objects, clear, dump_of};
 use crate::requests::{Stream, send_all};
 use crate::shown::stream_of;
-use crate::status::{Ending, Status, say, words_of};
+use crate::status::{Ending, Status, print, say, words_of};
 use ::clap::builder::NonEmptyStringValueParser;
 use ::clap::error::ErrorKind;
 use ::clap::{Arg, ArgAction, ArgMatches, Command};
@@ -20,15 +20,18 @@ Examples:
   tcshow --json f.pcap | sed -n 3s/10240/500/p | tcmake --stream | tcnl send
 
 DEV is the name of an interface, one of its altnames, or its index. send and clear take
-CAP_NET_ADMIN.
+CAP_NET_ADMIN. monitor says where notifications were lost, and goes on.
 
 Exit status:
   0  done
-  1  no such interface, something that the kernel refused, an interface that kept changing during a
-     dump, or notifications that were lost
+  1  no such interface, something that the kernel refused, or an interface that kept changing during
+     a dump
   2  usage error
   3  a socket or a stream failed, or a stream to send has anything but whole requests of traffic
      control: nothing of it is sent";
+
+/// What is said where the kernel had more to tell than there was room for.
+const LOST: &str = "notifications were lost, since they weren't read fast enough; what waits comes next, and tcnl dump has what is there now";
 
 const OBJECTS: [(&str, Objects); 5] = [
     ("qdisc", Objects { qdiscs: true, ..Objects::NONE }),
@@ -120,7 +123,7 @@ fn texts(words: &ArgMatches) -> Vec<&str> {
 fn misused(name: &str, why: &str) -> ExitCode {
     let mut command = command();
     if let Some(it) = command.find_subcommand_mut(name) {
-        let _ = it.error(ErrorKind::UnknownArgument, why).print();
+        print(it.error(ErrorKind::UnknownArgument, why));
     }
     ExitCode::from(Status::Usage as u8)
 }
@@ -158,7 +161,8 @@ fn monitor(words: &ArgMatches) -> Result<ExitCode, Ending> {
     loop {
         match listener.receive(None) {
             Ok(notices) => write(&stream_of(&notices.into_iter().map(|notice| notice.message).collect::<Vec<_>>()))?,
-            Err(Fault::Lost) => return Err(Ending::new(Status::Refused, Fault::Lost)),
+            // What waited before is still there, and comes next.
+            Err(Fault::Lost) => say("tcnl", LOST),
             Err(fault) => return Err(fault.into()),
         }
     }

@@ -1,6 +1,6 @@
 //! The program tcsave.
 
-use crate::netlink::{Device, Devices, Dump, Fault, Kernel, Listener, state_of};
+use crate::netlink::{Device, Devices, Dump, Kernel, Listener, state_of};
 use crate::save::save_of;
 use crate::shown::lines_of;
 use crate::status::{Ending, Status, words_of};
@@ -20,8 +20,8 @@ of the interfaces changes, it is dumped again.
 
 Exit status:
   0  saved
-  1  no such interface, a dump that the kernel refused, an interface that kept changing, or a
-     message that the codec refuses (its line says so)
+  1  no such interface, a name that isn't UTF-8, a dump that the kernel refused, an interface that
+     kept changing, or a message that the codec refuses (its line says so)
   2  usage error
   3  a socket or standard output failed";
 
@@ -61,8 +61,7 @@ fn save(words: &[String]) -> Result<(), Ending> {
     let shown = lines_of(&messages)?;
     drop(messages);
     let saved = found.iter().map(|device| same_in(&devices, device)).collect::<Result<Vec<_>, _>>()?;
-    let text =
-        save_of(&saved, &devices, &shown.text).map_err(|_| Fault::Broken("a message that isn't shown as JSON"))?;
+    let text = save_of(&saved, &devices, &shown.text)?;
     let mut output = std::io::stdout().lock();
     output
         .write_all(text.as_bytes())

@@ -1,11 +1,8 @@
 //! Actions, which belong to no interface: who holds them, and which of them stay where interfaces are cleared.
 
 use super::compare::{Key, key_of};
-use super::messages::{Action, actions_of, listed_in, payload_of, replaces, type_of};
+use super::messages::{Action, actions_of, all_actions, deletes, listed_in, replaces, type_of};
 use crate::netlink::message::{MAGIC_BLOCK, RTM_NEWTFILTER, is_action, tcmsg_of};
-use crate::nla_frames::ParseableBytes as _;
-use crate::tc_messages::TcMessage;
-use crate::restore::actions_of_filter;
 use std::collections::{BTreeMap, BTreeSet};
 
 /// The actions of dumps, and how often the filters of these dumps hold each.
@@ -44,6 +41,15 @@ impl Actions {
         self.all.iter().filter(is_others).map(Action::key).filter(|key| changed.contains(key)).collect()
     }
 
+    /// Those that these requests make although a filter that isn't of these dumps has an action of its own under the number.
+    pub(crate) fn taken(&self, steps: &[Vec<u8>]) -> Vec<Key> {
+        let makes = |step: &&Vec<u8>| is_action(type_of(step)) && !replaces(step) && !deletes(step);
+        let made: BTreeSet<Key> =
+            steps.iter().filter(makes).flat_map(|step| actions_of(step)).map(|action| action.key()).collect();
+        let is_taken = |action: &&Action| action.filters > self.own_of(&action.key());
+        self.all.iter().filter(is_taken).map(Action::key).filter(|key| made.contains(key)).collect()
+    }
+
     fn own_of(&self, key: &Key) -> u32 {
         self.own.get(key).copied().unwrap_or_default()
     }
@@ -58,9 +64,7 @@ fn held_in(dumps: &[Vec<u8>]) -> BTreeMap<Key, u32> {
         if is_shared && key_of(dump).is_some_and(|key| !seen.insert(key)) {
             continue;
         }
-        let filter = TcMessage::parse(payload_of(dump)).ok();
-        let actions = filter.and_then(|filter| actions_of_filter(filter).ok()).unwrap_or_default();
-        for action in actions.into_iter().filter_map(Action::of) {
+        for action in all_actions(dump).into_iter().filter_map(Action::of) {
             *held.entry(action.key()).or_default() += 1;
         }
     }
@@ -117,6 +121,8 @@ mod tests {
         assert_eq!(numbers(&actions.alone()), [1, 2, 3, 4, 5]);
         assert_eq!(actions.of_others(&[of_actions(&[[4, 0, 0], [5, 0, 0]], 0x505)]).len(), 1);
         assert_eq!(actions.of_others(&[of_actions(&[[5, 0, 0]], 0x605)]), [], "it is made");
+        assert_eq!(actions.taken(&[of_actions(&[[4, 0, 0], [5, 0, 0]], 0x605)]).len(), 1);
+        assert_eq!(actions.taken(&[of_actions(&[[5, 0, 0]], 0x505)]), [], "it is changed");
     }
 
     #[test]

@@ -19,7 +19,8 @@ const MARK: u16 = 0x3FF0;
 pub(crate) fn marked(now: &[Vec<u8>], wanted: &[Vec<u8>]) -> Vec<Vec<u8>> {
     let mut ways = Ways::default();
     let (old, new) = (ways.of(now), ways.of(wanted));
-    let emptied: BTreeSet<usize> = old.keys().filter(|way| !new.contains_key(*way)).filter_map(|way| ways.above(*way)).collect();
+    let emptied: BTreeSet<usize> =
+        old.keys().filter(|way| !new.contains_key(*way)).filter_map(|way| ways.above(*way)).collect();
     let stays = |way: &usize| Some((now.get(*old.get(way)?)?, wanted.get(*new.get(way)?)?));
     let is_marked = |way: &&usize| {
         let is_emptied = |kind: &[u8]| LEAVES_NOTHING.contains(&kind);
@@ -156,14 +157,19 @@ mod tests {
     fn ways_are_the_same_whatever_the_handles_are() {
         const ROOT: u32 = 0xFFFF_FFFF;
         let tree = |one: u32, two: u32| {
-            [qdisc(one << 16, ROOT, "prio"), qdisc(two << 16, one << 16 | 2, "prio"), qdisc(0x77_0000, two << 16 | 1, "sfq")]
+            [
+                qdisc(one << 16, ROOT, "prio"),
+                qdisc(two << 16, one << 16 | 2, "prio"),
+                qdisc(0x77_0000, two << 16 | 1, "sfq"),
+            ]
         };
         let mut ways = Ways::default();
         let (some, other) = (ways.of(&tree(1, 2)), ways.of(&tree(0x8005, 0x8001)));
         assert_eq!(some, other);
         assert_eq!((some.len(), ways.above.len()), (3, 3));
         // one is below the other, and that below it; and one below these
-        let circle = [qdisc(0x1_0000, 0x2_0001, "prio"), qdisc(0x2_0000, 0x1_0001, "prio"), qdisc(0x3_0000, 0x2_0002, "prio")];
+        let circle =
+            [qdisc(0x1_0000, 0x2_0001, "prio"), qdisc(0x2_0000, 0x1_0001, "prio"), qdisc(0x3_0000, 0x2_0002, "prio")];
         assert!(ways.of(&circle).is_empty());
         // where the parent is missing
         assert_eq!(ways.of(&[qdisc(0x2_0000, 0x1_0001, "prio")]).len(), 1);

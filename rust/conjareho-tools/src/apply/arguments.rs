@@ -35,13 +35,14 @@ FILE. It takes CAP_NET_ADMIN.
 
 A script of commands needs set -e (#!/bin/sh -e): otherwise it goes on after a command that failed,
 and what that was to make is deleted. It runs where nothing is, so a first tc qdisc del fails there:
-leave it out, or write || true after it. Of what it makes only DEV is applied: what it makes of
-others is named, and dropped.
+leave it out, or write || true after it. All that it makes is applied, or nothing: each interface
+with traffic control has its --dev, and one that it makes or sets up has to be there and up.
 
 Exit status:
   0  what is there is what FILE says; if it was before, nothing was sent
-  1  nothing was sent: FILE is cut, an interface is missing, something can't be made, the COMMAND or
-     --check failed, another program is changing the interface, or a signal came
+  1  nothing was sent: FILE is cut, an interface is missing, or down and would get what a filter
+     redirects, something can't be made, an action that differs is used by other interfaces too, the
+     COMMAND or --check failed, another program is changing the interface, or a signal came
   2  usage error
   3  a socket or a file failed, and nothing was sent
   4  --dry-run: what is there isn't what FILE says
@@ -69,15 +70,17 @@ pub(crate) struct Arguments {
     pub(crate) file: Option<PathBuf>,
     /// What makes the configuration that is wanted; none if a file has it.
     pub(crate) command: Option<Vec<OsString>>,
-    /// The interface instead of the file's.
-    pub(crate) dev: Option<String>,
+    /// The interface instead of the file's; all that the command sets up.
+    pub(crate) devs: Vec<String>,
     /// The names of today by those of the file.
     pub(crate) map: BTreeMap<String, String>,
     pub(crate) way: Way,
     /// What can't be made is left out.
     pub(crate) partial: bool,
-    /// Actions that filters of other interfaces hold too aren't changed.
-    pub(crate) spares_actions: bool,
+    /// Actions that filters of other interfaces hold too are changed.
+    pub(crate) replaces_actions: bool,
+    /// Packets may be redirected to an interface that is down.
+    pub(crate) allows_down: bool,
     /// How long another one at work is waited for.
     pub(crate) patience: Duration,
     pub(crate) dry_run: bool,
@@ -99,11 +102,12 @@ impl Arguments {
         Arguments {
             file: file.map(Into::into),
             command: None,
-            dev: matches.remove_one("dev"),
+            devs: matches.remove_many("dev").into_iter().flatten().collect(),
             map,
             way: Way::Change,
             partial: false,
-            spares_actions: false,
+            replaces_actions: matches.get_flag("replace-actions"),
+            allows_down: matches.get_flag("allow-down"),
             patience: PATIENCE,
             dry_run: false,
             check: false,
@@ -140,11 +144,13 @@ pub(crate) fn arguments_of(words: impl IntoIterator<Item = OsString>) -> Result<
         quiet: matches.get_flag("quiet"),
         trial: seconds_of(&matches, "try"),
         patience: seconds_of(&matches, "wait").unwrap_or(PATIENCE),
-        spares_actions: matches.get_flag("spare-actions"),
         ..Arguments::shared(&mut matches)
     };
     if arguments.trial.is_some() && arguments.command.is_none() && arguments.file.is_none() {
         return Err(command().error(ErrorKind::ArgumentConflict, "--try waits at standard input, which FILE can't be"));
+    }
+    if arguments.command.is_none() && arguments.devs.len() > 1 {
+        return Err(command().error(ErrorKind::ArgumentConflict, "several --dev are those of a COMMAND; FILE has one"));
     }
     Ok(arguments)
 }
@@ -158,7 +164,7 @@ fn command() -> Command {
         .version(env!("CARGO_PKG_VERSION"))
         .about(ABOUT)
         .after_help(NOTES)
-        .override_usage("tcapply [OPTIONS] <FILE>\n       tcapply [OPTIONS] --dev <DEV> -- <COMMAND>...")
+        .override_usage("tcapply [OPTIONS] <FILE>\n       tcapply [OPTIONS] --dev <DEV>.. -- <COMMAND>...")
         .arg(
             Arg::new("file")
                 .value_name("FILE")
@@ -193,23 +199,40 @@ pub(crate) fn flag(name: &'static str, help: &'static str) -> Arg {
     Arg::new(name).long(name).action(ArgAction::SetTrue).help(help)
 }
 
-fn plans() -> [Arg; 5] {
-    let wait = Arg::new("wait").long("wait").value_name("SECONDS").value_parser(value_parser!(u64).range(0..=86_400));
+/// Options of what others share or hold up.
+pub(crate) fn allowed() -> [Arg; 2] {
     [
-        flag("dry-run", "Print the plan, and send nothing: - deleted, + made, ~ changed").short('n').conflicts_with_all(["check", "try", "quiet"]),
+        flag("replace-actions", "Change actions that filters of other interfaces use too"),
+        flag("allow-down", "Make filters that redirect to an interface that is down: it drops packets"),
+    ]
+}
+
+fn plans() -> Vec<Arg> {
+    let wait = Arg::new("wait").long("wait").value_name("SECONDS").value_parser(value_parser!(u64).range(0..=86_400));
+    let [replace, allow] = allowed();
+    let all = [
+        flag("dry-run", "Print the plan, and send nothing: - deleted, + made, ~ changed")
+            .short('n')
+            .conflicts_with_all(["check", "try", "quiet"]),
         flag("check", "Carry the plan out in a new network namespace, and send nothing here").conflicts_with("try"),
-        flag("spare-actions", "Send nothing if an action that other interfaces' filters use would change"),
+        replace,
+        allow,
+        // What is so without it.
+        flag("spare-actions", "Send nothing if an action that filters of other interfaces use would change")
+            .hide(true)
+            .conflicts_with("replace-actions"),
         wait.help(format!("How long another tcapply is waited for [default: {}]", PATIENCE.as_secs())),
         flag("quiet", "Don't say what was done").short('q'),
-    ]
-    .map(|arg| arg.help_heading("Plan"))
+    ];
+    all.map(|arg| arg.help_heading("Plan")).to_vec()
 }
 
 fn interfaces() -> [Arg; 2] {
-    let dev = Arg::new("dev").long("dev").value_name("DEV").value_parser(NonEmptyStringValueParser::new());
+    let dev = Arg::new("dev").long("dev").value_name("DEV").action(ArgAction::Append);
     let map = Arg::new("map").long("map").value_name("NAME=NAME").action(ArgAction::Append).value_parser(pair_of);
     [
-        dev.help("Apply the only interface of FILE to DEV; or the one that COMMAND sets up"),
+        dev.value_parser(NonEmptyStringValueParser::new())
+            .help("Apply the only interface of FILE to DEV; or each one that COMMAND sets up"),
         map.help("Interface of FILE, and its name now; can be repeated"),
     ]
     .map(|arg| arg.help_heading("Interfaces"))
@@ -240,15 +263,19 @@ mod tests {
     #[test]
     fn reads_words() {
         let all = of(&["--dev", "eth1", "--map", "ids=ids0", "--try", "30", "--state", "/tmp/x", "f"]).expect("read");
-        assert_eq!(all.dev.as_deref(), Some("eth1"));
+        assert_eq!(all.devs, ["eth1"]);
         assert_eq!(all.map["ids"], "ids0");
         assert_eq!(all.trial, Some(Duration::from_secs(30)));
         assert_eq!((all.file, all.command), (Some(PathBuf::from("f")), None));
         assert_eq!(of(&["-"]).expect("read").file, None);
         assert_eq!(of(&["-n", "f"]).expect("read").state, PathBuf::from(STATE));
         assert!(of(&["-q", "f"]).expect("read").quiet && !of(&["f"]).expect("read").quiet);
-        let spares = |words: &[&str]| of(words).expect("read").spares_actions;
-        assert!(spares(&["--spare-actions", "f"]) && !spares(&["f"]));
+        let replaces = |words: &[&str]| of(words).expect("read").replaces_actions;
+        assert_eq!(
+            [&["--replace-actions", "f"][..], &["f"], &["--spare-actions", "f"]].map(replaces),
+            [true, false, false]
+        );
+        assert!(of(&["--allow-down", "f"]).expect("read").allows_down && !of(&["f"]).expect("read").allows_down);
         let patience = |words: &[&str]| of(words).expect("read").patience.as_secs();
         assert_eq!([patience(&["f"]), patience(&["--wait", "0", "f"]), patience(&["--wait", "90", "f"])], [10, 0, 90]);
     }
@@ -259,6 +286,7 @@ mod tests {
         assert_eq!(all.command, Some(["./shaper.sh", "--fast", "-n"].map(OsString::from).to_vec()));
         assert!(all.dry_run && all.file.is_none());
         assert!(of(&["--", "./shaper.sh"]).is_err(), "of which interface");
+        assert_eq!(of(&["--dev", "wan", "--dev", "ifb0", "--", "./sqm.sh"]).expect("read").devs, ["wan", "ifb0"]);
         assert!(of(&["--dev", "wan", "f", "--", "./shaper.sh"]).is_err());
     }
 
@@ -270,6 +298,8 @@ mod tests {
             &["-n", "--check", "f"],
             &["-n", "-q", "f"],
             &["--try", "0", "f"],
+            &["--dev", "wan", "--dev", "ifb0", "f"],
+            &["--spare-actions", "--replace-actions", "f"],
             &[],
         ] {
             assert!(of(words).is_err(), "{words:?}");

@@ -1,5 +1,6 @@
 //! The way back to what was there before: a plan from what is there.
 
+use super::advice::command_for;
 use super::after::same;
 use super::blocks::{Others, without};
 use super::compare::{Key, Objects};
@@ -10,7 +11,7 @@ use super::plan::{Fault, plan};
 use super::sending::Sending;
 use super::status::Status;
 use super::world::{Place, Stop};
-use crate::netlink::Transport;
+use crate::netlink::{Devices, Transport};
 
 /// How often it is planned, where the kernel refuses something.
 const MOST_PLANS: u32 = 3;
@@ -50,7 +51,7 @@ impl Before {
         };
         if is_left || matches!(stop, Stop::Other { .. } | Stop::Moved(_)) {
             let far = if sending.is_carried_out() { "as applied" } else { "as far as it was applied" };
-            said.push(left(far, stop, kept));
+            said.push(left(far, stop, kept, sending));
             return Status::Lost;
         }
         match self.made_again(wanted, sending) {
@@ -59,7 +60,10 @@ impl Before {
                 Status::Back
             }
             Err(why) => {
-                said.extend([format!("on the way back: {why}"), left("as far as the way back got", &why, kept)]);
+                said.extend([
+                    format!("on the way back: {why}"),
+                    left("as far as the way back got", &why, kept, sending),
+                ]);
                 Status::Lost
             }
         }
@@ -95,12 +99,18 @@ impl Before {
 }
 
 // What is there, if that isn't what was there before: how far it is left, and what the file that has that would do.
-fn left(far: &str, stop: &Stop, kept: &str) -> String {
+fn left<T: Transport, L: Transport>(far: &str, stop: &Stop, kept: &str, sending: &mut Sending<'_, '_, T, L>) -> String {
     let (with, so) = match stop {
         Stop::Other { .. } => (", with the other's change", "would undo the other's change too"),
         _ => ("", "makes it"),
     };
-    format!("it is left {far}{with}; {kept} has what was there before, and tcapply {kept} {so}")
+    // Interfaces may have got other names meanwhile.
+    let today = Devices::of(&mut sending.world.kernel).ok();
+    let then = match command_for(kept, today.as_ref()) {
+        Ok(command) => format!("{command} {so}"),
+        Err(gone) => gone,
+    };
+    format!("it is left {far}{with}; {kept} has what was there before, and {then}")
 }
 
 fn unplanned(place: &Place, faults: &[Fault]) -> Stop {

@@ -1,12 +1,16 @@
 //! The file of a save: a head, a line of JSON for each object, and an end with their number.
 
+use crate::netlink::devices::is_name;
 use ::serde_json::Value;
-use std::collections::BTreeMap;
+use std::collections::{BTreeMap, BTreeSet};
 use std::fmt;
 use std::ops::Range;
 
 /// The version of saves that is read: `save` of the head.
 const VERSION: u64 = 1;
+
+/// What some editors put before a text.
+const BOM: char = '\u{FEFF}';
 
 /// A save, as it was read.
 #[derive(Debug)]
@@ -56,8 +60,18 @@ pub(crate) enum FileError {
     NoText,
     /// Its head is of another version.
     Version(u64),
+    /// It begins with a byte order mark.
+    Bom,
+    /// Its first line is to be a head, and isn't JSON, for this reason.
+    NoJson(String),
     /// Its head lacks this, or has something else in its place.
     Head(&'static str),
+    /// Its head has this interface by an index for which it has another name.
+    OtherName { dev: String, index: i32, name: String },
+    /// Its head has this name for several indices.
+    SameName(String),
+    /// Its head has a name that isn't UTF-8, as it was written.
+    NoName(String),
     /// A head that isn't the first line, by its number.
     SecondHead(usize),
     /// It has a head and no end.
@@ -78,7 +92,18 @@ impl fmt::Display for FileError {
             }
             FileError::NoText => f.write_str("it isn't UTF-8"),
             FileError::Version(number) => write!(f, "a save of version {number}; this program reads version {VERSION}"),
+            FileError::Bom => {
+                f.write_str("it begins with a byte order mark (U+FEFF), which is no part of a save: take it out")
+            }
+            FileError::NoJson(why) => write!(f, "line 1: the head isn't JSON: {why}"),
             FileError::Head(wanted) => write!(f, "line 1: the head lacks {wanted}"),
+            FileError::OtherName { dev, index, name } => {
+                write!(f, "line 1: devs has {dev} as interface {index}, and names has {name} as that one")
+            }
+            FileError::SameName(name) => write!(f, "line 1: several interfaces have the name {name}"),
+            FileError::NoName(name) => {
+                write!(f, "line 1: the name {name} wasn't UTF-8 (it has U+FFFD), so another interface may have it too")
+            }
             FileError::SecondHead(number) => write!(f, "line {number}: a second head"),
             FileError::NoEnd => f.write_str("its end is missing: the save was cut"),
             FileError::LineAfterEnd(number) => write!(f, "line {number}: a line after the end"),
@@ -96,6 +121,9 @@ impl fmt::Display for FileError {
 /// Reads a save. Its objects aren't looked at.
 pub(crate) fn read_save(bytes: Vec<u8>) -> Result<Save, FileError> {
     let text = String::from_utf8(bytes).map_err(|_| FileError::NoText)?;
+    if text.starts_with(BOM) {
+        return Err(FileError::Bom);
+    }
     let mut lines = Vec::new();
     let (mut head, mut end, mut is_first, mut place) = (None, None, true, 0);
     for (at, line) in text.split_inclusive('\n').enumerate() {
@@ -107,7 +135,7 @@ pub(crate) fn read_save(bytes: Vec<u8>) -> Result<Save, FileError> {
         if end.is_some() {
             return Err(FileError::LineAfterEnd(at + 1));
         }
-        match mark_of(line) {
+        match mark_of(line, is_first)? {
             Some(Mark::Head(value)) if is_first => head = Some(head_of(&value)?),
             Some(Mark::Head(_)) => return Err(FileError::SecondHead(at + 1)),
             Some(Mark::End(value)) => end = Some(value),
@@ -128,18 +156,22 @@ enum Mark {
     End(Value),
 }
 
-fn mark_of(line: &str) -> Option<Mark> {
-    if !line.contains("\"save\"") && !line.contains("\"end\"") {
-        return None;
+// A line that isn't JSON is an object's, and complained of as such, unless it is the first one and would be a head.
+fn mark_of(line: &str, is_first: bool) -> Result<Option<Mark>, FileError> {
+    let is_head = line.contains("\"save\"");
+    if !is_head && !line.contains("\"end\"") {
+        return Ok(None);
     }
-    let value: Value = ::serde_json::from_str(line).ok()?;
-    let object = value.as_object()?;
+    let value: Value = match ::serde_json::from_str(line) {
+        Ok(value) => value,
+        Err(error) if is_head && is_first => return Err(FileError::NoJson(error.to_string())),
+        Err(_) => return Ok(None),
+    };
+    let Some(object) = value.as_object() else { return Ok(None) };
     if object.contains_key("save") {
-        Some(Mark::Head(value))
-    } else {
-        let end = object.get("end").filter(|_| object.len() == 1)?;
-        Some(Mark::End(end.clone()))
+        return Ok(Some(Mark::Head(value)));
     }
+    Ok(object.get("end").filter(|_| object.len() == 1).map(|end| Mark::End(end.clone())))
 }
 
 fn check_end(has_head: bool, end: Option<Value>, found: usize) -> Result<(), FileError> {
@@ -170,9 +202,28 @@ fn head_of(value: &Value) -> Result<Head, FileError> {
     let names = names.iter().map(|(index, name)| Some((index.parse().ok()?, name.as_str()?.to_string())));
     let mut names = names.collect::<Option<BTreeMap<_, _>>>().ok_or(FileError::Head("names by index"))?;
     for dev in &devs {
-        names.entry(dev.index).or_insert_with(|| dev.name.clone());
+        let name: &String = names.entry(dev.index).or_insert_with(|| dev.name.clone());
+        if *name != dev.name {
+            let (dev, index, name) = (dev.name.clone(), dev.index, name.clone());
+            return Err(FileError::OtherName { dev, index, name });
+        }
     }
+    check_names(&names)?;
     Ok(Head { devs, names })
+}
+
+// Each name is one interface's.
+fn check_names(names: &BTreeMap<i32, String>) -> Result<(), FileError> {
+    let mut seen = BTreeSet::new();
+    for name in names.values() {
+        if !is_name(name) {
+            return Err(FileError::NoName(name.clone()));
+        }
+        if !seen.insert(name) {
+            return Err(FileError::SameName(name.clone()));
+        }
+    }
+    Ok(())
 }
 
 fn device_of(name: &str, value: &Value) -> Option<Device> {
@@ -219,6 +270,30 @@ mod tests {
         assert_eq!(error_of(&format!("{HEAD}\n{{\"end\":\"2\"}}\n")), FileError::End);
         assert_eq!(error_of("{\"save\":2}\n{\"end\":0}\n"), FileError::Version(2));
         assert_eq!(read_save(b"\xff".to_vec()).expect_err("refused"), FileError::NoText);
+    }
+
+    #[test]
+    fn refuses_a_head_that_says_two_things() {
+        let of =
+            |names: &str| error_of(&format!("{}\n{{\"end\":0}}\n", HEAD.replace(r#"{"2":"wan","3":"ids"}"#, names)));
+        let other = FileError::OtherName { dev: "wan".to_string(), index: 2, name: "lan".to_string() };
+        assert_eq!(other.to_string(), "line 1: devs has wan as interface 2, and names has lan as that one");
+        assert_eq!(of(r#"{"2":"lan","3":"ids"}"#), other);
+        assert_eq!(of(r#"{"2":"wan","3":"wan"}"#), FileError::SameName("wan".to_string()));
+        assert_eq!(of(r#"{"3":"wan"}"#), FileError::SameName("wan".to_string()), "its own name is left out");
+        assert_eq!(of("{\"2\":\"wan\",\"3\":\"a\u{fffd}\"}"), FileError::NoName("a\u{fffd}".to_string()));
+        let swapped = HEAD.replace(r#"{"wan":{"#, r#"{"a\ufffd":{"#).replace(r#""2":"wan""#, r#""2":"a\ufffd""#);
+        assert_eq!(error_of(&format!("{swapped}\n{{\"end\":0}}\n")), FileError::NoName("a\u{fffd}".to_string()));
+    }
+
+    #[test]
+    fn refuses_a_head_that_is_no_json() {
+        assert_eq!(error_of(&format!("\u{feff}{HEAD}\n{{\"end\":0}}\n")), FileError::Bom);
+        let deep = format!("{{\"save\":1,\"devs\":{}", "[".repeat(1000));
+        for head in [HEAD.replace("\"devs\"", "\0\"devs\""), HEAD[..40].to_string(), deep] {
+            let error = error_of(&format!("{head}\n{{\"a\":1}}\n{{\"end\":1}}\n"));
+            assert!(error.to_string().starts_with("line 1: the head isn't JSON: "), "{error}");
+        }
     }
 
     #[test]

@@ -6,10 +6,10 @@ use crate::netlink::message::{
     HEADER, NLM_F_ACK, RTM_NEWACTION, RTM_NEWCHAIN, RTM_NEWTFILTER, TCMSG, header_of, is_action, request,
 };
 use crate::nla_frames::{Emitable as _, ParseableBytes as _};
+use crate::restore::{Use, actions_of_filter, kind_of_action, standalone_index, unheld, use_of_action};
 use crate::tc_action_messages::{TcActionMessage, TcActionMessageAttribute};
 use crate::tc_actions::TcAction;
 use crate::tc_messages::TcMessage;
-use crate::restore::{Use, actions_of_filter, kind_of_action, standalone_index, unheld, use_of_action};
 
 /// Flags of `linux/netlink.h`.
 pub(crate) const NLM_F_REPLACE: u16 = 0x100;
@@ -17,6 +17,7 @@ const NLM_F_EXCL: u16 = 0x200;
 const NLM_F_CREATE: u16 = 0x400;
 
 const TCA_KIND: u16 = 1;
+pub(crate) const TCA_OPTIONS: u16 = 2;
 const TCA_CHAIN: u16 = 11;
 const TCA_INGRESS_BLOCK: u16 = 13;
 const TCA_EGRESS_BLOCK: u16 = 14;
@@ -69,6 +70,11 @@ pub(crate) fn kind_of(message: &[u8]) -> Option<&[u8]> {
     tca(message, TCA_KIND)?.split(|byte| *byte == 0).next()
 }
 
+/// True if a message about a qdisc, a class or a filter has options, even empty ones.
+pub(crate) fn has_options(message: &[u8]) -> bool {
+    tca(message, TCA_OPTIONS).is_some()
+}
+
 /// The chain that a filter or a chain names; 0 if it names none.
 pub(crate) fn chain_of(message: &[u8]) -> u32 {
     tca(message, TCA_CHAIN).and_then(number_of).unwrap_or_default()
@@ -92,6 +98,18 @@ pub(crate) fn listed_in(message: &[u8]) -> Vec<Action> {
     listed(message).into_iter().filter_map(Action::of).collect()
 }
 
+/// The actions of a filter, or of a message about actions.
+pub(crate) fn all_actions(message: &[u8]) -> Vec<TcAction> {
+    match type_of(message) {
+        RTM_NEWTFILTER => {
+            let read = TcMessage::parse(payload_of(message)).ok();
+            read.and_then(|filter| actions_of_filter(filter).ok()).unwrap_or_default()
+        }
+        kind if is_action(kind) => listed(message),
+        _ => Vec::new(),
+    }
+}
+
 // The actions of a message of actions.
 fn listed(message: &[u8]) -> Vec<TcAction> {
     let lists = TcActionMessage::parse(payload_of(message)).map_or_else(|_| Vec::new(), |read| read.attributes);
@@ -104,15 +122,7 @@ fn listed(message: &[u8]) -> Vec<TcAction> {
 
 /// True for a message with an action whose parameters have no number, such as one of iptables: it can't be found again.
 pub(crate) fn has_unnumbered_action(message: &[u8]) -> bool {
-    let actions = match type_of(message) {
-        RTM_NEWTFILTER => {
-            let read = TcMessage::parse(payload_of(message)).ok();
-            read.and_then(|filter| actions_of_filter(filter).ok()).unwrap_or_default()
-        }
-        kind if is_action(kind) => listed(message),
-        _ => Vec::new(),
-    };
-    actions.iter().any(|action| use_of_action(action).is_none())
+    all_actions(message).iter().any(|action| use_of_action(action).is_none())
 }
 
 /// True for a message that the codec reads.
@@ -127,8 +137,7 @@ pub(crate) fn is_read(message: &[u8]) -> bool {
 
 /// True for a filter with an action that no other shares.
 pub(crate) fn has_own_actions(message: &[u8]) -> bool {
-    let read = TcMessage::parse(payload_of(message)).ok().filter(|_| type_of(message) == RTM_NEWTFILTER);
-    read.is_some_and(|filter| actions_of_filter(filter).into_iter().flatten().any(|it| standalone_index(&it).is_none()))
+    type_of(message) == RTM_NEWTFILTER && all_actions(message).iter().any(|it| standalone_index(it).is_none())
 }
 
 /// An action with a number.

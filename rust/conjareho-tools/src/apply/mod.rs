@@ -1,6 +1,7 @@
 //! The program tcapply: from what interfaces have to what a file says. tcrestore is a call of it.
 
 mod actions;
+mod advice;
 mod after;
 mod anew;
 mod arguments;
@@ -9,10 +10,14 @@ mod blocks;
 mod command;
 mod compare;
 mod file;
+mod folder;
 mod hardware;
 mod hold;
+mod holders;
+mod links;
 mod lock;
 mod messages;
+mod mirred;
 mod named;
 mod outline;
 mod places;
@@ -22,6 +27,7 @@ mod requests;
 mod restore;
 mod scratch;
 mod sending;
+mod shell;
 mod signals;
 mod state;
 mod status;
@@ -51,6 +57,7 @@ use crate::netlink::fault::Printable;
 use crate::netlink::{Fault, Kernel, Listener, Socket, Transport};
 use crate::save::release;
 use crate::shown::lines_of;
+use crate::status::print;
 use std::fs::{self, File};
 use std::io::{self, Read as _, Write as _};
 use std::os::fd::AsFd as _;
@@ -77,8 +84,9 @@ fn program(name: &'static str, arguments: Result<Arguments, ::clap::Error>) -> E
     match arguments {
         Ok(arguments) => obey(name, &arguments).into(),
         Err(error) => {
-            let _ = error.print();
-            ExitCode::from(if error.use_stderr() { Status::Usage as u8 } else { 0 })
+            let is_wrong = error.use_stderr();
+            print(error);
+            ExitCode::from(if is_wrong { Status::Usage as u8 } else { 0 })
         }
     }
 }
@@ -99,9 +107,9 @@ fn failed(why: String) -> Ended {
 
 // Reads the file, or runs the command, and does what is asked for.
 fn opened(name: &'static str, arguments: &Arguments, said: &mut Vec<String>) -> Result<Status, Ended> {
-    let given = match (&arguments.command, &arguments.dev) {
-        (Some(command), Some(dev)) => trial::made_by(command, dev, said)?,
-        _ => {
+    let given = match &arguments.command {
+        Some(command) => trial::made_by(command, &arguments.devs)?,
+        None => {
             let bytes = read(arguments).map_err(|error| failed(format!("{}: {error}", arguments.file_name())))?;
             Given { bytes, doubted: None }
         }
@@ -160,7 +168,8 @@ fn dry_run(
 ) -> Result<Status, Ended> {
     let Given { bytes, doubted } = given;
     let mut wanted = wanted_of(arguments, bytes, world, said)?;
-    let Planned { dump, before, steps, .. } = planned(arguments, world, &mut wanted)?;
+    let Planned { dump, before, steps, warnings, .. } = planned(arguments, world, &mut wanted)?;
+    said.extend(warnings);
     said.extend(doubt(doubted.as_deref(), &steps));
     let text: String = outline::lines(&steps, &before, &wanted.messages, &dump.devices)
         .iter()
@@ -189,6 +198,7 @@ fn apply<T: Transport, L: Transport>(
             return ended.status;
         }
     };
+    said.extend(prepared.warnings.iter().cloned());
     said.extend(doubt(doubted.as_deref(), &prepared.steps));
     let mut sending = Sending::new(world, &prepared.place, arguments.way != Way::Beside);
     match carried_out(arguments, &prepared, &mut sending, hold, said) {

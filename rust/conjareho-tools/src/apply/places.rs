@@ -91,7 +91,12 @@ mod tests {
         let state = |handles: &[u32]| -> Vec<Key> {
             let parents = [0x1_0001].into_iter().chain(handles.iter().map(|handle| handle << 16 | 1));
             let object = |(handle, parent): (&u32, u32)| Key::Object {
-                kind: RTM_NEWQDISC, index: 7, parent, chain: 0, info: 0, handle: handle << 16,
+                kind: RTM_NEWQDISC,
+                index: 7,
+                parent,
+                chain: 0,
+                info: 0,
+                handle: handle << 16,
             };
             let keys = handles.iter().zip(parents).map(object);
             by_place(keys.map(|key| (key, Held::Handles(Vec::new()))).collect()).into_keys().collect()

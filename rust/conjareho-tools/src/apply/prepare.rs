@@ -5,7 +5,9 @@ use super::arguments::{Arguments, Way};
 use super::back::Before;
 use super::blocks::{Others, blocks_of_others, check_blocks, is_in_block, without};
 use super::compare::{key_of, objects_of};
+use super::holders::Touched;
 use super::messages::{blocks_of, has_unnumbered_action};
+use super::mirred::astray;
 use super::named::named;
 use super::outline::counted;
 use super::plan::{Fault, Plan, plan, plan_beside};
@@ -28,6 +30,8 @@ pub(crate) struct Prepared {
     pub(crate) wanted: Wanted,
     /// The requests.
     pub(crate) steps: Vec<Vec<u8>>,
+    /// What is said of them before they are sent.
+    pub(crate) warnings: Vec<String>,
     /// What is said of them if all goes well; nothing if it isn't to be said.
     pub(crate) summary: Option<String>,
     /// What there is now.
@@ -43,6 +47,8 @@ pub(crate) struct Planned {
     pub(crate) before: Vec<Vec<u8>>,
     pub(crate) others: Others,
     pub(crate) steps: Vec<Vec<u8>>,
+    /// What is said of them before they are sent.
+    pub(crate) warnings: Vec<String>,
 }
 
 /// Dumps what there is, and plans. What is in blocks of others has to be as it is wanted, and is left out. The actions of filters that were just deleted
@@ -65,14 +71,33 @@ pub(crate) fn planned<T: Transport, L: Transport>(
         let actions = Actions::of(&before);
         let steps = steps_to(wanted, arguments.way, &before, &actions);
         let steps = steps.map_err(|faults| nothing_sent(wanted.said_of(&faults)))?;
-        let held = if arguments.spares_actions { actions.of_others(&steps) } else { Vec::new() };
-        if held.is_empty() {
-            return Ok(Planned { dump, before, others, steps });
+        let touched = Touched::by(&steps, &actions);
+        if touched.is_refused(arguments) && Instant::now() < until {
+            sleep(PAUSE);
+            continue;
         }
-        if Instant::now() >= until {
-            return Err(nothing_sent(wanted.said_of_held(&held)));
-        }
-        sleep(PAUSE);
+        let warnings = checked(arguments, world, wanted, &dump, &steps, &touched)?;
+        return Ok(Planned { dump, before, others, steps, warnings });
+    }
+}
+
+// What is said of requests that would do something to others, or to packets that go elsewhere. The error is that nothing is to be sent because of that.
+fn checked<T: Transport, L: Transport>(
+    arguments: &Arguments,
+    world: &mut World<'_, T, L>,
+    wanted: &Wanted,
+    dump: &Dump,
+    steps: &[Vec<u8>],
+    touched: &Touched,
+) -> Result<Vec<String>, Ended> {
+    let holders = touched.holders(world, &dump.devices, &wanted.targets.own())?;
+    let astray = astray(steps, &dump.devices, arguments.allows_down);
+    let mut faults = wanted.said_of_actions(touched.faults(arguments, &holders));
+    faults.extend(astray.faults);
+    if faults.is_empty() {
+        Ok([touched.warnings(&holders), astray.warnings].concat())
+    } else {
+        Err(nothing_sent(faults))
     }
 }
 
@@ -113,7 +138,7 @@ pub(crate) fn prepare<T: Transport, L: Transport>(
     world: &mut World<'_, T, L>,
 ) -> Result<Prepared, Ended> {
     let mut wanted = wanted;
-    let Planned { dump, before, others, steps } = planned(arguments, world, &mut wanted)?;
+    let Planned { dump, before, others, steps, warnings } = planned(arguments, world, &mut wanted)?;
     let kept = if steps.is_empty() {
         None
     } else {
@@ -129,6 +154,7 @@ pub(crate) fn prepare<T: Transport, L: Transport>(
         summary: (!arguments.quiet).then(summary),
         place: Place { devices: wanted.targets.devices.clone(), blocks },
         steps,
+        warnings,
         before: Before {
             objects: objects_of(&requests_of_dump(&dump.messages).requests),
             dumps: dump.messages,

@@ -1,6 +1,6 @@
 //! The arguments of tcrestore, which is a call of tcapply.
 
-use super::arguments::{Arguments, STATE, Way, flag, pair_of};
+use super::arguments::{Arguments, STATE, Way, allowed, flag, pair_of};
 use ::clap::builder::NonEmptyStringValueParser;
 use ::clap::{Arg, ArgAction, Command, Error, value_parser};
 use std::ffi::OsString;
@@ -29,8 +29,8 @@ CAP_NET_ADMIN.
 
 Exit status:
   0  what is there is what FILE says
-  1  nothing was sent: FILE is cut, an interface is missing, something can't be made, another
-     program is changing the interface, or a signal came
+  1  nothing was sent: FILE is cut, an interface is missing, or down and would get what a filter
+     redirects, something can't be made, another program is changing the interface, or a signal came
   2  usage error
   3  a socket or a file failed, and nothing was sent
   4  as 0, except for what can't be made and was named (--partial)
@@ -45,7 +45,6 @@ pub(crate) fn arguments_of(words: impl IntoIterator<Item = OsString>) -> Result<
     Ok(Arguments {
         way: if matches.get_flag("clear") { Way::Anew } else { Way::Beside },
         partial: matches.get_flag("partial"),
-        spares_actions: !matches.get_flag("replace-actions"),
         patience: PATIENCE,
         ..Arguments::shared(&mut matches)
     })
@@ -80,7 +79,7 @@ fn command() -> Command {
         )
         .arg(flag("clear", "First delete the root, ingress and clsact qdiscs of the interfaces"))
         .arg(flag("partial", "Leave out what can't be made, and report it"))
-        .arg(flag("replace-actions", "Change actions that filters of other interfaces use too"))
+        .args(allowed())
         .arg(flag("no-rollback", "Don't go back if something fails; --clear even what can't be made again"))
         .arg(
             Arg::new("state")
@@ -106,10 +105,10 @@ mod tests {
     fn reads_words() {
         let all = of(&["--dev", "eth1", "--map", "ids=ids0", "--map", "a=b", "--clear", "--state", "/tmp/x", "f"])
             .expect("read");
-        assert_eq!(all.dev.as_deref(), Some("eth1"));
+        assert_eq!(all.devs, ["eth1"]);
         assert_eq!(all.map["ids"], "ids0");
         assert_eq!(all.map["a"], "b");
-        assert!(all.way == Way::Anew && !all.partial && all.spares_actions);
+        assert!(all.way == Way::Anew && !all.partial && !all.replaces_actions);
         assert_eq!(all.state, PathBuf::from("/tmp/x"));
         assert_eq!(of(&["-"]).expect("read").file, None);
         assert_eq!(of(&["f"]).expect("read").state, PathBuf::from(STATE));

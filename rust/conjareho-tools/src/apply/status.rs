@@ -43,7 +43,12 @@ impl Ended {
 impl From<Fault> for Ended {
     fn from(fault: Fault) -> Ended {
         let status = match fault {
-            Fault::Refused(_) | Fault::Cut(_) | Fault::Interrupted | Fault::Changing(_) | Fault::NoInterface(_) => {
+            Fault::Refused(_)
+            | Fault::Cut(_)
+            | Fault::Interrupted
+            | Fault::Changing(_)
+            | Fault::NoInterface(_)
+            | Fault::NoName(_) => {
                 Status::NothingSent
             }
             Fault::Socket(..) | Fault::Silent | Fault::Broken(_) | Fault::Lost => Status::Failed,

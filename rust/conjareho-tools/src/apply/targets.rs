@@ -33,6 +33,12 @@ impl Targets {
         tcmsg_of(message).is_some_and(|it| it.index != MAGIC_BLOCK && !self.own().contains(&(it.index as u32)))
     }
 
+    /// The interface of a message, if it has one queue to send.
+    pub(crate) fn with_one_queue(&self, message: &[u8]) -> Option<&Device> {
+        let index = u32::try_from(tcmsg_of(message)?.index).ok()?;
+        self.devices.iter().find(|device| device.index == index && device.queues[0] == 1)
+    }
+
     /// Their names.
     pub(crate) fn names(&self) -> Vec<&str> {
         self.devices.iter().map(|device| device.name.as_str()).collect()
@@ -50,10 +56,12 @@ pub(crate) fn targets_of(save: &Save, arguments: &Arguments, devices: &Devices) 
 fn by_name(head: &Head, arguments: &Arguments, devices: &Devices) -> Result<Targets, Vec<String>> {
     let mut faults = Vec::new();
     let mut map: BTreeMap<&str, &str> = arguments.map.iter().map(|(old, new)| (old.as_str(), new.as_str())).collect();
-    match (&arguments.dev, head.devs.as_slice()) {
-        (Some(dev), [one]) => drop(map.insert(&one.name, dev)),
-        (Some(_), all) => faults.push(format!("--dev requires a save of one interface, and it has {}", all.len())),
-        (None, _) => {}
+    match (arguments.devs.as_slice(), head.devs.as_slice()) {
+        // A command makes what it makes of the interfaces of these names.
+        _ if arguments.command.is_some() => {}
+        ([dev], [one]) => drop(map.insert(&one.name, dev)),
+        ([], _) => {}
+        (_, all) => faults.push(format!("--dev requires a save of one interface, and it has {}", all.len())),
     }
     let named: BTreeSet<&str> = head.names.values().map(String::as_str).collect();
     let unknown = map.keys().filter(|name| !named.contains(*name));
@@ -125,16 +133,26 @@ fn by_index(save: &Save, arguments: &Arguments, devices: &Devices) -> Result<Tar
         faults.push("--map: the save has no head with names".to_string());
     }
     let mut targets = Targets::default();
-    match &arguments.dev {
-        Some(dev) => match devices.find(dev) {
-            Some(device) => {
-                targets.only = Some(device.index);
-                targets.devices.push(device.clone());
+    let own = indices_of(save);
+    match arguments.devs.first() {
+        Some(dev) => {
+            if own.len() > 1 {
+                faults.push(format!(
+                    "--dev requires lines of one interface, and these are of {}: {}",
+                    own.len(),
+                    numbers(&own)
+                ));
             }
-            None => faults.push(format!("there is no interface {dev}")),
-        },
+            match devices.find(dev) {
+                Some(device) => {
+                    targets.only = Some(device.index);
+                    targets.devices.push(device.clone());
+                }
+                None => faults.push(format!("there is no interface {dev}")),
+            }
+        }
         None => {
-            for index in indices_of(save) {
+            for index in own {
                 match devices.at(index) {
                     Some(device) => targets.devices.push(device.clone()),
                     None => faults.push(format!("there is no interface {index}")),
@@ -146,6 +164,10 @@ fn by_index(save: &Save, arguments: &Arguments, devices: &Devices) -> Result<Tar
         .warnings
         .push(format!("the save has no head with names; interfaces are taken by index: {}", listed(&targets.devices)));
     if faults.is_empty() { Ok(targets) } else { Err(faults) }
+}
+
+fn numbers(indices: &BTreeSet<u32>) -> String {
+    indices.iter().map(u32::to_string).collect::<Vec<_>>().join(", ")
 }
 
 fn listed(devices: &[Device]) -> String {

@@ -3,6 +3,7 @@
 use super::arguments::Arguments;
 use super::check_after;
 use super::command;
+use super::links::Ran;
 use super::messages::{blocks_of, deletes};
 use super::places::by_place;
 use super::plan::plan;
@@ -17,7 +18,6 @@ use super::world::{Place, Stop, World, text_of};
 use super::{hardware, open_kernel, same};
 use crate::netlink::message::tcmsg_of;
 use crate::netlink::{Device, Devices, Fault, Kernel, Transport, state_of};
-use std::collections::BTreeSet;
 use std::ffi::OsString;
 
 fn nothing_sent(why: String) -> Ended {
@@ -41,41 +41,61 @@ pub(crate) fn doubt(command: Option<&str>, steps: &[Vec<u8>]) -> Option<String> 
     ))
 }
 
-/// The save of what a command makes of an interface. What it makes of others is named in `said`.
-pub(crate) fn made_by(command: &[OsString], dev: &str, said: &mut Vec<String>) -> Result<Given, Ended> {
+/// The save of what a command makes of interfaces. It is an error if that isn't all that it does to interfaces.
+pub(crate) fn made_by(command: &[OsString], devs: &[String]) -> Result<Given, Ended> {
     let devices = Devices::of(&mut Kernel::open()?)?;
-    let device = devices.find(dev).ok_or_else(|| nothing_sent(format!("there is no interface {dev}")))?;
+    let own = own_of(&devices, devs)?;
     let made = within(&devices, || {
+        let found = Devices::of(&mut Kernel::open().map_err(said)?).map_err(said)?;
         let has_errors = command::run(command)?;
-        Ok((has_errors, saved(&device.name)?))
+        Ok((has_errors, saved(&own, found)?))
     });
-    let (has_errors, (text, others)) = made.map_err(nothing_sent)?;
+    let (has_errors, (text, ran)) = made.map_err(nothing_sent)?;
     let program = command.first().map(|it| it.to_string_lossy()).unwrap_or_default();
-    if !others.is_empty() {
-        let others = others.join(", ");
-        said.push(format!("{program} made something on {others} too, which isn't applied: only {} is", device.name));
+    let mut faults = ran.faults(&program, &devices, &own);
+    if !faults.is_empty() {
+        faults.push("nothing is sent".to_string());
+        return Err(Ended::because(Status::NothingSent, faults));
     }
     Ok(Given { bytes: text.into_bytes(), doubted: has_errors.then(|| program.into_owned()) })
 }
 
-// The save of an interface of this namespace, and the others on which there are qdiscs that somebody made.
-fn saved(name: &str) -> Result<(String, Vec<String>), String> {
+fn said(fault: Fault) -> String {
+    fault.to_string()
+}
+
+// The interfaces that these words name, each once.
+fn own_of(devices: &Devices, devs: &[String]) -> Result<Vec<Device>, Ended> {
+    let mut own: Vec<Device> = Vec::new();
+    for dev in devs {
+        let device = devices.find(dev).ok_or_else(|| nothing_sent(format!("there is no interface {dev}")))?;
+        if own.iter().all(|it| it.index != device.index) {
+            own.push(device.clone());
+        }
+    }
+    Ok(own)
+}
+
+// The save of interfaces of this namespace, and how all are then. Before, these were `found`.
+fn saved(own: &[Device], found: Devices) -> Result<(String, Ran), String> {
     let (mut kernel, [mut listener, watch]) = open_kernel()?;
-    let said = |fault: Fault| fault.to_string();
-    let devices = Devices::of(&mut kernel).map_err(said)?;
-    let device = devices.iter().find(|device| device.name == name);
-    let index = device.ok_or_else(|| format!("the command renamed or deleted {name}"))?.index;
-    let dump = state_of(&mut kernel, &mut listener, &[index]).map_err(said)?;
-    let text = match text_of(&dump, &[index]).map_err(said)? {
+    let left = Devices::of(&mut kernel).map_err(said)?;
+    let index_of = |device: &Device| {
+        let same = left.iter().find(|it| it.name == device.name).map(|it| it.index);
+        same.ok_or_else(|| format!("the command renamed or deleted {}", device.name))
+    };
+    let indices = own.iter().map(index_of).collect::<Result<Vec<u32>, String>>()?;
+    let dump = state_of(&mut kernel, &mut listener, &indices).map_err(said)?;
+    let text = match text_of(&dump, &indices).map_err(said)? {
         (text, false) if hardware::count_alone(text.lines()) == 0 => text,
         (_, false) => return Err(format!("the command made a filter with skip_sw; {}", command::NO_HARDWARE)),
         _ => return Err("the command made something that the codec refuses".to_string()),
     };
     let qdiscs = World::new(kernel, listener, watch, &|| None).qdiscs().map_err(said)?;
-    let made: BTreeSet<i32> =
-        qdiscs.iter().filter_map(|qdisc| tcmsg_of(qdisc)).filter(|it| it.handle != 0).map(|it| it.index).collect();
-    let is_made = |it: &&Device| it.index != index && i32::try_from(it.index).is_ok_and(|own| made.contains(&own));
-    Ok((text, devices.iter().filter(is_made).map(|it| it.name.clone()).collect()))
+    // The kernel's own ones have no handle.
+    let made = qdiscs.iter().filter_map(|qdisc| tcmsg_of(qdisc)).filter(|it| it.handle != 0);
+    let used = made.filter_map(|it| u32::try_from(it.index).ok()).collect();
+    Ok((text, Ran { found, left, used }))
 }
 
 // ---- A trial
@@ -89,7 +109,8 @@ pub(crate) fn check<T: Transport, L: Transport>(
 ) -> Result<Status, Ended> {
     let Given { bytes, doubted } = given;
     let mut wanted = wanted_of(arguments, bytes, world, said)?;
-    let Planned { dump, before, others, steps } = planned(arguments, world, &mut wanted)?;
+    let Planned { dump, before, others, steps, warnings } = planned(arguments, world, &mut wanted)?;
+    said.extend(warnings);
     said.extend(doubt(doubted.as_deref(), &steps));
     wanted.objects.retain(|key, _| key.block().is_none_or(|block| !others.contains_key(&block)));
     let now = requests_of_dump(&before);

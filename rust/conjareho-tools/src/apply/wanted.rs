@@ -4,7 +4,7 @@ use super::arguments::{Arguments, Way};
 use super::compare::{Key, Objects, key_of, objects_of};
 use super::file::{Save, read_save};
 use super::hardware;
-use super::messages::{actions_of, kind_of, type_of};
+use super::messages::{TCA_OPTIONS, actions_of, has_options, kind_of, type_of};
 use super::named::named;
 use super::plan::Fault;
 use super::requests::{Asked, requests};
@@ -12,11 +12,12 @@ use super::status::{Ended, Status};
 use super::targets::{STRANGE, Targets, targets_of};
 use super::world::World;
 use crate::forms_kinds::{ACTION_MESSAGE, TC_MESSAGE, TcTables};
+use crate::make::messages::Forms;
+use crate::make::requests::lines::{Dumped, Reading, RemarkKind, Source, read_lines};
+use crate::netlink::attributes::put;
 use crate::netlink::message::{RTM_NEWQDISC, RTM_NEWTCLASS, Tcmsg, is_action, request, tcmsg_of};
 use crate::netlink::{Devices, Transport};
 use crate::tc_texts::handle_text;
-use crate::make::messages::Forms;
-use crate::make::requests::lines::{Dumped, Reading, RemarkKind, Source, read_lines};
 use std::collections::{BTreeMap, BTreeSet};
 
 /// What a script begins with.
@@ -43,15 +44,15 @@ pub(crate) struct Wanted {
 }
 
 impl Wanted {
-    /// Why there is nothing to send, if others hold these actions.
-    pub(crate) fn said_of_held(&self, actions: &[Key]) -> Vec<String> {
+    /// What is said of actions, with the numbers of their lines.
+    pub(crate) fn said_of_actions(&self, actions: Vec<(Key, String)>) -> Vec<String> {
         let has = |message: &&Vec<u8>, key: &Key| is_action(type_of(message)) && key_in(message, key);
-        let fault = |key: &Key| Fault {
+        let fault = |(key, text): (Key, String)| Fault {
             is_of_now: false,
-            place: self.messages.iter().position(|message| has(&message, key)),
-            text: format!("the {key} is there and differs, and others hold it"),
+            place: self.messages.iter().position(|message| has(&message, &key)),
+            text,
         };
-        actions.iter().map(|key| self.said_of_one(&fault(key))).collect()
+        actions.into_iter().map(|it| self.said_of_one(&fault(it))).collect()
     }
 
     /// Leaves out dumps, which aren't these interfaces' to change.
@@ -92,7 +93,8 @@ pub(crate) fn wanted_of<T: Transport, L: Transport>(
     let asked = Asked { text: &save.text, names: save.head.as_ref().map(|_| names.as_slice()), index: targets.only };
     let in_file = |text: &String| format!("{}: {text}", arguments.file_name());
     let in_lines = |faults: Vec<String>| nothing(faults.iter().map(in_file).collect());
-    let made = requests(&asked);
+    let mut made = requests(&asked);
+    made.requests.iter_mut().for_each(complete);
     said.extend(made.notices.iter().map(in_file));
     // Whether there is a plan to what can't be made, the plan says; but where nothing is, all is to be made.
     let is_partial = arguments.way != Way::Change && !made.complaints.is_empty();
@@ -137,7 +139,7 @@ fn left_of((number, message): (u64, Vec<u8>), objects: &Objects) -> Vec<(u64, Ve
 fn save_in(arguments: &Arguments, file: Vec<u8>) -> Result<Save, Ended> {
     let refused = |why: String| Ended::because(Status::NothingSent, vec![format!("{}: {why}", arguments.file_name())]);
     if file.starts_with(SCRIPT) && arguments.way == Way::Change {
-        let words = if arguments.dev.is_some() { "--" } else { "--dev DEV --" };
+        let words = if !arguments.devs.is_empty() { "--" } else { "--dev DEV --" };
         let said = format!("{} is a script: write {words} before it", arguments.file_name());
         return Err(Ended::because(Status::NothingSent, vec![said]));
     }
@@ -146,7 +148,7 @@ fn save_in(arguments: &Arguments, file: Vec<u8>) -> Result<Save, Ended> {
     match arguments.way {
         _ if save.head.is_some() => Ok(save),
         Way::Anew => Err(refused("--clear requires a save with a head and an end".to_string())),
-        Way::Change if arguments.dev.is_none() => {
+        Way::Change if arguments.devs.is_empty() => {
             Err(refused("it has no head with names of interfaces: --dev DEV says which one it is of".to_string()))
         }
         Way::Change | Way::Beside => Ok(save),
@@ -180,9 +182,20 @@ fn messages_in(asked: &Asked<'_>, leaves_out: bool) -> Result<Vec<(u64, Vec<u8>)
         let given = &it.made.given;
         let mut message = request(given.kind.unwrap_or_default(), 0, &it.made.bytes);
         message[6..8].copy_from_slice(&given.flags.to_ne_bytes());
+        complete(&mut message);
         (it.number, message)
     };
     Ok(lines.dumps.iter().map(message).collect())
+}
+
+// Who writes a qdisc of filters by hand may leave out the options, which are empty: Linux shows them.
+fn complete(message: &mut Vec<u8>) {
+    let is_of_filters = matches!(kind_of(message), Some(b"clsact" | b"ingress"));
+    if type_of(message) == RTM_NEWQDISC && is_of_filters && !has_options(message) {
+        put(message, TCA_OPTIONS, &[]);
+        let len = message.len() as u32;
+        message[..4].copy_from_slice(&len.to_ne_bytes());
+    }
 }
 
 // What the save has twice, what is of another interface than those that it is of, and what has a class as its parent that it doesn't have.
@@ -193,6 +206,9 @@ fn faults_in(dumps: &[(u64, Vec<u8>)], targets: &Targets) -> Vec<String> {
     for (number, message) in dumps {
         let Some(key) = key_of(message) else { continue };
         let name = named(&targets.devices, &key);
+        if let Some(device) = targets.with_one_queue(message).filter(|_| needs_queues(message)) {
+            faults.push(format!("line {number}: {name}: it needs several queues to send, and {} has one", device.name));
+        }
         if targets.is_strange(message) {
             faults.push(format!("line {number}: {name}: {STRANGE}"));
         }
@@ -204,6 +220,11 @@ fn faults_in(dumps: &[(u64, Vec<u8>)], targets: &Targets) -> Vec<String> {
         }
     }
     faults
+}
+
+// True for a qdisc that has a class for each of several queues.
+fn needs_queues(message: &[u8]) -> bool {
+    type_of(message) == RTM_NEWQDISC && matches!(kind_of(message), Some(b"mq" | b"mqprio" | b"multiq" | b"taprio"))
 }
 
 /// The kinds of qdiscs whose classes are made by requests.
@@ -244,18 +265,48 @@ impl Classes {
 #[cfg(test)]
 mod tests {
     use super::*;
-    use crate::netlink::attributes::put;
+    use crate::netlink::Device;
     use crate::netlink::message::tc_request;
+
+    fn of(kind: u16, handle: u32, parent: u32, name: &str) -> Vec<u8> {
+        let mut message = tc_request(kind, 0, Tcmsg { index: 7, handle, parent, info: 0 });
+        put(&mut message, 1, &[name.as_bytes(), &[0]].concat());
+        let len = message.len() as u32;
+        message[..4].copy_from_slice(&len.to_ne_bytes());
+        message
+    }
+
+    #[test]
+    fn one_queue_has_no_classes() {
+        let faults = |queues, kind| {
+            let wan = Device { index: 7, name: "wan".to_string(), queues: [queues, 1], ..Device::default() };
+            let targets = Targets { devices: vec![wan], ..Targets::default() };
+            faults_in(&[(2, of(RTM_NEWQDISC, 0x1_0000, u32::MAX, kind))], &targets)
+        };
+        assert_eq!(
+            faults(1, "mq"),
+            ["line 2: qdisc 1: dev wan root: it needs several queues to send, and wan has one"]
+        );
+        assert_eq!([faults(4, "mq"), faults(1, "prio")], [Vec::<String>::new(), Vec::new()]);
+        assert_eq!(["mqprio", "multiq", "taprio"].map(|kind| faults(1, kind).len()), [1, 1, 1]);
+    }
+
+    #[test]
+    fn clsact_has_empty_options() {
+        let mut message = of(RTM_NEWQDISC, 0xFFFF_0000, 0xFFFF_FFF1, "clsact");
+        let len = message.len();
+        complete(&mut message);
+        assert_eq!((message.len(), has_options(&message)), (len + 4, true));
+        assert_eq!(message[..4], (len as u32 + 4).to_ne_bytes());
+        complete(&mut message);
+        assert_eq!(message.len(), len + 4, "once");
+        let mut other = of(RTM_NEWQDISC, 0x1_0000, u32::MAX, "prio");
+        complete(&mut other);
+        assert!(!has_options(&other));
+    }
 
     #[test]
     fn a_parent_that_is_nowhere() {
-        let of = |kind, handle, parent, name: &str| {
-            let mut message = tc_request(kind, 0, Tcmsg { index: 7, handle, parent, info: 0 });
-            put(&mut message, 1, &[name.as_bytes(), &[0]].concat());
-            let len = message.len() as u32;
-            message[..4].copy_from_slice(&len.to_ne_bytes());
-            message
-        };
         let tree = [
             of(RTM_NEWQDISC, 0x1_0000, u32::MAX, "htb"),
             of(RTM_NEWTCLASS, 0x1_0010, 0x1_0000, "htb"),

@@ -209,6 +209,5 @@ impl<'s, T: Transport, L: Transport> World<'s, T, L> {
 pub(crate) fn text_of(dump: &Dump, interfaces: &[u32]) -> Result<(String, bool), Fault> {
     let devices: Vec<&Device> = interfaces.iter().filter_map(|index| dump.devices.at(*index)).collect();
     let shown = lines_of(&dump.messages)?;
-    let text = save_of(&devices, &dump.devices, &shown.text);
-    Ok((text.map_err(|_| Fault::Broken("a message that isn't shown as JSON"))?, shown.has_refused))
+    Ok((save_of(&devices, &dump.devices, &shown.text)?, shown.has_refused))
 }

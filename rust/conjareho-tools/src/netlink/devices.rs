@@ -11,12 +11,15 @@ const IFLA_ADDRESS: u16 = 1;
 const IFLA_IFNAME: u16 = 3;
 const IFLA_MTU: u16 = 4;
 const IFLA_TXQLEN: u16 = 13;
+const IFLA_LINKINFO: u16 = 18;
 const IFLA_EXT_MASK: u16 = 29;
 const IFLA_NUM_TX_QUEUES: u16 = 31;
 const IFLA_NUM_RX_QUEUES: u16 = 32;
 const IFLA_PROP_LIST: u16 = 52;
 const IFLA_ALT_IFNAME: u16 = 53;
+const IFLA_INFO_KIND: u16 = 1;
 const RTEXT_FILTER_SKIP_STATS: u32 = 8;
+const IFF_UP: u32 = 1;
 
 /// An interface.
 #[derive(Clone, PartialEq, Eq, Debug, Default)]
@@ -35,6 +38,10 @@ pub struct Device {
     pub txqueuelen: u32,
     /// How many queues there are to send and to receive.
     pub queues: [u32; 2],
+    /// `IFF_UP` of `ifi_flags`.
+    pub is_up: bool,
+    /// `IFLA_INFO_KIND`; empty if it has none.
+    pub kind: String,
 }
 
 impl Device {
@@ -48,7 +55,8 @@ impl Device {
         let Some(index) = u32_at(message, HEADER + 4) else {
             return Err(Fault::Broken("an interface without an index"));
         };
-        let mut device = Device { index, ..Device::default() };
+        let is_up = u32_at(message, HEADER + 8).is_some_and(|flags| flags & IFF_UP != 0);
+        let mut device = Device { index, is_up, ..Device::default() };
         let Some(attributes) = message.get(HEADER + IFINFOMSG..) else {
             return Err(Fault::Broken("an interface that is cut"));
         };
@@ -68,11 +76,21 @@ impl Device {
             IFLA_TXQLEN => self.txqueuelen = number()?,
             IFLA_NUM_TX_QUEUES => self.queues[0] = number()?,
             IFLA_NUM_RX_QUEUES => self.queues[1] = number()?,
+            IFLA_LINKINFO => self.kind = kind_in(value)?,
             IFLA_PROP_LIST => self.altnames = altnames_in(value)?,
             _ => {}
         }
         Ok(())
     }
+}
+
+fn kind_in(value: &[u8]) -> Result<String, Fault> {
+    for attribute in Attributes::of(value) {
+        if let (IFLA_INFO_KIND, kind) = attribute? {
+            return Ok(text(kind));
+        }
+    }
+    Ok(String::new())
 }
 
 fn altnames_in(value: &[u8]) -> Result<Vec<String>, Fault> {
@@ -101,9 +119,10 @@ impl Devices {
         messages.iter().filter(is_link).map(|message| Device::of(message)).collect::<Result<_, _>>().map(Devices)
     }
 
-    /// The interface that a word of a user names: by its name, which may be of digits, by another name of it, or by its index.
+    /// The interface that a word of a user names: by its name, which may be of digits, by another name of it, or by its index. One whose name isn't UTF-8
+    /// is found by its index alone.
     pub fn find(&self, word: &str) -> Option<&Device> {
-        let by_name = self.0.iter().find(|device| device.name == word);
+        let by_name = self.0.iter().find(|device| device.name == word && is_name(word));
         let by_altname = || self.0.iter().find(|device| device.altnames.iter().any(|name| name == word));
         by_name.or_else(by_altname).or_else(|| self.at(index_in(word)?))
     }
@@ -121,6 +140,11 @@ impl Devices {
     pub fn iter(&self) -> impl Iterator<Item = &Device> {
         self.0.iter()
     }
+}
+
+/// True if a name is one interface's. Linux has names of any bytes; in one that isn't UTF-8 each such byte is U+FFFD, and another may look the same.
+pub fn is_name(name: &str) -> bool {
+    !name.contains(char::REPLACEMENT_CHARACTER)
 }
 
 // An index in decimal digits, without a sign.

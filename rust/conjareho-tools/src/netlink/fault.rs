@@ -24,6 +24,8 @@ pub enum Fault {
     Changing(u32),
     /// The interface of this index is gone.
     NoInterface(u32),
+    /// The name of the interface of this index isn't UTF-8, so that a save, which finds interfaces by name, can't name it.
+    NoName(u32),
 }
 
 /// A refusal of the kernel.
@@ -93,6 +95,9 @@ impl fmt::Display for Fault {
             Fault::Interrupted => to.write_str("it changed while it was dumped"),
             Fault::Changing(times) => write!(to, "it changed while it was dumped, {times} times"),
             Fault::NoInterface(index) => write!(to, "there is no interface {index} any more"),
+            Fault::NoName(index) => {
+                write!(to, "the name of interface {index} isn't UTF-8, and a save finds interfaces by their names")
+            }
         }
     }
 }

@@ -244,9 +244,11 @@ fn wrong_files() {
     let cases = [
         (lines[..4].join("\n"), "cut".to_string()),
         (
-            whole.replace("{\"index\":7,", "{\"index\":9,").replace("wan", "gone"),
+            whole.replace("{\"index\":7,", "{\"index\":9,").replace("{\"7\":", "{\"9\":").replace("wan", "gone"),
             "there is no interface gone".to_string(),
         ),
+        (whole.replace("{\"index\":7,", "{\"index\":9,"), "several interfaces have the name wan".to_string()),
+        (whole.replace("{\"7\":\"wan\"", "{\"7\":\"ids\""), "and names has ids as that one".to_string()),
         (edited(whole.replace(lines[class], &format!("{0}\n{0}", lines[class]))), format!("line {}", class + 2)),
         (
             edited(whole.replace("\"7\":\"wan\"", "\"7\":\"wan\",\"8\":\"ids\"").replace(lines[class], &of_ids)),

@@ -242,6 +242,8 @@ fn answered(header: Header, kind: u16, body: &[u8]) -> Vec<u8> {
 fn link(index: u32, name: &str, mac: &[u8; 6]) -> Vec<u8> {
     let mut body = vec![0; 16];
     body[4..8].copy_from_slice(&index.to_ne_bytes());
+    // IFF_UP
+    body[8..12].copy_from_slice(&1u32.to_ne_bytes());
     put(&mut body, 3, &[name.as_bytes(), &[0]].concat());
     put(&mut body, 1, mac);
     put(&mut body, 4, &1500u32.to_ne_bytes());
