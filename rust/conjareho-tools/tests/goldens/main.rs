@@ -5,7 +5,7 @@
 //!     GOLDENS_BESIDE=FOLDER cargo test -p conjareho-tools --test goldens shows what differs from the programs in FOLDER
 //!     GOLDENS=write cargo test -p conjareho-tools --test goldens         writes them anew; a commit that does so names each command that changed
 //!
-//! With GOLDENS_PROGRAMS=FOLDER the programs of that folder are run instead of those that cargo has built.
+//! GOLDENS=first ends at the first difference, which rust/mutants asks for. With GOLDENS_PROGRAMS=FOLDER the programs of that folder are run instead of those that cargo has built.
 
 mod captures;
 mod cases;
@@ -120,8 +120,8 @@ fn first_line(before: &[u8], after: &[u8]) -> String {
 fn beside(other: &Path, cases: &[Case]) -> String {
     let (mut out, mut said) = (String::new(), BTreeSet::new());
     for some in cases.chunks(20) {
-        let before = all(other, some, &work("before"), |outcome| outcome);
-        let after = all(&programs(), some, &work("after"), |outcome| outcome);
+        let before = all(other, some, &work("before"), |_, _, outcome| outcome);
+        let after = all(&programs(), some, &work("after"), |_, _, outcome| outcome);
         for ((command, case), before) in &before {
             let after: &Outcome = &after[&(command.clone(), case.clone())];
             if before.digests() == after.digests() || !said.insert(command.clone()) {
@@ -141,6 +141,19 @@ fn beside(other: &Path, cases: &[Case]) -> String {
     out
 }
 
+/// Compares up to the first difference, with which it ends.
+fn until_the_first(cases: &[Case]) {
+    let stored = stored();
+    all(&programs(), cases, &work("first"), |command, case, outcome| {
+        let wanted = stored.get(command).and_then(|rows| rows.get(case));
+        if let Some(what) = difference(wanted, Some(&outcome.digests())) {
+            eprintln!("{command}: {case} ({what})");
+            let _ = fs::remove_dir_all(work("first"));
+            std::process::exit(1);
+        }
+    });
+}
+
 #[test]
 fn programs_print_what_they_did() {
     let cases = cases();
@@ -149,10 +162,13 @@ fn programs_print_what_they_did() {
         assert!(differing.is_empty(), "\n{differing}");
         return;
     }
-    let found = by_command(all(&programs(), &cases, &work("now"), |outcome| outcome.digests()));
-    if std::env::var_os("GOLDENS").is_some_and(|it| it == "write") {
-        write(&found);
-        return;
+    let way = std::env::var("GOLDENS").unwrap_or_default();
+    if way == "first" {
+        return until_the_first(&cases);
+    }
+    let found = by_command(all(&programs(), &cases, &work("now"), |_, _, outcome| outcome.digests()));
+    if way == "write" {
+        return write(&found);
     }
     let differing = report(&stored(), &found);
     assert!(differing.is_empty(), "\n{differing}{ADVICE}");

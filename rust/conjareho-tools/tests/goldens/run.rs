@@ -33,13 +33,14 @@ impl Outcome {
 pub type Outcomes<T> = BTreeMap<(String, String), T>;
 
 /// Runs every case with the programs of a folder, on all processors, and keeps of each command what `of` takes.
-pub fn all<T: Send>(programs: &Path, cases: &[Case], work: &Path, of: impl Fn(Outcome) -> T + Sync) -> Outcomes<T> {
+pub fn all<T: Send>(programs: &Path, cases: &[Case], work: &Path, of: impl Fn(&str, &str, Outcome) -> T + Sync) -> Outcomes<T> {
     let (next, found) = (AtomicUsize::new(0), Mutex::new(BTreeMap::new()));
     let take = || {
         while let Some(case) = cases.get(next.fetch_add(1, Ordering::Relaxed)) {
             let outcomes = run(programs, case, &work.join(&case.name));
+            let taken: Vec<_> = outcomes.into_iter().map(|(name, outcome)| (of(&name, &case.name, outcome), name)).collect();
             let mut found = found.lock().expect("no thread panics with it");
-            found.extend(outcomes.into_iter().map(|(name, outcome)| ((name, case.name.clone()), of(outcome))));
+            found.extend(taken.into_iter().map(|(taken, name)| ((name, case.name.clone()), taken)));
         }
     };
     std::thread::scope(|scope| {
@@ -70,7 +71,9 @@ fn run_one(programs: &Path, command: &str, folder: &Path) -> Outcome {
     let input = if from.is_empty() { Stdio::null() } else { File::open(folder.join(from)).expect("the case has the file").into() };
     // The zone is a rule, so that no file of the machine counts.
     let mut child = Command::new(&program);
-    child.args(words).current_dir(folder).env_clear().env("TZ", "CET-1CEST,M3.5.0,M10.5.0/3").stdin(input);
+    // rust/mutants turns mutants on by variables.
+    let mutants = std::env::vars_os().filter(|(name, _)| name.to_string_lossy().starts_with("MUTANT"));
+    child.args(words).current_dir(folder).env_clear().envs(mutants).env("TZ", "CET-1CEST,M3.5.0,M10.5.0/3").stdin(input);
     let output = child.output().unwrap_or_else(|error| panic!("{}: {error}", program.display()));
     if !to.is_empty() {
         fs::write(folder.join(to), &output.stdout).expect("a file can be written");
