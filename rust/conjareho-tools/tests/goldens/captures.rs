@@ -1,7 +1,7 @@
 //! Captures of messages in the formats that `tcshow` reads, and dumps as other programs print them.
 
-use crate::common::random::Random;
-use crate::common::stored::{Messages, attribute, hex, message};
+use super::common::random::Random;
+use super::common::stored::{Messages, attribute, hex, message};
 
 const SECONDS: u32 = 1_700_000_000;
 

@@ -1,8 +1,8 @@
 //! What an interface has now and what it is to have, as dumps: pairs of states that differ in some objects.
 
-use crate::captures::link;
-use crate::common::random::Random;
-use crate::common::stored::{Messages, attribute, message};
+use super::captures::link;
+use super::common::random::Random;
+use super::common::stored::{Messages, attribute, message};
 
 const QDISC: u16 = 36;
 const CLASS: u16 = 40;

@@ -64,3 +64,39 @@ pub fn slowly<T>(inner: T, stream: Stream) -> Slow<T> {
     let (calls, interruptions, fault) = stream;
     Slow { inner, left: interruptions, calls, interruptions, fault }
 }
+
+/// A stream that reads or writes one byte a call, and fails after `left` of them.
+pub struct ByBytes<T> {
+    /// The stream that it reads or writes.
+    pub inner: T,
+    /// How many bytes are left.
+    pub left: usize,
+    /// The error after them.
+    pub fault: ErrorKind,
+}
+
+impl<T> ByBytes<T> {
+    fn turn(&mut self) -> Result<()> {
+        self.left = self.left.checked_sub(1).ok_or_else(|| Error::from(self.fault))?;
+        Ok(())
+    }
+}
+
+impl<T: Read> Read for ByBytes<T> {
+    fn read(&mut self, buf: &mut [u8]) -> Result<usize> {
+        self.turn()?;
+        let most = buf.len().min(1);
+        self.inner.read(&mut buf[..most])
+    }
+}
+
+impl<T: Write> Write for ByBytes<T> {
+    fn write(&mut self, buf: &[u8]) -> Result<usize> {
+        self.turn()?;
+        self.inner.write(&buf[..buf.len().min(1)])
+    }
+
+    fn flush(&mut self) -> Result<()> {
+        Ok(())
+    }
+}

@@ -6,7 +6,7 @@ use crate::host::io::{BufReader, ErrorKind, Result};
 use crate::make::program::arguments::Options;
 use crate::make::program::program::serve;
 use crate::streams::{Reader, Writer};
-use crate::tests::data::streams::{Stream, calls, slowly};
+use crate::tests::data::streams::{ByBytes, Stream, calls, slowly};
 use crate::tests::made::make::runs::{FORMS, HEX, Outcome, PCAP, made};
 
 static LINES: &str = r#"{"packet":1,"type":"RTM_NEWQDISC","seq":5,"message":{"header":{"family":"Unspec","index":2,"handle":"1:","parent":"root","info":0},"attributes":[{"Kind":"fq_codel"}]}}
@@ -96,4 +96,35 @@ static WRONG: &str = "tcmake: line 1: /seq: found \"2\", wanted a number from 0 
 fn a_closed_output() {
     let streams = (calls(999, 0), (0, 0, ErrorKind::BrokenPipe));
     assert!(written(&HEX, WRONG_LINE, streams, (1, WRONG)) == Some(0));
+}
+
+// A run whose input ends with an error after so many bytes, or whose output does.
+fn run_by_bytes(options: &Options, reads: usize, (writes, fault): (usize, ErrorKind)) -> Result<Outcome> {
+    let from = ByBytes { inner: LINES.as_bytes(), left: reads, fault: ErrorKind::TimedOut };
+    let mut from = BufReader::with_capacity(64, Reader::new(from));
+    let mut to = Writer::new(ByBytes { inner: Vec::new(), left: writes, fault });
+    let mut errors = Vec::new();
+    let ended = serve(FORMS, options, &mut from, &mut to, &mut errors);
+    Ok(Outcome { status: ended.status(), written: to.into_inner().inner, errors })
+}
+
+#[test]
+fn each_byte_fails() -> Result<()> {
+    for options in [&HEX, &PCAP] {
+        let whole = made(options, LINES.as_bytes()).written;
+        for count in 0..=LINES.len() {
+            let run = run_by_bytes(options, count, (1 << 20, ErrorKind::TimedOut))?;
+            assert!((run.status, run.errors.as_slice()) == (3, READ_FAILED.1.as_bytes()), "{count} read");
+            assert!(whole.starts_with(&run.written), "{count} read");
+        }
+        for count in 0..whole.len() {
+            let run = run_by_bytes(options, 1 << 20, (count, ErrorKind::TimedOut))?;
+            assert!((run.status, run.errors.as_slice()) == (3, WRITE_FAILED.1.as_bytes()), "{count} written");
+            assert!(run.written == whole[..count], "{count} written");
+            // one that is closed is no failure
+            let run = run_by_bytes(options, 1 << 20, (count, ErrorKind::BrokenPipe))?;
+            assert!((run.status, run.errors.is_empty()) == (0, true) && run.written == whole[..count], "{count} written");
+        }
+    }
+    Ok(())
 }

@@ -7,7 +7,8 @@ use crate::show::program::options::OutputFormat;
 use crate::show::program::program::serve;
 use crate::streams::{Reader, Writer};
 use crate::tests::data::Format;
-use crate::tests::data::streams::{Stream, calls, slowly};
+use crate::tests::data::FORMATS;
+use crate::tests::data::streams::{ByBytes, Stream, calls, slowly};
 use crate::tests::shown::show::runs::{Outcome, all_in, file_of_first, is_front, shown};
 use crate::user::Fail;
 
@@ -82,5 +83,53 @@ fn each_write_fails() -> core::result::Result<(), Fail> {
     // interrupted too often
     let streams = (calls(reads_of(&whole), 0), calls(999, 1024));
     assert!(ends(&whole, streams, WRITE_FAILED));
+    Ok(())
+}
+
+// A run whose input ends with an error after so many bytes, or whose output does.
+fn run_by_bytes(form: OutputFormat, file: &[u8], reads: usize, (writes, fault): (usize, ErrorKind)) -> Outcome {
+    let mut from = ByBytes { inner: file, left: reads, fault: ErrorKind::TimedOut };
+    let mut to = ByBytes { inner: Vec::new(), left: writes, fault };
+    let mut errors = Vec::new();
+    let ended = serve(&all_in(form), "input", &mut Reader::new(&mut from), &mut Writer::new(&mut to), &mut errors);
+    Outcome { status: ended.status(), written: to.inner, errors }
+}
+
+// Forms of which a run writes what it has read before it fails.
+const FORMS: [OutputFormat; 3] = [OutputFormat::Lines(false), OutputFormat::Json, OutputFormat::Outline];
+
+const MANY: usize = 1 << 20;
+
+#[test]
+fn each_byte_of_an_input_fails() -> core::result::Result<(), Fail> {
+    for (format, is_big) in FORMATS {
+        let file = file_of_first(2, format, is_big)?;
+        let forms = if matches!(format, Format::Stream) { &FORMS[..] } else { &FORMS[..1] };
+        for form in forms.iter().copied() {
+            let whole = shown(&all_in(form), &file).written;
+            for count in 0..=file.len() {
+                let run = run_by_bytes(form, &file, count, (MANY, ErrorKind::TimedOut));
+                assert!(run.status == 3 && is_front(&run.written, &whole), "{format:?} {count}: {}", run.status);
+                assert!(run.errors.as_slice() == READ_FAILED.1.as_bytes(), "{format:?} {count}");
+            }
+        }
+    }
+    Ok(())
+}
+
+#[test]
+fn each_byte_of_an_output_fails() -> core::result::Result<(), Fail> {
+    let file = file_of_first(2, Format::Stream, false)?;
+    for form in FORMS {
+        let whole = shown(&all_in(form), &file).written;
+        for count in 0..whole.len() {
+            let run = run_by_bytes(form, &file, MANY, (count, ErrorKind::TimedOut));
+            assert!((run.status, run.errors.as_slice()) == (3, WRITE_FAILED.1.as_bytes()), "{count}");
+            assert!(run.written == whole[..count], "{count}");
+            // one that is closed is no failure
+            let run = run_by_bytes(form, &file, MANY, (count, ErrorKind::BrokenPipe));
+            assert!((run.status, run.errors.is_empty()) == (0, true) && run.written == whole[..count], "{count}");
+        }
+    }
     Ok(())
 }
