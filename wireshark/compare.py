@@ -8,9 +8,10 @@ import sys
 import xml.etree.ElementTree
 
 HERE = os.path.dirname(os.path.abspath(__file__))
-sys.path.insert(0, os.path.join(HERE, '..', 'kinds'))
+sys.path[:0] = [HERE, os.path.join(HERE, '..', 'kinds')]
 sys.dont_write_bytecode = True
 import notation
+from labels import label
 from notation import snake
 
 notation.read_all()
@@ -20,7 +21,37 @@ for block in notation.blocks.values():
     for x in block.lines if block.sort == 'enum' else []:
         NUMBERS[x.name].add(x.number)
 # lines of the dissector's own, which neither JSON nor outlines have
-OWN = re.compile(r'tc\.(nla\.|msg\.|expert|answer_in|request_in|refused|pref$|protocol$)|_ws\.')
+OWN = re.compile(r'tc\.(nla\.|msg\.|quoted\.|expert|answer|request|refus|pref$|protocol$|verb$|dev$)|_ws\.')
+# names of outlines by the labels of trees
+NAMES = {}
+
+
+def name_again(text):
+    """A name of outlines at the beginning of a line, instead of its label."""
+    text, marked, mark = text.partition('   <== ')
+    found, colon, rest = text.partition(': ')
+    rest += marked + mark
+    numbered = re.fullmatch(r'(.*?)( \d+)', found)
+    if numbered and found not in NAMES:
+        return NAMES.get(numbered[1], numbered[1]) + numbered[2] + colon + rest
+    return NAMES.get(found, found) + colon + rest
+
+
+def names_of_outlines():
+    """All names that a line of an outline begins with."""
+    yield from ('raw', 'rest', 'other', 'value', 'count', 'info', 'block', 'request', 'error', 'padding')
+    yield from notation.EACH.values()
+    for block in list(notation.blocks.values()) + notation.kinds:
+        for x in block.lines:
+            yield x.columns.get('as', x.name if block.sort == 'struct' else snake(x.name))
+            if hasattr(x, 'other'):
+                yield snake(x.other.name)
+
+
+notation.read(os.path.join('..', 'wireshark', 'netlink'))
+for name in names_of_outlines():
+    if NAMES.setdefault(label(name), name) != name:
+        sys.exit(f'{name} and {NAMES[label(name)]} have the same label')
 LONGEST = 200  # Wireshark cuts the text of a line at some 240 characters
 
 
@@ -29,13 +60,18 @@ def clean(text):
     return ''.join(chr(b) if 32 <= b <= 126 else '\\x%02x' % b for b in text.encode())
 
 
+def is_twin(element):
+    """True for the second name of a value, which trees don't show."""
+    return element.get('hide') == 'yes'
+
+
 class Item:
     """A line of a tree: its name, value, text and lines below."""
 
     def __init__(self, element):
         self.name = (element.get('name') or '').replace('_ws.lua.text', '')
-        self.show, self.text = element.get('show') or '', re.sub(r'^ ?\[truncated\]', '', element.get('showname') or '')
-        self.all = [Item(x) for x in element if x.tag in ('field', 'proto')]
+        self.show, self.text = element.get('show') or '', name_again(re.sub(r'^ ?\[truncated\]', '', element.get('showname') or ''))
+        self.all = [Item(x) for x in element if x.tag in ('field', 'proto') and not is_twin(x)]
         self.below = [x for x in self.all if not OWN.match(x.name)]
 
     def own(self, name):
@@ -238,7 +274,7 @@ def message_differs(message, outline, tree):
 
 def answer_differs(line, outline, tree):
     below = {x.name: x for x in tree.all}
-    request, message = below.get('tc.request'), line['request'].get('message')
+    request, message = below.get('tc.quoted'), line['request'].get('message')
     error = re.search(r'error: (\S+)', below['tc.error'].text)[1]
     if error != (line['errno'] if line['errno'] != 'warning' else 'ok'):
         return 'errno %s, tree %s' % (line['errno'], error)
@@ -249,7 +285,7 @@ def answer_differs(line, outline, tree):
         return 'nothing is marked at %s' % line['path']
     if message is None:
         return None
-    request.text = request.text.replace('request: ', 'Linux Traffic Control: ', 1)
+    request.text = re.sub('^[Rr]equest: ', 'Linux Traffic Control: ', request.text)
     return message_differs(message, [x[2:] for x in outline[1:]], request)
 
 

@@ -25,10 +25,12 @@ end
 local function declare_number(n)
   local names = n.enum == "tc_act" and VERDICTS or ENUMS[n.enum] or NAMES[n.names]
   local is_hex = (n.bits or n.unit == "hex" or n.unit == "net_hex" or n.unit == "u32_handle") and n[1]:sub(1, 1) ~= "s"
-  n.field = declare(n[2], SORTS[n[1]], n[3], is_hex and base.HEX or base.DEC, names)
-  for i, bit in ipairs(n.bits and BITS[n.bits] or {}) do
+  n.names_of = names
+  n.field = declare(n[2], SORTS[n[1]], n[3], is_hex and base.HEX or base.DEC, names, nil, ABOUT[n[2]])
+  for i, bit in ipairs(n.bits and not n.no_bits and BITS[n.bits] or {}) do
     n.flags = n.flags or {}
-    n.flags[i] = declare(n[2] .. "." .. bit[2], "bool", bit[2], n.width * 8, nil, bit[1])
+    local name = n[2] .. "." .. bit[2]
+    n.flags[i] = declare(name, "bool", bit[2], n.width * 8, nil, bit[1], ABOUT[name])
   end
 end
 
@@ -36,42 +38,59 @@ end
 local function prepare(n)
   local sort = SORTS[n[1]]
   n.width, n.is_leaf = n.width or WIDTHS[n[1]], sort ~= nil
+  n.is_number, n.is_signed, n.is_big = sort ~= nil and sort:find("int") ~= nil, n[1]:sub(1, 1) == "s", n[1]:sub(1, 2) == "be"
   for _, inner in ipairs(n.parts or {n.inner or n.other}) do prepare(inner) end
-  if n.element then n.element = declare(n.element, "none", n.inner[3]) end
-  if n[2] and sort and sort:find("int") then declare_number(n)
-  elseif n[2] then n.field = declare(n[2], sort or "none", n[3], n.frame and base.NONE or nil, n.frame and frametype[n.frame] or nil) end
+  if n.element then n.element = declare(n.element, "none", n.inner[3], ABOUT[n.element]) end
+  if n[2] and n.is_number then declare_number(n)
+  elseif n[2] and n.frame then n.field = declare(n[2], sort, n[3], base.NONE, frametype[n.frame], 0, ABOUT[n[2]])
+  elseif n[2] and sort == "string" then n.field = declare(n[2], sort, n[3], base.ASCII, ABOUT[n[2]])
+  elseif n[2] and sort == "bytes" then n.field = declare(n[2], sort, n[3], base.NONE, ABOUT[n[2]])
+  elseif n[2] and sort == "bool" then n.field = declare(n[2], sort, n[3], base.NONE, nil, nil, ABOUT[n[2]])
+  elseif n[2] then n.field = declare(n[2], sort or "none", n[3], ABOUT[n[2]]) end
+  if n.twin then
+    n.twin = declare(n.twin, n[1] == "handle" and "uint32" or SORTS[n[1]], n[3], n[1] == "handle" and base.HEX or base.DEC, nil, nil, ABOUT[n.twin])
+  end
 end
 
--- What a tree has at bytes: an item of a field, with this text if somebody sees it.
-local function set(c, item, label, text) if c.seen then item:set_text(label .. ": " .. text) end end
+-- Numbers at places of a message, in its byte order.
 local function bytes_of(c, off, len) return c.bytes:sub(off + 1, off + len) end
-local function number_at(c, off, len)
-  local s = bytes_of(c, off, len)
-  return unsigned(c.little and s:reverse() or s)
+local function u16(c, off)
+  local a, b = byte(c.bytes, off + 1, off + 2)
+  return c.little and a + b * 256 or a * 256 + b
 end
+local function u32(c, off)
+  local a, b, e, d = byte(c.bytes, off + 1, off + 4)
+  if c.little then a, b, e, d = d, e, b, a end
+  return ((a * 256 + b) * 256 + e) * 256 + d
+end
+local function number_at(c, off, len) return len == 4 and u32(c, off) or u16(c, off) end
+
+-- What a tree has at bytes: an item of a field, with this text if somebody sees it. If nobody does, only fields that a filter names have items.
+local function set(c, item, label, text) if c.seen then item:set_text(label .. ": " .. text) end end
+local function wanted(c, tree, field) return c.seen or tree:referenced(field) end
 local function add(c, tree, n, off, len, text)
   local item = c.little and tree:add_le(n.field, c.tvb(off, len)) or tree:add(n.field, c.tvb(off, len))
-  if text then set(c, item, n[3], text) end
+  if text and c.seen then item:set_text(n[3] .. ": " .. text) end
   return item
 end
 local function raw(c, off, len, tree, label, why)
   local item = tree:add(F.raw.field, c.tvb(off, len))
-  item:set_text((label and label ~= "" and label .. ": raw " or "raw: ") .. hex_quoted(bytes_of(c, off, len)))
+  if c.seen then item:set_text((label and label ~= "" and label .. ": raw " or "Raw: ") .. hex_quoted(bytes_of(c, off, len))) end
   item:add_proto_expert_info(X.form, why)
   return item
 end
 
 -- A number as text.
 local function number_text(c, n, wire)
-  local s = (c.little and n[1]:sub(1, 2) ~= "be") and wire:reverse() or wire
-  local is_signed = n[1]:sub(1, 1) == "s"
-  local digits, sign = decimal(s, is_signed)
+  local s = (c.little and not n.is_big and #wire > 1) and wire:reverse() or wire
+  local digits, sign = decimal(s, n.is_signed)
   local v = tonumber(sign .. digits)
   if n.enum == "tc_act" then return verdict(v) end
-  local name = ENUMS[n.enum] and ENUMS[n.enum][v] or NAMES[n.names] and NAMES[n.names][v]
-  local text = n.unit == "hex" and n.names and #s == 2 and ("0x%04x"):format(v) or in_unit(n.unit, s, is_signed, wire)
+  local name = n.names_of and n.names_of[v]
+  if not name and not n.unit and not n.bits then return sign .. digits end
+  local text = n.unit == "hex" and n.names and #s == 2 and ("0x%04x"):format(v) or in_unit(n.unit, s, n.is_signed, wire, digits, sign)
   if name then return name .. " (" .. text .. ")" end
-  if n.bits and not n.names then return flags(BITS[n.bits], unsigned(s:sub(1, -5)), unsigned(s:sub(-4)), in_unit("hex", s)) end
+  if n.bits and not n.names then return flags(BITS[n.bits], unsigned(s:sub(1, -5)), unsigned(s:sub(-4)), in_unit("hex", s, false, wire, digits, sign)) end
   return n.unit == "ifindex" and c.links[v] and text .. " (" .. quoted(c.links[v]) .. ")" or text
 end
 
@@ -79,7 +98,8 @@ end
 local function fault(n, s)
   local what = n[1]
   if n.width and #s ~= n.width then return ("%d bytes instead of %d"):format(#s, n.width) end
-  if what == "bool" and s:byte(1) > 1 then return "neither 0 nor 1" end
+  if n.is_number then return nil end
+  if what == "bool" and byte(s) > 1 then return "neither 0 nor 1" end
   if what == "text" and s:sub(-1) ~= "\0" then return "a text without a NUL at its end" end
   if (what == "text" or what == "bare") and not is_utf8(s) then return "a text that isn't UTF-8" end
 end
@@ -95,37 +115,72 @@ local function value_of(c, n, s)
     return clean(s), quoted(s)
   elseif what == "flag" or what == "bool" then return s ~= "\0", s ~= "\0" and "true" or "false"
   elseif what == "mac" then return nil, hex(s):gsub("..", "%0:"):sub(1, -2)
-  elseif what == "ipv4" then return nil, ("%d.%d.%d.%d"):format(s:byte(1, 4)) end
+  elseif what == "ipv4" then return nil, ("%d.%d.%d.%d"):format(byte(s, 1, 4)) end
   return nil, what ~= "ipv6" and hex_quoted(s) or nil
+end
+
+-- A second name of the same value, which filters know and trees don't show.
+local function show_twin(c, n, off, len, tree)
+  if not wanted(c, tree, n.twin) then return end
+  local range = c.tvb(off, len)
+  local item = (c.little and not n.is_big) and tree:add_le(n.twin, range) or tree:add(n.twin, range)
+  item:set_hidden()
+end
+
+-- Shows a number.
+local function show_number(c, n, off, len, tree)
+  local is_le, item = c.little and not n.is_big, tree
+  if c.seen then
+    local range = c.tvb(off, len)
+    item = is_le and tree:add_le(n.field, range) or tree:add(n.field, range)
+    item:set_text(n[3] .. ": " .. number_text(c, n, bytes_of(c, off, len)))
+  elseif tree:referenced(n.field) then
+    item = is_le and tree:add_le(n.field, c.tvb(off, len)) or tree:add(n.field, c.tvb(off, len))
+  end
+  if n.flags and (c.bits or not c.seen) then
+    for _, flag in ipairs(n.flags) do
+      if wanted(c, tree, flag) then
+        local range = c.tvb(off, len)
+        if is_le then item:add_le(flag, range) else item:add(flag, range) end
+      end
+    end
+  end
+  if n.twin then show_twin(c, n, off, len, tree) end
+  return item, true
 end
 
 -- Shows a form that holds no others. Returns the item, and true if the bytes are of the form.
 local function show_leaf(c, n, off, len, tree, left)
-  local s, range = bytes_of(c, off, len), c.tvb(off, len)
+  if n.is_number and len == n.width and left ~= 0 then return show_number(c, n, off, len, tree) end
+  local s = bytes_of(c, off, len)
   local why = left == 0 and "nested too deep" or fault(n, s)
   if why then return raw(c, off, len, tree, n[3], why), false end
-  if not SORTS[n[1]]:find("int") then
-    local value, text = value_of(c, n, s)
-    local item = value == nil and tree:add(n.field, range) or tree:add(n.field, range, value)
-    if c.is_flush and n[2] == "tc.action.cookie" and len == 4 then set(c, item, "count", ("%.0f"):format(number_at(c, off, 4)))
-    elseif text then set(c, item, n[3], text) end
-    return item, true
-  end
-  local method = (c.little and n[1]:sub(1, 2) ~= "be") and "add_le" or "add"
-  local item = tree[method](tree, n.field, range)
-  if c.seen then item:set_text(n[3] .. ": " .. number_text(c, n, s)) end
-  for _, flag in ipairs(tc.prefs.bits and n.flags or {}) do item[method](item, flag, range) end
+  if n.twin then show_twin(c, n, off, len, tree) end
+  if not wanted(c, tree, n.field) then return tree, true end
+  local value, text = value_of(c, n, s)
+  local item = value == nil and tree:add(n.field, c.tvb(off, len)) or tree:add(n.field, c.tvb(off, len), value)
+  if c.is_flush and n[2] == "tc.action.cookie" and len == 4 then set(c, item, "Count", ("%.0f"):format(number_at(c, off, 4)))
+  elseif text then set(c, item, n[3], text) end
   return item, true
 end
 
 local show = {}
 
 -- The length and the type of an attribute: `head` has its place, its word, and what the table says of it.
+local HEADS = {}
 local function show_head(c, item, head)
-  if not head or not head.word or not tc.prefs.headers then return end
+  if not head or not head.word or not (c.headers or not c.seen) then return end
+  if not c.seen and not item:referenced(F.length.field) and not item:referenced(F.word.field) then return end
+  local key = (head.kernel or "") .. head.word .. (head.usual or "")
+  local text = HEADS[key]
+  if not text then
+    text = ("0x%04x"):format(head.word) .. (head.kernel and (" (%s%s)"):format(head.kernel, head.word >= NESTED and ", NLA_F_NESTED" or "") or "")
+    text = F.word[3] .. ": " .. text .. (head.usual and head.usual ~= head.word and (", usually 0x%04x"):format(head.usual) or "")
+    HEADS[key] = text
+  end
   add(c, item, F.length, head.at, 2)
-  local text = ("0x%04x"):format(head.word) .. (head.kernel and (" (%s%s)"):format(head.kernel, head.word >= NESTED and ", NLA_F_NESTED" or "") or "")
-  add(c, item, F.word, head.at + 2, 2, text .. (head.usual and head.usual ~= head.word and (", usually 0x%04x"):format(head.usual) or ""))
+  local word = add(c, item, F.word, head.at + 2, 2)
+  if c.seen then word:set_text(text) end
 end
 
 -- Shows a form in an item of its own, or without one; of an attribute with its header. Returns the item; true if it is a leaf of its form; a list's kind.
@@ -135,12 +190,14 @@ local function member(c, n, off, len, tree, kind, left, head)
     show_head(c, item, head)
     return item, plain
   end
-  local item, range = tree, head and c.tvb(head.at, off + len - head.at) or c.tvb(off, len)
+  local item = tree
   if n.field then
-    item = tree:add(n.field, range)
-    if c.seen then item:set_text(n[3]) end
-  elseif n[1] == "array" then item = tree:add(range, n[3]) end
-  if item ~= tree then show_head(c, item, head) end
+    if wanted(c, tree, n.field) then
+      item = tree:add(n.field, head and c.tvb(head.at, off + len - head.at) or c.tvb(off, len))
+      if c.seen then item:set_text(n[3]) end
+    end
+  elseif n[1] == "array" and c.seen then item = tree:add(head and c.tvb(head.at, off + len - head.at) or c.tvb(off, len), n[3]) end
+  if n.field or n[1] == "array" then show_head(c, item, head) end
   if left == 0 then return raw(c, off, len, item, nil, "nested too deep"), false end
   return item, false, show[n[1]](c, n, off, len, item, kind, left - 1)
 end
@@ -169,13 +226,18 @@ function show.array(c, n, off, len, tree, kind, left)
   if #texts > 0 then set(c, tree, n[3], table.concat(texts, " ")) end
 end
 
-function show.choice(c, n, off, len, tree, kind, left)
+-- The form of a choice that bytes follow, and the length of what they begin with.
+local function chosen(c, n, off, len)
   local bytes = bytes_of(c, off, len)
   for _, x in ipairs(n.parts) do
     local start = x.prefix or ""
-    if (x.length or len) == len and bytes:sub(1, #start) == start then return member(c, x, off + #start, len - #start, tree, kind, left, {at = off}) end
+    if (x.length or len) == len and bytes:sub(1, #start) == start then return x, #start end
   end
-  add(c, tree, F.other, off, len, hex_quoted(bytes)):add_proto_expert_info(X.unknown, "a form that isn't in the table")
+end
+function show.choice(c, n, off, len, tree, kind, left)
+  local x, prefixed = chosen(c, n, off, len)
+  if x then return member(c, x, off + prefixed, len - prefixed, tree, kind, left, {at = off}) end
+  add(c, tree, F.other, off, len, hex_quoted(bytes_of(c, off, len))):add_proto_expert_info(X.unknown, "a form that isn't in the table")
 end
 
 -- Goes through attributes: the type and word of each, the places of header and payload, and its length. If the rest is no attribute, its type is false.
@@ -183,12 +245,12 @@ local function attributes(c, off, stop)
   return function()
     if off >= stop then return nil end
     local at, room = off, stop - off
-    local size = room >= 4 and number_at(c, at, 2) or 0
+    local size = room >= 4 and u16(c, at) or 0
     if size < 4 or size > room then
       off = stop
       return false, 0, at, at, room
     end
-    local word = number_at(c, at + 2, 2)
+    local word = u16(c, at + 2)
     off = at + size + -size % 4
     return word % TYPE, word, at, at + 4, size - 4
   end
@@ -198,8 +260,8 @@ end
 local function each(c, off, len, tree, one)
   for ty, word, at, body, size in attributes(c, off, off + len) do
     if not ty then return raw(c, at, size, tree, nil, "no attribute: " .. (size < 4 and "no room for a header" or "a wrong length")) end
-    local padding = bytes_of(c, body + size, math.min(-size % 4, off + len - body - size))
-    local is_odd = #padding < -size % 4 or padding:find("[^\0]") ~= nil
+    local padding = size % 4 > 0 and bytes_of(c, body + size, math.min(-size % 4, off + len - body - size))
+    local is_odd = padding and (#padding < -size % 4 or padding:find("[^\0]") ~= nil) or false
     local item = one(ty, word, at, body, size, is_odd)
     if is_odd then add(c, item, F.padding, body + size, #padding, hex_quoted(padding)) end
   end
@@ -211,8 +273,7 @@ local function mark(c, at, item, list)
     if c.request + it.at == at then
       local row = it.missing and LISTS[list] and LISTS[list][it.missing]
       local text = it.text .. (row and " (" .. row[1] .. ")" or "")
-      item:append_text("   <== " .. text)
-      item:add_proto_expert_info(it.expert, text)
+      if c.seen then item:append_text("   <== " .. text) end
     end
   end
 end
@@ -248,8 +309,11 @@ local function show_row(c, n, head, body, size, tree, kind, left, before)
   if n[1] == "by" and not own then n = n.other end
   head.usual = head.usual + ((own or n).nested and NESTED or 0)
   if own then
-    local item = tree:add(n.field, c.tvb(head.at, size + 4))
-    if c.seen then item:set_text(n[3]) end
+    local item = tree
+    if wanted(c, tree, n.field) then
+      item = tree:add(n.field, c.tvb(head.at, size + 4))
+      if c.seen then item:set_text(n[3]) end
+    end
     show_head(c, item, head)
     member(c, own, body, size, item, kind, n.which == "statistics" and math.max(left - 1, 0) or left)
     return item, own
@@ -268,13 +332,13 @@ function show.list(c, n, off, len, tree, kind, left)
     local row, item, form = LISTS[n.list][ty], nil, {}
     local found = has_kind and ty == 1 and kind_at(c, body, size)
     if not row or found == nil then
-      item, before = add(c, tree, F.other, body, size, ("word 0x%04x value %s"):format(word, hex_quoted(bytes_of(c, body, size)))), nil
+      item, before = add(c, tree, F.other, body, size, c.seen and ("word 0x%04x value %s"):format(word, hex_quoted(bytes_of(c, body, size)))), nil
       item:add_proto_expert_info(X.unknown, ("type %d isn't in the table"):format(ty))
       show_head(c, item, {at = at, word = word})
     else
       if found and n[1] == "inforce" then kind = found end
       item, form, before = show_row(c, row[2], {at = at, word = word, kernel = row[1], usual = ty, is_odd = is_odd}, body, size, tree, kind, left, before)
-      if found and bytes_of(c, body, size):sub(-1) ~= "\0" then item:append_text(" (without a NUL)") end
+      if found and c.seen and bytes_of(c, body, size):sub(-1) ~= "\0" then item:append_text(" (without a NUL)") end
     end
     mark(c, at, item, form.list)
     return item
@@ -286,12 +350,12 @@ show.own, show.inforce = show.list, show.list
 -- Shows attributes of any type, each with the same form.
 function show.indexed(c, n, off, len, tree, kind, left)
   each(c, off, len, tree, function(_, word, at, body, size)
-    local item = tree:add(n.element, c.tvb(at, size + 4))
+    local item = wanted(c, tree, n.element) and tree:add(n.element, c.tvb(at, size + 4)) or tree
     show_head(c, item, {at = at, word = word})
     local _, _, own = member(c, n.inner, body, size, item, kind, left)
-    own = n.inner[1] == "own" and own and quoted(own)
+    own = c.seen and n.inner[1] == "own" and own and quoted(own)
     if own and #c.actions < 8 then c.actions[#c.actions + 1] = own end
-    item:set_text(("%s %d"):format(n.inner[3], word) .. (own and ": " .. own or ""))
+    if item ~= tree and c.seen then item:set_text(("%s %d"):format(n.inner[3], word) .. (own and ": " .. own or "")) end
     mark(c, at, item)
     return item
   end)

@@ -101,24 +101,26 @@ def answers(order):
 
 # What tshark -V shows of these frames, by their numbers
 MARKS = {
-    2: ['[Answer in: 3]', '[refused: EINVAL: Invalid quantum]', 'quantum: 1048576B   <== refused: EINVAL: Invalid quantum', 'index: 3 (eth0)'],
-    3: ['[Request in: 2]', 'error: EINVAL', 'message: "Invalid quantum"', 'offset: 72', 'quantum: 1048576B   <== refused: EINVAL: Invalid quantum'],
-    4: ['[Answer in: 5]', 'quantum: 1048576B   <== refused: EINVAL: Invalid quantum'],
-    5: ['[Request in: 4]', 'error: EINVAL'],
+    2: ['[Answer in: 3]', '[Refused: EINVAL: Invalid quantum]', 'Quantum: 1048576B   <== refused: EINVAL: Invalid quantum', 'Index: 3 (eth0)', '[Interface: eth0]'],
+    3: ['[Request in: 2]', 'Error: EINVAL', 'Message: "Invalid quantum"', 'Offset: 72', 'Quantum: 1048576B   <== refused: EINVAL: Invalid quantum'],
+    4: ['[Answer in: 5]', 'Quantum: 1048576B   <== refused: EINVAL: Invalid quantum'],
+    5: ['[Request in: 4]', 'Error: EINVAL'],
     6: ['[Answer in: 7]'],
     7: ['[Request in: 6]', 'NLMSG_ERROR acknowledgement'],
-    8: ['[Answer in: 9]', 'options   <== attribute 3 is missing (TCA_FQ_CODEL_INTERVAL)'],
-    9: ['miss_type: 3', 'miss_nest: 52', 'options   <== attribute 3 is missing (TCA_FQ_CODEL_INTERVAL)'],
-    10: ['[refused: ENOENT]', 'attribute 10 is missing (TCA_DUMP_INVISIBLE)'],
-    11: ['error: ENOENT', 'miss_type: 10', 'attribute 10 is missing (TCA_DUMP_INVISIBLE)'],
-    12: ['quantum: 1048576B   <== refused: ERANGE: integer out of range'],
-    13: ['policy', 'type: u32 (4)', 'min_value_u: 1', 'max_value_u: 18446744073709551615'],
+    8: ['[Answer in: 9]', 'Options   <== attribute 3 is missing (TCA_FQ_CODEL_INTERVAL)'],
+    9: ['Miss type: 3', 'Miss nest: 52', 'Options   <== attribute 3 is missing (TCA_FQ_CODEL_INTERVAL)'],
+    10: ['[Refused: ENOENT]', 'attribute 10 is missing (TCA_DUMP_INVISIBLE)'],
+    11: ['Error: ENOENT', 'Miss type: 10', 'attribute 10 is missing (TCA_DUMP_INVISIBLE)'],
+    12: ['Quantum: 1048576B   <== refused: ERANGE: integer out of range'],
+    13: ['Policy', 'Type: u32 (4)', 'Min value u: 1', 'Max value u: 18446744073709551615'],
     14: ['[Answer in: 15]'],
-    15: ['error: ok', r'message: "a \"warning\"\x1b"', 'cookie: cafe', r'NLMSG_ERROR warning: a "warning"\x1b'],
+    15: ['Error: ok', r'Message: "a \"warning\"\x1b"', 'Cookie: cafe', r'NLMSG_ERROR warning: a "warning"\x1b'],
 }
-FILTERS = [(5, 'tc.refused'), (3, 'tc.error == "EINVAL"'), (5, 'tc.error > 0'), (2, 'tc.extack.miss_type'), (1, 'tc.extack.policy'),
-           (3, 'tc.extack.offset == 72'), (12, 'tc.fq_codel.quantum == 1048576'), (7, 'tc.answer_in'), (7, 'tc.request_in'),
-           (14, 'tc.msg.type == "RTM_NEWQDISC"')]
+# how many frames a filter chooses, in two passes
+FILTERS = [(5, 'tc.refused'), (5, 'tc.refusal'), (3, 'tc.error == "EINVAL"'), (5, 'tc.error > 0'), (2, 'tc.extack.miss_type'), (1, 'tc.extack.policy'),
+           (3, 'tc.extack.offset == 72'), (12, 'tc.fq_codel.quantum == 1048576'), (7, 'tc.answer_in'), (7, 'tc.request_in'), (7, 'tc.request'),
+           (7, 'tc.answer'), (7, 'tc.msg.type == "RTM_NEWQDISC"'), (7, 'tc.quoted.type == "RTM_NEWQDISC"'), (12, 'tc.dev == "eth0"'),
+           (7, 'tc.verb == "add"'), (5, 'tc.verb == "refused"'), (12, 'tc.handle.number == 0x10000'), (5, 'tc.expert.refused')]
 
 
 # ---- changed and broken ones

@@ -23,6 +23,7 @@ local function hex_quoted(s) return s == "" and '""' or hex(s:sub(1, 120)) end
 
 -- Digits, multiplied by a small number, and another added.
 local function times(digits, by, plus)
+  if #digits < 10 then return ("%.0f"):format(tonumber(digits) * by + (plus or 0)) end
   local out, carry = "", plus or 0
   while #digits > 0 do
     local part = tonumber(digits:sub(-9)) * by + carry
@@ -31,6 +32,19 @@ local function times(digits, by, plus)
   end
   out = (("%.0f"):format(carry) .. out):gsub("^0+", "")
   return out == "" and "0" or out
+end
+
+-- Digits, divided by a number of at most 1e10: the quotient and the remainder.
+local function divide(digits, by)
+  local out, rest = "", 0
+  digits = ("0"):rep(-#digits % 5) .. digits
+  for part in digits:gmatch("%d%d%d%d%d") do
+    local n = rest * 1e5 + tonumber(part)
+    local whole = math.floor(n / by)
+    out, rest = out .. ("%05.0f"):format(whole), n - whole * by
+  end
+  out = out:gsub("^0+", "")
+  return out == "" and "0" or out, rest
 end
 
 -- Nanoseconds in the longest of s, ms, us and ns that counts them exactly.
@@ -120,25 +134,26 @@ local function prefix(mask)
 end
 
 -- A number of up to 32 bits, the most significant byte first.
+local byte, floor = string.byte, math.floor
 local function unsigned(s)
-  local n = 0
-  for i = 1, #s do n = n * 256 + s:byte(i) end
-  return n
+  local a, b, c, d = byte(s, 1, 4)
+  if d then return ((a * 256 + b) * 256 + c) * 256 + d end
+  return c and (a * 256 + b) * 256 + c or b and a * 256 + b or a or 0
 end
 
 -- The digits of a number and its sign, from its bytes, the most significant first.
 local function decimal(s, is_signed)
-  local upper, lower, sign = unsigned(s:sub(1, -5)), unsigned(s:sub(-4)), ""
-  if is_signed and s:byte(1) >= 128 then
+  local upper, lower, sign = #s > 4 and unsigned(s:sub(1, -5)) or 0, unsigned(s:sub(-4)), ""
+  if is_signed and byte(s) >= 128 then
     sign, lower = "-", 256 ^ math.min(#s, 4) - lower
     if #s == 8 then upper, lower = 2 ^ 32 - (lower < 2 ^ 32 and 1 or 0) - upper, lower % 2 ^ 32 end
   end
+  if upper < 2 ^ 20 then return ("%.0f"):format(upper * 2 ^ 32 + lower), sign end
   return times(times(("%.0f"):format(upper), 65536), 65536, lower), sign
 end
 
 -- A number in a unit: exact, and in brackets what it is to people. `raw` has its bytes as the message has them.
-local function in_unit(unit, s, is_signed, raw)
-  local digits, sign = decimal(s, is_signed)
+local function in_unit(unit, s, is_signed, raw, digits, sign)
   if unit == "net_hex" then s = raw end
   if SIGNED[unit] then return SIGNED[unit](digits, sign) end
   if sign == "-" then return "-" .. digits end
