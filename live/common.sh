@@ -71,6 +71,9 @@ plan() {
     for line in "$@"; do says "$line"; done
 }
 
+# A command that ignores no signal: what a shell starts in the background ignores SIGINT and SIGQUIT.
+awake() { exec env --default-signal "$@"; }
+
 # What was sent: the requests of a run, by the notifications of them.
 listen() {
     tcnl monitor > heard &
