@@ -10,6 +10,8 @@ compile_error!("the codec reads and writes little-endian numbers, as little-endi
 compile_error!("lengths have 32 bits in some messages and captures");
 
 extern crate alloc;
+#[cfg(test)]
+extern crate std;
 
 #[path = "../../erase/shims/bitflags.rs"]
 pub mod bitflags;

@@ -2,7 +2,8 @@
 
 use super::list::{Attrs, Indexed};
 use super::values::{Bytes, Handle, Mac, Prob, Ticks};
-use super::wire::{Attr, Form, Out, Place, field, kind_text, read_frames, total, whole, within, write_frames};
+use super::frames::{Attr, Found, Frame, Frames, Kinds, read_frames, write_frames};
+use super::wire::{Form, Out, Place, Shape, field, kind_text, store_field, total, whole, within};
 use alloc::string::String;
 use alloc::vec::Vec;
 use core::marker::PhantomData;
@@ -36,16 +37,17 @@ impl<C: Code, F: Form<Value: Number>> Form for Coded<C, F> {
     type Value = C;
     const WIDTH: Option<usize> = F::WIDTH;
 
+    #[inline(always)]
     fn read<'b>(bytes: &'b [u8], at: Place<'b>) -> Option<(C, &'b [u8])> {
         let (number, rest) = F::read(bytes, at)?;
         Some((C::of(C::Number::of_bits(number.bits())), rest))
     }
 
-    fn write(value: &C, out: &mut Out) {
+    #[inline(always)]
+    fn store(value: &C, bytes: &mut [u8]) -> bool {
         let number = value.number();
         let written = F::Value::of_bits(number.bits());
-        out.is_unfit |= C::Number::of_bits(written.bits()) != number;
-        F::write(&written, out);
+        F::store(&written, bytes) & (C::Number::of_bits(written.bits()) == number)
     }
 
     fn blank() -> C {
@@ -53,45 +55,13 @@ impl<C: Code, F: Form<Value: Number>> Form for Coded<C, F> {
     }
 }
 
-macro_rules! numbers {
-    ($($number:ident)*) => { $(
-        impl Number for $number {
-            fn bits(self) -> u64 { self as u64 }
-            fn of_bits(bits: u64) -> Self { bits as $number }
-        }
-        number! { $number, $number, from_le_bytes, to_le_bytes }
-        number! { Be<$number>, $number, from_be_bytes, to_be_bytes }
-    )* };
-}
-
-macro_rules! number {
-    ($form:ty, $number:ident, $read:ident, $write:ident) => {
-        impl Form for $form {
-            type Value = $number;
-            const WIDTH: Option<usize> = Some(size_of::<$number>());
-
-            fn read<'b>(bytes: &'b [u8], _at: Place<'b>) -> Option<($number, &'b [u8])> {
-                Some(($number::$read(bytes.try_into().ok()?), &[]))
-            }
-
-            fn write(value: &$number, out: &mut Out) {
-                out.put(&value.$write());
-            }
-
-            fn blank() -> $number {
-                0
-            }
-        }
-    };
-}
-
-numbers! { u8 u16 u32 u64 i8 i16 i32 i64 }
-
 macro_rules! codes {
     ($($code:ident)*) => { $(
         impl Code for $code {
             type Number = u32;
+            #[inline(always)]
             fn of(number: u32) -> Self { $code(number) }
+            #[inline(always)]
             fn number(&self) -> u32 { self.0 }
         }
         impl From<u32> for $code {
@@ -113,20 +83,24 @@ macro_rules! numbers_of {
 
 numbers_of! { Handle Prob }
 
-/// A form whose values take all bytes: its name with its parameters, the type of its values, its width, how a value is read and
-/// written, and the value of zeros or of nothing.
-macro_rules! leaf {
-    ($(const $n:ident;)? $form:ty, $value:ty, $width:expr, $bytes:ident => $read:expr, ($out:ident, $it:ident) => $write:expr, $blank:expr) => {
+/// A form of one width: its name with its parameters, the type of its values, its width, how a value is read from so many bytes and
+/// written as them, and the value of zeros.
+macro_rules! fixed {
+    ($(const $n:ident;)? $form:ty, $value:ty, $width:expr, $bytes:ident => $read:expr, $it:ident => $octets:expr, $blank:expr) => {
         impl$(<const $n: usize>)? Form for $form {
             type Value = $value;
-            const WIDTH: Option<usize> = $width;
+            const WIDTH: Option<usize> = Some($width);
 
-            fn read<'b>($bytes: &'b [u8], _at: Place<'b>) -> Option<($value, &'b [u8])> {
+            #[inline(always)]
+            fn read<'b>(bytes: &'b [u8], _at: Place<'b>) -> Option<($value, &'b [u8])> {
+                let $bytes = <[u8; $width]>::try_from(bytes).ok()?;
                 Some(($read, &[]))
             }
 
-            fn write($it: &$value, $out: &mut Out) {
-                $write
+            #[inline(always)]
+            fn store($it: &$value, bytes: &mut [u8]) -> bool {
+                bytes.copy_from_slice(&$octets);
+                true
             }
 
             fn blank() -> $value {
@@ -135,6 +109,46 @@ macro_rules! leaf {
         }
     };
 }
+
+/// A form that takes all bytes: its name, the type of its values, how a value is read, and the bytes that it is written as, one after
+/// the other.
+macro_rules! unbounded {
+    ($form:ty, $value:ty, $bytes:ident => $read:expr, $it:ident => $($octets:expr),*) => {
+        impl Form for $form {
+            type Value = $value;
+            const WIDTH: Option<usize> = None;
+
+            #[inline]
+            fn read<'b>($bytes: &'b [u8], _at: Place<'b>) -> Option<($value, &'b [u8])> {
+                Some(($read, &[]))
+            }
+
+            #[inline]
+            fn write($it: &$value, out: &mut Out) {
+                $(out.put($octets);)*
+            }
+
+            fn blank() -> $value {
+                Default::default()
+            }
+        }
+    };
+}
+
+macro_rules! numbers {
+    ($($number:ident)*) => { $(
+        impl Number for $number {
+            #[inline(always)]
+            fn bits(self) -> u64 { self as u64 }
+            #[inline(always)]
+            fn of_bits(bits: u64) -> Self { bits as $number }
+        }
+        fixed! { $number, $number, size_of::<$number>(), bytes => $number::from_le_bytes(bytes), it => it.to_le_bytes(), 0 }
+        fixed! { Be<$number>, $number, size_of::<$number>(), bytes => $number::from_be_bytes(bytes), it => it.to_be_bytes(), 0 }
+    )* };
+}
+
+numbers! { u8 u16 u32 u64 i8 i16 i32 i64 }
 
 /// Nothing: what counts is that the attribute is there.
 pub struct Empty;
@@ -149,16 +163,16 @@ pub struct Fixed<const N: usize>;
 /// So many zeros.
 pub struct Pad<const N: usize>;
 
-leaf! { Empty, (), Some(0), bytes => bytes.is_empty().then_some(())?, (_out, _value) => {}, () }
-leaf! { Truth, bool, Some(1), bytes => match bytes { [0] => false, [1] => true, _ => return None }, (out, it) => out.put(&[u8::from(*it)]), false }
-leaf! { Text, String, None, bytes => utf8(bytes.strip_suffix(&[0])?)?, (out, it) => { out.put(it.as_bytes()); out.put(&[0]) }, String::new() }
-leaf! { Bare, String, None, bytes => utf8(bytes)?, (out, it) => out.put(it.as_bytes()), String::new() }
-leaf! { Bytes, Bytes, None, bytes => Bytes(bytes.to_vec()), (out, it) => out.put(it), Bytes::default() }
-leaf! { const N; Fixed<N>, [u8; N], Some(N), bytes => bytes.try_into().ok()?, (out, it) => out.put(it), [0; N] }
-leaf! { const N; Pad<N>, [u8; N], Some(N), bytes => bytes.try_into().ok()?, (out, it) => out.put(it), [0; N] }
-leaf! { Mac, Mac, Some(6), bytes => Mac(bytes.try_into().ok()?), (out, it) => out.put(&it.0), Mac::default() }
-leaf! { Ipv4Addr, Ipv4Addr, Some(4), bytes => <[u8; 4]>::try_from(bytes).ok()?.into(), (out, it) => out.put(&it.octets()), Ipv4Addr::UNSPECIFIED }
-leaf! { Ipv6Addr, Ipv6Addr, Some(16), bytes => <[u8; 16]>::try_from(bytes).ok()?.into(), (out, it) => out.put(&it.octets()), Ipv6Addr::UNSPECIFIED }
+fixed! { Empty, (), 0, _bytes => (), _value => [], () }
+fixed! { Truth, bool, 1, bytes => match bytes { [0] => false, [1] => true, _ => return None }, it => [u8::from(*it)], false }
+fixed! { const N; Fixed<N>, [u8; N], N, bytes => bytes, it => *it, [0; N] }
+fixed! { const N; Pad<N>, [u8; N], N, bytes => bytes, it => *it, [0; N] }
+fixed! { Mac, Mac, 6, bytes => Mac(bytes), it => it.0, Mac::default() }
+fixed! { Ipv4Addr, Ipv4Addr, 4, bytes => bytes.into(), it => it.octets(), Ipv4Addr::UNSPECIFIED }
+fixed! { Ipv6Addr, Ipv6Addr, 16, bytes => bytes.into(), it => it.octets(), Ipv6Addr::UNSPECIFIED }
+unbounded! { Text, String, bytes => utf8(bytes.strip_suffix(&[0])?)?, it => it.as_bytes(), &[0] }
+unbounded! { Bare, String, bytes => utf8(bytes)?, it => it.as_bytes() }
+unbounded! { Bytes, Bytes, bytes => Bytes(bytes.to_vec()), it => it }
 
 fn utf8(bytes: &[u8]) -> Option<String> {
     core::str::from_utf8(bytes).ok().map(String::from)
@@ -171,10 +185,12 @@ impl Form for Kind {
     type Value = String;
     const WIDTH: Option<usize> = None;
 
+    #[inline]
     fn read<'b>(bytes: &'b [u8], _at: Place<'b>) -> Option<(String, &'b [u8])> {
         Some((kind_text(bytes)?.into(), &[]))
     }
 
+    #[inline]
     fn write(value: &String, out: &mut Out) {
         Text::write(value, out);
     }
@@ -223,8 +239,8 @@ impl<const N: usize, F: Form> Form for Times<N, F> {
         Some((values.filter(|_| bytes.is_empty())?.try_into().ok()?, &[]))
     }
 
-    fn write(value: &[F::Value; N], out: &mut Out) {
-        value.iter().for_each(|it| F::write(it, out));
+    fn store(value: &[F::Value; N], mut bytes: &mut [u8]) -> bool {
+        value.iter().fold(true, |fits, it| fits & store_field::<F>(it, &mut bytes))
     }
 
     fn blank() -> [F::Value; N] {
@@ -235,29 +251,42 @@ impl<const N: usize, F: Form> Form for Times<N, F> {
 /// Attributes of a list.
 pub struct List<A>(PhantomData<A>);
 
+impl<A: Attr> Frames for List<A> {
+    type Item = A;
+    const KINDS: Kinds = A::KINDS;
+
+    #[inline(always)]
+    fn read_frame<'b>(frame: Frame<'b>, at: Place<'b>, items: &mut Vec<A>) -> Option<Found<'b>> {
+        Some(A::read(frame.word, frame.payload, at, items))
+    }
+
+    #[inline(always)]
+    fn write_frame(item: &A, out: &mut Out) {
+        item.write(out);
+    }
+
+    fn sort(item: &A) -> (u16, Option<Shape>) {
+        (item.word(), item.shape())
+    }
+
+    fn kind_of(item: &A) -> Option<&str> {
+        item.kind()
+    }
+}
+
 impl<A: Attr> Form for List<A> {
     type Value = Attrs<A>;
     const WIDTH: Option<usize> = None;
 
+    #[inline(never)]
     fn read<'b>(bytes: &'b [u8], at: Place<'b>) -> Option<(Attrs<A>, &'b [u8])> {
-        let mut items = Vec::new();
-        let aside = read_frames(bytes, at, A::KINDS, &mut |word, payload, at| {
-            let found = A::read(word, payload, at);
-            let is_kind = found.item.kind().is_some();
-            items.push(found.item);
-            Some((found.word, found.rest, is_kind))
-        })?;
+        let (items, aside) = read_frames::<Self>(bytes, at)?;
         Some((Attrs { items, aside }, &[]))
     }
 
+    #[inline(never)]
     fn write(value: &Attrs<A>, out: &mut Out) {
-        write_frames(value.items.len(), value.aside.as_deref(), out, &mut |at, is_bare, out| {
-            let word = value.items[at].write(out);
-            if is_bare && value.items[at].kind().is_some() {
-                out.bytes.pop();
-            }
-            word
-        });
+        write_frames::<Self>(&value.items, value.aside.as_deref(), out);
     }
 
     fn blank() -> Attrs<A> {
@@ -268,26 +297,45 @@ impl<A: Attr> Form for List<A> {
 /// Attributes of any type, each with this form as payload.
 pub struct Each<F>(PhantomData<F>);
 
+impl<F: Form> Frames for Each<F> {
+    type Item = (u16, F::Value);
+    const KINDS: Kinds = Kinds::Plain;
+
+    #[inline(always)]
+    fn read_frame<'b>(frame: Frame<'b>, at: Place<'b>, items: &mut Vec<Self::Item>) -> Option<Found<'b>> {
+        let (item, rest) = within::<F>(frame.payload, at)?;
+        items.push((frame.word, item));
+        Some(Found { word: frame.word, rest, is_kind: false })
+    }
+
+    #[inline(always)]
+    fn write_frame((word, item): &Self::Item, out: &mut Out) {
+        out.put_frame::<F>(*word, item);
+    }
+
+    // Any type holds this form, so that the type may change.
+    fn sort((_, item): &Self::Item) -> (u16, Option<Shape>) {
+        (0, Some(F::shape(item)))
+    }
+
+    fn kind_of(_item: &Self::Item) -> Option<&str> {
+        None
+    }
+}
+
 impl<F: Form> Form for Each<F> {
     type Value = Indexed<F::Value>;
     const WIDTH: Option<usize> = None;
 
+    #[inline(never)]
     fn read<'b>(bytes: &'b [u8], at: Place<'b>) -> Option<(Indexed<F::Value>, &'b [u8])> {
-        let mut items = Vec::new();
-        let aside = read_frames(bytes, at, super::wire::Kinds::Plain, &mut |word, payload, at| {
-            let (item, rest) = within::<F>(payload, at)?;
-            items.push((word, item));
-            Some((word, rest, false))
-        })?;
+        let (items, aside) = read_frames::<Self>(bytes, at)?;
         Some((Indexed { items, aside }, &[]))
     }
 
+    #[inline(never)]
     fn write(value: &Indexed<F::Value>, out: &mut Out) {
-        write_frames(value.items.len(), value.aside.as_deref(), out, &mut |at, _, out| {
-            let (word, item) = &value.items[at];
-            F::write(item, out);
-            *word
-        });
+        write_frames::<Self>(&value.items, value.aside.as_deref(), out);
     }
 
     fn blank() -> Indexed<F::Value> {

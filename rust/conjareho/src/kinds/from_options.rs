@@ -5,7 +5,7 @@ use super::list::{Attrs, type_of};
 use super::qdiscs::htb::HtbAttr;
 use super::qdiscs::tbf::TbfAttr;
 use super::shared::Ratespec;
-use super::wire::{Attr, NLA_TYPE_MASK};
+use super::frames::Attr;
 use super::{ActionOptions, Bytes, Htb, HtbClass, Options, PoliceAction, Rate, Sizes, Tbf, Ticks};
 use alloc::vec::Vec;
 use core::fmt;
@@ -68,7 +68,7 @@ fn check<A: Attr>(
     }
     let mut seen = Vec::new();
     for item in list.iter().filter(|item| !is_dropped(item)) {
-        let name = item.name().ok_or(OptionsError::Unknown(type_of(item) & NLA_TYPE_MASK))?;
+        let name = item.name().ok_or(OptionsError::Unknown(type_of(item)))?;
         if !has_field(item) {
             return Err(OptionsError::NoField(name));
         }

@@ -4,7 +4,9 @@
 use super::forms::{Array, Bare, Be, Code, Coded, Each, Empty, Fixed, Kind, List, Number, Pad, Text, Times, Truth};
 use super::list::{Attrs, Indexed};
 use super::values::{Bytes, Handle, Mac, Prob, Ticks};
-use super::wire::{Aside, Attr, Form, Kinds, Odd};
+use super::aside::{Aside, Odd};
+use super::frames::{Attr, Kinds};
+use super::wire::{Form, Key};
 use super::{ActionMessage, Message};
 use alloc::boxed::Box;
 use alloc::string::{String, ToString as _};
@@ -311,7 +313,7 @@ macro_rules! by_kind_json {
                     $(($name::Other(bytes), $($kind)|+) => (name, unread::<$form>(bytes, $json)),)*
                     ($name::Other(bytes), kind) => {
                         let levels = super::wire::DEEPEST;
-                        let shown = within::<$other_form>(bytes, Place { kind, levels, is_broken: &Default::default() }).map(|(value, _)| <$other_form as Json>::json(&value, seen));
+                        let shown = within::<$other_form>(bytes, Place { kind: Key::of(kind.as_bytes()), levels, is_broken: &Default::default() }).map(|(value, _)| <$other_form as Json>::json(&value, seen));
                         (if stringify!($shown) == "hex" { $other } else { name }, shown.unwrap_or_else(|| raw(bytes)))
                     }
                 }

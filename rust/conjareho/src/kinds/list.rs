@@ -1,10 +1,11 @@
 //! Lists of attributes.
 
-use super::wire::{Aside, Attr, Out};
+use super::aside::{Aside, Odd};
+use super::frames::Attr;
+use super::wire::NLA_TYPE_MASK;
 use alloc::boxed::Box;
 use alloc::vec::Vec;
 use core::fmt;
-use core::mem;
 use core::ops::Deref;
 
 /// The attributes of a list, in their order.
@@ -32,10 +33,10 @@ macro_rules! list {
         impl<$t> $list<$t> {
             /// Appends an attribute. A cut or broken attribute at the end is dropped.
             pub fn push(&mut self, item: $item) {
-                let len = self.items.len();
                 if let Some(aside) = &mut self.aside {
                     aside.tail.clear();
-                    aside.odd.iter_mut().filter(|odd| odd.at + 1 == len).for_each(|odd| odd.padding = None);
+                    aside.odd.iter_mut().for_each(Odd::make_whole);
+                    Aside::tidy(&mut self.aside);
                 }
                 self.items.push(item);
             }
@@ -78,10 +79,12 @@ macro_rules! list {
                         odd.at = place.unwrap_or(odd.at);
                         place.is_some()
                     });
+                    Aside::tidy(&mut self.aside);
                 }
             }
 
-            /// The attributes, mutable. Flags, padding and bytes that were kept with one stay at its place.
+            /// The attributes, mutable. Flags, padding and bytes that were kept with one are written with the attribute at its place, if that
+            /// has the same type and form, and padding of the same size.
             pub fn iter_mut(&mut self) -> core::slice::IterMut<'_, $item> {
                 self.items.iter_mut()
             }
@@ -169,19 +172,21 @@ macro_rules! list {
 
 impl<A: Attr> Attrs<A> {
     /// Replaces the last attribute of the same type, or appends this one as [`push`](Self::push) does if there is none.
+    ///
+    /// An attribute whose payload isn't of its form, which is `Other`, is replaced as well. What was kept beside the attribute, such as
+    /// flags, is written with this one if it has the same form.
     pub fn set(&mut self, item: A) {
-        // Types that the table lacks are one variant.
-        let is_same = |it: &A| mem::discriminant(it) == mem::discriminant(&item) && type_of(it) == type_of(&item);
-        match self.items.iter_mut().rev().find(|it| is_same(it)) {
+        let number = type_of(&item);
+        match self.items.iter_mut().rev().find(|it| type_of(*it) == number) {
             Some(last) => *last = item,
             None => self.push(item),
         }
     }
 }
 
-/// `nla_type`, with its flags.
+/// `nla_type`, without its flags.
 pub(super) fn type_of<A: Attr>(item: &A) -> u16 {
-    item.write(&mut Out::default())
+    item.word() & NLA_TYPE_MASK
 }
 
 list! { Attrs, A, A }

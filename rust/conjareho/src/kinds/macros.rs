@@ -22,13 +22,31 @@ macro_rules! record {
             type Value = Self;
             const WIDTH: Option<usize> = total(&[$(<$form as Form>::WIDTH),*]);
 
-            fn read<'b>(mut bytes: &'b [u8], at: Place<'b>) -> Option<(Self, &'b [u8])> {
-                let value = $name { $($field: field::<$form>(&mut bytes, at)?,)* };
-                Some((value, bytes))
+            #[inline]
+            fn read<'b>(bytes: &'b [u8], at: Place<'b>) -> Option<(Self, &'b [u8])> {
+                // The bytes of a record of one width are taken at once.
+                let (mut own, rest) = bytes.split_at_checked(Self::WIDTH.unwrap_or(bytes.len()))?;
+                let value = $name { $($field: field::<$form>(&mut own, at)?,)* };
+                Some((value, if Self::WIDTH.is_some() { rest } else { own }))
             }
 
+            #[inline]
+            fn store(value: &Self, mut bytes: &mut [u8]) -> bool {
+                true $(& store_field::<$form>(&value.$field, &mut bytes))*
+            }
+
+            #[inline]
             fn write(value: &Self, out: &mut Out) {
+                if Self::WIDTH.is_some() {
+                    return out.put_stored::<Self>(value);
+                }
                 $(<$form as Form>::write(&value.$field, out);)*
+            }
+
+            fn shape(value: &Self) -> Shape {
+                // A field that may have several forms is the last.
+                let shapes = [$(<$form as Form>::shape(&value.$field)),*];
+                shapes.last().copied().unwrap_or_default()
             }
 
             #[inline]
@@ -38,6 +56,7 @@ macro_rules! record {
         }
 
         record_json! { $name { $($field $json $layer ($form),)* } }
+        record_edits! { $name { $($field ($form),)* } }
     };
 }
 
@@ -91,27 +110,43 @@ macro_rules! attrs {
             const KINDS: Kinds = Kinds::$kinds;
 
             #[allow(unused_variables, clippy::match_single_binding)] // an empty list
-            fn read<'b>(word: u16, payload: &'b [u8], at: Place<'b>) -> Found<'b, Self> {
+            #[inline(always)]
+            fn read<'b>(word: u16, payload: &'b [u8], at: Place<'b>, items: &mut Vec<Self>) -> Found<'b> {
                 match word & NLA_TYPE_MASK {
                     $($number => {
                         if let Some((value, rest)) = within::<$form>(payload, at) {
                             let word = $number | $flags | <$form as Form>::flags(&value);
-                            return Found { item: $name::$variant(value), word, rest };
+                            let is_kind = <$form as Form>::kind(&value).is_some();
+                            items.push($name::$variant(value));
+                            return Found { word, rest, is_kind };
                         }
                         at.is_broken.set(true);
                     })*
                     _ => {}
                 }
-                Found { item: $name::Other(Nla { word, value: payload.into() }), word, rest: &[] }
+                items.push($name::Other(Nla { word, value: payload.into() }));
+                Found { word, rest: &[], is_kind: false }
             }
 
-            fn write(&self, out: &mut Out) -> u16 {
+            #[inline(always)]
+            fn write(&self, out: &mut Out) {
                 match self {
-                    $($name::$variant(value) => {
-                        <$form as Form>::write(value, out);
-                        $number | $flags | <$form as Form>::flags(value)
-                    })*
-                    $name::Other(nla) => nla.write(out),
+                    $($name::$variant(value) => out.put_frame::<$form>($number | $flags | <$form as Form>::flags(value), value),)*
+                    $name::Other(nla) => out.put_frame::<Bytes>(nla.word, &nla.value),
+                }
+            }
+
+            fn word(&self) -> u16 {
+                match self {
+                    $($name::$variant(value) => $number | $flags | <$form as Form>::flags(value),)*
+                    $name::Other(nla) => nla.word,
+                }
+            }
+
+            fn shape(&self) -> Option<Shape> {
+                match self {
+                    $($name::$variant(value) => Some(<$form as Form>::shape(value)),)*
+                    $name::Other(_) => None,
                 }
             }
 
@@ -133,6 +168,7 @@ macro_rules! attrs {
         }
 
         attrs_json! { $name { $($variant $json $layer $number $flags ($form),)* } }
+        attrs_edits! { $name { $($variant $number $flags ($form),)* } }
     };
 }
 
@@ -323,12 +359,21 @@ macro_rules! choice {
                 }
             }
 
+            fn shape(value: &Self) -> Shape {
+                let choice = match value {
+                    $($name::$variant(_) => stringify!($variant),)*
+                    $name::Other(_) => "Other",
+                };
+                Shape { choice, ..Shape::default() }
+            }
+
             fn blank() -> Self {
                 $name::Other(Bytes::default())
             }
         }
 
         choice_json! { $name { $($variant $json $layer [$($start),*] $len, ($form),)* } }
+        choice_edits! { $name { $($variant ($form),)* } }
     };
 }
 
@@ -371,7 +416,7 @@ macro_rules! by_kind {
 
             fn read<'b>(bytes: &'b [u8], at: Place<'b>) -> Option<(Self, &'b [u8])> {
                 let found = match at.kind {
-                    $($first $(| $kind)* => {
+                    $(kind if kind == const { Key::of_table($first) } $(|| kind == const { Key::of_table($kind) })* => {
                         // Statistics are in an object of their own, a level of its own.
                         let found = if $json.is_empty() { <$form as Form>::read(bytes, at) } else { within::<$form>(bytes, at) };
                         at.is_broken.set(at.is_broken.get() || found.is_none());
@@ -393,6 +438,14 @@ macro_rules! by_kind {
                 $name::Other(Bytes::default())
             }
 
+            fn shape(value: &Self) -> Shape {
+                match value {
+                    $($name::$variant(value) => Shape { kind: stringify!($variant), ..<$form as Form>::shape(value) },)*
+                    $name::Other(_) => Shape { kind: "Other", ..Shape::default() },
+                }
+            }
+
+            #[inline(always)]
             fn flags(value: &Self) -> u16 {
                 match value {
                     $($name::$variant(_) => $flags,)*
@@ -402,6 +455,7 @@ macro_rules! by_kind {
         }
 
         by_kind_json! { $name $other $shown ($other_form) { $($variant $json $layer ($form) = $first $(| $kind)*,)* } }
+        by_kind_edits! { $name { $($variant $json ($form),)* } }
     };
 }
 

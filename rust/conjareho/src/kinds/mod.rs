@@ -46,10 +46,18 @@ mod json;
 #[cfg(not(kinds_json))]
 #[macro_use]
 mod no_json;
+#[cfg(not(test))]
+#[macro_use]
+mod no_edits;
+#[cfg(test)]
+#[macro_use]
+mod tests;
 #[macro_use]
 mod macros;
+mod aside;
 mod builders;
 mod forms;
+mod frames;
 mod from_options;
 mod list;
 #[cfg(feature = "serde")]
@@ -70,7 +78,11 @@ pub use list::{Attrs, Indexed};
 pub use units::{NotAProb, NotARate, NotATime, Rate};
 use values::show_flags;
 pub use values::{Bytes, Handle, Mac, Nla, NotAHandle, NotAMac, NotHex, NotU32Parts, Prob, Ticks, U32Parts};
-use wire::{Attr, Form, Found, Kinds, NLA_TYPE_MASK, Out, Place, chosen, field, total, within};
+use frames::{Attr, Found, Kinds};
+use wire::{Form, Key, NLA_TYPE_MASK, Out, Place, Shape, chosen, field, store_field, total, within};
+
+#[cfg(test)]
+use tests::{Edit, EditAttr, Edits};
 
 #[cfg(kinds_json)]
 use json::{Json, JsonAttr, JsonCode, Seen, hex, object, of_kind, raw, unread, with_rest};

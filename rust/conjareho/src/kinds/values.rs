@@ -1,7 +1,6 @@
 //! Types of single values.
 
 use super::units::not_a;
-use super::wire::Out;
 use crate::tc::TcHandle;
 use alloc::vec::Vec;
 use core::fmt;
@@ -292,13 +291,6 @@ pub struct Nla {
     pub word: u16,
     /// The payload.
     pub value: Bytes,
-}
-
-impl Nla {
-    pub(super) fn write(&self, out: &mut Out) -> u16 {
-        out.put(&self.value);
-        self.word
-    }
 }
 
 /// Prints the names of the flags that are set, and the bits without a name.

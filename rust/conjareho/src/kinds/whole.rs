@@ -3,14 +3,17 @@
 use super::action::ActionAttr;
 use super::message::TcAttr;
 use super::statistics::StatsAttr;
-use super::wire::{DEEPEST, Form, Out, Place, within};
+use super::wire::{DEEPEST, Form, Key, Out, Place, within};
 use super::{ActionMessage, ActionOptions, Attrs, Handle, Indexed, Message, Options, Statistics};
-use crate::capture::NLMSG_HEADER_LEN;
 use crate::requests::{Object, Verb};
 use crate::tc::{TcActionMessage, TcMessage};
 use crate::{DecodeError, ParseableBytes, RewriteError};
 use alloc::vec::Vec;
 use core::cell::Cell;
+use core::mem;
+
+/// The room that a message begins with, which holds most of them.
+const FIRST: usize = 256;
 
 impl Message {
     /// The kind: the last `TCA_KIND`, or nothing.
@@ -126,16 +129,19 @@ impl Message {
     ///
     /// Those of [`to_bytes`](Self::to_bytes), and `DoesNotFit` if there are 4 GiB or more.
     pub fn request(&self, object: Object, verb: Verb, sequence: u32) -> Result<Vec<u8>, RewriteError> {
-        request_of(verb.message_type(object), verb.flags(object), sequence, self.to_bytes()?)
+        request_of::<Self>(verb.message_type(object), verb.flags(object), sequence, self)
     }
 }
 
-/// A netlink header and a payload.
-fn request_of(kind: u16, flags: u16, sequence: u32, payload: Vec<u8>) -> Result<Vec<u8>, RewriteError> {
-    let len = u32::try_from(payload.len() + NLMSG_HEADER_LEN).map_err(|_| RewriteError::DoesNotFit)?;
-    let words = [u32::from(kind) | u32::from(flags) << 16, sequence, 0];
-    let header = [len].into_iter().chain(words).flat_map(u32::to_le_bytes);
-    Ok(header.chain(payload).collect())
+/// A netlink header and a message.
+fn request_of<M: Form>(kind: u16, flags: u16, sequence: u32, message: &M::Value) -> Result<Vec<u8>, RewriteError> {
+    let mut bytes = Vec::with_capacity(FIRST);
+    let words = [0, u32::from(kind) | u32::from(flags) << 16, sequence, 0];
+    words.iter().for_each(|word| bytes.extend_from_slice(&word.to_le_bytes()));
+    write_to::<M>(message, &mut bytes)?;
+    let len = u32::try_from(bytes.len()).map_err(|_| RewriteError::DoesNotFit)?;
+    bytes[..4].copy_from_slice(&len.to_le_bytes());
+    Ok(bytes)
 }
 
 impl<const N: usize> From<[ActionOptions; N]> for Indexed<Attrs<ActionAttr>> {
@@ -167,23 +173,30 @@ impl ActionMessage {
     ///
     /// Those of [`to_bytes`](Self::to_bytes), and `DoesNotFit` if there are 4 GiB or more.
     pub fn request(&self, verb: Verb, sequence: u32) -> Result<Vec<u8>, RewriteError> {
-        request_of(verb.action_type(), verb.action_flags(), sequence, self.to_bytes()?)
+        request_of::<Self>(verb.action_type(), verb.action_flags(), sequence, self)
     }
 }
 
 /// Reads a message, and sets `is_broken` if a part isn't of its form.
 fn read<M: Form>(bytes: &[u8], is_broken: &Cell<bool>) -> Option<M::Value> {
-    within::<M>(bytes, Place { kind: "", levels: DEEPEST, is_broken }).map(|(message, _)| message)
+    within::<M>(bytes, Place { kind: Key::NONE, levels: DEEPEST, is_broken }).map(|(message, _)| message)
 }
 
 fn parse<M: Form>(bytes: &[u8], needed: usize) -> Result<M::Value, DecodeError> {
     read::<M>(bytes, &Cell::new(false)).ok_or(DecodeError::BufferTooSmall { len: bytes.len(), needed })
 }
 
-fn bytes_of<M: Form>(message: &M::Value) -> Result<Vec<u8>, RewriteError> {
-    let mut out = Out::default();
+/// Appends a message. Bytes that don't fit are taken off again.
+fn write_to<M: Form>(message: &M::Value, bytes: &mut Vec<u8>) -> Result<(), RewriteError> {
+    let before = bytes.len();
+    let mut out = Out { bytes: mem::take(bytes), is_unfit: false };
     M::write(message, &mut out);
-    if out.is_unfit { Err(RewriteError::DoesNotFit) } else { Ok(out.bytes) }
+    *bytes = out.bytes;
+    if out.is_unfit {
+        bytes.truncate(before);
+        return Err(RewriteError::DoesNotFit);
+    }
+    Ok(())
 }
 
 macro_rules! message {
@@ -221,7 +234,28 @@ macro_rules! message {
             ///
             /// `DoesNotFit` if the payload of an attribute has more than 65531 bytes, or if a number without a name is too large for its place.
             pub fn to_bytes(&self) -> Result<Vec<u8>, RewriteError> {
-                bytes_of::<Self>(self)
+                let mut bytes = Vec::with_capacity(FIRST);
+                self.write_to(&mut bytes)?;
+                Ok(bytes)
+            }
+
+            /// Appends the bytes of the message, without a netlink header. A buffer that is used again takes no memory each time.
+            ///
+            /// ```
+            #[doc = concat!("use conjareho::kinds::", stringify!($name), ";")]
+            ///
+            /// let mut buffer = b"before".to_vec();
+            #[doc = concat!("let message = ", stringify!($name), "::default();")]
+            /// message.write_to(&mut buffer)?;
+            /// assert_eq!(buffer[6..], message.to_bytes()?);
+            /// # Ok::<(), conjareho::RewriteError>(())
+            /// ```
+            ///
+            /// # Errors
+            ///
+            /// Those of [`to_bytes`](Self::to_bytes). The buffer is what it was before then.
+            pub fn write_to(&self, buffer: &mut Vec<u8>) -> Result<(), RewriteError> {
+                write_to::<Self>(self, buffer)
             }
         }
 

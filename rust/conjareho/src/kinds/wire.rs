@@ -1,6 +1,6 @@
 //! Reading and writing. Each type of the tables has a [`Form`], which reads a value only if it writes the same bytes again.
 
-use alloc::boxed::Box;
+use super::frames::missing;
 use alloc::vec::Vec;
 use core::cell::Cell;
 
@@ -15,11 +15,19 @@ const MOST: usize = 65531;
 #[derive(Clone, Copy)]
 pub struct Place<'b> {
     /// The kind in force, which selects the form of options and statistics.
-    pub kind: &'b str,
+    pub kind: Key,
     /// The levels of forms left.
     pub levels: u8,
     /// Set if bytes aren't of their form, which are then kept as they are.
     pub is_broken: &'b Cell<bool>,
+}
+
+impl Place<'_> {
+    /// The place one level down.
+    #[inline(always)]
+    pub fn below(self) -> Option<Self> {
+        Some(Place { levels: self.levels.checked_sub(1)?, ..self })
+    }
 }
 
 /// A layout of bytes.
@@ -28,42 +36,81 @@ pub trait Form {
     type Value;
     /// The size of a value in bytes, if all values have the same.
     const WIDTH: Option<usize>;
+
     /// Reads the value at the front of the bytes, and returns it with those after it.
     fn read<'b>(bytes: &'b [u8], at: Place<'b>) -> Option<(Self::Value, &'b [u8])>;
+
+    /// Writes a value into `WIDTH` bytes, which are zeros. Returns false if it doesn't fit. Forms without a width are only written.
+    #[inline(always)]
+    fn store(_value: &Self::Value, _bytes: &mut [u8]) -> bool {
+        true
+    }
+
     /// Writes a value.
-    fn write(value: &Self::Value, out: &mut Out);
+    #[inline(always)]
+    fn write(value: &Self::Value, out: &mut Out) {
+        out.put_stored::<Self>(value);
+    }
+
     /// The value of zeros, or of nothing.
     fn blank() -> Self::Value;
+
     /// The flags of the attribute that holds a value, beside those that its table says.
+    #[inline(always)]
     fn flags(_value: &Self::Value) -> u16 {
         0
     }
+
     /// The kind that a value names.
+    #[inline(always)]
     fn kind(_value: &Self::Value) -> Option<&str> {
         None
     }
+
+    /// Which of its forms a value has, where the kind or the bytes choose one.
+    #[inline(always)]
+    fn shape(_value: &Self::Value) -> Shape {
+        Shape::default()
+    }
+}
+
+/// Which of several forms a value has: the variant by kind, and that of a choice.
+#[derive(Clone, Copy, PartialEq, Eq, Hash, Debug, Default)]
+pub struct Shape {
+    /// The variant of options or statistics.
+    pub kind: &'static str,
+    /// The variant of a choice.
+    pub choice: &'static str,
 }
 
 /// Reads a value one level down.
-#[inline(never)]
+#[inline(always)]
 pub fn within<'b, F: Form>(bytes: &'b [u8], at: Place<'b>) -> Option<(F::Value, &'b [u8])> {
-    F::read(bytes, Place { levels: at.levels.checked_sub(1)?, ..at })
+    F::read(bytes, at.below()?)
 }
 
 /// Reads a value one level down that takes all bytes.
-#[inline(never)]
+#[inline(always)]
 pub fn whole<F: Form>(bytes: &[u8], at: Place<'_>) -> Option<F::Value> {
     within::<F>(bytes, at).filter(|(_, rest)| rest.is_empty()).map(|(value, _)| value)
 }
 
 /// Reads the field at the front of a record's bytes, and takes its bytes.
-#[inline(never)]
+#[inline(always)]
 pub fn field<'b, F: Form>(bytes: &mut &'b [u8], at: Place<'b>) -> Option<F::Value> {
     let (own, after) = bytes.split_at_checked(F::WIDTH.unwrap_or(bytes.len()))?;
     let (value, rest) = within::<F>(own, at)?;
     // A field of any width is the last, and what it leaves is the record's rest.
     *bytes = if F::WIDTH.is_none() { rest } else { after };
     (F::WIDTH.is_none() || rest.is_empty()).then_some(value)
+}
+
+/// Writes the field at the front of a record's bytes, and takes its bytes.
+#[inline(always)]
+pub fn store_field<F: Form>(value: &F::Value, bytes: &mut &mut [u8]) -> bool {
+    let Some((own, rest)) = core::mem::take(bytes).split_at_mut_checked(F::WIDTH.unwrap_or(0)) else { return false };
+    *bytes = rest;
+    F::store(value, own)
 }
 
 /// The size of a record's fields together.
@@ -77,114 +124,8 @@ pub const fn total(widths: &[Option<usize>]) -> Option<usize> {
     Some(sum)
 }
 
-/// Bytes that are being written.
-#[derive(Default)]
-pub struct Out {
-    /// The bytes written so far.
-    pub bytes: Vec<u8>,
-    /// True if an attribute is too long or a number too large for its width.
-    pub is_unfit: bool,
-}
-
-impl Out {
-    #[inline(never)]
-    pub fn put(&mut self, bytes: &[u8]) {
-        self.bytes.extend_from_slice(bytes);
-    }
-
-    /// Writes an attribute, whose payload `write` writes before it returns `nla_type`.
-    fn put_frame(&mut self, odd: Option<&Odd>, write: &mut dyn FnMut(bool, &mut Out) -> u16) {
-        let start = self.bytes.len();
-        self.put(&[0; 4]);
-        let mut word = write(odd.is_some_and(|odd| odd.is_bare), self);
-        if let Some(odd) = odd {
-            self.put(&odd.rest);
-            word = odd.word.unwrap_or(word);
-        }
-        let payload = self.bytes.len() - start - 4;
-        self.is_unfit |= payload > MOST;
-        self.bytes[start..start + 2].copy_from_slice(&((payload + 4) as u16).to_le_bytes());
-        self.bytes[start + 2..start + 4].copy_from_slice(&word.to_le_bytes());
-        match odd.and_then(|odd| odd.padding.as_ref()) {
-            Some(padding) => self.put(padding),
-            None => self.put(&[0; 3][..missing(payload)]),
-        }
-    }
-}
-
-/// The size of the padding after so many bytes.
-fn missing(len: usize) -> usize {
-    len.wrapping_neg() % 4
-}
-
-/// The parts of an attribute that its table doesn't describe.
-#[derive(Clone, PartialEq, Eq, Hash, Debug, Default)]
-pub struct Odd {
-    /// Its place in its list.
-    pub at: usize,
-    /// `nla_type`, if flags are set that the table doesn't say or some aren't that it says.
-    pub word: Option<u16>,
-    /// Cut or nonzero padding.
-    pub padding: Option<Vec<u8>>,
-    /// Bytes after the record that it holds.
-    pub rest: Vec<u8>,
-    /// True for a kind without a NUL.
-    pub is_bare: bool,
-}
-
-/// The parts of a list that its table doesn't describe.
-#[derive(Clone, PartialEq, Eq, Hash, Debug, Default)]
-pub struct Aside {
-    /// Those of its attributes, in their order.
-    pub odd: Vec<Odd>,
-    /// Bytes after the last attribute, where the next is cut or broken.
-    pub tail: Vec<u8>,
-}
-
-/// How a list treats kinds.
-#[derive(Clone, Copy, PartialEq, Eq)]
-pub enum Kinds {
-    /// Its attributes name none.
-    Plain,
-    /// Each kind holds for the attributes after it.
-    InForce,
-    /// The first kind holds for all attributes.
-    Own,
-}
-
-/// An attribute of a list.
-pub trait Attr: Sized {
-    /// How the list treats kinds.
-    const KINDS: Kinds;
-    /// Reads an attribute by its `nla_type` and payload.
-    fn read<'b>(word: u16, payload: &'b [u8], at: Place<'b>) -> Found<'b, Self>;
-    /// Writes its payload and returns its `nla_type`.
-    fn write(&self, out: &mut Out) -> u16;
-    /// The kind that it names.
-    fn kind(&self) -> Option<&str>;
-    /// Its name in Rust, such as `HtbAttr::Parms`. `None` if the table doesn't have it.
-    fn name(&self) -> Option<&'static str>;
-}
-
-/// An attribute as read, the `nla_type` with which it would be written, and the bytes after the record that it holds.
-pub struct Found<'b, A> {
-    pub item: A,
-    pub word: u16,
-    pub rest: &'b [u8],
-}
-
-/// `nla_type`, payload and padding of the attribute at the front, which are taken.
-fn front<'b>(bytes: &mut &'b [u8]) -> Option<(u16, &'b [u8], &'b [u8])> {
-    let (header, _) = bytes.split_first_chunk::<4>()?;
-    let [low, high, word @ ..] = *header;
-    let (frame, after) = bytes.split_at_checked(usize::from(u16::from_le_bytes([low, high])))?;
-    let payload = frame.get(4..)?;
-    let (padding, rest) = after.split_at(missing(frame.len()).min(after.len()));
-    *bytes = rest;
-    Some((u16::from_le_bytes(word), payload, padding))
-}
-
 /// The bytes after `start`, if they begin with it and are `len` in all. A line of a choice requires both.
+#[inline(always)]
 pub fn chosen<'b>(bytes: &'b [u8], start: &[u8], len: Option<usize>) -> Option<&'b [u8]> {
     bytes.strip_prefix(start).filter(|_| len.is_none_or(|len| len == bytes.len()))
 }
@@ -194,66 +135,88 @@ pub fn kind_text(payload: &[u8]) -> Option<&str> {
     core::str::from_utf8(payload.strip_suffix(&[0]).unwrap_or(payload)).ok()
 }
 
-/// The first kind of a list.
-fn own_kind(mut bytes: &[u8]) -> &str {
-    while let Some((word, payload, _)) = front(&mut bytes) {
-        if let (1, Some(kind)) = (word & NLA_TYPE_MASK, kind_text(payload)) {
-            return kind;
+/// A kind as a number, which is compared faster than a text: its bytes, and above them its length. 0 for a kind of more than 15 bytes,
+/// and so of no table, and for none.
+#[derive(Clone, Copy, PartialEq, Eq)]
+pub struct Key(u128);
+
+impl Key {
+    /// No kind.
+    pub const NONE: Key = Key(0);
+
+    /// The number of a kind.
+    pub const fn of(kind: &[u8]) -> Key {
+        let (mut number, mut at) = (0, kind.len());
+        if at > 15 {
+            return Key::NONE;
         }
+        while at > 0 {
+            at -= 1;
+            number = number << 8 | kind[at] as u128;
+        }
+        Key(number | (kind.len() as u128) << 120)
     }
-    ""
+
+    /// The number of a kind that a table has, which the compiler finds. A longer kind would be none.
+    pub const fn of_table(kind: &str) -> Key {
+        assert!(kind.len() <= 15, "a kind has at most 15 bytes, as in Linux");
+        Key::of(kind.as_bytes())
+    }
+
+    /// The kind of a payload, as [`kind_text`] reads it.
+    #[inline]
+    pub fn of_payload(payload: &[u8]) -> Option<Key> {
+        let text = payload.strip_suffix(&[0]).unwrap_or(payload);
+        (text.is_ascii() || core::str::from_utf8(text).is_ok()).then(|| Key::of(text))
+    }
 }
 
-/// An attribute that was read: the `nla_type` with which it would be written, the bytes after the record that it holds, and true for a kind.
-pub type Taken<'b> = (u16, &'b [u8], bool);
-
-/// Reads the attributes of a list with `read`. `None` if it returns `None`.
-#[inline(never)]
-pub fn read_frames<'b>(
-    mut bytes: &'b [u8],
-    mut at: Place<'b>,
-    kinds: Kinds,
-    read: &mut dyn FnMut(u16, &'b [u8], Place<'b>) -> Option<Taken<'b>>,
-) -> Option<Option<Box<Aside>>> {
-    let mut aside = Aside::default();
-    if kinds == Kinds::Own {
-        at.kind = own_kind(bytes);
-    }
-    let mut count = 0;
-    while let Some((word, payload, padding)) = front(&mut bytes) {
-        let set = if word & NLA_TYPE_MASK == 1 { kind_text(payload) } else { None };
-        if let (Kinds::InForce, Some(kind)) = (kinds, set) {
-            at.kind = kind;
-        }
-        let (written, rest, is_kind) = read(word, payload, at)?;
-        let odd = Odd {
-            at: count,
-            word: (word != written).then_some(word),
-            padding: (padding != &[0; 3][..missing(payload.len())]).then(|| padding.to_vec()),
-            rest: rest.to_vec(),
-            is_bare: is_kind && payload.last() != Some(&0),
-        };
-        if odd != (Odd { at: count, ..Odd::default() }) {
-            aside.odd.push(odd);
-        }
-        count += 1;
-    }
-    at.is_broken.set(at.is_broken.get() || !bytes.is_empty());
-    aside.tail = bytes.to_vec();
-    Some((aside != Aside::default()).then(|| Box::new(aside)))
+/// Bytes that are being written.
+#[derive(Default)]
+pub struct Out {
+    /// The bytes written so far.
+    pub bytes: Vec<u8>,
+    /// True if an attribute is too long or a number too large for its width. The bytes are of no use then.
+    pub is_unfit: bool,
 }
 
-/// Writes the attributes of a list. `write` writes the payload of one, without the NUL of a kind if it is told so, and returns its `nla_type`.
-#[inline(never)]
-pub fn write_frames(
-    count: usize,
-    aside: Option<&Aside>,
-    out: &mut Out,
-    write: &mut dyn FnMut(usize, bool, &mut Out) -> u16,
-) {
-    let mut odd = aside.map_or(&[][..], |aside| &aside.odd).iter().peekable();
-    for at in 0..count {
-        out.put_frame(odd.next_if(|odd| odd.at == at), &mut |is_bare, out| write(at, is_bare, out));
+impl Out {
+    #[inline(always)]
+    pub fn put(&mut self, bytes: &[u8]) {
+        self.bytes.extend_from_slice(bytes);
     }
-    out.put(aside.map_or(&[], |aside| &aside.tail));
+
+    /// Writes a value of a form of one width.
+    #[inline(always)]
+    pub fn put_stored<F: Form + ?Sized>(&mut self, value: &F::Value) {
+        let start = self.bytes.len();
+        self.bytes.resize(start + F::WIDTH.unwrap_or(0), 0);
+        self.is_unfit |= !F::store(value, &mut self.bytes[start..]);
+    }
+
+    /// Writes an attribute: its header, its payload and its padding at once, if the payload has one width.
+    #[inline(always)]
+    pub fn put_frame<F: Form>(&mut self, word: u16, value: &F::Value) {
+        let start = self.bytes.len();
+        if let Some(width) = F::WIDTH {
+            self.bytes.resize(start + 4 + width + missing(width), 0);
+            let frame = &mut self.bytes[start..][..4 + width];
+            frame[..2].copy_from_slice(&((width + 4) as u16).to_le_bytes());
+            frame[2..4].copy_from_slice(&word.to_le_bytes());
+            self.is_unfit |= !F::store(value, &mut frame[4..]);
+        } else {
+            self.put(&(u32::from(word) << 16).to_le_bytes());
+            F::write(value, self);
+            self.end_frame(start);
+        }
+    }
+
+    /// Writes the length and the padding of the attribute that starts here, and whose payload ends the bytes.
+    #[inline(never)]
+    pub fn end_frame(&mut self, start: usize) {
+        let payload = self.bytes.len() - start - 4;
+        self.is_unfit |= payload > MOST;
+        self.bytes[start..start + 2].copy_from_slice(&((payload + 4) as u16).to_le_bytes());
+        self.bytes.resize(start + 4 + payload + missing(payload), 0);
+    }
 }
