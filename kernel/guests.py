@@ -78,7 +78,7 @@ def booting(folder):
     own = [f"DIR={folder}", f"OUT={OUT}", f"MODULES={kernel.modules}", f"SLOWNESS={kernel.slowness}", "quiet"]
     if kernel.is_uml:
         return [*kernel.words, "mem=256M", "rootfstype=hostfs", "rw", "con=null", "con0=fd:0,fd:1", f"uml_dir={folder}/", "umid=guest", f"init={OUT}/guest", *own]
-    return [*kernel.words, "-append", " ".join(["console=ttyS0", "panic=-1", *own])]
+    return [*kernel.words, "-append", " ".join(["console=ttyS0", "panic=-1", "no_timer_check", *own])]
 
 
 # How a request ended, and the (type, bytes) that came back before that; `offset` is None if the kernel names no

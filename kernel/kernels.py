@@ -23,7 +23,8 @@ PARTS = r"linux-(?:image|modules)-\d"  # the packages with a kernel and its modu
 # Modules by which a guest has the machine's files, before it can load others from there; those that a kernel lacks are built into it.
 FIRST = ("virtio", "virtio_ring", "virtio_pci_modern_dev", "virtio_pci_legacy_dev", "virtio_pci", "fscache", "netfs", "9pnet", "9pnet_virtio", "9p")
 
-WANTED = r"(net|lib|crypto|arch|fs/(9p|netfs|fscache)|drivers/(virtio|net/(dummy|ifb|nlmon|veth|netdevsim|geneve|vxlan))|kernel)/"  # folders of modules, for all that these need
+# Modules that a guest may need, with what these need.
+WANTED = r"(net|lib|crypto|arch|kernel|fs/(9p|netfs|fscache)|drivers/(virtio|net/netdevsim))/|drivers/net/(dummy|ifb|nlmon|veth)\.ko"
 
 TRIAL = 30  # seconds in which a kernel has to end with KVM
 SLOWLY = 8  # how much longer what has a time limit takes without KVM
@@ -47,7 +48,8 @@ def uml():
     path = shutil.which("linux.uml")
     if not path or not os.path.isdir("/usr/lib/uml/modules"):
         raise Lacking("The package user-mode-linux is not installed, which has the kernel that is asked.")
-    return Kernel("uml", [path], "/usr/lib/uml/modules", 1, True)
+    release = next(iter(sorted(os.listdir("/usr/lib/uml/modules"))), "")
+    return Kernel(f"{release}-uml", [path], "/usr/lib/uml/modules", 1, True)
 
 
 # ---- Packages

@@ -55,6 +55,10 @@ class Programs:
         """Applies a save. What was there before is kept in the folder `state`."""
         return self.command(f"timeout {100 * chosen().slowness} $TCAPPLY {ALLOWED['tcapply']} --state {state} {file}")
 
+    def applied(self, dev, command, state):
+        """Applies to an interface what a command makes."""
+        return self.command(f"timeout {100 * chosen().slowness} $TCAPPLY --state {state} --dev {dev} -- {command}")
+
     def words(self, name, *options):
         """The words that start a program, without a shell."""
         return " ".join([self.paths[name], *filter(None, [ALLOWED.get(name)]), *options])
