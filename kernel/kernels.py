@@ -5,10 +5,10 @@ with dpkg-deb. Nothing is installed."""
 
 import collections
 import glob
+import lzma
 import os
 import re
 import shutil
-import struct
 import subprocess
 
 HERE = os.path.dirname(os.path.abspath(__file__))
@@ -131,8 +131,8 @@ def make_modules(folder):
         relative = os.path.relpath(name, path)
         os.makedirs(os.path.dirname(f"{own}/{relative}"), exist_ok=True)
         if name.endswith(".xz"):
-            with open(f"{own}/{relative.removesuffix('.xz')}", "wb") as file:
-                subprocess.run([need("xz", "xz-utils"), "-dc", name], stdout=file, check=True)
+            with lzma.open(name) as file, open(f"{own}/{relative.removesuffix('.xz')}", "wb") as out:
+                shutil.copyfileobj(file, out)
         else:
             os.replace(name, f"{own}/{relative}")
     for name in glob.glob(f"{path}/modules.*"):
