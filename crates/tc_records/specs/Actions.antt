@@ -3,7 +3,7 @@ use Rattle.std.specs.Prelude.{◌≡◌, pos, Bool, ◌&&◌, nat_eq, List, [], 
 use Rattle.std.specs.Int.{w32, cast_unsigned}
 use Rattle.std.specs.Net.Addr.{ipv4_octets, IsUnspecifiedV4}
 use Rattle.tc_meaning.specs.Tree.{Scalar, plain, octets_of, blank}
-use Rattle.tc_fields.specs.Numbers.{family_scalar}
+use Rattle.tc_records.specs.Numbers.{family_scalar}
 use Rattle.tc_meaning.specs.Equal.{same_scalar}
 use Rattle.tc_records.specs.NatFlags.{nat_flags_word}
 use Rattle.tc_records.specs.ActionType.{action_type_scalar}

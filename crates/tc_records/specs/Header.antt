@@ -3,7 +3,7 @@ use Rattle.std.specs.Prelude.{pos, ℕ, ◌+◌, ◌*◌, ◌/◌, ◌%◌, List
 use Rattle.std.specs.Int.{w32, cast_unsigned}
 use Rattle.nla_frames.specs.declared.family.AddressFamily.TheVariants.{Unspec}
 use Rattle.tc_meaning.specs.Tree.{Scalar, plain, blank}
-use Rattle.tc_fields.specs.Numbers.{family_scalar}
+use Rattle.tc_records.specs.Numbers.{family_scalar}
 use Rattle.tc_records.specs.declared.header.TcHandle.{TcHandle}
 use Rattle.tc_records.specs.declared.header.TcHeader.{TcHeader}
 

@@ -1,3 +1,5 @@
+pub mod Numbers
+pub mod Record
 pub mod Header
 pub mod Statistics
 pub mod Tcf

@@ -8,12 +8,12 @@ ghost use Rattle.tc_records.specs.RecordWords.{on, seen, Scalar, SettledFields, 
 ghost use Rattle.tc_records.specs.Header.{handle_of, handle_number, header_scalars};
 
 use crate::same::both;
-use nla_frames::{AddressFamily, BytesMeaning, Emitable, Res, SettleBytes};
-use std::fmt;
-use tc_fields::{
+use crate::{
     Fields, FixedRecord, Octets, emit_record, is_settled_record, parse_record, record_len,
     same_family,
 };
+use nla_frames::{AddressFamily, BytesMeaning, Emitable, Res, SettleBytes};
+use std::fmt;
 
 /// The length of `struct tcmsg` in bytes.
 pub const TC_HEADER_LEN: usize = 20;

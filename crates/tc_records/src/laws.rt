@@ -20,7 +20,7 @@ ghost use Rattle.tc_records.specs.Header.{handle_of, handle_number, empty_header
 ghost use Rattle.tc_records.specs.Statistics.{stats_scalars, basic_scalars, queue_scalars, qd_stats_scalars, cl_stats_scalars};
 ghost use Rattle.tc_records.specs.Tcf.{tcf_scalars};
 ghost use Rattle.tc_records.specs.Actions.{action_message_header_scalars, mirror_scalars, tunnel_key_scalars, empty_generic, IsEmptyNat};
-ghost use Rattle.tc_fields.specs.Record.{ForgetsNothing};
+ghost use Rattle.tc_records.specs.Record.{ForgetsNothing};
 ghost use Rattle.tc_records.specs.Selector.{key_scalars};
 ghost use Rattle.tc_records.specs.Defaults.{DefaultsTo, zeros, mirror_default, tunnel_key_default};
 ghost use Rattle.tc_records.specs.Flags.{KnowsEvery};

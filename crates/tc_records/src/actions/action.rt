@@ -9,10 +9,10 @@ ghost use Rattle.tc_records.specs.ActionType.{action_type_of, action_type_number
 ghost use Rattle.tc_records.specs.Actions.{generic_scalars, same_generic_then};
 
 use crate::same::both;
-use nla_frames::{BytesMeaning, Emitable, Res, SettleBytes};
-use tc_fields::{
+use crate::{
     Fields, FixedRecord, Octets, emit_record, is_settled_record, parse_record, record_len,
 };
+use nla_frames::{BytesMeaning, Emitable, Res, SettleBytes};
 
 /// The length of `tc_gen` in bytes.
 pub const TC_ACTION_GENERIC_LEN: usize = 20;

@@ -6,11 +6,11 @@ ghost use Rattle.tc_records.specs.RecordWords.{on, seen, Scalar, SettledFields, 
 ghost use Rattle.tc_records.specs.Actions.{action_message_header_scalars};
 
 use crate::same::both;
-use nla_frames::{AddressFamily, BytesMeaning, Emitable, Res, SettleBytes};
-use tc_fields::{
+use crate::{
     Fields, FixedRecord, Octets, emit_record, is_settled_record, parse_record, record_len,
     same_family,
 };
+use nla_frames::{AddressFamily, BytesMeaning, Emitable, Res, SettleBytes};
 
 /// The length of `struct tcamsg` in bytes.
 pub const TCA_HEADER_LEN: usize = 4;

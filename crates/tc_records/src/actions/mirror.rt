@@ -8,12 +8,12 @@ ghost use Rattle.tc_records.specs.RecordWords.{on, seen, Scalar, SettledFields, 
 ghost use Rattle.tc_records.specs.MirrorActionType.{mirror_action_type_of, mirror_action_type_number, mirror_action_type_scalar};
 ghost use Rattle.tc_records.specs.Actions.{mirror_scalars};
 
-use crate::TcActionGeneric;
 use crate::same::both;
-use nla_frames::{BytesMeaning, Emitable, Res, SettleBytes};
-use tc_fields::{
-    Fields, FixedRecord, Octets, emit_record, is_settled_record, parse_record, record_len,
+use crate::{
+    Fields, FixedRecord, Octets, TcActionGeneric, emit_record, is_settled_record, parse_record,
+    record_len,
 };
+use nla_frames::{BytesMeaning, Emitable, Res, SettleBytes};
 
 /// The length of `struct tc_mirred` in bytes.
 pub const TC_MIRROR_LEN: usize = 28;

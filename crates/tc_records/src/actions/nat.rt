@@ -6,13 +6,13 @@ ghost use Rattle.tc_records.specs.RecordWords.{on, seen, Scalar, SettledFields, 
 ghost use Rattle.tc_records.specs.Actions.{nat_scalars};
 
 use crate::same::both;
-use crate::{TcActionGeneric, TcNatFlags};
+use crate::{
+    Fields, FixedRecord, Octets, TcActionGeneric, TcNatFlags, emit_record, is_settled_record,
+    parse_record, record_len,
+};
 use bitflags::Flags;
 use nla_frames::{BytesMeaning, Emitable, Res, SettleBytes};
 use std::net::Ipv4Addr;
-use tc_fields::{
-    Fields, FixedRecord, Octets, emit_record, is_settled_record, parse_record, record_len,
-};
 
 /// The length of `struct tc_nat` in bytes.
 pub const TC_NAT_LEN: usize = 36;

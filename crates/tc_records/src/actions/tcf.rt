@@ -5,10 +5,10 @@ ghost use Rattle.tc_canon.specs.Layouts.{tcf};
 ghost use Rattle.tc_records.specs.RecordWords.{seen, Scalar, read_record, record_codec};
 ghost use Rattle.tc_records.specs.Tcf.{tcf_scalars};
 
-use nla_frames::{BytesMeaning, Emitable, Res, SettleBytes};
-use tc_fields::{
+use crate::{
     Fields, FixedRecord, Octets, emit_record, is_settled_record, parse_record, record_len,
 };
+use nla_frames::{BytesMeaning, Emitable, Res, SettleBytes};
 
 /// The length of `struct tcf_t` in bytes.
 pub const TCF_LEN: usize = 32;

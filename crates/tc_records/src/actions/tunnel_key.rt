@@ -5,12 +5,12 @@ ghost use Rattle.tc_canon.specs.Layouts.{tunnel_key};
 ghost use Rattle.tc_records.specs.RecordWords.{on, seen, Scalar, SettledFields, read_record, record_codec, same_scalars, scalars_equiv, scalars_per};
 ghost use Rattle.tc_records.specs.Actions.{tunnel_key_scalars};
 
-use crate::TcActionGeneric;
 use crate::same::both;
-use nla_frames::{BytesMeaning, Emitable, Res, SettleBytes};
-use tc_fields::{
-    Fields, FixedRecord, Octets, emit_record, is_settled_record, parse_record, record_len,
+use crate::{
+    Fields, FixedRecord, Octets, TcActionGeneric, emit_record, is_settled_record, parse_record,
+    record_len,
 };
+use nla_frames::{BytesMeaning, Emitable, Res, SettleBytes};
 
 /// The length of `struct tc_tunnel_key` in bytes.
 pub const TC_TUNNEL_KEY_LEN: usize = 24;

@@ -13,15 +13,15 @@ ghost use Rattle.tc_meaning.specs.Content.{Selector, read_record, read_keys, rea
 ghost use Rattle.tc_meaning.specs.Equal.{same_scalars, same_selector, scalars_equiv, scalars_per, selector_equiv, selector_per};
 ghost use Rattle.tc_records.specs.Selector.{key_scalars, keys_bytes, head_scalars, selector_of, empty_selector};
 
-use crate::TcU32SelectorFlags;
 use crate::same::both;
+use crate::{
+    Fields, FixedRecord, Octets, TcU32SelectorFlags, emit_record, is_settled_record, parse_record,
+    record_len,
+};
 use bitflags::Flags;
 use nla_frames::laws::in_range::{u8_is_in_range, u16_is_in_range, u32_is_in_range};
 use nla_frames::{BytesMeaning, DecodeError, Emitable, Res, SettleBytes, put_bytes};
 use std::alloc::{Allocator, Global};
-use tc_fields::{
-    Fields, FixedRecord, Octets, emit_record, is_settled_record, parse_record, record_len,
-};
 
 /// The length of `struct tc_u32_key` in bytes.
 pub const TC_U32_KEY_LEN: usize = 16;

@@ -1,7 +1,7 @@
 //! `==` is true if and only if the abstract values are equal.
 
 ghost use Rattle.nla_frames.specs.DefaultNla.{kept_frame};
-ghost use Rattle.tc_fields.specs.Numbers.{family_scalar};
+ghost use Rattle.tc_records.specs.Numbers.{family_scalar};
 ghost use Rattle.tc_records.specs.Header.{handle_number, header_scalars};
 ghost use Rattle.tc_records.specs.Actions.{action_message_header_scalars, generic_scalars, mirror_scalars, nat_scalars, tunnel_key_scalars};
 ghost use Rattle.tc_records.specs.ActionType.{action_type_scalar};

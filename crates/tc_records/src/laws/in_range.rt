@@ -6,8 +6,7 @@ ghost use Rattle.tc_meaning.specs.Layout.{TypedFields};
 ghost use Rattle.tc_records.specs.Header.{header_scalars};
 ghost use Rattle.tc_records.specs.Actions.{action_message_header_scalars};
 
-use crate::{TcActionMessageHeader, TcHeader};
-use tc_fields::FixedRecord;
+use crate::{FixedRecord, TcActionMessageHeader, TcHeader};
 
 /// The header of a traffic control message.
 pub fn header_in_range(header: &TcHeader)

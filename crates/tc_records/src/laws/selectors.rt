@@ -4,9 +4,8 @@ ghost use Rattle.std.specs.Prelude.{◌≡◌, map};
 ghost use Rattle.std.specs.Int.{w16, cast_unsigned};
 ghost use Rattle.tc_records.specs.Selector.{key_scalars, selector_of};
 
-use crate::{TcU32Key, TcU32Selector};
+use crate::{FixedRecord, TcU32Key, TcU32Selector};
 use std::alloc::Allocator;
-use tc_fields::FixedRecord;
 
 /// Selectors with equal abstract values have the same fields and the same keys.
 pub fn selector_forgets_nothing<A: Allocator>(a: &TcU32Selector<A>, b: &TcU32Selector<A>)

@@ -5,10 +5,10 @@ ghost use Rattle.tc_canon.specs.Layouts.{fq_codel_qd_stats, fq_codel_cl_stats};
 ghost use Rattle.tc_records.specs.RecordWords.{on, seen, Scalar, read_record, record_codec, same_scalars, scalars_equiv, scalars_per};
 ghost use Rattle.tc_records.specs.Statistics.{qd_stats_scalars, cl_stats_scalars};
 
-use nla_frames::{BytesMeaning, Emitable, Res, SettleBytes};
-use tc_fields::{
+use crate::{
     Fields, FixedRecord, Octets, emit_record, is_settled_record, parse_record, record_len,
 };
+use nla_frames::{BytesMeaning, Emitable, Res, SettleBytes};
 
 /// The length of `struct tc_fq_codel_qd_stats` in bytes.
 pub const TC_FQ_CODEL_QD_STATS_LEN: usize = 36;

@@ -5,10 +5,10 @@ ghost use Rattle.tc_canon.specs.Layouts.{stats_basic};
 ghost use Rattle.tc_records.specs.RecordWords.{seen, Scalar, read_record, record_codec};
 ghost use Rattle.tc_records.specs.Statistics.{basic_scalars};
 
-use nla_frames::{BytesMeaning, Emitable, Res, SettleBytes};
-use tc_fields::{
+use crate::{
     Fields, FixedRecord, Octets, emit_record, is_settled_record, parse_record, record_len,
 };
+use nla_frames::{BytesMeaning, Emitable, Res, SettleBytes};
 
 /// The length of `struct gnet_stats_basic` in bytes.
 pub const TC_STATS_BASIC_LEN: usize = 16;

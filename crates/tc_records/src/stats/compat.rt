@@ -5,10 +5,10 @@ ghost use Rattle.tc_canon.specs.Layouts.{stats};
 ghost use Rattle.tc_records.specs.RecordWords.{seen, Scalar, read_record, record_codec};
 ghost use Rattle.tc_records.specs.Statistics.{stats_scalars};
 
-use nla_frames::{BytesMeaning, Emitable, Res, SettleBytes};
-use tc_fields::{
+use crate::{
     Fields, FixedRecord, Octets, emit_record, is_settled_record, parse_record, record_len,
 };
+use nla_frames::{BytesMeaning, Emitable, Res, SettleBytes};
 
 /// The length of `struct tc_stats` in bytes, with its padding.
 pub const TC_STATS_LEN: usize = 40;

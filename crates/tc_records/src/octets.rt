@@ -4,7 +4,7 @@ ghost use Rattle.std.specs.Prelude.{◌≡◌, ◌≤◌, ◌+◌, ◌++◌, [],
 ghost use Rattle.std.specs.Int.{w16, w32, cast_unsigned};
 ghost use Rattle.std.specs.Net.Addr.{ipv4_octets};
 ghost use Rattle.nla_frames.specs.Value.{le_bytes, be_bytes};
-ghost use Rattle.tc_fields.specs.Record.{written, filled};
+ghost use Rattle.tc_records.specs.Record.{written, filled};
 
 use nla_frames::{i32_bytes, u16_be_bytes, u16_bytes, u32_be_bytes, u32_bytes, u64_bytes};
 use std::net::Ipv4Addr;

@@ -4,7 +4,7 @@ ghost use Rattle.std.specs.Prelude.{◌≡◌, ◌∷◌, [], refl};
 ghost use Rattle.tc_canon.specs.Descriptor.{named};
 ghost use Rattle.tc_canon.specs.Layouts.{address_families};
 ghost use Rattle.tc_meaning.specs.Equal.{same_scalar};
-ghost use Rattle.tc_fields.specs.Numbers.{family_scalar};
+ghost use Rattle.tc_records.specs.Numbers.{family_scalar};
 
 use crate::{Fields, FixedRecord, Octets};
 use nla_frames::AddressFamily;

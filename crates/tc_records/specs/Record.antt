@@ -2,7 +2,7 @@
 use Rattle.std.specs.Prelude.{◌≡◌, ℕ, List, [], ◌∷◌, take, drop}
 use Rattle.tc_canon.specs.Descriptor.{Field}
 use Rattle.tc_canon.specs.Layouts.{width}
-use Rattle.tc_fields.specs.declared.octets.Octets.{Octets}
+use Rattle.tc_records.specs.declared.octets.Octets.{Octets}
 
 -- the bytes written so far, and their number
 unfoldable pub written : Octets → List ℕ

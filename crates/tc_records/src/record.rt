@@ -7,7 +7,7 @@ ghost use Rattle.tc_canon.specs.Descriptor.{Field};
 ghost use Rattle.tc_meaning.specs.Tree.{Scalar};
 ghost use Rattle.tc_meaning.specs.Layout.{size_of, read_fields, fields_bytes, TypedFields, SettledFields};
 ghost use Rattle.tc_meaning.specs.Content.{read_record};
-ghost use Rattle.tc_fields.specs.Record.{written, filled, after_fields};
+ghost use Rattle.tc_records.specs.Record.{written, filled, after_fields};
 
 use crate::{Fields, Octets};
 use nla_frames::{DecodeError, Res, put_bytes};
