@@ -6,3 +6,4 @@ pub mod Counting
 pub mod Putting
 pub mod Offsets
 pub mod Depth
+pub mod Trees

@@ -4,3 +4,4 @@ pub mod Attributes
 pub mod Views
 pub mod Nodes
 pub mod Offsets
+pub mod Spots

@@ -8,6 +8,7 @@ pub mod laws;
 mod level;
 mod nesting;
 mod table;
+pub mod tree;
 
 pub use attribute::{Attribute, BrokenFrame, Node};
 pub use attributes::Attributes;

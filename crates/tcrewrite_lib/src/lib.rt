@@ -5,4 +5,6 @@ mod answer;
 pub mod laws;
 pub mod mode;
 pub mod program;
+mod retries;
 pub mod run;
+mod write;

@@ -11,7 +11,7 @@ ghost use Rattle.tcrewrite_lib.specs.declared.program.Arguments.TheVariants.{Rep
 ghost use Rattle.tcrewrite_lib.specs.declared.run.RunError.{RunError};
 
 use crate::run::{RunError, run, without_memory};
-use program_io::fail_with;
+use crate::write::fail_with;
 use std::alloc::Allocator;
 use std::env::{self, Args};
 use std::io::{self, Error, ErrorKind, Input, Print, Read, Write};

@@ -3,7 +3,7 @@
 ghost use Rattle.std.specs.Prelude.{◌≡◌, ◌+◌, ◌<◌, ◌≤◌, length, Err, IfOk, IfErr, IfSome, OnOk, true, false};
 ghost use Rattle.std.specs.Io.{appended_bytes, StartsWith};
 ghost use Rattle.std.specs.Io.KnownBytes.{Consumes, IsAtEnd};
-ghost use Rattle.program_io.specs.Retries.{retries_left};
+ghost use Rattle.tcrewrite_lib.specs.Retries.{retries_left};
 ghost use Rattle.tcrewrite_lib.specs.Answer.{report_of};
 ghost use Rattle.tcrewrite_lib.specs.Text.{looked_at, most_text};
 ghost use Rattle.tcrewrite_lib.specs.Report.{IsReport, no_memory};
@@ -11,7 +11,8 @@ ghost use Rattle.tcrewrite_lib.specs.Run.{IsTextOf, Reports, RunReports};
 ghost use Rattle.tcrewrite_lib.specs.declared.run.TextError.TheVariants.{OutOfMemory};
 
 use crate::answer::{Answer, MOST_TEXT, answer_text};
-use program_io::{Retries, write_all};
+use crate::retries::Retries;
+use crate::write::write_all;
 use std::alloc::{AllocError, Allocator};
 use std::io::{Read, Write};
 use tc_capture::MessageType;

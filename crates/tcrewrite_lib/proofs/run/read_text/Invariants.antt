@@ -1,6 +1,6 @@
 use Rattle.std.proofs.Common.{◌+◌, ◌-◌, ◌≤◌, length}
 use Rattle.std.specs.Io.KnownBytes.{Consumes}
-use Rattle.program_io.specs.Retries.{retries_left}
+use Rattle.tcrewrite_lib.specs.Retries.{retries_left}
 use Rattle.tcrewrite_lib.proofs.run.read_text.Given as goal
 
 -- what was read so far is the text, which isn't over the limit by more than one byte

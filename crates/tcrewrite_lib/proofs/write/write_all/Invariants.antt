@@ -1,6 +1,6 @@
 use Rattle.std.proofs.Common.{length}
-use Rattle.program_io.specs.Written.{GrowsByFront}
-use Rattle.program_io.proofs.write.write_all.Given as goal
+use Rattle.tcrewrite_lib.specs.Written.{GrowsByFront}
+use Rattle.tcrewrite_lib.proofs.write.write_all.Given as goal
 
 -- what is written is the front, and what is left the rest
 abbrev pub invariant-parts : goal.invariant-parts

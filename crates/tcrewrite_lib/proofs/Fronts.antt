@@ -3,7 +3,7 @@ use Rattle.std.proofs.Common.{◌≡◌, ℕ, List, ◌++◌, take, drop, sym, a
 use Rattle.std.proofs.KnownBytes.{Appends-trans}
 use Rattle.std.specs.Prelude.{Option}
 use Rattle.std.specs.Io.KnownBytes.{Appends}
-use Rattle.program_io.specs.Written.{GrowsByFront}
+use Rattle.tcrewrite_lib.specs.Written.{GrowsByFront}
 
 -- the front of the rest is appended too
 pub front_more : (a b c : Option (List ℕ)) (bytes rest after : List ℕ) (n : ℕ) → GrowsByFront a b bytes rest → after ≡ drop n rest → Appends b c (take n rest)

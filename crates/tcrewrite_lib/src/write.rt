@@ -3,7 +3,7 @@
 ghost use Rattle.std.specs.Prelude.{◌≡◌, ◌≤◌, [], length, take, IfOk, OnOk, OnErr, List, ℕ};
 ghost use Rattle.std.specs.Io.{WritesAtMost};
 ghost use Rattle.std.specs.Io.KnownBytes.{Appends, Keeps, WriteAppends};
-ghost use Rattle.program_io.specs.Written.{GrowsByFront};
+ghost use Rattle.tcrewrite_lib.specs.Written.{GrowsByFront};
 
 use crate::retries::MOST_RETRIES;
 use std::io::{Error, ErrorKind, Write};

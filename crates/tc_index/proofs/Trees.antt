@@ -22,7 +22,7 @@ use Rattle.tc_index.specs.declared.attribute.BrokenFrame.{BrokenFrame}
 use Rattle.tc_index.specs.Nesting.{class_at, class_in, known_table, table_under, first_kind, list_in}
 use Rattle.tc_index.specs.Attributes.{Item, Yields, each, within, with_inner, attributes_in, to_fault, message_items}
 use Rattle.tc_index.proofs.Depth.{lists_in, lists_of, lists_at, lists_under}
-use Rattle.tc_index_laws.specs.Spots.{Spot, spots_of, spots_within, spots_in, spot_of, found, AreAt}
+use Rattle.tc_index.specs.Spots.{Spot, spots_of, spots_within, spots_in, spot_of, found, AreAt}
 
 -- ---- readings that succeed
 

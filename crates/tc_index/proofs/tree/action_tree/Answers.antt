@@ -5,8 +5,8 @@ use Rattle.tc_canon.specs.Descriptor.{table}
 use Rattle.tc_canon.specs.Tables.Messages.{action_message_attributes}
 use Rattle.tc_meaning.specs.Meaning.{table_codec}
 use Rattle.tc_index.specs.Attributes.{action_items}
-use Rattle.tc_index_laws.proofs.Walks.{message-at}
-use Rattle.tc_index_laws.proofs.action_tree.Goals as goal
+use Rattle.tc_index.proofs.Trees.{message-at}
+use Rattle.tc_index.proofs.tree.action_tree.Goals as goal
 
 pub returns : goal.returns
 unfolding action_items

@@ -2,7 +2,7 @@
 
 ghost use Rattle.std.specs.Prelude.{◌≡◌, ◌+◌, ◌⊎◌, ◌≢◌, true, false};
 ghost use Rattle.std.specs.IoError.{error_kind};
-ghost use Rattle.program_io.specs.Retries.{retries_left};
+ghost use Rattle.tcrewrite_lib.specs.Retries.{retries_left};
 
 use std::io::{Error, ErrorKind};
 

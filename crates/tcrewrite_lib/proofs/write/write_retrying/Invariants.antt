@@ -1,5 +1,5 @@
 use Rattle.std.specs.Io.KnownBytes.{Keeps}
-use Rattle.program_io.proofs.write.write_retrying.Given as goal
+use Rattle.tcrewrite_lib.proofs.write.write_retrying.Given as goal
 
 -- nothing is written as long as writes are interrupted
 abbrev pub invariant-tries : goal.invariant-tries

@@ -5,8 +5,8 @@ use Rattle.tc_canon.specs.Kind.{kind_of_frame}
 use Rattle.tc_canon.specs.Tables.Messages.{attributes}
 use Rattle.tc_meaning.specs.Meaning.{table_codec}
 use Rattle.tc_index.specs.Attributes.{tc_items}
-use Rattle.tc_index_laws.proofs.Walks.{message-at}
-use Rattle.tc_index_laws.proofs.tc_tree.Goals as goal
+use Rattle.tc_index.proofs.Trees.{message-at}
+use Rattle.tc_index.proofs.tree.tc_tree.Goals as goal
 
 pub returns : goal.returns
 unfolding tc_items

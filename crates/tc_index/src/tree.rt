@@ -1,5 +1,4 @@
-//! The attributes that `tc_index` finds in a message are the ones of the value that it reads as.
-#![tactic(auto)]
+//! A law: the attributes that are found in a message are the ones of the value that it reads as.
 
 ghost use Rattle.nla_frames.specs.Reading.{keep};
 ghost use Rattle.tc_canon.specs.Layouts.{tc_header, action_message_header};
@@ -7,7 +6,7 @@ ghost use Rattle.tc_canon.specs.Tables.Messages.{attributes, action_message_attr
 ghost use Rattle.tc_meaning.specs.Tree.{attributes_of};
 ghost use Rattle.tc_meaning.specs.Message.{Message, ReadsMessage, ReadsWith};
 ghost use Rattle.tc_index.specs.Attributes.{tc_items, action_items};
-ghost use Rattle.tc_index_laws.specs.Spots.{AreAt, spots_in};
+ghost use Rattle.tc_index.specs.Spots.{AreAt, spots_in};
 
 /// If a traffic control message can be read, its attributes are those of the value: in order, each before those nested
 /// in it, of the same types and depths, and no frame is malformed.

@@ -1,6 +1,6 @@
 -- Retries of reads and writes that were interrupted.
 use Rattle.std.specs.Prelude.{ℕ}
-use Rattle.program_io.specs.declared.retries.Retries.{Retries}
+use Rattle.tcrewrite_lib.specs.declared.retries.Retries.{Retries}
 
 -- the number of retries that are left
 abbrev pub retries_left : Retries → ℕ
