@@ -1,5 +1,5 @@
 -- A state: the objects that a kernel has, and their order.
-use Rattle.std.specs.Prelude.{◌≡◌, Bool, true, not, cond, ◌&&◌, List, [], ◌∷◌, ◌++◌, Option, Some, None, is_some}
+use Rattle.std.specs.Prelude.{◌≡◌, Bool, true, false, not, cond, ◌&&◌, List, [], ◌∷◌, ◌++◌, Option, Some, None, is_some}
 use Rattle.std.specs.List.{list_any, list_all}
 
 -- an object: its key, the keys that it is under (it goes with each), those that it only refers to (none goes before it), and its
@@ -47,6 +47,11 @@ module _ {K C : Type 0} (eq : K → K → Bool) where
   abbrev pub ready : List K → List (Thing K C) → Bool
   ready before [] = true
   ready before (o ∷ state) = is_next before o && ready (o.key ∷ before) state
+
+  -- this is the key of the first object that isn't in order after those before it
+  abbrev pub IsStuck : List (Thing K C) → K → Type 0
+  IsStuck state k = (front : List (Thing K C)) × (o : Thing K C) × (rest : List (Thing K C))
+      × (state ≡ front ++ o ∷ rest) × (k ≡ o.key) × (ready [] front ≡ true) × (ready [] (front ++ o ∷ []) ≡ false)
 
   -- some order of a state has each object after all that it needs
   abbrev pub IsWhole : List (Thing K C) → Type 0

@@ -1,9 +1,11 @@
 -- All that a plan promises.
-use Rattle.std.specs.Prelude.{◌≡◌, ◌≢◌, [], true, Bool, List, All}
-use Rattle.tc_changes.specs.Model.{Same}
+use Rattle.std.specs.Prelude.{◌≡◌, ◌≢◌, ⊤, [], true, Bool, List, All}
+use Rattle.tc_changes.specs.Model.{Same, IsStuck}
 use Rattle.tc_changes.specs.Requests.{Leads, LeavesWhole}
 use Rattle.tc_changes.specs.Plans.{fits, IsExact, IsConfined, IsLeftAlone, IsSpared, IsBarred, barred_keys}
 use Rattle.tc_changes.specs.Objects.{KernelThing, same_key, alike, IfSteps, IfRefused, IsNothing, IsRefused}
+use Rattle.tc_changes.specs.declared.plan_error.PlanError.{PlanError}
+use Rattle.tc_changes.specs.declared.plan_error.PlanError.TheVariants.{State, Wanted, Elsewhere, OutOfMemory}
 use Rattle.tc_changes.specs.declared.step.Plan.{Plan}
 
 -- what a plan from a state to another promises, by the changes that the kernel takes and the objects that it makes
@@ -25,3 +27,17 @@ pub record IsPlan {A : Type 0} (takes : KernelThing → KernelThing → Bool) (c
   pub sends : IfSteps plan (λ steps. barred_keys can_make steps ≡ [])
   pub refuses : IfRefused plan (λ keys. (keys ≢ []) × All (IsBarred same_key (fits alike takes) now want can_make) keys)
   pub returns : All (λ o. can_make o ≡ true) want → IsRefused plan → ⊥
+
+-- an error names the first object that isn't in order, in the state that it names
+abbrev pub IsUnready : List KernelThing → List KernelThing → PlanError → Type 0
+IsUnready now want (State key) = IsStuck same_key now key
+IsUnready now want (Wanted key) = IsStuck same_key want key
+IsUnready now want (Elsewhere key) = ⊥
+IsUnready now want OutOfMemory = ⊤
+
+-- the same of a plan for a part of a state: of what is wanted nothing is said by itself
+abbrev pub IsUnreadyNow : List KernelThing → PlanError → Type 0
+IsUnreadyNow now (State key) = IsStuck same_key now key
+IsUnreadyNow now (Wanted key) = ⊥
+IsUnreadyNow now (Elsewhere key) = ⊤
+IsUnreadyNow now OutOfMemory = ⊤

@@ -1,9 +1,7 @@
 //! The requests that bring a kernel from the state that it has to the state that is wanted.
 //!
 //! ```
-//! if !is_ready(alloc, &state)? || !is_ready(alloc, &want)? {
-//!     return Err(Error::Order); // two objects of one name, or one without what it needs before it
-//! }
+//! // an error if two objects of a state have one name, or one comes before what it needs
 //! match plan(alloc, &rules, &state, want)? {
 //!     Plan::Steps(steps) => send(&steps)?,    // none, if nothing differs
 //!     Plan::Refused(keys) => report(&keys)?,  // these can't be made, or must be made again

@@ -1,7 +1,7 @@
 //! Objects in order: each after all that it needs.
 
-ghost use Rattle.std.specs.Prelude.{◌≡◌, [], List, IfOk, is_none};
-ghost use Rattle.tc_changes.specs.Model.{ready, is_next};
+ghost use Rattle.std.specs.Prelude.{◌≡◌, [], List, IfOk, IfSome, is_none};
+ghost use Rattle.tc_changes.specs.Model.{ready, is_next, IsStuck};
 ghost use Rattle.tc_changes.specs.Objects.{thing, things, same_key, IsSetOf};
 
 use crate::key::Key;
@@ -23,7 +23,8 @@ pub(crate) fn stuck<A: Allocator + Copy>(
     alloc: A,
     objects: &[Object<A>],
 ) -> Result<Option<Key>, AllocError>
-    ensures { IfOk result (λ stuck. is_none stuck ≡ ready same_key [] (things objects.now)) }
+    ensures none { IfOk result (λ stuck. is_none stuck ≡ ready same_key [] (things objects.now)) }
+    ensures some { IfOk result (λ stuck. IfSome stuck (IsStuck same_key (things objects.now))) }
 {
     let mut before = HashSet::new(alloc);
     for object in objects {

@@ -1,4 +1,4 @@
-//! Why there is no plan for a part of a state.
+//! Why there is no plan.
 
 ghost use Rattle.std.specs.Prelude.{◌≡◌};
 ghost use Rattle.tc_changes.specs.declared.plan_error.PlanError.TheVariants.{OutOfMemory};
@@ -6,9 +6,16 @@ ghost use Rattle.tc_changes.specs.declared.plan_error.PlanError.TheVariants.{Out
 use crate::key::Key;
 use std::alloc::{AllocError, AllocFailed};
 
-/// Why there is no plan for a part of a state.
+/// Why there is no plan.
 #[derive(Clone, Copy, PartialEq, Eq, Drop, Debug)]
 pub enum PlanError {
+    /// The present state isn't in order: the first object that has the key of one before it, or that comes before one that
+    /// it needs.
+    State(Key),
+
+    /// The same of the wanted state.
+    Wanted(Key),
+
     /// An object elsewhere lacks one that it needs, or would have to be made again.
     Elsewhere(Key),
 

@@ -1,16 +1,20 @@
 //! Plans.
 
-ghost use Rattle.std.specs.Prelude.{◌≡◌, ◌≢◌, [], ◌++◌, map, true, IfOk, List, reverse, option_to_list, All};
+ghost use Rattle.std.specs.Prelude.{◌≡◌, ◌≢◌, [], ◌++◌, map, true, IfErr, IfOk, List, reverse, option_to_list, All};
 ghost use Rattle.tc_changes.specs.Model.{ready, Same};
 ghost use Rattle.tc_changes.specs.Requests.{Delete, Leads, LeavesWhole};
 ghost use Rattle.tc_changes.specs.Plans.{fits, IsExact, IsConfined, IsLeftAlone, IsSpared, IsBarred, barred_keys, barred_by};
 ghost use Rattle.tc_changes.specs.Planned.{makes, planned};
+ghost use Rattle.tc_changes.specs.Promises.{IsUnready};
+ghost use Rattle.tc_changes.specs.declared.plan_error.PlanError.TheVariants.{OutOfMemory};
 ghost use Rattle.tc_changes.specs.Objects.{things, same_key, alike, request, IsIndexOf, KernelThing, IfSteps, IfRefused, IsNothing, IsRefused};
 
 use crate::key::Key;
 use crate::object::Object;
+use crate::order::stuck;
 use crate::parts::{Parts, parted};
 use crate::places::{Index, index_of, look_up};
+use crate::plan_error::PlanError;
 use crate::rules::Rules;
 use crate::step::{Plan, Step};
 use std::alloc::{AllocError, Allocator};
@@ -19,7 +23,56 @@ use std::alloc::{AllocError, Allocator};
 /// (`is_ready`). Deletes come first, from below, and none that another delete makes needless. Then objects are changed and
 /// made, from above. A step that isn't sent any more leaves a state from which a plan leads on, or back. There are no steps if
 /// an object can't be made that is wanted and isn't there, or has to be made again.
+///
+/// # Errors
+///
+/// `PlanError::State` or `PlanError::Wanted` with the key of the first object that isn't in order, and
+/// `PlanError::OutOfMemory`.
 pub fn plan<A: Allocator + Copy, R: Rules<A>>(
+    alloc: A,
+    rules: &R,
+    state: &[Object<A>],
+    want: Vec<Object<A>, A>,
+) -> Result<Plan<A>, PlanError>
+    ensures reaches { IfOk result (λ plan. IfSteps plan (λ requests.
+        Leads same_key (R.takes rules.now) (things state.now) requests (things want.items))) }
+    ensures exact { IfOk result (λ plan. IfSteps plan (λ requests.
+        IsExact same_key (things state.now) (things want.items) requests)) }
+    ensures confined { IfOk result (λ plan. IfSteps plan (λ requests.
+        IsConfined (things state.now) (things want.items) requests)) }
+    ensures idle { IfOk result (λ plan.
+        Same same_key (things state.now) (things want.items) → IsNothing plan) }
+    ensures keeps { IfOk result (λ plan. IfSteps plan (λ requests.
+        IsLeftAlone same_key (fits alike (R.takes rules.now)) (things state.now) (things want.items) requests)) }
+    ensures spares { IfOk result (λ plan. IfSteps plan (λ requests.
+        IsSpared same_key (fits alike (R.takes rules.now)) (things state.now) (things want.items) requests)) }
+    ensures resumes { IfOk result (λ plan. IfSteps plan (λ requests.
+        LeavesWhole same_key (R.takes rules.now) (things state.now) requests)) }
+    ensures sends { IfOk result (λ plan. IfSteps plan (λ requests.
+        barred_keys (R.can_make rules.now) requests ≡ [])) }
+    ensures refuses { IfOk result (λ plan. IfRefused plan (λ keys. (keys ≢ [])
+        × All (IsBarred same_key (fits alike (R.takes rules.now)) (things state.now) (things want.items) (R.can_make rules.now)) keys)) }
+    ensures returns { IfOk result (λ plan.
+        All (λ o. R.can_make rules.now o ≡ true) (things want.items) → IsRefused plan → ⊥) }
+    // It is an error if one of the states isn't in order, or if memory runs out.
+    ensures unready { IfErr result (IsUnready (things state.now) (things want.items)) }
+    ensures possible { ready same_key [] (things state.now) ≡ true → ready same_key [] (things want.items) ≡ true
+        → IfErr result (λ e. e ≡ OutOfMemory) }
+{
+    let early = stuck(alloc, state)?;
+    if let Some(key) = early {
+        return Err(PlanError::State(key));
+    }
+    let late = stuck(alloc, &want)?;
+    if let Some(key) = late {
+        return Err(PlanError::Wanted(key));
+    }
+    let plan = plan_in_order(alloc, rules, state, want)?;
+    Ok(plan)
+}
+
+// The same of states in order.
+pub(crate) fn plan_in_order<A: Allocator + Copy, R: Rules<A>>(
     alloc: A,
     rules: &R,
     state: &[Object<A>],

@@ -5,7 +5,7 @@ ghost use Rattle.std.specs.List.{list_all};
 ghost use Rattle.tc_changes.specs.Model.{ready};
 ghost use Rattle.tc_changes.specs.Objects.{thing, things, request, same_key, IfSteps, IsSetOf};
 ghost use Rattle.tc_changes.specs.Plans as plans;
-ghost use Rattle.tc_changes.specs.Promises.{IsPlan};
+ghost use Rattle.tc_changes.specs.Promises.{IsPlan, IsUnreadyNow};
 ghost use Rattle.tc_changes.specs.Scope.{around, scope_of, scopes, is_named, completed, AreFree, IsWithin};
 ghost use Rattle.tc_changes.specs.declared.key.Key.{Key as KeyModel};
 ghost use Rattle.tc_changes.specs.declared.plan_error.PlanError.TheVariants.{OutOfMemory};
@@ -15,7 +15,7 @@ use crate::keys::Keys;
 use crate::object::Object;
 use crate::order::stuck;
 use crate::plan_error::PlanError;
-use crate::planned::plan;
+use crate::planned::plan_in_order;
 use crate::rules::Rules;
 use crate::step::{Plan, Step};
 use std::alloc::{AllocError, Allocator};
@@ -24,6 +24,11 @@ use std::collections::HashSet;
 /// The steps that lead to the wanted state on the interfaces and in the blocks where an object of it is, or one of these keys. An action is
 /// named by its own key alone. All else stays as it is. It is an error if an object elsewhere needs one that isn't wanted, or one that has to be
 /// made again.
+///
+/// # Errors
+///
+/// `PlanError::State` if the present state isn't in order, `PlanError::Elsewhere` if what is wanted isn't in order together
+/// with all that stays, and `PlanError::OutOfMemory`.
 pub fn plan_within<A: Allocator + Copy, R: Rules<A>>(
     alloc: A,
     rules: &R,
@@ -31,22 +36,28 @@ pub fn plan_within<A: Allocator + Copy, R: Rules<A>>(
     state: &[Object<A>],
     want: Vec<Object<A>, A>,
 ) -> Result<Plan<A>, PlanError>
-    requires state_ready { ready same_key [] (things state.now) ≡ true }
     // They are a plan to what is wanted there, and all else as it is, with all that `plan` promises.
     ensures planned { IfOk result (λ plan. IsPlan (R.takes rules.now) (R.can_make rules.now) (things state.now)
         (completed (scopes keys.now (things want.items)) (things state.now) (things want.items)) plan) }
     // Each is about an object there.
     ensures within { IfOk result (λ plan. IfSteps plan (IsWithin (scopes keys.now (things want.items)))) }
-    // There is a plan, unless memory runs out, if the wanted state is in order, and no object elsewhere needs one that is named.
-    ensures possible { ready same_key [] (things want.items) ≡ true → AreFree (scopes keys.now (things want.items)) (things state.now)
+    // The present state isn't in order.
+    ensures unready { IfErr result (IsUnreadyNow (things state.now)) }
+    // There is a plan, unless memory runs out, if both states are in order, and no object elsewhere needs one that is named.
+    ensures possible { ready same_key [] (things state.now) ≡ true → ready same_key [] (things want.items) ≡ true
+        → AreFree (scopes keys.now (things want.items)) (things state.now)
         → IfErr result (λ e. e ≡ OutOfMemory) }
 {
+    let early = stuck(alloc, state)?;
+    if let Some(key) = early {
+        return Err(PlanError::State(key));
+    }
     let named = named_by(alloc, keys, &want)?;
     let all = completed(alloc, &named, state, want)?;
     if let Some(key) = stuck(alloc, &all)? {
         return Err(PlanError::Elsewhere(key));
     }
-    let plan = plan(alloc, rules, state, all)?;
+    let plan = plan_in_order(alloc, rules, state, all)?;
     match first_elsewhere(&named, &plan) {
         Some(key) => Err(PlanError::Elsewhere(key)),
         None => Ok(plan),

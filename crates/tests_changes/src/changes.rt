@@ -3,7 +3,7 @@
 ghost use Rattle.std.specs.Prelude.{true, false, not, nat_eq, slice_index};
 
 use std::alloc::{AllocError, Global};
-use tc_changes::{Key, Object, Plan, Rules, Step, is_ready, plan};
+use tc_changes::{Key, Object, Plan, PlanError, Rules, Step, is_ready, plan};
 
 struct Anything;
 
@@ -101,18 +101,28 @@ fn state(alloc: Global, configs: &[u8; 6]) -> Result<Vec<Object<Global>>, AllocE
     Ok(made)
 }
 
+// Why there is no plan: the state of now (`now`) or the wanted one (`want`) isn't in order, and the number of the object because of which.
+fn unready(alloc: Global, error: &PlanError) -> Result<String, AllocError> {
+    match error {
+        PlanError::State(key) => format!(in alloc; "now {}", number_of(key)),
+        PlanError::Wanted(key) => format!(in alloc; "want {}", number_of(key)),
+        PlanError::Elsewhere(key) => format!(in alloc; "elsewhere {}", number_of(key)),
+        PlanError::OutOfMemory => Err(AllocError),
+    }
+}
+
 fn shown<R: Rules<Global>>(
     alloc: Global,
     rules: &R,
     state: &[Object<Global>],
     want: Vec<Object<Global>>,
 ) -> Result<String, AllocError> {
+    let planned = match plan(alloc, rules, state, want) {
+        Ok(planned) => planned,
+        Err(error) => return unready(alloc, &error),
+    };
     let mut made = String::new(alloc);
-    if !is_ready(alloc, state)? || !is_ready(alloc, &want)? {
-        made.push_str("not ready")?;
-        return Ok(made);
-    }
-    match plan(alloc, rules, state, want)? {
+    match planned {
         Plan::Steps(steps) => {
             for step in &steps {
                 let text = match step {
@@ -157,11 +167,15 @@ fn plans(rt: HostRuntime) -> Result<(), AllocError> {
     // twice the same object, and one without its qdisc
     let mut twice = state(alloc, &[0, 0, 0, 0, 0, 0])?;
     twice.push(object(alloc, 6, &[1], &[], 0)?)?;
+    assert!(rt; !is_ready(alloc, &twice)?);
+    let text = shown(alloc, &Nothing, &twice, Vec::new(alloc))?;
+    assert_eq!(rt; text.as_str(), "now 6");
     let text = shown(alloc, &Nothing, &now, twice)?;
-    assert_eq!(rt; text.as_str(), "not ready");
+    assert_eq!(rt; text.as_str(), "want 6");
     let mut alone = Vec::new(alloc);
     alone.push(object(alloc, 6, &[1], &[], 0)?)?;
+    assert!(rt; !is_ready(alloc, &alone)?);
     let text = shown(alloc, &Nothing, &now, alone)?;
-    assert_eq!(rt; text.as_str(), "not ready");
+    assert_eq!(rt; text.as_str(), "want 6");
     Ok(())
 }

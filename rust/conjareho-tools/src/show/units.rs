@@ -27,7 +27,7 @@ mod values;
 
 pub use flags::put_flags;
 pub use names::{Name, NameOf, name_of, number_of, put_named};
-pub use numerals::{put_decimal, put_hex};
+pub use numerals::{hex_digit, put_decimal, put_hex};
 pub use prefix::prefix_of;
 pub use unit::Unit;
 pub use units::{put_number, put_signed};

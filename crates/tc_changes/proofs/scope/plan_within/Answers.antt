@@ -34,18 +34,24 @@ returns-clause-within g c =
     (subst (λ l. IsSetOf c.in_ok-named.named (scopes c.args.keys.now (things l))) c.deref.ensures.value c.in_ok-named.ensures)
 
 pub returns-in-Some-clause-possible : goal.returns-in-Some-clause-possible
-returns-in-Some-clause-possible g c = λ wanted free.
+returns-in-Some-clause-possible g c = λ state_ready wanted free.
+    let stuck : is_none (Some c.in-Some.key) ≡ ready same_key [] (things c.args.state.now) =
+    subst (λ k. is_none k ≡ ready same_key [] (things c.args.state.now)) c.in-Some.is c.in_ok-early.ensures.none in
+    absurd (cc (stuck ∙ state_ready))
+
+pub returns-in-Some-2-clause-possible : goal.returns-in-Some-2-clause-possible
+returns-in-Some-2-clause-possible g c = λ state_ready wanted free.
     let named = scopes c.args.keys.now (things c.args.want.items) in
     let is_set = subst (λ l. IsSetOf c.in_ok-named.named (scopes c.args.keys.now (things l))) c.deref.ensures.value c.in_ok-named.ensures in
-    let stuck : is_none (Some c.in-Some.key) ≡ ready same_key [] (things c.in_ok-all.all.items) =
-    subst (λ k. is_none k ≡ ready same_key [] (things c.in_ok-all.all.items)) c.in-Some.is
-    (subst (λ l. is_none c.in_ok-key.field-0 ≡ ready same_key [] (things l)) c.deref-2.ensures.value c.in_ok-key.ensures) in
+    let stuck : is_none (Some c.in-Some-2.key) ≡ ready same_key [] (things c.in_ok-all.all.items) =
+    subst (λ k. is_none k ≡ ready same_key [] (things c.in_ok-all.all.items)) c.in-Some-2.is
+    (subst (λ l. is_none c.in_ok-key.field-0 ≡ ready same_key [] (things l)) c.deref-2.ensures.value c.in_ok-key.ensures.none) in
     absurd (cc (stuck ∙ ap (ready same_key []) (c.in_ok-all.ensures named is_set)
     ∙ completed_ready (g.R.Rules.takes c.args.rules.now) c.args.keys.now (things c.args.state.now)
-    (things c.args.want.items) c.requires.state_ready free wanted))
+    (things c.args.want.items) state_ready free wanted))
 
 pub returns-in-Some-first_elsewhere-clause-possible : goal.returns-in-Some-first_elsewhere-clause-possible
-returns-in-Some-first_elsewhere-clause-possible g c = λ wanted free.
+returns-in-Some-first_elsewhere-clause-possible g c = λ state_ready wanted free.
     let state = things c.args.state.now in
     let named = scopes c.args.keys.now (things c.args.want.items) in
     let takes = g.R.Rules.takes c.args.rules.now in
@@ -53,6 +59,6 @@ returns-in-Some-first_elsewhere-clause-possible g c = λ wanted free.
     let all = c.in_ok-all.ensures named is_set in
     let is = c.in_ok-plan.ensures in
     absurd (c.in-Some-first_elsewhere.ensures.elsewhere named is_set
-    (plan_is_within takes c.args.keys.now state (things c.args.want.items) c.requires.state_ready free c.in_ok-plan.plan
+    (plan_is_within takes c.args.keys.now state (things c.args.want.items) state_ready free c.in_ok-plan.plan
     (subst (λ w. IfSteps c.in_ok-plan.plan (λ steps. IsExact same_key state w steps)) all is.exact)
     (subst (λ w. IfSteps c.in_ok-plan.plan (λ steps. IsLeftAlone same_key (fits alike takes) state w steps)) all is.keeps)))

@@ -192,16 +192,24 @@ fn requests_to<R: Rules>(
     match plan_between(rules, keys, now, want) {
         Ok(planned) => Ok(line_requests(planned, was, is, remarks)?),
         Err(PlanError::OutOfMemory) => Err(AllocError),
+        Err(PlanError::State(key)) => {
+            complain(Source::Now, number_of(&key, was), &PlanComplaint::Unready(Label(key)), remarks)?;
+            Ok(Vec::new())
+        }
+        Err(PlanError::Wanted(key)) => {
+            complain(Source::Wanted, number_of(&key, is), &PlanComplaint::Unready(Label(key)), remarks)?;
+            Ok(Vec::new())
+        }
         Err(PlanError::Elsewhere(key)) => {
-            let number = was
-                .get(&key)
-                .copied()
-                .expect("required now_ready: ready same_key [] (things now.now.objects.items) ≡ true");
-            let complaint = PlanComplaint::Elsewhere(Label(key));
-            complain(Source::Now, number, &complaint, remarks)?;
+            complain(Source::Now, number_of(&key, was), &PlanComplaint::Elsewhere(Label(key)), remarks)?;
             Ok(Vec::new())
         }
     }
+}
+
+// The number of the line of an object, or 0.
+fn number_of(key: &Key, numbers: &Numbers) -> u64 {
+    numbers.get(key).copied().unwrap_or(0)
 }
 
 /// The state that lines show.
@@ -369,7 +377,7 @@ fn line_requests(
 // That the objects of these keys can't be made.
 fn say_unmade(keys: &[Key], is: &Numbers, remarks: &mut Vec<Remark>) -> Result<(), AllocError> {
     for key in keys {
-        let number = is.get(key).copied().unwrap_or(0);
+        let number = number_of(key, is);
         let complaint = PlanComplaint::Unmade(Label(*key));
         complain(Source::Wanted, number, &complaint, remarks)?;
     }
@@ -396,7 +404,7 @@ fn line_request(was: &Numbers, is: &Numbers, request: PlanRequest) -> LineReques
         _ => MessageType::Tc,
     };
     LineRequest {
-        number: numbers.get(&request.key).copied().unwrap_or(0),
+        number: number_of(&request.key, numbers),
         given: NetlinkHeader {
             holds,
             kind: Some(request.message_type),

@@ -14,17 +14,11 @@ pub struct Planned {
 }
 
 /// The plan that leads to the wanted state on the interfaces and in the blocks where an object of it is, or one of these keys, and its requests.
-/// An action is named by its own key alone. All else stays as it is now. The present state is as `state_of` makes it.
-///
-/// # Panics
-///
-/// It may, unless this holds, which the proved sources ask of callers:
-///
-/// - `now_ready: ready same_key [] (things now.now.objects.items) ≡ true`
+/// An action is named by its own key alone. All else stays as it is now.
 ///
 /// # Errors
 ///
-/// A [`PlanError`].
+/// A [`PlanError`]: the present state isn't in order, which no state of `state_of` is, or nothing can lead to the wanted one.
 pub fn plan_between<R: Rules>(rules: &R, keys: &[Key], now: &State, want: State) -> Result<Planned, PlanError> {
     let State { objects, .. } = want;
     let plan = plan_within(rules, keys, &now.objects, objects)?;

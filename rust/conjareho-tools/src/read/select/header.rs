@@ -5,7 +5,6 @@ use crate::user::prelude::*;
 use crate::nla_frames::NlasIterator;
 use crate::read::select::kinds::after_header;
 use crate::tc_capture::MessageType;
-use crate::tc_capture::order::Order;
 
 // The offsets of the fields of `struct tcmsg`, and its length.
 const IFINDEX: usize = 4;
@@ -73,16 +72,15 @@ fn may_be_chain(rtm: Option<u16>) -> bool {
     }
 }
 
+/// The number in four bytes at an offset, little-endian.
+pub(crate) fn little_at(at: usize, bytes: &[u8]) -> Option<u32> {
+    bytes.get(at..)?.first_chunk().map(|four| u32::from_le_bytes(*four))
+}
+
 // The number in four bytes at an offset of a traffic control message, if it is long enough.
 fn number_at(at: usize, holds: MessageType, message: &[u8]) -> Option<u32> {
     match holds {
-        MessageType::Tc => {
-            if at + 4 <= message.len() {
-                Some(Order::Little.u32_at(message, at))
-            } else {
-                None
-            }
-        }
+        MessageType::Tc => little_at(at, message),
         MessageType::Action => None,
     }
 }
@@ -108,7 +106,7 @@ fn last_chain(bytes: &[u8]) -> u32 {
         match frame {
             Ok(frame) => {
                 if frame.kind() == TCA_CHAIN && frame.value().len() == 4 {
-                    chain = Order::Little.u32_at(frame.value(), 0);
+                    chain = little_at(0, frame.value()).unwrap_or(chain);
                 }
             }
             Err(_) => return chain,

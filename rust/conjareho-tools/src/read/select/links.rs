@@ -5,7 +5,7 @@ use crate::user::prelude::*;
 use crate::nla_frames::{NlasIterator, strip_nul};
 use crate::read::select::digits::number_of;
 use crate::read::select::dump::{digits, is_blank, without_blanks};
-use crate::tc_capture::order::Order;
+use crate::read::select::header::little_at;
 
 /// `RTM_NEWLINK` of `linux/rtnetlink.h`: a message with the number and the name of an interface.
 pub const RTM_NEWLINK: u16 = 16;
@@ -86,11 +86,8 @@ fn is_in_name(c: u8) -> bool {
 /// The interface in the payload of an `RTM_NEWLINK` message.
 #[must_use]
 pub fn link_of_message(message: &[u8]) -> Option<NamedLink<'_>> {
-    if message.len() < IFINFOMSG_LEN {
-        return None;
-    }
-    let (_, attributes) = message.split_at(IFINFOMSG_LEN);
-    named_link(last_name(attributes), Order::Little.u32_at(message, 4))
+    let (header, attributes) = message.split_at_checked(IFINFOMSG_LEN)?;
+    named_link(last_name(attributes), little_at(4, header)?)
 }
 
 // The name in the last `IFLA_IFNAME`.

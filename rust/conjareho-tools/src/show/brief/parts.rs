@@ -13,8 +13,7 @@ use crate::show::brief::values::{
     put_assigned, put_hex_bytes, put_name_of, put_open, put_value, put_within,
 };
 use crate::show::brief::words::put_word;
-use crate::show::units::{Name, put_decimal, put_hex, put_verdict};
-use crate::tc_texts::hex_digit;
+use crate::show::units::{Name, hex_digit, put_decimal, put_hex, put_verdict};
 
 /// A line, and memory for a word.
 pub(crate) struct Line {

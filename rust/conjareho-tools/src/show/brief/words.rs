@@ -2,7 +2,7 @@
 
 use crate::user::prelude::*;
 
-use crate::tc_texts::hex_digit;
+use crate::show::units::hex_digit;
 
 // True for a byte that a word has unchanged.
 fn is_bare(b: u8) -> bool {

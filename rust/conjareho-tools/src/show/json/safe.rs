@@ -2,7 +2,8 @@
 
 use crate::user::prelude::*;
 
-use crate::tc_texts::{hex_digit, is_printable};
+use crate::show::units::hex_digit;
+use crate::tc_texts::is_printable;
 
 /// The same JSON with characters that nobody sees, or that a terminal obeys, as escapes such as `\u200b`; beyond U+FFFF as
 /// two, `\udb40\udc74`. JSON has no such character outside of its strings, so it is the same value.

@@ -5,7 +5,8 @@ use crate::user::prelude::*;
 mod texts;
 
 use crate::itoa::Buffer;
-use crate::tc_texts::{hex_digit, put_escaped_byte};
+use crate::show::units::hex_digit;
+use crate::tc_texts::put_escaped_byte;
 use texts::{are_printable, are_shown, is_word, margin_of, run_of};
 
 /// The layout of a message.

@@ -3,7 +3,7 @@
 use crate::user::prelude::*;
 
 use crate::itoa::Buffer;
-use crate::tc_texts::{hex_digit, put_hex_number};
+use crate::tc_texts::put_hex_number;
 
 /// Appends a number in decimal. One digit, the usual case, is fast.
 ///
@@ -31,6 +31,15 @@ fn put_long(out: &mut Vec<u8>, n: u64) -> Result<(), AllocError> {
 pub(crate) fn put_wide(out: &mut Vec<u8>, n: u128) -> Result<(), AllocError> {
     let mut buffer = Buffer::new();
     out.try_extend(buffer.format(n).as_bytes())
+}
+
+/// The last hex digit of a number, as a character of ASCII.
+#[must_use]
+pub fn hex_digit(n: u8) -> u8 {
+    match n % 16 {
+        digit @ 0..=9 => b'0' + digit,
+        digit => b'a' + (digit - 10),
+    }
 }
 
 /// Appends `0x` and a number in hex.

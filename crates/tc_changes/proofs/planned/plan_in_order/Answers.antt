@@ -10,7 +10,7 @@ use Rattle.tc_changes.proofs.Removals.{least_leads, least_resumes}
 use Rattle.tc_changes.proofs.Keeps.{plan_idle, plan_keeps, plan_spares, plan_barred, none_barred}
 use Rattle.tc_changes.proofs.Exact.{plan_about, plan_once, confined}
 use Rattle.tc_changes.proofs.Equal.{key_is, key_same, alike_is, alike_same}
-use Rattle.tc_changes.proofs.planned.plan.Goals as goal
+use Rattle.tc_changes.proofs.planned.plan_in_order.Goals as goal
 
 none_mapped : {X Y : Type 0} (f : X → Y) (xs : List X) → map f xs ≡ [] → xs ≡ []
 none_mapped f [] is = refl
