@@ -9,7 +9,6 @@ extern crate alloc;
 #[allow(dead_code)] // what the codec exports besides
 mod bitflags;
 #[path = "../../../rust/erase/shims/fallible.rs"]
-#[allow(dead_code)]
 mod fallible;
 #[path = "../../../rust/erase/shims/hex.rs"]
 #[allow(dead_code)]
@@ -21,7 +20,6 @@ mod jsontext;
 #[allow(dead_code)]
 mod serde;
 #[path = "../../../rust/erase/shims/small.rs"]
-#[allow(dead_code)]
 mod small;
 #[path = "../../../rust/erase/shims/strict.rs"]
 #[allow(dead_code)]

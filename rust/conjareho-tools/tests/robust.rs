@@ -85,7 +85,7 @@ fn all(name: &str, inputs: &[Vec<u8>], of: impl Fn(&[u8], &Path) -> Result<(), S
         let own = folder.join(thread.to_string());
         std::fs::create_dir_all(&own).expect("a folder can be made");
         while let Some(input) = inputs.get(next.fetch_add(1, Ordering::Relaxed)) {
-            of(input, &own).map_err(|it| format!("{it}\n{}", String::from_utf8_lossy(&hex(&[input.clone()]))))?;
+            of(input, &own).map_err(|it| format!("{it}\n{}", String::from_utf8_lossy(&hex(std::slice::from_ref(input)))))?;
         }
         Ok(())
     };

@@ -51,7 +51,7 @@ fn a_closed_output_ends_the_run_and_hides_no_refusal() {
     let bad = message(QDISC, 2, 1, 0, &[&[0; 20][..], &[12, 0, 1, 0, 0, 0, 0, 0]].concat());
     let many = vec![good.clone(); 20_000];
     for (first, status) in [(&good, 0), (&bad, 1)] {
-        let input = hex(&[&[first.clone()], &many[..]].concat());
+        let input = hex(&[std::slice::from_ref(first), &many[..]].concat());
         let output = ran(env!("CARGO_BIN_EXE_tcshow"), &["--json"], &input, false);
         assert_eq!(output.status.code(), Some(status), "{}", text(&output.stderr));
         assert_eq!(text(&output.stderr), "");

@@ -3,7 +3,6 @@
 
 use conjareho::forms::{ACTION_MESSAGE, Shown, TC_MESSAGE, TcTables};
 use conjareho::{locate_action, locate_tc};
-use std::collections::BTreeSet;
 use std::path::Path;
 
 /// A file of the judge.

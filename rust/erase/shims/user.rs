@@ -10,6 +10,11 @@ use alloc::vec::Vec;
 #[cfg(test)]
 pub(crate) type Fail = Box<dyn core::error::Error>;
 
+/// Where the last character begins that ends after so many bytes, or the length of a shorter text. Rust 1.91 has it as `str::floor_char_boundary`.
+pub(crate) fn char_boundary(text: &str, most: usize) -> usize {
+    (0..=most.min(text.len())).rev().find(|at| text.is_char_boundary(*at)).unwrap_or(0)
+}
+
 /// Growth that can fail.
 pub(crate) trait Growing<T: ?Sized> {
     fn try_push_str(&mut self, text: &T) -> Result<(), AllocError>;

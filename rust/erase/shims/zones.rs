@@ -25,15 +25,15 @@ pub mod jiff_tz {
 /// The offsets of UTC, or of the system's time zone.
 #[derive(Clone, Copy, PartialEq, Eq, Debug)]
 pub enum TimeZone<'a> {
-    UTC,
+    Utc,
     System(PhantomData<&'a ()>),
 }
 
 impl TimeZone<'_> {
-    pub fn to_offset(&self, time: Timestamp) -> Offset {
+    pub fn to_offset(self, time: Timestamp) -> Offset {
         let seconds = i64::try_from(time.nanosecond.div_euclid(1_000_000_000)).ok();
         let offset = match self {
-            TimeZone::UTC => None,
+            TimeZone::Utc => None,
             TimeZone::System(_) => seconds.and_then(local_time::offset_at),
         };
         Offset { seconds: offset.unwrap_or(0) }

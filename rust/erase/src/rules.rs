@@ -168,6 +168,7 @@ pub(crate) const RULES: &[Rule] = &[
     ("parse_ascii ( $x . as_bytes ( ) )", "from_str($x)"),
     ("( $*x ) . is_multiple_of ( $*n )", "(($*x) % ($*n) == 0)"),
     (". cast_unsigned ( )", ".unsigned()"),
+    ("$x . floor_char_boundary ( $*n )", "crate::user::char_boundary($x, $*n)"),
     ("std :: str :: from_utf8 (", "str::from_utf8("),
     ("str :: from_utf8 (", "core::str::from_utf8("),
     ("$x :: from_octets (", "$x::from("),

@@ -24,7 +24,7 @@ pub(crate) fn marked(now: &[Vec<u8>], wanted: &[Vec<u8>]) -> Vec<Vec<u8>> {
     let stays = |way: &usize| Some((now.get(*old.get(way)?)?, wanted.get(*new.get(way)?)?));
     let is_marked = |way: &&usize| {
         let is_emptied = |kind: &[u8]| LEAVES_NOTHING.contains(&kind);
-        stays(*way).is_some_and(|(was, is)| kind_of(was) == kind_of(is) && kind_of(was).is_some_and(is_emptied))
+        stays(way).is_some_and(|(was, is)| kind_of(was) == kind_of(is) && kind_of(was).is_some_and(is_emptied))
     };
     let mut marked = now.to_vec();
     for place in emptied.iter().filter(is_marked).filter_map(|way| old.get(way)) {

@@ -53,7 +53,7 @@ fn altered(object: &Object, random: &mut Random) -> Option<Object> {
     match random.below(12) {
         0 => return None,
         1 => out.sample += 1,
-        2 if out.type_ == QDISC => out.kind = random.choose(&ALONE).to_string(),
+        2 if out.type_ == QDISC => out.kind = random.choose::<&str>(&ALONE).to_string(),
         _ => {}
     }
     Some(out)
@@ -83,7 +83,7 @@ fn of_interface(index: u32, out: &mut Vec<Object>, random: &mut Random) {
         Object { type_, kind: kind.into(), index, handle, parent, info, chain: None, sample }
     };
     if random.one_in(4) {
-        out.push(new(QDISC, *random.choose(&ALONE), 0x8001_0000, ROOT, random));
+        out.push(new(QDISC, random.choose::<&str>(&ALONE), 0x8001_0000, ROOT, random));
     } else {
         let kind = *random.choose(&CLASSFUL);
         out.push(new(QDISC, kind, 0x1_0000, ROOT, random));
@@ -91,7 +91,7 @@ fn of_interface(index: u32, out: &mut Vec<Object>, random: &mut Random) {
             let parent = if class > 2 && kind != "drr" && kind != "qfq" { 0x1_0001 } else { ROOT };
             let mut object = new(CLASS, kind, 0x1_0000 | class, parent, random);
             if random.one_in(2) && (class > 2 || kind != "htb") {
-                let leaf = new(QDISC, *random.choose(&ALONE), (0x10 + class) << 16, 0x1_0000 | class, random);
+                let leaf = new(QDISC, random.choose::<&str>(&ALONE), (0x10 + class) << 16, 0x1_0000 | class, random);
                 object.info = leaf.handle;
                 out.push(leaf);
             }

@@ -169,9 +169,12 @@ pub fn for_each_frame<'b>(
     Some(bytes)
 }
 
-/// Reads the attributes of a list: its items, and what its table doesn't describe.
+/// The items of a list, and what its table doesn't describe.
+pub type Items<T> = (Vec<T>, Option<Box<Aside>>);
+
+/// Reads the attributes of a list.
 #[inline(always)]
-pub fn read_frames<'b, L: Frames>(bytes: &'b [u8], at: Place<'b>) -> Option<(Vec<L::Item>, Option<Box<Aside>>)> {
+pub fn read_frames<'b, L: Frames>(bytes: &'b [u8], at: Place<'b>) -> Option<Items<L::Item>> {
     let (mut items, mut aside) = (Vec::with_capacity(count(bytes)), None);
     let tail = for_each_frame(bytes, at, L::KINDS, |frame, at| {
         let found = L::read_frame(frame, at, &mut items)?;

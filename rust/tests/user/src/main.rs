@@ -5,6 +5,7 @@
 //! use netlink_packet_core::{Emitable, Parseable};
 //! use netlink_packet_route::tc::{ .. the same .. };
 //! ```
+#![allow(clippy::field_reassign_with_default)] // that crate's types are `#[non_exhaustive]`, so its users set fields
 
 use conjareho::tc::{
     TcAction, TcActionAttribute, TcActionGeneric, TcActionMirrorOption, TcActionOption, TcActionType, TcAttribute,

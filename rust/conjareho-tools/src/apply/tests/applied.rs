@@ -8,11 +8,11 @@ use crate::apply::status::Status;
 use crate::netlink::message::*;
 
 fn run_held(file: &str, objects: Vec<Vec<u8>>, fake: &Fake, held: impl Fn() -> Result<(), &'static str>) -> Ran {
-    run_by(|words| arguments_of(words), &[], file, objects, fake, Some(&held))
+    run_by(arguments_of, &[], file, objects, fake, Some(&held))
 }
 
 fn run_with(words: &[&str], file: &str, objects: Vec<Vec<u8>>, fake: &Fake) -> Ran {
-    run_by(|words| arguments_of(words), words, file, objects, fake, None)
+    run_by(arguments_of, words, file, objects, fake, None)
 }
 
 fn run(file: &str, objects: Vec<Vec<u8>>, fake: &Fake) -> Ran {

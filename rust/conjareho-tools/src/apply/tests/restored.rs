@@ -12,7 +12,7 @@ use std::io::Write as _;
 use std::process::{Command, Stdio};
 
 fn run(words: &[&str], file: &str, objects: Vec<Vec<u8>>, fake: &Fake) -> Ran {
-    run_by(|words| arguments_of(words), words, file, objects, fake, None)
+    run_by(arguments_of, words, file, objects, fake, None)
 }
 
 #[test]

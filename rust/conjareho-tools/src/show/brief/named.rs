@@ -13,6 +13,7 @@ pub(crate) trait Named: Sized {
 
 impl<'t> Named for Column<'t> {
     #[inline(always)]
+    #[allow(clippy::misnamed_getters)] // its own `name` is for people
     fn name(&self) -> &str {
         self.key
     }

@@ -173,7 +173,7 @@ fn state_of_capture<I: Read, E: Write>(
     there: Option<&State>,
     errors: &mut E,
 ) -> Result<NamedState, Stop> {
-    let options = options_of(arguments, TimeZone::UTC, Filter::ALL, &[]);
+    let options = options_of(arguments, TimeZone::Utc, Filter::ALL, &[]);
     let mut lines = Vec::new();
     let ended = put_json(&options, name, reader, &mut lines, errors);
     ended.outcome?;

@@ -154,7 +154,7 @@ fn print<R: Print, E: Write>(rt: &R, text: &[u8], errors: &mut E) -> Ended {
 // Reads the time zone of the system, if times are in it.
 fn show<R: Env + Files + Input + Print, E: Write>(rt: &R, arguments: &Arguments<'_>, errors: &mut E) -> Ended {
     if arguments.time != TimeChoice::Local {
-        return show_in(rt, arguments, TimeZone::UTC, errors);
+        return show_in(rt, arguments, TimeZone::Utc, errors);
     }
     match SystemZone::read(rt) {
         Ok(zone) => match zone.time_zone() {

@@ -62,8 +62,13 @@ impl Edits {
 
     /// Notes what an edit does.
     fn making<T>(&mut self, what: &'static str, value: T) -> T {
-        self.made.push(what);
+        self.made(what);
         value
+    }
+
+    /// The same, of an edit that gives nothing back.
+    fn made(&mut self, what: &'static str) {
+        self.made.push(what);
     }
 }
 
@@ -238,15 +243,22 @@ fn edit_list<L: EditFrames>(list: &mut L::Value, at: Place<'_>, edits: &mut Edit
                 list.push(edits.making("pushed", item));
             }
         }
-        8 if !edits.is_dropping && !sets_kind => edits.making("retained", list.retain_but(place)),
+        8 if !edits.is_dropping && !sets_kind => {
+            list.retain_but(place);
+            edits.made("retained");
+        }
         9 if L::KINDS == Kinds::Plain && edits.random.below(2) == 0 => edit_place::<L>(list, place, edits, |list, edits| {
             edit_place::<L>(list, other, edits, |list, edits| {
                 if !edits.is_dropping && len > 0 {
-                    edits.making("swapped", list.items_mut().swap(place, other));
+                    list.items_mut().swap(place, other);
+                    edits.made("swapped");
                 }
             });
         }),
-        9 if !edits.is_dropping => edits.making("settled", list.settle()),
+        9 if !edits.is_dropping => {
+            list.settle();
+            edits.made("settled");
+        }
         _ => {}
     }
 }

@@ -41,7 +41,7 @@ static CAPTURE: &str = "d4c3b2a102000400000000000000000000001000fd00000000f15365
 fn gives_by(arguments: &Arguments<'_>, names: &[(u32, &str)], input: &[u8], status: u8, written: Written<'_>) -> bool {
     match FilterValues::of_arguments(arguments, names) {
         Ok(values) => {
-            let options = options_of(arguments, TimeZone::UTC, values.filter(), names);
+            let options = options_of(arguments, TimeZone::Utc, values.filter(), names);
             gives(&options, input, status, written, "")
         }
         Err(_) => false,
