@@ -3,7 +3,7 @@
 include!("../conjareho/crates.rs");
 
 /// The crates of the programs. The tables of all kinds are `tcmake`'s own.
-const PROGRAMS: &[&str] = &["tcrewrite_lib", "tc_changes", "tc_faults", "forms_text"];
+const PROGRAMS: &[&str] = &["tcrewrite_lib", "tc_changes", "tc_check", "tc_faults", "forms_text"];
 
 fn main() {
     let here = std::env::var_os("CARGO_MANIFEST_DIR").expect("cargo names the folder of the package");

@@ -77,6 +77,7 @@ impl Before {
     ) -> Result<(), Stop> {
         sending.turn_back();
         let before = self.planned(&self.dumps);
+        sending.scope.add_actions_of(&before);
         let mut refused = None;
         for _ in 0..MOST_PLANS {
             let now = self.planned(&sending.world.dump(&sending.place.indices())?.messages);

@@ -7,6 +7,7 @@ mod anew;
 mod arguments;
 mod back;
 mod blocks;
+mod check;
 mod command;
 mod compare;
 mod file;
@@ -201,6 +202,7 @@ fn apply<T: Transport, L: Transport>(
     said.extend(prepared.warnings.iter().cloned());
     said.extend(doubt(doubted.as_deref(), &prepared.steps));
     let mut sending = Sending::new(world, &prepared.place, arguments.way != Way::Beside);
+    sending.scope.add_actions_of(&prepared.wanted.messages);
     match carried_out(arguments, &prepared, &mut sending, hold, said) {
         Ok(()) if prepared.wanted.is_partial => Status::Otherwise,
         Ok(()) => {

@@ -1,5 +1,6 @@
 //! Requests as they are sent, one after the other.
 
+use super::check::Scope;
 use super::messages::{deletes, is_plain_chain, kind_of, over, replaces, type_of};
 use super::world::{Place, Stop, World};
 use crate::netlink::message::{RTM_NEWQDISC, tcmsg_of};
@@ -16,6 +17,8 @@ pub(crate) const PAUSE: Duration = Duration::from_millis(10);
 pub(crate) struct Sending<'w, 's, T, L> {
     pub(crate) world: &'w mut World<'s, T, L>,
     pub(crate) place: &'w Place,
+    /// What requests may be about.
+    pub(crate) scope: Scope,
     // Something may have been deleted shortly before, so that what it held up passes.
     waits: bool,
     // A request was sent.
@@ -29,11 +32,20 @@ pub(crate) struct Sending<'w, 's, T, L> {
 impl<'w, 's, T: Transport, L: Transport> Sending<'w, 's, T, L> {
     /// Nothing is sent yet. If it `waits`, what is refused since something else was deleted shortly before is tried again.
     pub(crate) fn new(world: &'w mut World<'s, T, L>, place: &'w Place, waits: bool) -> Self {
-        Sending { world, place, waits, has_sent: false, is_carried_out: false, minds_signals: true }
+        Sending {
+            world,
+            place,
+            scope: Scope::of(place),
+            waits,
+            has_sent: false,
+            is_carried_out: false,
+            minds_signals: true,
+        }
     }
 
     /// Sends the requests of a plan. What is to be deleted and isn't there is deleted; the kernel makes chains by itself.
     pub(crate) fn carry_out(&mut self, steps: &[Vec<u8>]) -> Result<(), Stop> {
+        self.scope.check(self.place, steps)?;
         // While somebody was asked whether it is to stay, others may have changed something.
         self.look()?;
         self.is_carried_out = false;
@@ -94,7 +106,9 @@ impl<'w, 's, T: Transport, L: Transport> Sending<'w, 's, T, L> {
             if matches!(&answer, Err(Fault::Refused(refusal)) if refusal.is(Errno::EEXIST))
                 && self.is_below_taprio(request)?
             {
-                answer = self.world.kernel.request(&over(request));
+                let over = over(request);
+                self.scope.check(self.place, &[&over])?;
+                answer = self.world.kernel.request(&over);
             }
             let refusal = match answer {
                 Ok(_) => return Ok(()),

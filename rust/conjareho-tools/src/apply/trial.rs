@@ -140,6 +140,8 @@ fn tried(now: &[Vec<u8>], wanted: &Wanted) -> Result<usize, String> {
     let blocks = now.iter().chain(&wanted.messages).flat_map(|it| blocks_of(it)).collect();
     let place = Place { devices, blocks };
     let mut sending = Sending::new(&mut world, &place, true);
+    sending.scope.add_actions_of(now);
+    sending.scope.add_actions_of(&wanted.messages);
     sending
         .carry_out(now)
         .map_err(|stop| format!("what is there now can't be made in a new network namespace: {stop}"))?;

@@ -33,6 +33,8 @@ pub(crate) enum Stop {
     Unplanned(Vec<String>),
     /// Nobody said that it is to stay.
     Unconfirmed(String),
+    /// The request that asks for this isn't whole, or is about something that isn't to change.
+    Outside(String),
 }
 
 impl From<Fault> for Stop {
@@ -53,6 +55,12 @@ impl fmt::Display for Stop {
             }
             Stop::Moved(how) | Stop::Unconfirmed(how) => f.write_str(how),
             Stop::Unplanned(why) => f.write_str(&why.join("; ")),
+            Stop::Outside(what) => {
+                write!(
+                    f,
+                    "the request to {what} isn't one for what is asked for, so it isn't sent: please report this, with what -n prints"
+                )
+            }
             Stop::Differs(how) => write!(f, "what is there isn't what was wanted: {}", how.join("; ")),
         }
     }

@@ -1,7 +1,7 @@
 //! Runs over a kernel that refuses and that notifies of changes by others, with signals in the middle, and with nobody who presses Enter.
 
 mod applied;
-mod fake;
+pub(super) mod fake;
 mod restored;
 
 use super::apply;

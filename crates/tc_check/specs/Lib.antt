@@ -1,0 +1,4 @@
+pub mod Scope
+pub mod Messages
+pub mod Actions
+pub mod Within
