@@ -274,7 +274,7 @@ def check_all():
 def read_all():
     paths = sorted(os.path.relpath(os.path.join(folder, name), HERE) for folder, _, names in os.walk(HERE) for name in names)
     own = [p for p in paths if not (os.path.basename(p).startswith('.') or p.endswith('~'))]  # no files that editors leave
-    for path in [p for p in own if p not in ('generate', 'news', 'news.txt', 'notation.py', 'prove', 'columns', 'words', 'changes', 'interfaces', 'wireshark', 'README.md')]:
+    for path in [p for p in own if p not in ('generate', 'news', 'news.txt', 'notation.py', 'prove', 'columns', 'words', 'changes', 'interfaces', 'wireshark', 'wireshark-c', 'README.md')]:
         read(path)
     if not faults:
         check_all()
