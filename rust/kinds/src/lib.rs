@@ -2,13 +2,14 @@
 //! number and for each choice, a set of flags for each flag word, and an enum by kind for options and statistics.
 //!
 //! The text has a module for each file and calls the macros of `conjareho/src/kinds/macros.rs`. `notation.rs` reads the tables,
-//! `names.rs` has Rust's names for them, `uses.rs` finds the widths of numbers, `write.rs` writes the types, and `usage.rs` the
-//! examples in the documentation. Mistakes in the tables are reported by `kinds/generate`. This reader takes them as checked, and
+//! `names.rs` has Rust's names for them, `uses.rs` finds the widths of numbers, `write.rs` writes the types, `rows.rs` what a visitor
+//! is shown with each value, and `usage.rs` the examples in the documentation. Mistakes in the tables are reported by `kinds/generate`. This reader takes them as checked, and
 //! skips the columns, lines and blocks that it doesn't know.
 #![deny(missing_docs)]
 
 mod names;
 mod notation;
+mod rows;
 mod usage;
 mod uses;
 mod write;

@@ -53,6 +53,8 @@ pub(crate) struct Line {
     pub unit: String,
     /// The block `names` that has names for the number.
     pub names: String,
+    /// The columns after the unit by their words, and the number of `=N` by `=`.
+    pub columns: BTreeMap<String, String>,
     pub comment: String,
     /// The bytes that a line of a choice starts with, as hex.
     pub prefix: String,
@@ -128,12 +130,14 @@ fn count(text: &str) -> Result<usize, Fault> {
     usize::try_from(number(text)?).map_err(|e| format!("{text}: {e}"))
 }
 
-/// The columns of a line: words and their values, beside `=N`. `None` if a word has no value.
+/// The columns of a line: words and their values, and `=` with the number of `=N`. `None` if a word has no value.
 fn columns<'a>(mut words: &[&'a str]) -> Option<Vec<(&'a str, &'a str)>> {
     let mut found = Vec::new();
     while let [word, rest @ ..] = words {
         words = rest;
-        if !word.starts_with('=') {
+        if let Some(number) = word.strip_prefix('=') {
+            found.push(("=", number));
+        } else {
             let (value, rest) = rest.split_first().filter(|(value, _)| !value.starts_with('='))?;
             found.push((*word, *value));
             words = rest;
@@ -143,12 +147,17 @@ fn columns<'a>(mut words: &[&'a str]) -> Option<Vec<(&'a str, &'a str)>> {
 }
 
 impl Line {
-    /// Reads the words after the form: columns, of which `names` is used, after a unit if the words don't pair without it.
+    /// Reads the words after the form: columns, after a unit if the words don't pair without it.
     fn read_columns(&mut self, words: &[&str]) {
         let (unit, after) = words.split_first().unwrap_or((&"", &[]));
         let (unit, found) = columns(words).map_or_else(|| (*unit, columns(after).unwrap_or_default()), |found| ("", found));
-        let names = found.iter().find(|(word, _)| *word == "names");
-        (self.unit, self.names) = (unit.to_string(), names.map_or("", |(_, value)| value).to_string());
+        self.columns = found.iter().map(|(word, value)| (word.to_string(), value.to_string())).collect();
+        (self.unit, self.names) = (unit.to_string(), self.column("names").to_string());
+    }
+
+    /// What a column says. Empty without the column.
+    pub(crate) fn column(&self, word: &str) -> &str {
+        self.columns.get(word).map_or("", String::as_str)
     }
 }
 

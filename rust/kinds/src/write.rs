@@ -3,6 +3,7 @@
 use crate::Fault;
 use crate::names::{constant, ident, snake, type_name, variant};
 use crate::notation::{Block, ByKind, Form, KINDS, Line, List, Tables};
+use crate::rows::{Rows, place};
 use crate::usage::{remark, usage};
 use crate::uses::{Uses, bits_of, rust_number};
 use std::collections::{BTreeMap, BTreeSet};
@@ -32,7 +33,7 @@ const UNITS: &[(&str, &str)] = &[
 
 /// Writes the types of all tables.
 pub(crate) fn types(tables: &Tables) -> Result<String, Fault> {
-    let writer = Writer { tables, uses: Uses::of(tables) };
+    let writer = Writer { tables, uses: Uses::of(tables), rows: Rows::of(tables) };
     writer.check_names()?;
     let mut root = String::new();
     let mut folders: BTreeMap<&str, String> = BTreeMap::new();
@@ -52,7 +53,7 @@ pub(crate) fn types(tables: &Tables) -> Result<String, Fault> {
 
 /// Writes the page of all kinds.
 pub(crate) fn page(tables: &Tables) -> String {
-    let writer = Writer { tables, uses: Uses::of(tables) };
+    let writer = Writer { tables, uses: Uses::of(tables), rows: Rows::of(tables) };
     let mut page = "Every kind, with the types of its options and statistics.\n\n| Kind | | Options | Statistics |\n|---|---|---|---|\n".to_string();
     for block in tables.blocks.iter().filter(|block| KINDS.contains(&&*block.sort)) {
         let types = |what: &str| {
@@ -84,6 +85,7 @@ struct Type {
 struct Writer<'a> {
     tables: &'a Tables,
     uses: Uses,
+    rows: Rows<'a>,
 }
 
 impl Writer<'_> {
@@ -127,7 +129,7 @@ impl Writer<'_> {
 
     fn block(&self, block: &Block) -> String {
         let Some(name) = block.names.first() else { return String::new() };
-        match &*block.sort {
+        let types = match &*block.sort {
             "struct" => self.record(block, name),
             "list" => self.list(block, name),
             "enum" => self.named_number(block, name),
@@ -135,18 +137,20 @@ impl Writer<'_> {
             "names" => self.constants(block, name),
             "choice" => self.choice(block, name),
             _ => String::new(),
-        }
+        };
+        types + &self.rows.table(block)
     }
 
     // ---- Blocks
 
     fn record(&self, block: &Block, name: &str) -> String {
-        let fields = block.lines.iter().filter_map(|line| {
-            let (form, field) = (line.form.as_ref()?, ident(&line.name));
+        let fields = forms_of(block).map(|(at, line, form)| {
+            let field = ident(&line.name);
             let doc = if matches!(form, Form::Pad(_)) { "Padding.".to_string() } else { self.doc_of(line) + remark(name, &line.name) };
             let Type { value, layout, .. } = self.form(form, &line.unit);
             let alias = if snake(&line.name) == line.name { "" } else { &line.name };
-            Some(format!("{}{field} {:?} {:?} ({value}) ({layout}),\n", attributes(&doc, alias), line.name, layer(form)))
+            let row = row_of(block, name, at);
+            format!("{}{field} {:?} {:?} ({value}) ({layout}) {row},\n", attributes(&doc, alias), line.name, layer(form))
         });
         let what = match block.lines.first().and_then(|line| line.form.as_ref()) {
             Some(Form::Struct(header)) if self.is_at_root(block) => format!("A message without its netlink header: `struct {header}` and attributes"),
@@ -157,13 +161,14 @@ impl Writer<'_> {
     }
 
     fn list(&self, block: &Block, name: &str) -> String {
-        let rows = block.lines.iter().filter_map(|line| {
-            let (form, method) = (line.form.as_ref()?, snake(&line.name));
+        let rows = forms_of(block).map(|(at, line, form)| {
+            let method = snake(&line.name);
             let Type { value, layout, taken } = self.form(form, &line.unit);
             let doc = self.numbered_doc_of(line);
             let front = format!("{}{} {} with_{method}", attributes(&doc, &line.kernel), variant(&line.name), ident(&method));
             let types = format!("({value}) ({layout}) ({taken}) {:?}", unit_of(line).map_or(String::new(), |unit| format!(", {unit}")));
-            Some(format!("{front} {:?} {:?} {} {} {types},\n", line.name, layer(form), line.number, flags_of(form)))
+            let row = row_of(block, name, at);
+            format!("{front} {:?} {:?} {} {} {types} {row},\n", line.name, layer(form), line.number, flags_of(form))
         });
         let type_name = type_name("list", name);
         let getters = format!("A list of them is an [`Attrs`]`<{type_name}>`, which has a getter for each, and a method `with_..` that appends it.");
@@ -201,12 +206,11 @@ impl Writer<'_> {
     }
 
     fn choice(&self, block: &Block, name: &str) -> String {
-        let rows = block.lines.iter().filter_map(|line| {
-            let form = line.form.as_ref()?;
+        let rows = forms_of(block).map(|(at, line, form)| {
             let Type { value, layout, .. } = self.form(form, "");
             let prefix: Vec<String> = (0..line.prefix.len() / 2).map(|at| format!("0x{}", &line.prefix[2 * at..2 * at + 2])).collect();
             let front = format!("{}{} {:?} {:?}", attributes(&self.doc_of(line), ""), variant(&line.name), line.name, layer(form));
-            Some(format!("{front} [{}] {:?}, ({value}) ({layout}),\n", prefix.join(", "), line.length))
+            format!("{front} [{}] {:?}, ({value}) ({layout}) {},\n", prefix.join(", "), line.length, row_of(block, name, at))
         });
         let about = about(&format!("One of the forms of `{name}`"), block) + &usage(self.tables, block);
         format!("choice! {{ {}{} {{\n{}}} }}\n", attributes(&about, ""), type_name("choice", name), rows.collect::<String>())
@@ -225,14 +229,16 @@ impl Writer<'_> {
         let name = enum_by_kind(by);
         let kinds = self.tables.blocks.iter().filter(|block| by.sorts.contains(&block.sort));
         let lines = kinds.flat_map(|block| block.lines.iter().filter(|line| line.name == by.what).map(move |line| (block, line)));
+        let lines: Vec<(&Block, &Line)> = lines.filter(|(_, line)| line.form.is_some()).collect();
+        let table = place("by_kind", name);
         let (mut rows, mut values, mut actions) = (String::new(), BTreeMap::<String, Vec<String>>::new(), String::new());
-        for (block, line) in lines {
+        for (at, (block, line)) in lines.iter().enumerate() {
             let Some(form) = &line.form else { continue };
             let (Type { value, layout, .. }, variant) = (self.form(form, ""), variant(&block.names[0]));
             let words: Vec<String> = block.names.iter().map(|kind| format!("{kind:?}")).collect();
             let doc = format!("Of the {} `{}`.", block.sort, block.names.join("`, `"));
             let names = format!("{variant} {:?} {:?}", line.kernel, layer(form));
-            rows += &format!("{}{names} {} ({value}) ({layout}) = {},\n", attributes(&doc, ""), flags_of(form), words.join(" | "));
+            rows += &format!("{}{names} {} ({value}) ({layout}) [{table}[{at}]] = {},\n", attributes(&doc, ""), flags_of(form), words.join(" | "));
             if let Some(attribute) = self.actions_in(form) {
                 actions += &format!("{variant} {},\n", ident(&attribute));
             }
@@ -241,7 +247,9 @@ impl Writer<'_> {
         let doc = format!("The {} of a kind: {}.", by.what, by.sorts.join(", "));
         let other = format!("{:?} {} {}", by.other, flags_of(&by.form), if matches!(*by.form, Form::Leaf(_)) { "hex" } else { "form" });
         let other_form = self.form(&by.form, "").layout;
-        let mut text = format!("by_kind! {{ {}{name} {other} ({other_form}) {{\n{rows}}} }}\n", attributes(&doc, ""));
+        let other_row = format!("[{table}[{}]]", lines.len());
+        let mut text = format!("by_kind! {{ {}{name} {other} ({other_form}) {other_row} {{\n{rows}}} }}\n", attributes(&doc, ""));
+        text += &self.rows.by_kind(&table, by, &lines.iter().map(|(_, line)| *line).collect::<Vec<_>>());
         for (value, variants) in values.iter().filter(|(_, variants)| variants.len() == 1) {
             text += &format!("from! {{ {name} {} ({value}) }}\n", variants[0]);
         }
@@ -314,6 +322,16 @@ impl Writer<'_> {
         }
         sentence(&parts.join(", "))
     }
+}
+
+/// The lines of a block that have a form, each with its place among them.
+fn forms_of(block: &Block) -> impl Iterator<Item = (usize, &Line, &Form)> {
+    block.lines.iter().filter_map(|line| Some((line, line.form.as_ref()?))).enumerate().map(|(at, (line, form))| (at, line, form))
+}
+
+/// The row of a line of a block.
+fn row_of(block: &Block, name: &str, at: usize) -> String {
+    format!("[{}[{at}]]", place(&block.sort, name))
 }
 
 /// The unit of a line, as docs say it.

@@ -40,13 +40,28 @@ const SHORT: &str = "# Example\n\nqdisc example\n  options  list example in Exam
 #[test]
 fn what_is_not_known_is_skipped() {
     let more = SHORT.replace("in Example\n", "in Example  change keeps\n  change  whole\n  leaves  out\n");
-    let more = more.replace("bytes/s\n", "bytes/s  tc rate  shade dark  =0  # the rate\n") + "\nplans example\n  1  Something  else\n";
+    let more = more.replace("bytes/s\n", "bytes/s  normal -  shade dark  # the rate\n") + "\nplans example\n  1  Something  else\n";
     let (short, more) = (written("qdiscs/example", SHORT).expect("types"), written("qdiscs/example", &more).expect("types"));
     assert_eq!(more.replace(", the rate", ""), short);
     // Without a unit, and with a value that is also a column's name.
     let bare = SHORT.replace("  bytes/s", "");
     let shaded = bare.replace("u64\n", "u64  shade names  depth 7\n");
     assert_eq!(written("qdiscs/example", &shaded), written("qdiscs/example", &bare));
+}
+
+#[test]
+fn a_row_has_the_columns_of_its_line() {
+    let line = "bytes/s  =7;  tc rate  as speed";
+    let types = written("qdiscs/example", &SHORT.replace("bytes/s", line)).expect("types");
+    for part in [
+        "pub(crate) static LIST_EXAMPLE: [visit::Row; 1]",
+        "name: \"Rate\", kernel: \"TCA_EXAMPLE_RATE\", label: \"speed\"",
+        "unit: visit::Unit::BytesPerSecond",
+        "word: \"rate\", style: visit::Style::Value",
+        "left_out: visit::LeftOut::Equal(7), left_out_with_statistics: visit::LeftOut::Never",
+    ] {
+        assert!(types.contains(part), "{part} isn't in\n{types}");
+    }
 }
 
 #[test]
@@ -62,8 +77,8 @@ fn a_mistake_has_its_place() {
 fn the_tables_of_the_repository_are_written() {
     let types = types(&Path::new(env!("CARGO_MANIFEST_DIR")).join("../../kinds")).expect("types");
     for part in [
-        "Htb \"\" \"Htb\" 0 (Attrs<HtbAttr>) (List<HtbAttr>) = \"htb\"",
-        "Rate64 rate64 with_rate64 \"Rate64\" \"\" 6 0 (u64) (u64) (u64) \", in bytes per second\",",
+        "Htb \"\" \"Htb\" 0 (Attrs<HtbAttr>) (List<HtbAttr>) [BY_KIND_OPTIONS[",
+        "Rate64 rate64 with_rate64 \"Rate64\" \"\" 6 0 (u64) (u64) (u64) \", in bytes per second\" [LIST_HTB[",
         "It has to be the number of `keys`, which [`of`](crate::kinds::filters::u32::U32Sel::of) counts",
         "\"In bytes per second. It is 4294967295 if the rate is larger",
         "#[doc(alias = \"TCA_HTB_RATE64\")]",

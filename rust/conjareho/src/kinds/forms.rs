@@ -1,8 +1,8 @@
 //! The forms of `kinds/README.md` that aren't tables.
 
+use super::frames::{Attr, Found, Frame, Frames, Kinds, read_frames, write_frames};
 use super::list::{Attrs, Indexed};
 use super::values::{Bytes, Handle, Mac, Prob, Ticks};
-use super::frames::{Attr, Found, Frame, Frames, Kinds, read_frames, write_frames};
 use super::wire::{Form, Out, Place, Shape, field, kind_text, store_field, total, whole, within};
 use alloc::string::String;
 use alloc::vec::Vec;
@@ -24,6 +24,8 @@ pub struct Be<N>(PhantomData<N>);
 pub trait Code {
     /// The number.
     type Number: Number;
+    /// True for handles.
+    const IS_HANDLE: bool = false;
     /// The value of a number.
     fn of(number: Self::Number) -> Self;
     /// The number of a value.
@@ -56,9 +58,10 @@ impl<C: Code, F: Form<Value: Number>> Form for Coded<C, F> {
 }
 
 macro_rules! codes {
-    ($($code:ident)*) => { $(
+    ($($code:ident $is_handle:literal)*) => { $(
         impl Code for $code {
             type Number = u32;
+            const IS_HANDLE: bool = $is_handle;
             #[inline(always)]
             fn of(number: u32) -> Self { $code(number) }
             #[inline(always)]
@@ -70,7 +73,7 @@ macro_rules! codes {
     )* };
 }
 
-codes! { Handle Ticks Prob }
+codes! { Handle true Ticks false Prob false }
 
 // Not of ticks: most numbers that are times have another unit.
 macro_rules! numbers_of {

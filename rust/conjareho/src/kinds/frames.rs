@@ -150,11 +150,11 @@ fn own_kind(mut bytes: &[u8]) -> Key {
 
 /// Calls `each` with the attributes of a list, in their order, until it returns `None`. Returns the bytes after the last whole one.
 #[inline(always)]
-pub fn for_each_frame<'b>(
+pub fn for_each_frame<'b, 'p>(
     mut bytes: &'b [u8],
-    mut at: Place<'b>,
+    mut at: Place<'p>,
     kinds: Kinds,
-    mut each: impl FnMut(Frame<'b>, Place<'b>) -> Option<()>,
+    mut each: impl FnMut(Frame<'b>, Place<'p>) -> Option<()>,
 ) -> Option<&'b [u8]> {
     if kinds == Kinds::Own {
         at.kind = own_kind(bytes);

@@ -3,7 +3,7 @@
 /// A record: fields, one after the other. Of each: its name, its name in JSON, the object in JSON that holds each of its attributes,
 /// the type of its value, and its form.
 macro_rules! record {
-    ($(#[$about:meta])* $name:ident { $($(#[$doc:meta])* $field:ident $json:literal $layer:literal ($value:ty) ($form:ty),)* }) => {
+    ($(#[$about:meta])* $name:ident { $($(#[$doc:meta])* $field:ident $json:literal $layer:literal ($value:ty) ($form:ty) [$($row:tt)*],)* }) => {
         $(#[$about])*
         #[derive(Clone, PartialEq, Eq, Hash, Debug)]
         #[allow(missing_docs)] // a field has a unit, a comment, or its kernel's name
@@ -55,6 +55,7 @@ macro_rules! record {
             }
         }
 
+        record_shown! { $name { $(($form) [$($row)*],)* } }
         record_json! { $name { $($field $json $layer ($form),)* } }
         record_edits! { $name { $($field ($form),)* } }
     };
@@ -66,7 +67,7 @@ macro_rules! record {
 macro_rules! attrs {
     ($(#[$about:meta])* $name:ident $kinds:ident { $(
         $(#[$doc:meta])*
-        $variant:ident $get:ident $with:ident $json:literal $layer:literal $number:literal $flags:literal ($value:ty) ($form:ty) ($taken:ty) $unit:literal,
+        $variant:ident $get:ident $with:ident $json:literal $layer:literal $number:literal $flags:literal ($value:ty) ($form:ty) ($taken:ty) $unit:literal [$($row:tt)*],
     )* }) => {
         $(#[$about])*
         #[derive(Clone, PartialEq, Eq, Hash, Debug)]
@@ -167,6 +168,7 @@ macro_rules! attrs {
             }
         }
 
+        attrs_shown! { $name { $($number $flags ($form) [$($row)*],)* } }
         attrs_json! { $name { $($variant $json $layer $number $flags ($form),)* } }
         attrs_edits! { $name { $($variant $number $flags ($form),)* } }
     };
@@ -310,7 +312,7 @@ macro_rules! bits {
 /// many they are, the type of its value, and the form of the bytes after the start.
 macro_rules! choice {
     ($(#[$about:meta])* $name:ident { $(
-        $(#[$doc:meta])* $variant:ident $json:literal $layer:literal [$($start:literal),*] $len:expr, ($value:ty) ($form:ty),
+        $(#[$doc:meta])* $variant:ident $json:literal $layer:literal [$($start:literal),*] $len:expr, ($value:ty) ($form:ty) [$($row:tt)*],
     )* }) => {
         $(#[$about])*
         #[derive(Clone, PartialEq, Eq, Hash, Debug)]
@@ -372,6 +374,7 @@ macro_rules! choice {
             }
         }
 
+        choice_shown! { $name { $([$($start),*] $len, ($form) [$($row)*],)* } }
         choice_json! { $name { $($variant $json $layer [$($start),*] $len, ($form),)* } }
         choice_edits! { $name { $($variant ($form),)* } }
     };
@@ -380,8 +383,8 @@ macro_rules! choice {
 /// Options or statistics by kind, and what those of kinds without a table are called in JSON, their flags and form. Of each: its variant,
 /// its names in JSON, the flags of the attribute that holds it, the type of its value, its form, and the kinds that have it.
 macro_rules! by_kind {
-    ($(#[$about:meta])* $name:ident $other:literal $other_flags:literal $shown:ident ($other_form:ty) { $(
-        $(#[$doc:meta])* $variant:ident $json:literal $layer:literal $flags:literal ($value:ty) ($form:ty) = $first:literal $(| $kind:literal)*,
+    ($(#[$about:meta])* $name:ident $other:literal $other_flags:literal $shown:ident ($other_form:ty) [$($other_row:tt)*] { $(
+        $(#[$doc:meta])* $variant:ident $json:literal $layer:literal $flags:literal ($value:ty) ($form:ty) [$($row:tt)*] = $first:literal $(| $kind:literal)*,
     )* }) => {
         $(#[$about])*
         #[derive(Clone, PartialEq, Eq, Hash, Debug)]
@@ -454,6 +457,9 @@ macro_rules! by_kind {
             }
         }
 
+        by_kind_shown! {
+            $name $other_flags $shown ($other_form) [$($other_row)*] { $($json $flags ($form) [$($row)*] = $first $(| $kind)*,)* }
+        }
         by_kind_json! { $name $other $shown ($other_form) { $($variant $json $layer ($form) = $first $(| $kind)*,)* } }
         by_kind_edits! { $name { $($variant $json ($form),)* } }
     };

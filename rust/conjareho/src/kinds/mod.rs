@@ -32,13 +32,16 @@
 //! [`table`] lists all kinds with their types. Names are the kernel's in Rust's case, and the search finds the kernel's own, such as
 //! `TCA_HTB_RATE64`. [`Htb`], [`HtbClass`], [`Tbf`] and [`PoliceAction`] compute what `tc` computes.
 //!
+//! A program that looks at each value once, such as an exporter, needs no typed values: [`visit`] shows them one after the other, with
+//! their names, units and `tc`'s words.
+//!
 //! What tables don't say, the types don't check: `nkeys` of a u32 selector has to be the number of its keys, as
 //! [`U32Sel::of`](filters::u32::U32Sel::of) makes it, and a number has the unit that its documentation has. [`Message::is_whole`] tells
 //! cut and broken messages, which [`Message::parse`] takes.
 //!
 //! A generator (`rust/kinds`) writes this module from the tables in `kinds/`. It is tested, and not proved: `rust/check` compares
 //! the JSON of typed values with the JSON of the proved forms on all stored messages, and reads and writes a
-//! million changed messages, which have to come back byte for byte.
+//! million changed messages, which have to come back byte for byte, and be shown as the forms show them.
 
 #[cfg(kinds_json)]
 #[macro_use]
@@ -52,6 +55,8 @@ mod no_edits;
 #[cfg(test)]
 #[macro_use]
 mod tests;
+#[macro_use]
+pub mod visit;
 #[macro_use]
 mod macros;
 mod aside;
@@ -73,12 +78,12 @@ use alloc::vec::Vec;
 pub use builders::{Htb, HtbClass, PoliceAction, Sizes, Tbf, police};
 use core::net::{Ipv4Addr, Ipv6Addr};
 use forms::{Array, Bare, Be, Code, Coded, Each, Empty, Fixed, Kind, List, Pad, Text, Times, Truth};
+use frames::{Attr, Found, Kinds};
 pub use from_options::OptionsError;
 pub use list::{Attrs, Indexed};
 pub use units::{NotAProb, NotARate, NotATime, Rate};
 use values::show_flags;
 pub use values::{Bytes, Handle, Mac, Nla, NotAHandle, NotAMac, NotHex, NotU32Parts, Prob, Ticks, U32Parts};
-use frames::{Attr, Found, Kinds};
 use wire::{Form, Key, NLA_TYPE_MASK, Out, Place, Shape, chosen, field, store_field, total, within};
 
 #[cfg(test)]
