@@ -5,6 +5,7 @@ use crate::user::prelude::*;
 mod classes;
 pub mod dump;
 pub mod dumped_object;
+mod in_order;
 mod known;
 pub mod label;
 mod made;

@@ -29,6 +29,16 @@ pub const MADE: u8 = 1;
 /// A request makes it, and one changes it.
 pub const CHANGED: u8 = 2;
 
+/// It is there, and is to be made again whatever is wanted.
+const LOST: u8 = 3;
+
+/// Makes a configuration one that no wanted one is, and that no change leads from.
+pub(crate) fn lose(bytes: &mut [u8]) {
+    if let Some(making) = bytes.first_mut() {
+        *making = LOST;
+    }
+}
+
 /// The message of the request that changes another object into one: that which makes it, if there is no other.
 #[must_use]
 pub fn changing<'a>(change: &'a [u8], message: &'a [u8]) -> &'a [u8] {

@@ -34,7 +34,7 @@ pub(crate) fn key_of(shown: &DumpedObject) -> Key {
 }
 
 // The priority of a filter.
-fn priority_of(shown: &DumpedObject) -> Key {
+pub(crate) fn priority_of(shown: &DumpedObject) -> Key {
     Key::Priority { index: shown.index, parent: shown.parent, number: shown.chain, priority: shown.priority }
 }
 

@@ -9,12 +9,13 @@ use crate::plan::configs::{Configured, Sort, config_of};
 use crate::plan::objects::classes::classes_of;
 use crate::plan::objects::dump::Dump;
 use crate::plan::objects::dumped_object::DumpedObject;
+use crate::plan::objects::in_order::NewIs;
 use crate::plan::objects::known::Known;
 use crate::plan::objects::made::{handle_named, is_by_kernel};
 use crate::plan::objects::objects::key_of;
 use crate::plan::objects::state_error::StateError;
 use crate::plan::restored::{
-    Dependencies, Fate, Key as PlanKey, Named, dependencies_of, has_action, name_of_action, newest_first,
+    Dependencies, Fate, Key as PlanKey, Named, dependencies_of, has_action, name_of_action,
 };
 use crate::restore::{Object, actions_of_filter, kind_of_message, standalone_index};
 use crate::tc_action_messages::{TcActionMessage, TcActionMessageAttribute};
@@ -36,8 +37,8 @@ pub struct Origin {
 pub(crate) struct Reading {
     pub(crate) shown: DumpedObject,
     pub(crate) origin: Origin,
-    /// The filters that the kernel keeps newest first, if it is one of these.
-    pub(crate) group: Option<PlanKey>,
+    /// Where the kernel puts a new filter of its priority, if packets meet these in the order in which they were made.
+    pub(crate) new_is: Option<NewIs>,
 }
 
 /// The objects of dumps.
@@ -183,13 +184,13 @@ fn reading_of(
     message: TcMessage,
 ) -> Result<Reading, StateError> {
     let origin = Origin { place, handle: u32::from(message.header.handle) };
-    let group = newest_first(object, &known.ingress, &message);
+    let new_is = NewIs::of(object, &message);
     let others = match at.sort {
         Sort::Table | Sort::Chain => with_places(Vec::new(), known, at)?,
         _ => tables_of(known, dependencies)?,
     };
     let shown = shown_of(known, place, object, at, others, message)?;
-    Ok(Reading { shown, origin, group })
+    Ok(Reading { shown, origin, new_is })
 }
 
 // The interface of what is in a block that interfaces share: `TCM_IFINDEX_MAGIC_BLOCK`.
@@ -269,7 +270,7 @@ fn with_priority(
     let config = priority_config(message)?;
     let others = with_places(Vec::new(), known, at)?;
     let shown = priority_shown(at, others, config);
-    with_new(readings, Reading { shown, origin: Origin { place, handle: 0 }, group: None })
+    with_new(readings, Reading { shown, origin: Origin { place, handle: 0 }, new_is: None })
 }
 
 // The configuration of a priority: the protocol and the kind of its filters.
@@ -409,7 +410,7 @@ fn reading_of_action(
     let Some(config) = config_of_action(sort, by_filters, action)? else {
         return Err(StateError::TooLong { place });
     };
-    Ok(Reading { shown: of_action(sort, index, config), origin: Origin { place, handle: index }, group: None })
+    Ok(Reading { shown: of_action(sort, index, config), origin: Origin { place, handle: index }, new_is: None })
 }
 
 fn of_action(sort: Sort, index: u32, config: Vec<u8>) -> DumpedObject {

@@ -4,16 +4,16 @@ use crate::user::prelude::*;
 
 use crate::plan::objects::dump::Dump;
 use crate::plan::objects::dumped_object::DumpedObject;
+use crate::plan::objects::in_order::{InOrder, NewIs, Orders};
 use crate::plan::objects::known::known_of;
 use crate::plan::objects::label::{Dumped, Label};
 use crate::plan::objects::names::names_of;
-use crate::plan::objects::objects::{key_of, object_of};
+use crate::plan::objects::objects::{key_of, object_of, priority_of};
 use crate::plan::objects::reading::{Origin, Reading, readings_of};
 use crate::plan::objects::renamed::renamed;
 use crate::plan::objects::requests::Handles;
 use crate::plan::objects::state_error::StateError;
 use crate::plan::order::{Step, ordered};
-use crate::plan::restored::Key as PlanKey;
 use crate::tc_changes::{Key, Object, is_ready};
 use std::collections::{HashMap, HashSet};
 
@@ -24,6 +24,8 @@ pub struct State {
     pub origins: Vec<Origin>,
     /// The handles by which the kernel has them.
     pub handles: Handles,
+    /// The filters of priorities where the order counts.
+    pub(crate) orders: Orders,
 }
 
 // An object, and where it comes from.
@@ -58,14 +60,15 @@ pub fn state_after(dumps: Vec<Dump>, now: &State) -> Result<State, StateError> {
 fn state_by(dumps: Vec<Dump>, there: &Handles, sorts: bool) -> Result<State, StateError> {
     let known = known_of(&dumps)?;
     let readings = readings_of(&known, dumps)?;
-    let steps = steps_of(readings)?;
+    let orders = orders_of(&readings);
+    let steps = steps_of(readings, &orders)?;
     let last = new_last(there, sorts, steps)?;
     let order = ordered(last)?;
     match stuck_in(&order.unordered) {
         None => {}
         Some(fault) => return Err(fault),
     }
-    let state = in_order(order.sorted)?;
+    let state = in_order(order.sorted, orders)?;
     let is = is_ready(&state.objects)?;
     if is {
         Ok(state)
@@ -112,7 +115,7 @@ fn is_new(there: &Handles, key: Key) -> bool {
 }
 
 // The state of what steps make.
-fn in_order(steps: Vec<Step<Item, Key>>) -> Result<State, AllocError> {
+fn in_order(steps: Vec<Step<Item, Key>>, orders: Orders) -> Result<State, AllocError> {
     let mut objects = fallible::with_capacity(steps.len())?;
     let mut origins = fallible::with_capacity(steps.len())?;
     let mut handles = HashMap::new();
@@ -122,12 +125,12 @@ fn in_order(steps: Vec<Step<Item, Key>>) -> Result<State, AllocError> {
         objects.try_push(object)?;
         origins.try_push(origin)?;
     }
-    Ok(State { objects, origins, handles })
+    Ok(State { objects, origins, handles, orders })
 }
 
 // The steps that make what dumps show.
-fn steps_of(readings: Vec<Reading>) -> Result<Vec<Step<Item, Key>>, StateError> {
-    let newer = newer_of(&readings)?;
+fn steps_of(readings: Vec<Reading>, orders: &Orders) -> Result<Vec<Step<Item, Key>>, StateError> {
+    let before = made_before(orders);
     let (shown, origins) = parted(readings)?;
     let names = names_of(&shown)?;
     let mut steps = fallible::with_capacity(shown.len())?;
@@ -135,7 +138,8 @@ fn steps_of(readings: Vec<Reading>) -> Result<Vec<Step<Item, Key>>, StateError> 
         let place = steps.len();
         let origin = origins.get(place).copied().unwrap_or(NOWHERE);
         let object = object_of(&names, one)?;
-        let step = step_of(object, origin, newer.get(&place).copied())?;
+        let earlier = before.get(&object.key).copied();
+        let step = step_of(object, origin, earlier)?;
         steps.try_push(step)?;
     }
     Ok(steps)
@@ -155,32 +159,41 @@ fn parted(readings: Vec<Reading>) -> Result<(Vec<DumpedObject>, Vec<Origin>), Al
     Ok((shown, origins))
 }
 
-// The step of an object, which waits for a newer filter too, if it is of filters that the kernel keeps newest first.
-fn step_of(object: Object, origin: Origin, newer: Option<Key>) -> Result<Step<Item, Key>, AllocError> {
+// The step of an object, which waits for the filter too that is to be made before it.
+fn step_of(object: Object, origin: Origin, earlier: Option<Key>) -> Result<Step<Item, Key>, AllocError> {
     let mut provides = fallible::with_capacity(1)?;
     provides.try_push(object.key)?;
     let mut needs = fallible::copy(&object.under)?;
     needs.try_extend(&object.refers)?;
-    if let Some(key) = newer {
+    if let Some(key) = earlier {
         needs.try_push(key)?;
     }
     Ok(Step { item: Item { object, origin }, provides, needs, cannot_run: false })
 }
 
-// The next filter of the same chain and priority, by the place of a filter. Only kinds that the kernel keeps newest first are here.
-type Newer = HashMap<usize, Key>;
-
-fn newer_of(readings: &[Reading]) -> Result<Newer, AllocError> {
-    let mut last: HashMap<PlanKey, usize> = HashMap::new();
-    let mut newer = HashMap::new();
-    for (place, reading) in readings.iter().enumerate() {
-        if let Some(group) = reading.group {
-            if let Some(before) = last.insert(group, place) {
-                newer.insert(before, key_of(&reading.shown));
-            }
+// The filters of each priority where their order counts.
+fn orders_of(readings: &[Reading]) -> Orders {
+    let mut orders = Orders::new();
+    for reading in readings {
+        if let Some(new_is) = reading.new_is {
+            let order = orders.entry(priority_of(&reading.shown));
+            let order = order.or_insert_with(|| InOrder { new_is, filters: Vec::new() });
+            order.filters.push(key_of(&reading.shown));
         }
     }
-    Ok(newer)
+    orders
+}
+
+// The filter that is to be made before each, so that they come in their order.
+fn made_before(orders: &Orders) -> HashMap<Key, Key> {
+    let mut before = HashMap::new();
+    for InOrder { new_is, filters } in orders.values() {
+        for (first, second) in filters.iter().zip(filters.iter().skip(1)) {
+            let (earlier, later) = if *new_is == NewIs::First { (second, first) } else { (first, second) };
+            before.insert(*later, *earlier);
+        }
+    }
+    before
 }
 
 // Why a state isn't one.
