@@ -2,10 +2,11 @@
 
 use crate::fallible::prelude::*;
 
-use crate::nla_frames::{DefaultNla, NLA_TYPE_MASK, Nla};
+use crate::nla_frames::{DecodeError, DefaultNla, NLA_TYPE_MASK, Nla, parse_list};
 use crate::restore::numbers::{number_at, with_number};
-use crate::restore::restore::{Around, Restore, is_of, restore_after, restore_own};
+use crate::restore::restore::{Around, NOTHING_AROUND, Restore, is_of, restore_after, restore_own};
 use crate::restore::restore_error::RestoreError;
+use crate::restore::restore_raw::emitted;
 use crate::restore::restore_tunnels::restored_tunnel;
 use crate::restore::uses::{are_parameters, mirror_restored, nat_restored, record_restored, tunnel_key_restored};
 use crate::tc_actions::{
@@ -161,6 +162,23 @@ fn restored_options(
     let tables = rate_tables(kind, &options)?;
     let types = dumped_types(kind, &options);
     restore_after(tables, options, kind, around, types)
+}
+
+/// Restores police of a filter outside a list of actions (`TCA_U32_POLICE` and the like): it has the options of an action.
+pub(crate) fn restored_police(nla: DefaultNla) -> Result<DefaultNla, RestoreError> {
+    let value = police_restored(nla.value())?;
+    Ok(DefaultNla::new(nla.kind(), value))
+}
+
+/// The same of its options.
+pub(crate) fn police_restored(value: &[u8]) -> Result<Vec<u8>, RestoreError> {
+    let options: Vec<DefaultNla> = match parse_list(value) {
+        Ok(options) => options,
+        Err(DecodeError::OutOfMemory) => return Err(RestoreError::OutOfMemory),
+        Err(_) => return Err(RestoreError::PoliceOfFilter),
+    };
+    let options = options.into_iter().map(TcActionOption::Other).collect();
+    emitted(&restored_options("police", NOTHING_AROUND, options)?)
 }
 
 // True if these statistics have an estimator's.

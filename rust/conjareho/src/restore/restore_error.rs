@@ -20,7 +20,7 @@ pub enum RestoreError {
     /// Statistics show an estimator (`TCA_STATS_RATE_EST`), which isn't dumped as `Rate`.
     Estimator,
 
-    /// A filter has police outside a list of actions (`TCA_U32_POLICE`, ...), whose rate table isn't dumped.
+    /// A filter has police outside a list of actions (`TCA_U32_POLICE`, ...), and that is no list of options.
     PoliceOfFilter,
 
     /// A list has more than 32 actions. The kernel ignores those after the 32nd.
@@ -75,8 +75,8 @@ impl core::fmt::Display for RestoreError {
             /// Statistics show an estimator (`TCA_STATS_RATE_EST`), which isn't dumped as `Rate`.
             Self::Estimator => write!(f, "estimator, of which only statistics are dumped"),
 
-            /// A filter has police outside a list of actions (`TCA_U32_POLICE`, ...), whose rate table isn't dumped.
-            Self::PoliceOfFilter => write!(f, "police of a filter, without its rate table"),
+            /// A filter has police outside a list of actions (`TCA_U32_POLICE`, ...), that isn't a list of options.
+            Self::PoliceOfFilter => write!(f, "police of a filter that isn't a list of options"),
 
             /// A list has more than 32 actions. The kernel ignores those after the 32nd.
             Self::TooManyActions => write!(f, "more than 32 actions"),

@@ -4,6 +4,7 @@ use crate::fallible::prelude::*;
 
 use crate::nla_frames::{DecodeError, DefaultNla, Nla, parse_list};
 use crate::restore::restore::{Around, NOTHING_AROUND, Restore, is_of, restore_all};
+use crate::restore::restore_actions::restored_police;
 use crate::restore::restore_error::RestoreError;
 use crate::restore::restore_raw::{emitted, restored_raw};
 use crate::tc_actions::TcAction;
@@ -93,7 +94,8 @@ impl Restore for DefaultNla {
             let actions = restored_actions(self)?;
             Ok(Some(actions))
         } else if is_of(police_types(kind), &self) {
-            Err(RestoreError::PoliceOfFilter)
+            let police = restored_police(self)?;
+            Ok(Some(police))
         } else {
             Ok(Some(self))
         }

@@ -5,6 +5,7 @@ use crate::fallible::prelude::*;
 use crate::bitflags::Flags;
 use crate::restore::codel_times::time_set;
 use crate::restore::restore::{Around, NOTHING_AROUND, Restore, is_of, restore_after, restore_all};
+use crate::restore::restore_actions::{police_restored, restored_police};
 use crate::restore::restore_error::RestoreError;
 use crate::restore::restore_filters::restored_actions;
 use crate::restore::restore_tunnels::restored_tunnel;
@@ -124,7 +125,7 @@ fn restored_u32(in_root: bool, option: TcFilterU32Option) -> Result<Option<TcFil
         TcFilterU32Option::Hash(n) => Ok(Some(TcFilterU32Option::Hash(hash_restored(in_root, n)))),
         TcFilterU32Option::Flags(flags) => Ok(Some(TcFilterU32Option::Flags(cleared(flags)))),
         TcFilterU32Option::Pnct(_) => Ok(None),
-        TcFilterU32Option::Police(_) => Err(RestoreError::PoliceOfFilter),
+        TcFilterU32Option::Police(value) => Ok(Some(TcFilterU32Option::Police(police_restored(&value)?))),
         TcFilterU32Option::Action(actions) => {
             let actions = restore_all(actions, "", NOTHING_AROUND)?;
             Ok(Some(TcFilterU32Option::Action(actions)))
@@ -179,7 +180,7 @@ fn restored_bpf(option: TcFilterBpfOption) -> Result<Option<TcFilterBpfOption>, 
                 let actions = restored_actions(nla)?;
                 Ok(Some(TcFilterBpfOption::Other(actions)))
             } else if is_of(&[2], &nla) {
-                Err(RestoreError::PoliceOfFilter)
+                Ok(Some(TcFilterBpfOption::Other(restored_police(nla)?)))
             } else {
                 Ok(Some(TcFilterBpfOption::Other(nla)))
             }

@@ -5,6 +5,7 @@ use crate::fallible::prelude::*;
 use crate::nla_frames::{DecodeError, DefaultNla, NLA_TYPE_MASK, Nla, emit_list, list_checked_len, parse_list};
 use crate::restore::codel_times::time_set;
 use crate::restore::numbers::{number_at, with_number};
+use crate::restore::restore::is_of;
 use crate::restore::restore_error::RestoreError;
 
 // Restores the raw options of a kind.
@@ -12,6 +13,7 @@ pub(crate) fn restored_raw(kind: &str, nla: DefaultNla) -> Result<DefaultNla, Re
     match kind {
         "htb" | "codel" => restored_list(kind, nla),
         "sfq" => restored_sfq(nla),
+        "taprio" => restored_taprio(nla),
         "red" | "choke" | "gred" => Err(RestoreError::MarkingTable),
         _ => Ok(nla),
     }
@@ -81,6 +83,41 @@ fn restored_codel(nla: DefaultNla) -> Result<DefaultNla, RestoreError> {
 // True for the types of codel's times.
 fn is_codel_time(kind: u16) -> bool {
     kind == 1 || kind == 3 || kind == 5
+}
+
+// `TCA_TAPRIO_ATTR_PAD`, `TCA_TAPRIO_ATTR_ADMIN_SCHED`, and what a schedule has: its entries, base time, cycle time and extension.
+const TAPRIO_PAD: u16 = 6;
+
+const TAPRIO_PENDING: u16 = 7;
+
+const TAPRIO_SCHEDULE: &[u16] = &[2, 3, 8, 9];
+
+// A request has its schedule among the options, and Linux ignores one in the place of a pending one. What was asked for last is pending until its base time,
+// or the end of the cycle.
+fn restored_taprio(nla: DefaultNla) -> Result<DefaultNla, RestoreError> {
+    let options = frames_in(nla.value())?;
+    let pending = match options.iter().find(|option| is_of(&[TAPRIO_PENDING], option)) {
+        Some(pending) => frames_in(pending.value())?,
+        None => Vec::new(),
+    };
+    let schedule: Vec<DefaultNla> = pending.into_iter().filter(|part| !is_of(&[TAPRIO_PAD], part)).collect();
+    if schedule.is_empty() {
+        return Ok(nla);
+    }
+    let others =
+        options.into_iter().filter(|option| !is_of(TAPRIO_SCHEDULE, option) && !is_of(&[TAPRIO_PENDING], option));
+    let frames: Vec<DefaultNla> = others.chain(schedule).collect();
+    let bytes = emitted(&frames)?;
+    Ok(DefaultNla::new(nla.kind(), bytes))
+}
+
+// The attributes of a list; none if it is broken.
+fn frames_in(bytes: &[u8]) -> Result<Vec<DefaultNla>, RestoreError> {
+    match parse_list(bytes) {
+        Ok(frames) => Ok(frames),
+        Err(DecodeError::OutOfMemory) => Err(RestoreError::OutOfMemory),
+        Err(_) => Ok(Vec::new()),
+    }
 }
 
 fn restored_sfq(nla: DefaultNla) -> Result<DefaultNla, RestoreError> {
