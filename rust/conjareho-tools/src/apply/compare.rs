@@ -104,6 +104,11 @@ impl Key {
         }
     }
 
+    /// True for one object, and not for all filters of a priority.
+    pub(crate) fn has_handle(&self) -> bool {
+        matches!(self, Key::Object { handle, .. } if *handle != 0)
+    }
+
     /// True for the order of filters, which isn't one object.
     pub(crate) fn is_order(&self) -> bool {
         matches!(self, Key::Order { .. })

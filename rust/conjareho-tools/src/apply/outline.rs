@@ -158,9 +158,13 @@ impl<'a> Outline<'a> {
         }
         if replaces(step) {
             let anew = if has_own_actions(step) { "; its actions count from 0" } else { "" };
+            let values = if values.is_empty() { " since the tbf above gives it its own limit" } else { &values };
             return format!(";{values}{anew}");
         }
+        let is_alone = self.gone.iter().any(|it| it.has_handle() && it.is_object_of(&key));
         let why = match values.as_str() {
+            "" if key.is_action() => "since it goes with the last filter that holds it".to_string(),
+            "" if is_alone && is_ordered(step) => "so that the order is as wanted".to_string(),
             "" => "because what it is under is".to_string(),
             _ if self.gone.iter().any(|it| it.is_object_of(&key)) => {
                 format!("since this isn't changed in place:{values}")
@@ -226,6 +230,11 @@ fn is_inner(value: &Value) -> bool {
     let attributes = value["attributes"].as_array().into_iter().flatten();
     let options = attributes.filter_map(|it| it["Options"].as_array()).flatten();
     options.filter_map(|it| it.pointer("/Htb/Parms/level")).any(|level| *level != 0)
+}
+
+// True for a filter of a kind where the order within a priority counts.
+fn is_ordered(step: &[u8]) -> bool {
+    type_of(step) == RTM_NEWTFILTER && matches!(kind_of(step), Some(b"basic" | b"bpf" | b"flow"))
 }
 
 // What begins anew with an object that is made again.

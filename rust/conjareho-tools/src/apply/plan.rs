@@ -2,18 +2,18 @@
 
 use super::anew::marked;
 use super::compare::{Key, key_of};
-use super::messages::{actions_of, chain_of, deletes, kind_of, payload_of, replaces, type_of};
+use super::messages::{Action, actions_of, all_actions, chain_of, deletes, kind_of, payload_of, replaces, type_of};
 use super::requests::{LINES_BEFORE, dumps_of, requests_of_dump};
+use crate::make::program::plans::plan_of_dumps;
+use crate::make::requests::lines::{Remark, RemarkKind, Source};
 use crate::netlink::message::{HEADER, RTM_NEWCHAIN, RTM_NEWQDISC, RTM_NEWTCLASS, RTM_NEWTFILTER, is_action, tcmsg_of};
 use crate::nla_frames::ParseableBytes as _;
+use crate::plan::objects::KindRules;
+use crate::restore::{Object, request_of, request_of_actions};
 use crate::streams::Stop;
 use crate::tc_action_messages::TcActionMessage;
 use crate::tc_changes::{self, Rules};
 use crate::tc_messages::TcMessage;
-use crate::plan::objects::KindRules;
-use crate::restore::{Object, request_of, request_of_actions};
-use crate::make::program::plans::plan_of_dumps;
-use crate::make::requests::lines::{Remark, RemarkKind, Source};
 use std::collections::BTreeSet;
 
 const RTM_DELTFILTER: u16 = RTM_NEWTFILTER + 1;
@@ -118,12 +118,7 @@ fn plan_by(rules: &impl Rules, now: &[Vec<u8>], wanted: &[Vec<u8>], may_go: impl
         .unwrap_or_else(|_| Err(vec![Fault { is_of_now: true, place: None, text: "out of memory".to_string() }]))
 }
 
-fn requests(
-    rules: &impl Rules,
-    keys: &[tc_changes::Key],
-    now: &[Vec<u8>],
-    wanted: &[Vec<u8>],
-) -> Result<Plan, Stop> {
+fn requests(rules: &impl Rules, keys: &[tc_changes::Key], now: &[Vec<u8>], wanted: &[Vec<u8>]) -> Result<Plan, Stop> {
     let planned = plan_of_dumps(rules, keys, dumps_of(now), dumps_of(wanted))?;
     let complaints = planned.remarks.iter().filter(|remark| remark.kind == RemarkKind::Complaint);
     let faults: Vec<Fault> = complaints.map(|remark| Fault::of(remark, now, wanted)).collect();
@@ -174,14 +169,17 @@ fn action_named(key: &Key) -> Option<tc_changes::Key> {
     Some(tc_changes::Key::Action { kind, index: *index })
 }
 
-// The actions of now that stay although nobody wants them.
+// The actions of now that wanted filters share, and that stay although nobody wants them by themselves. All others are elsewhere.
 fn others(now: &[Vec<u8>], wanted: &[Vec<u8>], may_go: impl Fn(&Key) -> bool) -> Vec<Vec<u8>> {
     let own = |messages: &[Vec<u8>]| {
         messages.iter().filter(|it| is_action(type_of(it))).flat_map(|it| actions_of(it)).collect::<Vec<_>>()
     };
     let named: BTreeSet<Key> = own(wanted).iter().map(|action| action.key()).collect();
-    let stay = own(now).into_iter().filter(|action| !named.contains(&action.key()) && !may_go(&action.key()));
-    stay.map(|action| action.change()).collect()
+    let filters = wanted.iter().filter(|it| type_of(it) == RTM_NEWTFILTER);
+    let shared: BTreeSet<Key> =
+        filters.flat_map(|it| all_actions(it)).filter_map(Action::of).map(|it| it.key()).collect();
+    let stays = |key: &Key| shared.contains(key) && !named.contains(key) && !may_go(key);
+    own(now).into_iter().filter(|action| stays(&action.key())).map(|action| action.change()).collect()
 }
 
 #[cfg(test)]
@@ -200,7 +198,9 @@ mod tests {
             message
         };
         let now = [of(RTM_NEWTFILTER, 1, "cgroup"), of(RTM_NEWTFILTER, 2, "basic")];
-        let handle = |number| tcmsg_of(&with_priority(of(RTM_DELTFILTER, number, ""), &filters_of_cgroup(&now))).map(|it| it.handle);
+        let handle = |number| {
+            tcmsg_of(&with_priority(of(RTM_DELTFILTER, number, ""), &filters_of_cgroup(&now))).map(|it| it.handle)
+        };
         assert_eq!([1, 2, 3].map(handle), [Some(0), Some(2), Some(3)]);
     }
 }

@@ -167,7 +167,7 @@ fn key_in(message: &[u8], key: &Key) -> bool {
 }
 
 // The dumps of lines, with the numbers of these. The error is what is wrong with lines, unless those are left out.
-fn messages_in(asked: &Asked<'_>, leaves_out: bool) -> Result<Vec<(u64, Vec<u8>)>, Vec<String>> {
+pub(crate) fn messages_in(asked: &Asked<'_>, leaves_out: bool) -> Result<Vec<(u64, Vec<u8>)>, Vec<String>> {
     let forms = Forms { table: TcTables, tc: TC_MESSAGE, action: ACTION_MESSAGE };
     let index = asked.index.and_then(|index| i32::try_from(index).ok());
     let reading = Reading { source: Source::Wanted, index, names: asked.names };

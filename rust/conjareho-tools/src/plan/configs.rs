@@ -2,6 +2,7 @@
 
 use crate::user::prelude::*;
 mod actions;
+pub(crate) mod compared;
 pub mod config;
 pub mod configured;
 pub mod frames;

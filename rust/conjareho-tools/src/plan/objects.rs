@@ -2,12 +2,14 @@
 //! filters.
 
 use crate::user::prelude::*;
+mod beside;
 mod classes;
 pub mod dump;
 pub mod dumped_object;
 mod in_order;
 mod known;
 pub mod label;
+mod lost;
 mod made;
 pub mod names;
 pub mod objects;

@@ -2,6 +2,7 @@
 
 mod applied;
 pub(super) mod fake;
+mod planned;
 mod restored;
 
 use super::apply;

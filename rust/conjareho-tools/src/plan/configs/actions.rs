@@ -74,7 +74,7 @@ fn normal_attribute(kind: &[u8], frame: DefaultNla) -> Result<DefaultNla, AllocE
     }
 }
 
-fn options_of(kind: &[u8], value: &[u8]) -> Result<Vec<u8>, AllocError> {
+pub(crate) fn options_of(kind: &[u8], value: &[u8]) -> Result<Vec<u8>, AllocError> {
     let frames = frames_of(value)?;
     let options = normal_options(kind, frames)?;
     framed(&options)

@@ -38,6 +38,17 @@ pub(crate) fn configured(sort: Sort, kind: &str, message: &[u8]) -> Result<Vec<u
     written(&Config { making: CHANGED, kept: &kept, fixed: &fixed, change: &change, message })
 }
 
+/// The configuration of a chain without a template, whose own request has this message. A chain that filters make has none: one that was made by itself may
+/// become that, since with filters both are dumped alike, but not the other way, since such a chain goes with its last filter.
+///
+/// # Errors
+///
+/// A [`AllocError`].
+pub(crate) fn chain(message: Option<&[u8]>) -> Result<Vec<u8>, AllocError> {
+    let kept: &[u8] = if message.is_some() { &[] } else { b"by filters" };
+    written(&Config { making: CHANGED, kept, fixed: b"chain", change: &[], message: message.unwrap_or_default() })
+}
+
 /// The configuration of an object that no change leads to.
 ///
 /// # Errors

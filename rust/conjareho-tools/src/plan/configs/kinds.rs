@@ -41,7 +41,7 @@ pub(crate) fn rule_of(sort: Sort, kind: &str) -> Rule {
         Sort::Class => of_class(kind),
         Sort::Filter => of_filter(kind),
         Sort::Action(_) => of_action(kind),
-        Sort::Table | Sort::Chain | Sort::Priority => NEVER,
+        Sort::Table | Sort::Chain | Sort::Priority | Sort::Block | Sort::Common => NEVER,
     }
 }
 

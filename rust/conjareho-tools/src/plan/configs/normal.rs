@@ -4,9 +4,9 @@
 use crate::user::prelude::*;
 
 use crate::nla_frames::{DefaultNla, Nla};
-use crate::plan::configs::actions::normal_actions;
+use crate::plan::configs::actions::{normal_actions, options_of};
 use crate::plan::configs::frames::{after, framed, frames_of, front, type_of};
-use crate::plan::configs::parts::{number_at, put};
+use crate::plan::configs::parts::put;
 
 // The lengths of `struct tcmsg` and `struct tcamsg`.
 const HEADER: usize = 20;
@@ -147,7 +147,7 @@ fn counts_of(kind: &str) -> &'static [u16] {
 }
 
 // The types of the options that are lists of actions.
-fn lists_of(kind: &str) -> &'static [u16] {
+pub(crate) fn lists_of(kind: &str) -> &'static [u16] {
     match kind {
         "flower" => &[3],
         "u32" => &[7],
@@ -173,10 +173,24 @@ fn normal_option(of_dump: bool, kind: &str, frame: &DefaultNla) -> Result<Defaul
 fn value_by(of_dump: bool, kind: &str, option: u16, value: &[u8]) -> Result<Vec<u8>, AllocError> {
     if is_list(of_dump, kind, option) {
         normal_actions(value)
+    } else if of_dump && option != 0 && police_of(kind) == option {
+        options_of(b"police", value)
     } else if is_schedule(kind, option) {
         normal_schedule(value)
     } else {
         value_of_option(kind, option, value)
+    }
+}
+
+// The type of the option that is police outside a list of actions (`TCA_U32_POLICE` and the like); 0 of a kind that has none.
+fn police_of(kind: &str) -> u16 {
+    match kind {
+        "u32" | "tcindex" => 6,
+        "basic" => 4,
+        "bpf" | "fw" | "cgroup" => 2,
+        "route" | "rsvp" | "rsvp6" => 5,
+        "flow" => 10,
+        _ => 0,
     }
 }
 
@@ -207,23 +221,15 @@ fn without_padding(frames: Vec<DefaultNla>) -> Result<Vec<DefaultNla>, AllocErro
     Ok(made)
 }
 
-// The value of an option. Of htb: the quantum, the level and the priority of a class above others (`struct tc_htb_opt`), which it doesn't
-// use, and the packets that went past all classes (`struct tc_htb_glob`). Of u32: the packets with a mark (`struct tc_u32_mark`).
+// The value of an option. Of htb: the packets that went past all classes (`struct tc_htb_glob`). Of u32: the packets with a mark (`struct tc_u32_mark`).
 fn value_of_option(kind: &str, option: u16, value: &[u8]) -> Result<Vec<u8>, AllocError> {
-    if kind == "htb" && option == 1 && is_inner(value) {
-        put(32, &[0, 0, 0, 0, 0, 0, 0, 0, 0, 0, 0, 0], value)
-    } else if kind == "htb" && option == 2 {
+    if kind == "htb" && option == 2 {
         put(16, &[0, 0, 0, 0], value)
     } else if kind == "u32" && option == 10 {
         put(8, &[0, 0, 0, 0], value)
     } else {
         fallible::copy(value)
     }
-}
-
-// True for the parameters of a class of htb that has classes below it: its level isn't 0.
-fn is_inner(value: &[u8]) -> bool {
-    40 <= value.len() && number_at(value, 36) != 0
 }
 
 #[cfg(test)]

@@ -2,8 +2,9 @@
 
 use crate::user::prelude::*;
 
+use crate::plan::configs::compared::compared;
 use crate::plan::configs::config::NEVER;
-use crate::plan::configs::configured::{configured, plain};
+use crate::plan::configs::configured::{chain, configured, plain};
 use crate::plan::configs::frames::emitted;
 use crate::plan::configs::normal::{normal, normal_action_dump};
 use crate::plan::configs::sort::Sort;
@@ -21,6 +22,8 @@ pub struct Configured {
     pub message: TcMessage,
     /// The bytes of the configuration.
     pub config: Vec<u8>,
+    /// The message that is sent, where that isn't the one that is compared.
+    pub sent: Option<Vec<u8>>,
 }
 
 /// The configuration of the object that a dump shows, which has this type and is named by this parent: the request that restores the dump,
@@ -41,7 +44,7 @@ pub fn config_of(
     let (request, can_make) = request_or_dump(roots, object, dump)?;
     let message = settled(object, parent, request);
     match written_config(sort, kind.as_str(), &message, can_make)? {
-        Some(config) => Ok(Some(Configured { message, config })),
+        Some((config, sent)) => Ok(Some(Configured { message, config, sent })),
         None => Ok(None),
     }
 }
@@ -147,14 +150,24 @@ fn other_than_memory(error: RestoreError) -> Result<(), AllocError> {
     }
 }
 
+// A configuration, and the message that is sent if that isn't its own.
+type Written = (Vec<u8>, Option<Vec<u8>>);
+
 // The configuration of a request that makes an object of this kind, or of a dump. None if its message is too long.
-fn written_config(sort: Sort, kind: &str, message: &TcMessage, can_make: bool) -> Result<Option<Vec<u8>>, AllocError> {
+fn written_config(sort: Sort, kind: &str, message: &TcMessage, can_make: bool) -> Result<Option<Written>, AllocError> {
     let Some(bytes) = emitted(message)? else {
         return Ok(None);
     };
     let bytes = normal(!can_make, kind, bytes)?;
-    let config = if can_make { configured(sort, kind, &bytes)? } else { plain(NEVER, &bytes)? };
-    Ok(Some(config))
+    let compared = compared(sort, kind, &bytes)?;
+    let own = compared.as_deref().unwrap_or(&bytes);
+    let config = match (can_make, sort) {
+        (false, _) => plain(NEVER, own)?,
+        (true, Sort::Chain) if kind.is_empty() => chain(Some(own))?,
+        (true, _) => configured(sort, kind, own)?,
+    };
+    let sent = compared.is_some().then_some(bytes);
+    Ok(Some((config, sent)))
 }
 
 // A message with one parent for all that is under ingress, and without the word of a qdisc or a class (`tcm_info`), which isn't

@@ -19,4 +19,8 @@ pub enum Sort {
     Table,
     /// An action of this kind, padded with zeros.
     Action([u8; 16]),
+    /// A block that interfaces share. No request makes it: it is there as long as a qdisc has it.
+    Block,
+    /// What the priorities of u32 of a qdisc, or of a block, have in common: the hash tables. It is there as long as one of these is.
+    Common,
 }

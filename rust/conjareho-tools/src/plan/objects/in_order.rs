@@ -1,8 +1,7 @@
 //! The order of filters within a priority, of the kinds where packets meet them in the order in which they were made.
 
-use crate::plan::objects::state::State;
 use crate::restore::{Object, kind_of_message};
-use crate::tc_changes::{self, Key, Plan, Step};
+use crate::tc_changes::Key;
 use crate::tc_messages::TcMessage;
 use std::collections::{HashMap, HashSet};
 
@@ -50,33 +49,15 @@ pub(crate) fn kept_in_order<K: Copy + Eq>(old: &[K], new: &[K], stays: impl Fn(&
     wanted.into_iter().take_while(|filter| rest.any(|it| it == *filter)).collect()
 }
 
-/// The filters that a plan leaves where they are, and that would come in another order than is wanted.
-pub(crate) fn displaced(now: &State, wanted: &Orders, plan: &Plan) -> HashSet<Key> {
-    let Plan::Steps(steps) = plan else { return HashSet::new() };
-    let made: HashSet<Key> = steps.iter().filter_map(made_by).collect();
+/// The filters that stay, and that would come in another order than is wanted.
+pub(crate) fn displaced(there: &Orders, wanted: &Orders, stays: impl Fn(&Key) -> bool) -> HashSet<Key> {
     let mut found = HashSet::new();
-    for (priority, old) in &now.orders {
+    for (priority, InOrder { new_is, filters }) in there {
         let Some(new) = wanted.get(priority) else { continue };
-        let is_wanted: HashSet<&Key> = new.filters.iter().collect();
-        let stays = |key: &Key| is_wanted.contains(key) && !made.contains(key);
-        let kept: HashSet<Key> = kept_in_order(&old.filters, &new.filters, stays, old.new_is).into_iter().collect();
-        found.extend(old.filters.iter().filter(|key| stays(key) && !kept.contains(key)));
+        let kept: HashSet<Key> = kept_in_order(filters, &new.filters, &stays, *new_is).into_iter().collect();
+        found.extend(filters.iter().filter(|key| stays(key) && !kept.contains(key)));
     }
     found
-}
-
-fn made_by(step: &Step) -> Option<Key> {
-    match step {
-        Step::Make(object) => Some(object.key),
-        Step::Change(_) | Step::Delete(_) => None,
-    }
-}
-
-/// Objects, those of these keys marked as ones that are to be made again.
-pub(crate) fn marked(objects: &mut [tc_changes::Object], keys: &HashSet<Key>) {
-    for object in objects.iter_mut().filter(|object| keys.contains(&object.key)) {
-        crate::plan::configs::config::lose(&mut object.config);
-    }
 }
 
 #[cfg(test)]
@@ -122,7 +103,11 @@ mod tests {
                     let kept: Vec<u8> = old.iter().copied().filter(|it| stays(it) && is_in(*some, *it)).collect();
                     (end(old, new, &kept, new_is) == *new).then_some(kept.len())
                 };
-                assert_eq!((0_u8..16).filter_map(|some| could(&some)).max(), Some(kept.len()), "{old:?} {new:?} {mask:b}");
+                assert_eq!(
+                    (0_u8..16).filter_map(|some| could(&some)).max(),
+                    Some(kept.len()),
+                    "{old:?} {new:?} {mask:b}"
+                );
             }
         }
     }

@@ -30,8 +30,8 @@ pub(crate) struct Known {
     pub(crate) filled: Chains,
     /// The actions that only their filters can make.
     pub(crate) by_filters: Vec<PlanKey>,
-    /// The blocks of qdiscs, by their numbers, and the places of these qdiscs.
-    pub(crate) blocks: Vec<(u32, Key)>,
+    /// The chains that have a template.
+    pub(crate) templates: HashSet<PlanKey>,
 }
 
 /// The facts of these dumps.
@@ -41,8 +41,8 @@ pub(crate) fn known_of(dumps: &[Dump]) -> Result<Known, AllocError> {
     let filled = filled_of(&ingress, dumps)?;
     let tables = tables_of(&ingress, dumps)?;
     let by_filters = by_filters_of(dumps)?;
-    let blocks = blocks_of(dumps)?;
-    Ok(Known { roots, ingress, tables, filled, by_filters, blocks })
+    let templates = templates_of(&ingress, dumps)?;
+    Ok(Known { roots, ingress, tables, filled, by_filters, templates })
 }
 
 fn roots_of(dumps: &[Dump]) -> Result<Vec<RootTable>, AllocError> {
@@ -149,21 +149,16 @@ fn table_of(message: &TcMessage, dependencies: &Dependencies) -> Option<Key> {
     }
 }
 
-// The blocks that qdiscs name.
-fn blocks_of(dumps: &[Dump]) -> Result<Vec<(u32, Key)>, AllocError> {
-    let mut blocks = Vec::new();
+// The chains that have a template: those that filters don't make.
+fn templates_of(ingress: &[i32], dumps: &[Dump]) -> Result<HashSet<PlanKey>, AllocError> {
+    let mut templates = HashSet::new();
     for dump in dumps {
-        if let Dump::Of(Object::Qdisc, message) = dump {
-            let place = Key::Place { index: message.header.index, parent: u32::from(message.header.parent) };
-            let dependencies = dependencies_of(0, Fate::Request, Object::Qdisc, &[], message)?;
-            for key in &dependencies.provides {
-                if let PlanKey::Block { number } = key {
-                    blocks.try_push((*number, place))?;
-                }
-            }
+        if let Dump::Of(Object::Chain, message) = dump {
+            let dependencies = dependencies_of(0, Fate::Request, Object::Chain, ingress, message)?;
+            templates.extend(dependencies.provides.into_iter().filter(|_| dependencies.made_by.is_none()));
         }
     }
-    Ok(blocks)
+    Ok(templates)
 }
 
 // The actions that only their filters can make.

@@ -49,6 +49,6 @@ fn named(shown: &DumpedObject) -> Option<(Key, Key)> {
             let key = Key::Chain { index, parent, number: chain };
             Some((key, key))
         }
-        Sort::Priority | Sort::Filter | Sort::Table | Sort::Action(_) => None,
+        Sort::Priority | Sort::Filter | Sort::Table | Sort::Action(_) | Sort::Block | Sort::Common => None,
     }
 }

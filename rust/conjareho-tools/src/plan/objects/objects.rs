@@ -30,8 +30,27 @@ pub(crate) fn key_of(shown: &DumpedObject) -> Key {
         Sort::Priority => priority_of(shown),
         Sort::Filter | Sort::Table => Key::Filter { index, parent, number: chain, priority, handle },
         Sort::Action(kind) => Key::Action { kind, index: handle },
+        Sort::Block => Key::Block { number: parent },
+        Sort::Common => common_of(index, parent),
     }
 }
+
+/// A chain that no kernel has: their numbers are below 2^28.
+const NO_CHAIN: u32 = u32::MAX;
+
+/// The key of what the priorities of u32 of a qdisc, by any handle in it, or of a block have in common.
+pub(crate) fn common_of(index: i32, parent: u32) -> Key {
+    let parent = if index == SHARED { parent } else { major(parent) };
+    Key::Priority { index, parent, number: NO_CHAIN, priority: 0 }
+}
+
+/// True for the key of what priorities of u32 have in common.
+pub(crate) fn is_common(key: Key) -> bool {
+    matches!(key, Key::Priority { number: NO_CHAIN, .. })
+}
+
+/// The interface of what is in a block that interfaces share: `TCM_IFINDEX_MAGIC_BLOCK`.
+pub(crate) const SHARED: i32 = -1;
 
 // The priority of a filter.
 pub(crate) fn priority_of(shown: &DumpedObject) -> Key {
@@ -43,10 +62,13 @@ fn major(handle: u32) -> u32 {
     handle / 0x1_0000 * 0x1_0000
 }
 
-// What a qdisc, a chain or a filter is under: nothing in a block that interfaces share, at the root, and for ingress and clsact; or the
-// class or the qdisc that its parent names.
+// What a qdisc, a chain or a filter is under: nothing at the root, and for ingress and clsact; the block that interfaces share; or the class or the qdisc
+// that its parent names.
 fn above(names: &Names, index: i32, parent: u32) -> Option<Key> {
-    if index == -1 || parent == 0xffff_ffff || parent == 0xffff_fff1 {
+    if index == SHARED {
+        return Some(Key::Block { number: parent });
+    }
+    if parent == 0xffff_ffff || parent == 0xffff_fff1 {
         return None;
     }
     match names.get(&Key::Class { index, handle: parent }) {
@@ -66,13 +88,16 @@ fn under(names: &Names, shown: &DumpedObject) -> Result<Vec<Key>, AllocError> {
     match shown.sort {
         Sort::Class => keys.try_push(owner(names, shown.index, shown.handle))?,
         Sort::Qdisc | Sort::Chain => keys = with(keys, above(names, shown.index, shown.parent))?,
-        Sort::Priority | Sort::Table => {
+        Sort::Priority => {
             let chain = Key::Chain { index: shown.index, parent: shown.parent, number: shown.chain };
             keys = with(keys, above(names, shown.index, shown.parent))?;
             keys = with(keys, names.get(&chain).copied())?;
         }
         Sort::Filter => keys.try_push(priority_of(shown))?,
-        Sort::Action(_) => {}
+        Sort::Table => keys.try_push(common_of(shown.index, shown.parent))?,
+        Sort::Common if shown.index == SHARED => keys.try_push(Key::Block { number: shown.parent })?,
+        Sort::Common => keys.try_push(owner(names, shown.index, shown.parent))?,
+        Sort::Action(_) | Sort::Block => {}
     }
     Ok(keys)
 }
@@ -85,12 +110,9 @@ fn refers(names: &Names, shown: &DumpedObject) -> Result<Vec<Key>, AllocError> {
             keys.try_extend(&shown.others)?;
             Ok(keys)
         }
-        Sort::Table => {
-            let keys = fallible::copy(&shown.others)?;
-            with(keys, Some(priority_of(shown)))
-        }
-        Sort::Chain | Sort::Priority => fallible::copy(&shown.others),
-        Sort::Qdisc | Sort::Action(_) => Ok(Vec::new()),
+        Sort::Table => with(Vec::new(), Some(priority_of(shown))),
+        Sort::Qdisc | Sort::Priority => fallible::copy(&shown.others),
+        Sort::Chain | Sort::Action(_) | Sort::Block | Sort::Common => Ok(Vec::new()),
     }
 }
 

@@ -3,7 +3,7 @@
 use crate::user::prelude::*;
 
 use crate::plan::configs::config::MADE;
-use crate::plan::configs::configured::plain;
+use crate::plan::configs::configured::{chain, plain};
 use crate::plan::configs::requested::config_of_action;
 use crate::plan::configs::{Configured, Sort, config_of};
 use crate::plan::objects::classes::classes_of;
@@ -12,12 +12,10 @@ use crate::plan::objects::dumped_object::DumpedObject;
 use crate::plan::objects::in_order::NewIs;
 use crate::plan::objects::known::Known;
 use crate::plan::objects::made::{handle_named, is_by_kernel};
-use crate::plan::objects::objects::key_of;
+use crate::plan::objects::objects::{SHARED, common_of, key_of};
 use crate::plan::objects::state_error::StateError;
-use crate::plan::restored::{
-    Dependencies, Fate, Key as PlanKey, Named, dependencies_of, has_action, name_of_action,
-};
-use crate::restore::{Object, actions_of_filter, kind_of_message, standalone_index};
+use crate::plan::restored::{Dependencies, Fate, Key as PlanKey, Named, dependencies_of, has_action, name_of_action};
+use crate::restore::{Object, actions_of_filter, kind_of_message, standalone_index, use_of_action};
 use crate::tc_action_messages::{TcActionMessage, TcActionMessageAttribute};
 use crate::tc_actions::TcAction;
 use crate::tc_changes::Key;
@@ -39,6 +37,18 @@ pub(crate) struct Reading {
     pub(crate) origin: Origin,
     /// Where the kernel puts a new filter of its priority, if packets meet these in the order in which they were made.
     pub(crate) new_is: Option<NewIs>,
+    /// The message that is sent, where that isn't the one that is compared.
+    pub(crate) sent: Option<Vec<u8>>,
+    /// How many filters hold an action, if nothing else does: `bindcnt`, which is `refcnt`.
+    pub(crate) held_by: Option<u32>,
+}
+
+impl Reading {
+    // What has no order, and is sent as it is compared.
+    fn of(place: usize, shown: DumpedObject) -> Reading {
+        let origin = Origin { place, handle: shown.handle };
+        Reading { shown, origin, new_is: None, sent: None, held_by: None }
+    }
 }
 
 /// The objects of dumps.
@@ -155,7 +165,7 @@ fn put_object(
 ) -> Result<Readings, StateError> {
     let dependencies = dependencies_of(0, Fate::Request, object, &known.ingress, &message)?;
     let at = whereabouts_of(known, object, &message, &dependencies);
-    let before = put_priority(known, place, object, at, &message, readings)?;
+    let before = put_implied(known, place, object, at, &message, &dependencies, readings)?;
     if is_left_out(known, object, at.chain, &message, &dependencies) {
         return Ok(before);
     }
@@ -185,33 +195,20 @@ fn reading_of(
 ) -> Result<Reading, StateError> {
     let origin = Origin { place, handle: u32::from(message.header.handle) };
     let new_is = NewIs::of(object, &message);
-    let others = match at.sort {
-        Sort::Table | Sort::Chain => with_places(Vec::new(), known, at)?,
+    let others = match object {
+        Object::Qdisc => blocks_in(dependencies).collect(),
         _ => tables_of(known, dependencies)?,
     };
-    let shown = shown_of(known, place, object, at, others, message)?;
-    Ok(Reading { shown, origin, new_is })
+    let (shown, sent) = shown_of(known, place, object, at, others, message)?;
+    Ok(Reading { shown, origin, new_is, sent, held_by: None })
 }
 
-// The interface of what is in a block that interfaces share: `TCM_IFINDEX_MAGIC_BLOCK`.
-const SHARED: i32 = -1;
-
-// Keys, and those of the qdiscs of a shared block; the key of the block itself, which no object has, if it isn't any qdisc's.
-fn with_places(keys: Vec<Key>, known: &Known, at: Whereabouts) -> Result<Vec<Key>, AllocError> {
-    let mut keys = keys;
-    if at.index == SHARED {
-        let mut is_known = false;
-        for (number, place) in &known.blocks {
-            if *number == at.parent {
-                keys.try_push(*place)?;
-                is_known = true;
-            }
-        }
-        if !is_known {
-            keys.try_push(Key::Block { number: at.parent })?;
-        }
-    }
-    Ok(keys)
+// The blocks that a qdisc has.
+fn blocks_in(dependencies: &Dependencies) -> impl Iterator<Item = Key> {
+    dependencies.provides.iter().filter_map(|key| match key {
+        PlanKey::Block { number } => Some(Key::Block { number: *number }),
+        _ => None,
+    })
 }
 
 // True for chain 0 without a template, and for another one without a template that has a filter: the kernel makes it with the filter.
@@ -222,42 +219,63 @@ fn is_implied(known: &Known, object: Object, chain: u32, message: &TcMessage, de
     }
 }
 
-// The hash tables that a filter is in or links to; a table that no dump shows is one that no object is.
+// The hash tables that a filter is in or links to, as far as they are objects. A table that is linked to outlives its priority, and no dump shows it then.
 fn tables_of(known: &Known, dependencies: &Dependencies) -> Result<Vec<Key>, AllocError> {
     let mut keys = Vec::new();
     for key in &dependencies.needs {
-        if let PlanKey::Table { index, parent, number } = key {
-            match known.tables.get(key) {
-                Some(Some(table)) => keys.try_push(*table)?,
-                Some(None) => {}
-                None => keys.try_push(Key::Filter {
-                    index: *index,
-                    parent: *parent,
-                    number: 0,
-                    priority: 0,
-                    handle: *number,
-                })?,
-            }
+        if let Some(Some(table)) = known.tables.get(key) {
+            keys.try_push(*table)?;
         }
     }
     Ok(keys)
 }
 
-// Puts the priority of a filter.
-fn put_priority(
+// Puts what comes with an object, and has no dump of its own: the blocks of a qdisc, and of a filter its chain and its priority.
+fn put_implied(
     known: &Known,
     place: usize,
     object: Object,
     at: Whereabouts,
     message: &TcMessage,
+    dependencies: &Dependencies,
     readings: Readings,
 ) -> Result<Readings, AllocError> {
     match object {
-        Object::Filter => with_priority(known, place, at, message, readings),
-        Object::Qdisc => Ok(readings),
-        Object::Class => Ok(readings),
-        Object::Chain => Ok(readings),
+        Object::Filter => {
+            with_priority(known, place, at, message, with_chain(known, place, at, dependencies, readings)?)
+        }
+        Object::Qdisc => blocks_in(dependencies).try_fold(readings, |readings, key| match key {
+            Key::Block { number } => {
+                with_virtual(place, Whereabouts { sort: Sort::Block, parent: number, ..NOWHERE }, readings)
+            }
+            _ => Ok(readings),
+        }),
+        Object::Class | Object::Chain => Ok(readings),
     }
+}
+
+const NOWHERE: Whereabouts = Whereabouts { sort: Sort::Block, index: 0, parent: 0, chain: 0, priority: 0 };
+
+// What no request makes and no dump has.
+fn with_virtual(place: usize, at: Whereabouts, readings: Readings) -> Result<Readings, AllocError> {
+    let config = plain(MADE, &[])?;
+    with_new(readings, Reading::of(place, shown_at(at, 0, Vec::new(), Vec::new(), config)))
+}
+
+// The chain of a filter, if it isn't 0 and the filter makes it.
+fn with_chain(
+    known: &Known,
+    place: usize,
+    at: Whereabouts,
+    dependencies: &Dependencies,
+    readings: Readings,
+) -> Result<Readings, AllocError> {
+    let is_dumped = dependencies.needs.iter().any(|key| known.templates.contains(key));
+    if at.chain == 0 || is_dumped {
+        return Ok(readings);
+    }
+    let at = Whereabouts { sort: Sort::Chain, priority: 0, ..at };
+    with_new(readings, Reading::of(place, shown_at(at, 0, Vec::new(), Vec::new(), chain(None)?)))
 }
 
 fn with_priority(
@@ -267,10 +285,14 @@ fn with_priority(
     message: &TcMessage,
     readings: Readings,
 ) -> Result<Readings, AllocError> {
+    let at = Whereabouts { sort: Sort::Priority, ..at };
     let config = priority_config(message)?;
-    let others = with_places(Vec::new(), known, at)?;
-    let shown = priority_shown(at, others, config);
-    with_new(readings, Reading { shown, origin: Origin { place, handle: 0 }, new_is: None })
+    if kind_of_message(message) != "u32" {
+        return with_new(readings, Reading::of(place, shown_at(at, 0, Vec::new(), Vec::new(), config)));
+    }
+    let readings = with_virtual(place, Whereabouts { sort: Sort::Common, chain: 0, priority: 0, ..at }, readings)?;
+    let others = vec![common_of(at.index, at.parent)];
+    with_new(readings, Reading::of(place, shown_at(at, 0, Vec::new(), others, config)))
 }
 
 // The configuration of a priority: the protocol and the kind of its filters.
@@ -281,20 +303,6 @@ fn priority_config(message: &TcMessage) -> Result<Vec<u8>, AllocError> {
     plain(MADE, &text)
 }
 
-fn priority_shown(at: Whereabouts, others: Vec<Key>, config: Vec<u8>) -> DumpedObject {
-    DumpedObject {
-        sort: Sort::Priority,
-        index: at.index,
-        handle: 0,
-        parent: at.parent,
-        chain: at.chain,
-        priority: at.priority,
-        classes: Vec::new(),
-        others,
-        config,
-    }
-}
-
 // What a dump shows.
 fn shown_of(
     known: &Known,
@@ -303,7 +311,7 @@ fn shown_of(
     at: Whereabouts,
     others: Vec<Key>,
     message: TcMessage,
-) -> Result<DumpedObject, StateError> {
+) -> Result<(DumpedObject, Option<Vec<u8>>), StateError> {
     let handle = handle_named(&known.roots, object, &message);
     let classes = match object {
         Object::Filter => classes_of(&message)?,
@@ -312,12 +320,12 @@ fn shown_of(
     let Some(configured) = config_of(&known.roots, object, at.sort, at.parent, message)? else {
         return Err(StateError::TooLong { place });
     };
-    let Configured { message, config } = configured;
+    let Configured { message, config, sent } = configured;
     let others = match object {
         Object::Filter => with_shared(others, actions_of_filter(message)?)?,
         _ => others,
     };
-    Ok(shown_at(at, handle, classes, others, config))
+    Ok((shown_at(at, handle, classes, others, config), sent))
 }
 
 fn shown_at(at: Whereabouts, handle: u32, classes: Vec<u32>, others: Vec<Key>, config: Vec<u8>) -> DumpedObject {
@@ -407,10 +415,11 @@ fn reading_of_action(
 ) -> Result<Reading, StateError> {
     let sort = Sort::Action(name.kind);
     let by_filters = has_action(&known.by_filters, name);
+    let held_by = use_of_action(&action).filter(|it| it.references == it.filters).map(|it| it.filters);
     let Some(config) = config_of_action(sort, by_filters, action)? else {
         return Err(StateError::TooLong { place });
     };
-    Ok(Reading { shown: of_action(sort, index, config), origin: Origin { place, handle: index }, new_is: None })
+    Ok(Reading { held_by, ..Reading::of(place, of_action(sort, index, config)) })
 }
 
 fn of_action(sort: Sort, index: u32, config: Vec<u8>) -> DumpedObject {

@@ -5,9 +5,11 @@ use crate::user::prelude::*;
 use crate::nla_frames::{DefaultNla, i32_bytes, u32_bytes};
 use crate::plan::configs::config::{changing, read};
 use crate::plan::configs::frames::{after, framed, name_in};
+use crate::plan::objects::lost::going_along;
+use crate::plan::objects::state::{Sent, State};
 use crate::restore::NEW_FLAGS;
 use crate::tc_changes::{Key, Step};
-use std::collections::HashMap;
+use std::collections::{HashMap, HashSet};
 
 /// A request of a plan.
 #[derive(Debug)]
@@ -32,11 +34,13 @@ pub const CHANGE_FLAGS: u16 = 0x105;
 /// The flags of a request that deletes an object and asks for an answer: `NLM_F_REQUEST` and `NLM_F_ACK`.
 pub const DELETE_FLAGS: u16 = 0x5;
 
-// The requests of steps: none of one that makes a priority, which the kernel makes with the first filter of it.
-pub(crate) fn requests_of(handles: &Handles, steps: &[Step]) -> Result<Vec<PlanRequest>, AllocError> {
+/// The requests of steps, which send these messages where they aren't those of configurations. What the kernel makes with something else has none, such as a
+/// priority, which comes with the first filter of it; nor has the deletion of what goes with something else.
+pub(crate) fn requests_of(now: &State, sent: &Sent, steps: &[Step]) -> Result<Vec<PlanRequest>, AllocError> {
+    let along = going_along(now, steps);
     let mut requests = Vec::new();
     for step in steps {
-        let one = request_of(handles, step)?;
+        let one = request_of(now, sent, &along, step)?;
         requests = with(requests, one)?;
     }
     Ok(requests)
@@ -51,17 +55,20 @@ fn with(requests: Vec<PlanRequest>, one: Option<PlanRequest>) -> Result<Vec<Plan
     Ok(requests)
 }
 
-fn request_of(handles: &Handles, step: &Step) -> Result<Option<PlanRequest>, AllocError> {
+fn request_of(now: &State, sent: &Sent, along: &HashSet<Key>, step: &Step) -> Result<Option<PlanRequest>, AllocError> {
     match step {
-        Step::Delete(key) => deleting(*key, handles.get(key).copied()),
+        Step::Delete(key) if along.contains(key) => Ok(None),
+        Step::Delete(key) => deleting(*key, now.handles.get(key).copied()),
         Step::Make(object) => {
-            let message = read(&object.config).message;
+            let message = sent.get(&object.key).map_or_else(|| read(&object.config).message, Vec::as_slice);
             sending(object.key, NEW_FLAGS, None, message)
         }
         Step::Change(object) => {
             let config = read(&object.config);
-            let message = changing(config.change, config.message);
-            let handle = handles.get(&object.key).copied();
+            // A kind of which a change leaves options out is sent as it is compared.
+            let own = sent.get(&object.key).filter(|_| config.change.is_empty());
+            let message = own.map_or_else(|| changing(config.change, config.message), Vec::as_slice);
+            let handle = now.handles.get(&object.key).copied();
             sending(object.key, CHANGE_FLAGS, handle, message)
         }
     }
@@ -82,7 +89,7 @@ fn new_type(key: Key) -> u16 {
 // The request that makes an object with this message, or changes the one with this handle.
 fn sending(key: Key, flags: u16, handle: Option<u32>, message: &[u8]) -> Result<Option<PlanRequest>, AllocError> {
     let message_type = new_type(key);
-    if message_type == 0 {
+    if message_type == 0 || message.is_empty() {
         return Ok(None);
     }
     Ok(Some(PlanRequest { key, message_type, flags, message: message_by(key, handle, message)? }))

@@ -2,6 +2,7 @@
 
 use crate::user::prelude::*;
 
+use crate::plan::configs::{Sort, message_of};
 use crate::plan::objects::dump::Dump;
 use crate::plan::objects::dumped_object::DumpedObject;
 use crate::plan::objects::in_order::{InOrder, NewIs, Orders};
@@ -26,6 +27,20 @@ pub struct State {
     pub handles: Handles,
     /// The filters of priorities where the order counts.
     pub(crate) orders: Orders,
+    /// The messages that are sent, where those aren't the ones that are compared.
+    pub(crate) sent: Sent,
+    /// The objects that are there only as long as something refers to them.
+    pub(crate) weak: HashSet<Key>,
+}
+
+/// Messages of requests by the objects that they make.
+pub(crate) type Sent = HashMap<Key, Vec<u8>>;
+
+impl State {
+    /// The message of the request that makes an object of this state.
+    pub(crate) fn message_of<'a>(&'a self, object: &'a Object) -> &'a [u8] {
+        self.sent.get(&object.key).map_or_else(|| message_of(&object.config), Vec::as_slice)
+    }
 }
 
 // An object, and where it comes from.
@@ -59,8 +74,10 @@ pub fn state_after(dumps: Vec<Dump>, now: &State) -> Result<State, StateError> {
 // The same, with filters that aren't there last, if it sorts.
 fn state_by(dumps: Vec<Dump>, there: &Handles, sorts: bool) -> Result<State, StateError> {
     let known = known_of(&dumps)?;
-    let readings = readings_of(&known, dumps)?;
+    let mut readings = readings_of(&known, dumps)?;
     let orders = orders_of(&readings);
+    let sent = sent_of(&mut readings);
+    let weak = weak_of(&readings);
     let steps = steps_of(readings, &orders)?;
     let last = new_last(there, sorts, steps)?;
     let order = ordered(last)?;
@@ -68,7 +85,7 @@ fn state_by(dumps: Vec<Dump>, there: &Handles, sorts: bool) -> Result<State, Sta
         None => {}
         Some(fault) => return Err(fault),
     }
-    let state = in_order(order.sorted, orders)?;
+    let state = State { orders, sent, weak, ..in_order(order.sorted)? };
     let is = is_ready(&state.objects)?;
     if is {
         Ok(state)
@@ -115,7 +132,7 @@ fn is_new(there: &Handles, key: Key) -> bool {
 }
 
 // The state of what steps make.
-fn in_order(steps: Vec<Step<Item, Key>>, orders: Orders) -> Result<State, AllocError> {
+fn in_order(steps: Vec<Step<Item, Key>>) -> Result<State, AllocError> {
     let mut objects = fallible::with_capacity(steps.len())?;
     let mut origins = fallible::with_capacity(steps.len())?;
     let mut handles = HashMap::new();
@@ -125,12 +142,14 @@ fn in_order(steps: Vec<Step<Item, Key>>, orders: Orders) -> Result<State, AllocE
         objects.try_push(object)?;
         origins.try_push(origin)?;
     }
-    Ok(State { objects, origins, handles, orders })
+    let (orders, sent, weak) = (Orders::new(), Sent::new(), HashSet::new());
+    Ok(State { objects, origins, handles, orders, sent, weak })
 }
 
 // The steps that make what dumps show.
 fn steps_of(readings: Vec<Reading>, orders: &Orders) -> Result<Vec<Step<Item, Key>>, StateError> {
     let before = made_before(orders);
+    let ports = ports_of(&readings);
     let (shown, origins) = parted(readings)?;
     let names = names_of(&shown)?;
     let mut steps = fallible::with_capacity(shown.len())?;
@@ -139,7 +158,8 @@ fn steps_of(readings: Vec<Reading>, orders: &Orders) -> Result<Vec<Step<Item, Ke
         let origin = origins.get(place).copied().unwrap_or(NOWHERE);
         let object = object_of(&names, one)?;
         let earlier = before.get(&object.key).copied();
-        let step = step_of(object, origin, earlier)?;
+        let first = ports_above(&ports, &object).iter().copied().chain(earlier);
+        let step = step_of(object, origin, first)?;
         steps.try_push(step)?;
     }
     Ok(steps)
@@ -159,13 +179,13 @@ fn parted(readings: Vec<Reading>) -> Result<(Vec<DumpedObject>, Vec<Origin>), Al
     Ok((shown, origins))
 }
 
-// The step of an object, which waits for the filter too that is to be made before it.
-fn step_of(object: Object, origin: Origin, earlier: Option<Key>) -> Result<Step<Item, Key>, AllocError> {
+// The step of an object, which waits for these too.
+fn step_of(object: Object, origin: Origin, first: impl Iterator<Item = Key>) -> Result<Step<Item, Key>, AllocError> {
     let mut provides = fallible::with_capacity(1)?;
     provides.try_push(object.key)?;
     let mut needs = fallible::copy(&object.under)?;
     needs.try_extend(&object.refers)?;
-    if let Some(key) = earlier {
+    for key in first {
         needs.try_push(key)?;
     }
     Ok(Step { item: Item { object, origin }, provides, needs, cannot_run: false })
@@ -182,6 +202,44 @@ fn orders_of(readings: &[Reading]) -> Orders {
         }
     }
     orders
+}
+
+// The messages that are sent, where those aren't the ones that are compared. Each interface of a block shows what is in it.
+fn sent_of(readings: &mut [Reading]) -> Sent {
+    let taken = readings.iter_mut().filter_map(|reading| Some((key_of(&reading.shown), reading.sent.take()?)));
+    taken.collect()
+}
+
+// What stands only as long as something refers to it: blocks, what priorities of u32 have in common, and actions that only filters among these hold.
+fn weak_of(readings: &[Reading]) -> HashSet<Key> {
+    let mut held: HashMap<Key, u32> = HashMap::new();
+    for key in readings.iter().flat_map(|reading| &reading.shown.others) {
+        let count = held.entry(*key).or_default();
+        *count = count.saturating_add(1);
+    }
+    let is_weak = |reading: &&Reading| match reading.shown.sort {
+        Sort::Block | Sort::Common => true,
+        _ => reading.held_by.is_some_and(|filters| filters != 0 && held.get(&key_of(&reading.shown)) == Some(&filters)),
+    };
+    readings.iter().filter(is_weak).map(|reading| key_of(&reading.shown)).collect()
+}
+
+// The qdiscs of each block.
+type Ports = HashMap<Key, Vec<Key>>;
+
+fn ports_of(readings: &[Reading]) -> Ports {
+    let mut ports = Ports::new();
+    for reading in readings.iter().filter(|reading| reading.shown.sort == Sort::Qdisc) {
+        for block in &reading.shown.others {
+            ports.entry(*block).or_default().push(key_of(&reading.shown));
+        }
+    }
+    ports
+}
+
+// The qdiscs of the block that an object is under: what is in a block comes after all of these.
+fn ports_above<'a>(ports: &'a Ports, object: &Object) -> &'a [Key] {
+    object.under.iter().find_map(|key| ports.get(key)).map_or(&[], Vec::as_slice)
 }
 
 // The filter that is to be made before each, so that they come in their order.

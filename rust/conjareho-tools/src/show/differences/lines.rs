@@ -11,7 +11,7 @@ use crate::user::prelude::*;
 
 use crate::forms_json::Form;
 use crate::forms_kinds::{ACTION_MESSAGE, TC_MESSAGE, TcTables};
-use crate::plan::configs::message_of;
+use crate::plan::objects::State;
 use crate::read::select::kind_of;
 use crate::show::brief::{Object as Words, Said, lines_of};
 use crate::show::columns::{KindColumns, Root};
@@ -22,8 +22,8 @@ use crate::show::differences::values::put_values;
 use crate::show::outline::{Layout, Page, outline};
 use crate::show::words::TcWords;
 use crate::streams::Stop;
+use crate::tc_changes::Key;
 use crate::tc_changes::places::{index_of, look_up};
-use crate::tc_changes::{Key, Object};
 use core::str;
 
 /// The lines of the differences between two states.
@@ -39,8 +39,8 @@ pub struct DifferenceLines {
 /// # Errors
 ///
 /// A [`Stop`].
-pub fn difference_lines(names: &[(u32, &str)], before: &[Object], after: &[Object]) -> Result<DifferenceLines, Stop> {
-    let found = differences(before, after)?;
+pub fn difference_lines(names: &[(u32, &str)], before: &State, after: &State) -> Result<DifferenceLines, Stop> {
+    let found = differences(&before.objects, &after.objects)?;
     let text = difference_text(names, before, after, &found)?;
     let differ = !found.is_empty();
     Ok(DifferenceLines { text, differ })
@@ -48,19 +48,19 @@ pub fn difference_lines(names: &[(u32, &str)], before: &[Object], after: &[Objec
 
 fn difference_text(
     names: &[(u32, &str)],
-    before: &[Object],
-    after: &[Object],
+    before: &State,
+    after: &State,
     found: &[Difference],
 ) -> Result<Vec<u8>, Stop> {
-    let was = index_of(before)?;
-    let is = index_of(after)?;
-    let filled = with_filters(before, after)?;
+    let was = index_of(&before.objects)?;
+    let is = index_of(&after.objects)?;
+    let filled = with_filters(&before.objects, &after.objects)?;
     let mut text = Vec::new();
     for difference in found {
         if !filled.contains(&difference.key) {
-            let old = look_up(before, &was, difference.key);
-            let new = look_up(after, &is, difference.key);
-            put_difference(names, old, new, &mut text)?;
+            let old = look_up(&before.objects, &was, difference.key).map(|object| before.message_of(object));
+            let new = look_up(&after.objects, &is, difference.key).map(|object| after.message_of(object));
+            put_difference(names, difference.key, old, new, &mut text)?;
         }
     }
     Ok(text)
@@ -68,28 +68,29 @@ fn difference_text(
 
 fn put_difference(
     names: &[(u32, &str)],
-    old: Option<&Object>,
-    new: Option<&Object>,
+    key: Key,
+    old: Option<&[u8]>,
+    new: Option<&[u8]>,
     text: &mut Vec<u8>,
 ) -> Result<(), Stop> {
     match (old, new) {
         (Some(old), Some(new)) => {
-            put_object(names, b"~", new, text)?;
-            put_changes(names, old, new, text)
+            put_object(names, b"~", key, new, text)?;
+            put_changes(names, key, old, new, text)
         }
-        (Some(old), None) => put_object(names, b"-", old, text),
-        (None, Some(new)) => put_object(names, b"+", new, text),
+        (Some(old), None) => put_object(names, b"-", key, old, text),
+        (None, Some(new)) => put_object(names, b"+", key, new, text),
         (None, None) => Ok(()),
     }
 }
 
-// Appends the line of an object after a sign.
-fn put_object(names: &[(u32, &str)], sign: &[u8], object: &Object, text: &mut Vec<u8>) -> Result<(), Stop> {
-    let message = message_of(&object.config);
-    match (object.key, root_of(object.key, message)) {
+// Appends the line of an object with this message after a sign. What comes with others has no message, and no line.
+fn put_object(names: &[(u32, &str)], sign: &[u8], key: Key, message: &[u8], text: &mut Vec<u8>) -> Result<(), Stop> {
+    match (key, root_of(key, message)) {
+        _ if message.is_empty() => Ok(()),
         (_, Some((root, words))) => put_line(names, sign, root, words, message, text),
         (Key::Priority { .. }, None) => {
-            let filter = filter_of_priority(object.key, message)?;
+            let filter = filter_of_priority(key, message)?;
             put_line(names, sign, Root::Filter, Words::Filter, &filter, text)
         }
         _ => Ok(()),
@@ -117,13 +118,12 @@ fn columns_of<'a>(root: Root, names: &'a [(u32, &'a str)]) -> KindColumns<'a> {
 }
 
 // Appends the values that differ between the messages of two objects.
-fn put_changes(names: &[(u32, &str)], old: &Object, new: &Object, text: &mut Vec<u8>) -> Result<(), Stop> {
-    let message = message_of(&new.config);
-    let Some((root, _)) = root_of(new.key, message) else {
+fn put_changes(names: &[(u32, &str)], key: Key, old: &[u8], new: &[u8], text: &mut Vec<u8>) -> Result<(), Stop> {
+    let Some((root, _)) = root_of(key, new).filter(|_| !new.is_empty()) else {
         return Ok(());
     };
-    let was = outline_of(names, root, message_of(&old.config))?;
-    let is = outline_of(names, root, message)?;
+    let was = outline_of(names, root, old)?;
+    let is = outline_of(names, root, new)?;
     put_values(text_of(&was), text_of(&is), text)
 }
 

@@ -71,7 +71,7 @@ fn diff_with<R: Files + Input + Print, E: Write>(
     };
     let before = state_of_file(rt, arguments, *first, None, errors)?;
     let after = state_of_file(rt, arguments, *second, Some(&before.state), errors)?;
-    let (was, is) = (&before.state.objects, &after.state.objects);
+    let (was, is) = (&before.state, &after.state);
     let own = names_of(&after.names)?;
     let DifferenceLines { text, differ } =
         if names.is_empty() { difference_lines(&own, was, is)? } else { difference_lines(names, was, is)? };

@@ -58,7 +58,7 @@ fn between(before: &str, after: &str) -> Result<Option<DifferenceLines>, Fail> {
     let Some(after) = state(after, Some(&before))? else {
         return Ok(None);
     };
-    match difference_lines(&[(1, "lo")], &before.objects, &after.objects) {
+    match difference_lines(&[(1, "lo")], &before, &after) {
         Ok(lines) => Ok(Some(lines)),
         Err(_) => Err(Fail::from(AllocError)),
     }
