@@ -3,11 +3,13 @@
 use super::advice::command_for;
 use super::after::same;
 use super::blocks::{Others, without};
-use super::compare::{Key, Objects};
+use super::compare::{Key, Objects, objects_of};
 use super::messages::is_read;
 use super::named::named;
+use super::others::{Merged, merged};
 use super::places::by_place;
 use super::plan::{Fault, plan};
+use super::requests::requests_of_dump;
 use super::sending::Sending;
 use super::status::Status;
 use super::world::{Place, Stop};
@@ -15,6 +17,9 @@ use crate::netlink::{Devices, Transport};
 
 /// How often it is planned, where the kernel refuses something.
 const MOST_PLANS: u32 = 3;
+
+/// How many objects are named.
+const MOST_NAMED: usize = 5;
 
 /// What was there before.
 #[derive(Debug)]
@@ -55,8 +60,12 @@ impl Before {
             return Status::Lost;
         }
         match self.made_again(wanted, sending) {
-            Ok(()) => {
+            Ok(None) => {
                 said.push(format!("what was there before is there again; {kept} has a copy"));
+                Status::Back
+            }
+            Ok(Some(merged)) => {
+                said.push(format!("{}; {kept} has a copy", but_for(&merged, sending.place)));
                 Status::Back
             }
             Err(why) => {
@@ -69,14 +78,28 @@ impl Before {
         }
     }
 
-    // Plans from what is there now, and anew where something was refused.
+    // What is to be there, if another program changed something after all was applied.
+    fn merged<T: Transport, L: Transport>(&self, sending: &mut Sending<'_, '_, T, L>) -> Result<Option<Merged>, Stop> {
+        let Some(left) = sending.changed_since()? else { return Ok(None) };
+        let now = self.planned(&sending.world.dump(&sending.place.indices())?.messages);
+        let none = || Stop::Unplanned(vec!["what another program changed meanwhile can't be told apart".to_string()]);
+        merged(&self.planned(&self.dumps), &self.planned(&left), &now).ok().flatten().ok_or_else(none).map(Some)
+    }
+
+    // Plans from what is there now, and anew where something was refused. Returns what is there instead of what was there before, if another program changed
+    // something.
     fn made_again<T: Transport, L: Transport>(
         &self,
         wanted: &Objects,
         sending: &mut Sending<'_, '_, T, L>,
-    ) -> Result<(), Stop> {
+    ) -> Result<Option<Merged>, Stop> {
         sending.turn_back();
-        let before = self.planned(&self.dumps);
+        let merged = self.merged(sending)?;
+        let before = merged.as_ref().map_or_else(|| self.planned(&self.dumps), |merged| merged.dumps.clone());
+        let objects = match &merged {
+            Some(merged) => &objects_of(&requests_of_dump(&merged.dumps).requests),
+            None => &self.objects,
+        };
         sending.scope.add_actions_of(&before);
         let mut refused = None;
         for _ in 0..MOST_PLANS {
@@ -92,8 +115,8 @@ impl Before {
         // Actions that neither side names are others'.
         let is_seen = |key: &Key| !key.is_action() || wanted.contains_key(key);
         let seen = |all: Objects| by_place(all.into_iter().filter(|(key, _)| is_seen(key)).collect());
-        match (same(sending, &self.objects, seen, |_, _| false), refused) {
-            (Ok(_), _) => Ok(()),
+        match (same(sending, objects, seen, |_, _| false), refused) {
+            (Ok(_), _) => Ok(merged),
             (Err(_), Some(stop)) | (Err(stop), None) => Err(stop),
         }
     }
@@ -112,6 +135,16 @@ fn left<T: Transport, L: Transport>(far: &str, stop: &Stop, kept: &str, sending:
         Err(gone) => gone,
     };
     format!("it is left {far}{with}; {kept} has what was there before, and {then}")
+}
+
+// What is there again, and what isn't.
+fn but_for(merged: &Merged, place: &Place) -> String {
+    let names: Vec<String> = merged.theirs.iter().take(MOST_NAMED).map(|key| named(&place.devices, key)).collect();
+    let more = merged.theirs.len().saturating_sub(names.len());
+    let mut said: Vec<String> = names;
+    said.extend((more != 0).then(|| format!("and {more} more")));
+    said.extend((merged.gone != 0).then(|| format!("{} that it deleted", merged.gone)));
+    format!("what was there before is there again, but for what another program changed meanwhile, which stays: {}", said.join(", "))
 }
 
 fn unplanned(place: &Place, faults: &[Fault]) -> Stop {

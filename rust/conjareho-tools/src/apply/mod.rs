@@ -20,6 +20,7 @@ mod lock;
 mod messages;
 mod mirred;
 mod named;
+mod others;
 mod outline;
 mod places;
 mod plan;
@@ -264,12 +265,16 @@ fn carried_out<T: Transport, L: Transport>(
     if prepared.steps.is_empty() {
         return Ok(());
     }
-    if let Some(time) = arguments.trial {
-        let first = std::mem::take(said).into_iter().chain(prepared.summary.clone());
-        hold(first.collect(), time)?;
+    let Some(time) = arguments.trial else { return sending.world.look(sending.place) };
+    let first = std::mem::take(said).into_iter().chain(prepared.summary.clone());
+    sending.leave(after);
+    hold(first.collect(), time)?;
+    // While Enter was waited for, others may have changed something. That stays too.
+    match sending.world.look(sending.place) {
+        Err(stop @ Stop::Other { .. }) => said.push(stop.to_string()),
+        looked => looked?,
     }
-    // While Enter was waited for, others may have changed something.
-    sending.world.look(sending.place)
+    Ok(())
 }
 
 // What is there, as it is dumped; an error if it isn't what is wanted. Actions belong to no interface: others may be there.

@@ -27,6 +27,8 @@ pub(crate) struct Sending<'w, 's, T, L> {
     is_carried_out: bool,
     // The way back goes on whatever signals come.
     minds_signals: bool,
+    // What was there when somebody was asked whether it is to stay.
+    left: Option<Vec<Vec<u8>>>,
 }
 
 impl<'w, 's, T: Transport, L: Transport> Sending<'w, 's, T, L> {
@@ -40,6 +42,7 @@ impl<'w, 's, T: Transport, L: Transport> Sending<'w, 's, T, L> {
             has_sent: false,
             is_carried_out: false,
             minds_signals: true,
+            left: None,
         }
     }
 
@@ -68,6 +71,20 @@ impl<'w, 's, T: Transport, L: Transport> Sending<'w, 's, T, L> {
     /// True if the last plan was sent to its end.
     pub(crate) fn is_carried_out(&self) -> bool {
         self.is_carried_out
+    }
+
+    /// Keeps what is there, while somebody is asked whether it is to stay.
+    pub(crate) fn leave(&mut self, dumps: Vec<Vec<u8>>) {
+        self.left = Some(dumps);
+    }
+
+    /// What was there then, if another program changed something since.
+    pub(crate) fn changed_since(&mut self) -> Result<Option<Vec<Vec<u8>>>, Stop> {
+        let Some(left) = self.left.take() else { return Ok(None) };
+        match self.world.look(self.place) {
+            Err(Stop::Other { .. }) => Ok(Some(left)),
+            looked => looked.map(|()| None),
+        }
     }
 
     /// True if a request was sent.

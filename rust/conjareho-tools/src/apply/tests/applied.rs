@@ -3,7 +3,7 @@
 use super::fake::{EBUSY, Fake, Hook, OTHER, State};
 use super::{Ran, of, plain, run_by, saved, taking, tree, types};
 use crate::apply::arguments::arguments_of;
-use crate::apply::messages::replaces;
+use crate::apply::messages::{replaces, type_of};
 use crate::apply::status::Status;
 use crate::netlink::message::*;
 
@@ -135,25 +135,58 @@ fn without_enter_it_goes_back() {
     assert_eq!((ran.status, ran.sent.len()), (Status::Restored, 0), "nothing to try");
 }
 
+// Of what another changes while Enter is waited for nothing goes back.
 #[test]
-fn what_others_make_while_enter_is_waited_for_is_left() {
-    let count = run(&saved(otherwise()), tree(2000), &Fake::new(taking())).sent.len();
+fn what_others_make_while_enter_is_waited_for_stays() {
+    let theirs = of(RTM_NEWTFILTER, 9, 0xFFFF_FFF3, "matchall", &[(1, 0x1_0010)]);
+    let class = of(RTM_NEWTCLASS, 0x1_0020, 0x1_0000, "drr", &[(1, 77)]);
     for answer in [Err("SIGHUP"), Ok(())] {
         let fake = Fake::new(taking());
         let held = || {
-            let theirs = of(RTM_NEWTFILTER, 9, 0xFFFF_FFF3, "matchall", &[(1, 0x1_0010)]);
             let mut state = fake.state.borrow_mut();
             state.objects.push(theirs.clone());
+            state.objects.retain(|it| tcmsg_of(it).is_none_or(|own| own.handle != 0x1_0020));
+            state.objects.push(class.clone());
             state.tell(&theirs, OTHER);
+            state.tell(&class, OTHER);
             answer
         };
         let ran = run_held(&saved(otherwise()), tree(2000), &fake, held);
-        assert_eq!((ran.status, ran.sent.len()), (Status::Lost, count), "{answer:?}: {}", ran.said);
-        assert!(ran.said.contains("netlink port 4242") && ran.said.contains("before-"), "{}", ran.said);
-        let left = if answer.is_ok() { "as applied" } else { "as far as the way back got" };
-        assert!(ran.said.contains(&format!("it is left {left}, with the other's change; ")), "{}", ran.said);
-        assert!(ran.said.ends_with(" would undo the other's change too"), "{}", ran.said);
+        if answer.is_ok() {
+            assert_eq!(ran.status, Status::Restored, "{}", ran.said);
+            assert!(ran.said.contains("netlink port 4242") && ran.said.ends_with("Enter was pressed, so it stays"), "{}", ran.said);
+            continue;
+        }
+        let mut wanted = tree(2000);
+        wanted[2] = class.clone();
+        wanted.push(theirs.clone());
+        assert_eq!((ran.status, plain(&ran.objects)), (Status::Back, plain(&wanted)), "{}", ran.said);
+        let said = ", but for what another program changed meanwhile, which stays: class 1:20 dev wan parent 1:, filter 0x9 dev wan egress pref 3; ";
+        assert!(ran.said.contains(said), "{}", ran.said);
     }
+}
+
+// What another deleted stays deleted, with what needs it.
+#[test]
+fn what_others_delete_while_enter_is_waited_for_stays_deleted() {
+    let fake = Fake::new(taking());
+    let held = || {
+        let mut state = fake.state.borrow_mut();
+        let is_class = |it: &Vec<u8>| tcmsg_of(it).is_some_and(|own| own.handle == 0x1_0010) && type_of(it) == RTM_NEWTCLASS;
+        let class = state.objects.iter().find(|it| is_class(it)).cloned().expect("a class");
+        let is_bound = |it: &Vec<u8>| type_of(it) == RTM_NEWTFILTER && tcmsg_of(it).is_some_and(|own| own.parent == 0x1_0000);
+        state.objects.retain(|it| !is_class(it) && !is_bound(it));
+        let mut notice = class;
+        notice[4..6].copy_from_slice(&(RTM_NEWTCLASS + 1).to_ne_bytes());
+        state.tell(&notice, OTHER);
+        Err("SIGHUP")
+    };
+    let ran = run_held(&saved(otherwise()), tree(2000), &fake, held);
+    let mut wanted = tree(2000);
+    wanted.remove(4);
+    wanted.remove(1);
+    assert_eq!((ran.status, plain(&ran.objects)), (Status::Back, plain(&wanted)), "{}", ran.said);
+    assert!(ran.said.contains(", which stays: 2 that it deleted; "), "{}", ran.said);
 }
 
 #[test]

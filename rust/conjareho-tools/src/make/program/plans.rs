@@ -212,6 +212,20 @@ fn number_of(key: &Key, numbers: &Numbers) -> u64 {
     numbers.get(key).copied().unwrap_or(0)
 }
 
+/// The state that dumps show, each with its netlink header; `None` if something is wrong with one. After another state, qdiscs whose handles the kernel
+/// chose have the handles that the same places have there.
+///
+/// # Errors
+///
+/// A [`Stop`].
+pub fn state_of_dumps(there: Option<&State>, dumps: Vec<(NetlinkHeader, Vec<u8>)>) -> Result<Option<State>, Stop> {
+    let lines = lines_of(dumps)?;
+    let is_void = lines.is_void;
+    let mut remarks = Vec::new();
+    let found = state_in(Source::Now, there, lines, &mut remarks)?;
+    Ok(state_alone(found).filter(|_| !is_void && !has_complaint(&remarks)))
+}
+
 /// The state that lines show.
 pub struct LineState {
     /// `None` if something is wrong with a line.
