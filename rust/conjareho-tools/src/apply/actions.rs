@@ -50,6 +50,12 @@ impl Actions {
         self.all.iter().filter(is_taken).map(Action::key).filter(|key| made.contains(key)).collect()
     }
 
+    /// Those that only filters hold, of which not all are among these: others hold them, or deleted ones that live on for a time.
+    pub(crate) fn unheld(&self) -> Vec<Key> {
+        let is_unheld = |action: &&Action| action.references == action.filters && action.filters > self.own_of(&action.key());
+        self.all.iter().filter(is_unheld).map(Action::key).collect()
+    }
+
     fn own_of(&self, key: &Key) -> u32 {
         self.own.get(key).copied().unwrap_or_default()
     }
@@ -123,6 +129,8 @@ mod tests {
         assert_eq!(actions.of_others(&[of_actions(&[[5, 0, 0]], 0x605)]), [], "it is made");
         assert_eq!(actions.taken(&[of_actions(&[[4, 0, 0], [5, 0, 0]], 0x605)]).len(), 1);
         assert_eq!(actions.taken(&[of_actions(&[[5, 0, 0]], 0x505)]), [], "it is changed");
+        let unheld: Vec<String> = actions.unheld().iter().map(ToString::to_string).collect();
+        assert_eq!(unheld, ["action mirred index 5"]);
     }
 
     #[test]

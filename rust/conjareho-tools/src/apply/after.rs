@@ -1,5 +1,6 @@
 //! What is there afterwards, compared with what is wanted.
 
+use super::actions::Actions;
 use super::compare::{Difference, Held, Key, Objects, differences, objects_of};
 use super::named::named;
 use super::plan::plan;
@@ -30,10 +31,12 @@ pub(crate) fn same<T: Transport, L: Transport>(
         sending.world.look(place)?;
         let all = requests_of_dump(&after).requests;
         let found = differences(&wanted, &seen(objects_of(&all)), &may_be);
-        if found.is_empty() {
+        // An action that only a deleted filter holds by now isn't there for long.
+        let is_held = || Actions::of(&after).unheld().iter().all(|key| !wanted.contains_key(key));
+        if found.is_empty() && (sending.is_settled() || is_held()) {
             return Ok(after);
         }
-        if Instant::now() >= until {
+        if !found.is_empty() && Instant::now() >= until {
             return Err(Stop::Differs(listed(&place.devices, &found)));
         }
         sleep(PAUSE);

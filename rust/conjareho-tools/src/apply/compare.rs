@@ -85,6 +85,14 @@ impl Key {
         matches!(self, Key::Action(..))
     }
 
+    /// Where it is, in the words of lines; "" of an action.
+    pub(crate) fn place(&self) -> String {
+        match self {
+            Key::Action(..) => String::new(),
+            Key::Object { index, parent, .. } | Key::Order { index, parent, .. } => Place(*index, *parent).to_string(),
+        }
+    }
+
     /// The number of the shared block that it is in.
     pub(crate) fn block(&self) -> Option<u32> {
         match self {
@@ -118,7 +126,7 @@ impl Key {
     pub(crate) fn is_object_of(&self, other: &Key) -> bool {
         let filter = |key: &Key| match key {
             Key::Object { kind: RTM_NEWTFILTER, index, parent, chain, info, handle } => {
-                Some(((*index, *parent, *chain, info >> 16), handle & 0xF_FFFF))
+                Some(((*index, *parent, *chain, info >> 16), in_root_table(*handle)))
             }
             _ => None,
         };
@@ -137,11 +145,11 @@ impl Key {
         class(self).is_some() && class(self) == class(other)
     }
 
-    /// That of a filter without the number of its hash table of u32, as requests name those in root tables.
-    pub(crate) fn within_table(&self) -> Key {
+    /// That of a filter without the number of a root table of u32, as requests name those in such tables.
+    pub(crate) fn within_root_table(&self) -> Key {
         let mut key = self.clone();
         if let Key::Object { kind: RTM_NEWTFILTER, handle, .. } = &mut key {
-            *handle &= 0xF_FFFF;
+            *handle = in_root_table(*handle);
         }
         key
     }
@@ -154,6 +162,11 @@ impl Key {
         };
         place(self).is_some() && place(self) == place(other)
     }
+}
+
+// A handle of u32 without the number of its table, if that is one that the kernel gives to root tables.
+fn in_root_table(handle: u32) -> u32 {
+    if handle >> 20 < 0x800 { handle } else { handle & 0xF_FFFF }
 }
 
 /// What there is of an object.

@@ -70,9 +70,9 @@ pub(crate) fn kind_of(message: &[u8]) -> Option<&[u8]> {
     tca(message, TCA_KIND)?.split(|byte| *byte == 0).next()
 }
 
-/// True if a message about a qdisc, a class or a filter has options, even empty ones.
-pub(crate) fn has_options(message: &[u8]) -> bool {
-    tca(message, TCA_OPTIONS).is_some()
+/// The options of a message about a qdisc, a class or a filter, even empty ones.
+pub(crate) fn options_of(message: &[u8]) -> Option<&[u8]> {
+    tca(message, TCA_OPTIONS)
 }
 
 /// The chain that a filter or a chain names; 0 if it names none.

@@ -3,6 +3,7 @@
 use super::compare::{Held, Key, Objects, key_of, objects_of};
 use super::messages::{as_new, chain_of, deletes, has_own_actions, kind_of, payload_of, replaces, type_of};
 use super::requests::requests_of_dump;
+use super::tree::Trees;
 use super::words::differing_words;
 use crate::forms_kinds::{ACTION_MESSAGE, TC_MESSAGE, TcTables};
 use crate::netlink::Devices;
@@ -21,18 +22,22 @@ const SAME: &str = "what is there is what is wanted";
 /// The most values that a line has.
 const MOST_VALUES: usize = 6;
 
-/// The lines of a plan: one that counts, one for each request, and one for each object that goes with another one.
+/// The lines of a plan: one that counts, one for each request, and one for each object that goes with another one. What goes, and what comes, is in the order
+/// of the tree.
 pub(crate) fn lines(steps: &[Vec<u8>], now: &[Vec<u8>], wanted: &[Vec<u8>], devices: &Devices) -> Vec<String> {
     let outline = Outline::of(steps, now, wanted, devices);
     let along = outline.gone_along();
     let mut lines = vec![if steps.is_empty() { SAME.to_string() } else { outline.counted(along.len()) }];
-    let last_deletion = steps.iter().rposition(|step| deletes(step));
-    for (number, step) in steps.iter().enumerate() {
-        lines.extend(if deletes(step) { outline.deleted(step) } else { vec![outline.made(step)] });
-        if Some(number) == last_deletion {
-            lines.extend(along.iter().map(|it| format!("{}; with what it belongs to", outline.gone_line(it))));
-        }
-    }
+    let (deletions, others): (Vec<&Vec<u8>>, Vec<&Vec<u8>>) = steps.iter().partition(|step| deletes(step));
+    let sorted = |steps: Vec<&'_ Vec<u8>>, dumps: &[Vec<u8>]| {
+        let trees = Trees::of(dumps.iter().chain(steps.iter().copied()));
+        let mut steps: Vec<Vec<u8>> = steps.into_iter().cloned().collect();
+        steps.sort_by_cached_key(|step| trees.way(step));
+        steps
+    };
+    lines.extend(sorted(deletions, now).iter().flat_map(|step| outline.deleted(step)));
+    lines.extend(along.iter().map(|it| format!("{}; with what it belongs to", outline.gone_line(it))));
+    lines.extend(sorted(others, wanted).iter().map(|step| outline.made(step)));
     lines
 }
 
@@ -76,8 +81,8 @@ impl<'a> Outline<'a> {
 
     // The line of what goes, as it is dumped. Keys in a root table of u32 have no number of it in their requests.
     fn gone_line(&self, (key, held): &(&Key, &Held)) -> String {
-        let is_it = |dump: &&Vec<u8>| key_of(dump).is_some_and(|own| own.within_table() == **key);
-        let is_in_root = type_of_held(held) == RTM_NEWTFILTER && key.within_table() == **key;
+        let is_it = |dump: &&Vec<u8>| key_of(dump).is_some_and(|own| own.within_root_table() == **key);
+        let is_in_root = type_of_held(held) == RTM_NEWTFILTER && key.within_root_table() == **key;
         let dump = Some(self.now).filter(|_| is_in_root).and_then(|now| now.iter().find(is_it));
         dump.map_or_else(|| self.line("  -", held), |dump| line_of("  -", dump, self.devices))
     }
@@ -249,7 +254,7 @@ fn anew_of(step: &[u8]) -> &'static str {
 // What there is of a key; of a qdisc what there is in its place, of a filter in a root table of u32 what has no number of that table.
 fn old_of<'a>(key: &Key, now: &'a Objects) -> Option<&'a Held> {
     let in_place = || now.iter().find(|(other, _)| other.is_in_place_of(key)).map(|(_, held)| held);
-    now.get(key).or_else(in_place).or_else(|| now.get(&key.within_table()))
+    now.get(key).or_else(in_place).or_else(|| now.get(&key.within_root_table()))
 }
 
 // ---- Objects

@@ -9,6 +9,7 @@ use super::holders::Touched;
 use super::messages::{blocks_of, has_unnumbered_action};
 use super::mirred::astray;
 use super::named::named;
+use super::notes::notes;
 use super::outline::counted;
 use super::plan::{Fault, Plan, plan, plan_beside};
 use super::requests::requests_of_dump;
@@ -76,7 +77,10 @@ pub(crate) fn planned<T: Transport, L: Transport>(
             sleep(PAUSE);
             continue;
         }
-        let warnings = checked(arguments, world, wanted, &dump, &steps, &touched)?;
+        let mut warnings = checked(arguments, world, wanted, &dump, &steps, &touched)?;
+        if arguments.way == Way::Change {
+            warnings.extend(notes(&before, &wanted.messages, &steps, &dump.devices));
+        }
         return Ok(Planned { dump, before, others, steps, warnings });
     }
 }

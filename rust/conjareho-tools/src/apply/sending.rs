@@ -2,6 +2,7 @@
 
 use super::check::Scope;
 use super::messages::{deletes, is_plain_chain, kind_of, over, replaces, type_of};
+use super::progress::Progress;
 use super::world::{Place, Stop, World};
 use crate::netlink::message::{RTM_NEWQDISC, tcmsg_of};
 use crate::netlink::{Fault, Refusal, Transport};
@@ -29,6 +30,8 @@ pub(crate) struct Sending<'w, 's, T, L> {
     minds_signals: bool,
     // What was there when somebody was asked whether it is to stay.
     left: Option<Vec<Vec<u8>>>,
+    // Until then what was deleted may live on.
+    settled: Instant,
 }
 
 impl<'w, 's, T: Transport, L: Transport> Sending<'w, 's, T, L> {
@@ -43,6 +46,7 @@ impl<'w, 's, T: Transport, L: Transport> Sending<'w, 's, T, L> {
             is_carried_out: false,
             minds_signals: true,
             left: None,
+            settled: Instant::now(),
         }
     }
 
@@ -52,6 +56,7 @@ impl<'w, 's, T: Transport, L: Transport> Sending<'w, 's, T, L> {
         // While somebody was asked whether it is to stay, others may have changed something.
         self.look()?;
         self.is_carried_out = false;
+        let progress = Progress::of(steps.len());
         let mut has_deleted = false;
         for step in steps {
             if deletes(step) {
@@ -63,6 +68,7 @@ impl<'w, 's, T: Transport, L: Transport> Sending<'w, 's, T, L> {
                 }
                 self.make(step)?;
             }
+            progress.iter().for_each(Progress::pass);
         }
         self.is_carried_out = true;
         Ok(())
@@ -158,7 +164,13 @@ impl<'w, 's, T: Transport, L: Transport> Sending<'w, 's, T, L> {
             Err(Stop::Refused { refusal, .. }) if is_gone(&refusal) => {}
             answer => answer?,
         }
+        self.settled = Instant::now() + PATIENCE;
         self.look()
+    }
+
+    /// True if what was deleted last lives on no longer.
+    pub(crate) fn is_settled(&self) -> bool {
+        Instant::now() >= self.settled
     }
 }
 

@@ -33,12 +33,6 @@ impl Targets {
         tcmsg_of(message).is_some_and(|it| it.index != MAGIC_BLOCK && !self.own().contains(&(it.index as u32)))
     }
 
-    /// The interface of a message, if it has one queue to send.
-    pub(crate) fn with_one_queue(&self, message: &[u8]) -> Option<&Device> {
-        let index = u32::try_from(tcmsg_of(message)?.index).ok()?;
-        self.devices.iter().find(|device| device.index == index && device.queues[0] == 1)
-    }
-
     /// Their names.
     pub(crate) fn names(&self) -> Vec<&str> {
         self.devices.iter().map(|device| device.name.as_str()).collect()

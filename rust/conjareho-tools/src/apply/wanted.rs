@@ -4,9 +4,11 @@ use super::arguments::{Arguments, Way};
 use super::compare::{Key, Objects, key_of, objects_of};
 use super::file::{Save, read_save};
 use super::hardware;
-use super::messages::{TCA_OPTIONS, actions_of, has_options, kind_of, type_of};
+use super::messages::{TCA_OPTIONS, actions_of, kind_of, options_of, type_of};
 use super::named::named;
+use super::notes::Tables;
 use super::plan::Fault;
+use super::queues::Queues;
 use super::requests::{Asked, requests};
 use super::status::{Ended, Status};
 use super::targets::{STRANGE, Targets, targets_of};
@@ -191,7 +193,7 @@ pub(crate) fn messages_in(asked: &Asked<'_>, leaves_out: bool) -> Result<Vec<(u6
 // Who writes a qdisc of filters by hand may leave out the options, which are empty: Linux shows them.
 fn complete(message: &mut Vec<u8>) {
     let is_of_filters = matches!(kind_of(message), Some(b"clsact" | b"ingress"));
-    if type_of(message) == RTM_NEWQDISC && is_of_filters && !has_options(message) {
+    if type_of(message) == RTM_NEWQDISC && is_of_filters && options_of(message).is_none() {
         put(message, TCA_OPTIONS, &[]);
         let len = message.len() as u32;
         message[..4].copy_from_slice(&len.to_ne_bytes());
@@ -203,11 +205,16 @@ fn faults_in(dumps: &[(u64, Vec<u8>)], targets: &Targets) -> Vec<String> {
     let mut faults = Vec::new();
     let mut seen = BTreeMap::new();
     let classes = Classes::of(dumps.iter().map(|(_, message)| message));
+    let queues = Queues::of(dumps.iter().map(|(_, message)| message), &targets.devices);
+    let tables = Tables::of(dumps.iter().map(|(_, message)| message));
     for (number, message) in dumps {
         let Some(key) = key_of(message) else { continue };
         let name = named(&targets.devices, &key);
-        if let Some(device) = targets.with_one_queue(message).filter(|_| needs_queues(message)) {
-            faults.push(format!("line {number}: {name}: it needs several queues to send, and {} has one", device.name));
+        if let Some(fault) = queues.fault(message) {
+            faults.push(format!("line {number}: {name}: {fault}"));
+        }
+        if let Some(table) = tables.unshown(message) {
+            faults.push(format!("line {number}: {name}: it links to table {table:x}:, which the save doesn't have"));
         }
         if targets.is_strange(message) {
             faults.push(format!("line {number}: {name}: {STRANGE}"));
@@ -220,11 +227,6 @@ fn faults_in(dumps: &[(u64, Vec<u8>)], targets: &Targets) -> Vec<String> {
         }
     }
     faults
-}
-
-// True for a qdisc that has a class for each of several queues.
-fn needs_queues(message: &[u8]) -> bool {
-    type_of(message) == RTM_NEWQDISC && matches!(kind_of(message), Some(b"mq" | b"mqprio" | b"multiq" | b"taprio"))
 }
 
 /// The kinds of qdiscs whose classes are made by requests.
@@ -266,7 +268,7 @@ impl Classes {
 mod tests {
     use super::*;
     use crate::netlink::Device;
-    use crate::netlink::message::tc_request;
+    use crate::netlink::message::{RTM_NEWTFILTER, tc_request};
 
     fn of(kind: u16, handle: u32, parent: u32, name: &str) -> Vec<u8> {
         let mut message = tc_request(kind, 0, Tcmsg { index: 7, handle, parent, info: 0 });
@@ -277,18 +279,22 @@ mod tests {
     }
 
     #[test]
-    fn one_queue_has_no_classes() {
-        let faults = |queues, kind| {
-            let wan = Device { index: 7, name: "wan".to_string(), queues: [queues, 1], ..Device::default() };
-            let targets = Targets { devices: vec![wan], ..Targets::default() };
-            faults_in(&[(2, of(RTM_NEWQDISC, 0x1_0000, u32::MAX, kind))], &targets)
+    fn a_link_to_a_table_that_is_nowhere() {
+        let key = |link: u32| {
+            let mut message = tc_request(RTM_NEWTFILTER, 0, Tcmsg { index: 7, handle: 0x8000_0800, parent: 0x1_0000, info: 8 });
+            let mut options = Vec::new();
+            put(&mut options, 3, &link.to_ne_bytes());
+            put(&mut message, 1, b"u32\0");
+            put(&mut message, 2, &options);
+            message
         };
+        let wan = Device { index: 7, name: "wan".to_string(), ..Device::default() };
+        let targets = Targets { devices: vec![wan], ..Targets::default() };
         assert_eq!(
-            faults(1, "mq"),
-            ["line 2: qdisc 1: dev wan root: it needs several queues to send, and wan has one"]
+            faults_in(&[(2, key(0x50_0000))], &targets),
+            ["line 2: filter 0x80000800 dev wan parent 1: pref 0: it links to table 5:, which the save doesn't have"]
         );
-        assert_eq!([faults(4, "mq"), faults(1, "prio")], [Vec::<String>::new(), Vec::new()]);
-        assert_eq!(["mqprio", "multiq", "taprio"].map(|kind| faults(1, kind).len()), [1, 1, 1]);
+        assert_eq!(faults_in(&[(2, key(0))], &targets), Vec::<String>::new());
     }
 
     #[test]
@@ -296,13 +302,13 @@ mod tests {
         let mut message = of(RTM_NEWQDISC, 0xFFFF_0000, 0xFFFF_FFF1, "clsact");
         let len = message.len();
         complete(&mut message);
-        assert_eq!((message.len(), has_options(&message)), (len + 4, true));
+        assert_eq!((message.len(), options_of(&message).is_some()), (len + 4, true));
         assert_eq!(message[..4], (len as u32 + 4).to_ne_bytes());
         complete(&mut message);
         assert_eq!(message.len(), len + 4, "once");
         let mut other = of(RTM_NEWQDISC, 0x1_0000, u32::MAX, "prio");
         complete(&mut other);
-        assert!(!has_options(&other));
+        assert!(options_of(&other).is_none());
     }
 
     #[test]
