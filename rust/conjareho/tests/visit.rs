@@ -161,6 +161,17 @@ fn what_is_not_of_its_form_is_raw_at_its_level_and_the_rest_is_marked() {
 }
 
 #[test]
+fn an_array_has_the_elements_that_are_there() {
+    let weights = attribute(17, &[1, 0, 0, 0, 0xff, 0xff, 0xff, 0xff, 9]); // `TCA_FQ_WEIGHTS`, of three
+    let bytes = message(&[&attribute(1, b"fq\0"), &attribute(2, &weights)]);
+    let log = shown(&bytes, "header");
+    let found: Vec<_> = log.seen.iter().skip_while(|(name, _)| *name != "Weights").take(5).map(|(_, it)| *it).collect();
+    let group = Group::Array;
+    let values = [Value::Signed(1), Value::Signed(-1)].map(Seen::Value);
+    assert_eq!(found, [Seen::Open(group), values[0], values[1], Seen::Mark(Mark::Rest(&[9])), Seen::Close(group)]);
+}
+
+#[test]
 fn elements_have_their_number() {
     let action = attribute(1, &[attribute(1, b"gact\0"), attribute(3, &[4, 0, 0, 0])].concat());
     let bytes = [vec![0; 4], attribute(1, &action)].concat();

@@ -275,7 +275,8 @@ fn innermost(form: Option<&Form>) -> Option<&Form> {
 }
 
 fn unit_of(line: &Line) -> &'static str {
-    if !matches!(innermost(line.form.as_ref()), Some(Form::Number(_))) {
+    // Names are those of any number, flags too.
+    if line.names.is_empty() && !matches!(innermost(line.form.as_ref()), Some(Form::Number(_))) {
         return "None";
     }
     UNITS.iter().find(|(unit, _)| *unit == line.unit).map_or("None", |(_, variant)| variant)

@@ -175,48 +175,50 @@ impl<C: Code, F: Shown<Value: Number>> Shown for Coded<C, F> {
     }
 }
 
+/// Whether bytes are elements of one width; a rest that is too short for one is no element.
+#[inline(always)]
+fn fit_elements<F: Shown>(bytes: &[u8], at: Place<'_>) -> bool {
+    let Some(width) = F::WIDTH.filter(|width| *width > 0) else { return false };
+    bytes.chunks_exact(width).all(|bytes| at.below().is_some_and(|at| F::fits(bytes, at)))
+}
+
+/// Shows elements, and the rest after them.
+fn show_elements<'b, F: Shown, V: Visit<'b>>(row: &'static Row, bytes: &'b [u8], at: Place<'_>, to: &mut V) -> Option<u16> {
+    if !fit_elements::<F>(bytes, at) {
+        return None;
+    }
+    if to.open(row, Group::Array) {
+        let chunks = bytes.chunks_exact(F::WIDTH?);
+        let rest = chunks.remainder();
+        if let Some(at) = at.below() {
+            chunks.for_each(|bytes| _ = F::show(row, bytes, at, to));
+        }
+        mark_rest(rest, to);
+        to.close(Group::Array);
+    }
+    Some(0)
+}
+
 impl<F: Shown> Shown for Array<F> {
     #[inline(always)]
     fn fits(bytes: &[u8], at: Place<'_>) -> bool {
-        let Some((width, at)) = F::WIDTH.filter(|width| *width > 0).zip(at.below()) else {
-            // Without an element no level is needed.
-            return F::WIDTH.is_some_and(|width| width > bytes.len());
-        };
-        bytes.chunks_exact(width).all(|bytes| F::fits(bytes, at))
+        fit_elements::<F>(bytes, at)
     }
 
     fn show<'b, V: Visit<'b>>(row: &'static Row, bytes: &'b [u8], at: Place<'_>, to: &mut V) -> Option<u16> {
-        if !Self::fits(bytes, at) {
-            return None;
-        }
-        if to.open(row, Group::Array) {
-            let chunks = bytes.chunks_exact(F::WIDTH?);
-            let rest = chunks.remainder();
-            if let Some(at) = at.below() {
-                chunks.for_each(|bytes| _ = F::show(row, bytes, at, to));
-            }
-            mark_rest(rest, to);
-            to.close(Group::Array);
-        }
-        Some(0)
+        show_elements::<F, V>(row, bytes, at, to)
     }
 }
 
+// An attribute may have more or fewer elements than its table says.
 impl<const N: usize, F: Shown> Shown for Times<N, F> {
     #[inline(always)]
-    fn fits(mut bytes: &[u8], at: Place<'_>) -> bool {
-        (0..N).all(|_| fits_field::<F>(&mut bytes, at)) && bytes.is_empty()
+    fn fits(bytes: &[u8], at: Place<'_>) -> bool {
+        fit_elements::<F>(bytes, at)
     }
 
-    fn show<'b, V: Visit<'b>>(row: &'static Row, mut bytes: &'b [u8], at: Place<'_>, to: &mut V) -> Option<u16> {
-        if !Self::fits(bytes, at) {
-            return None;
-        }
-        if to.open(row, Group::Array) {
-            (0..N).for_each(|_| show_field::<F, V>(row, &mut bytes, at, to));
-            to.close(Group::Array);
-        }
-        Some(0)
+    fn show<'b, V: Visit<'b>>(row: &'static Row, bytes: &'b [u8], at: Place<'_>, to: &mut V) -> Option<u16> {
+        show_elements::<F, V>(row, bytes, at, to)
     }
 }
 

@@ -46,8 +46,7 @@ use crate::DecodeError;
 use core::cell::Cell;
 use core::net::{Ipv4Addr, Ipv6Addr};
 pub(crate) use forms::{Shown, ShownAttr, fits_field, show_field, show_of_kind};
-pub(crate) use row::OTHER;
-pub use row::{LeftOut, Name, Names, Row, Section, Style, Unit};
+pub use row::{LeftOut, Name, Names, OTHER, PROTOCOLS, Row, Section, Style, Unit};
 
 /// What is shown a message.
 pub trait Visit<'b> {

@@ -64,8 +64,11 @@ impl Row {
 pub static MESSAGE: Row = Row::named("message");
 /// The row of the contents of an element, whose number is [`Group::Element`](super::Group::Element)'s.
 pub static CONTENTS: Row = Row::named("attributes");
-/// The row of an attribute, or of bytes, that the table doesn't have.
+/// The row of an attribute, or of bytes, that the tables don't have.
 pub static OTHER: Row = Row::named("Other");
+
+/// The names of protocols of link layers, `ETH_P_*`, which headers of filters have.
+pub static PROTOCOLS: Names = Names::Numbers(&crate::kinds::shared::NAMES_ETH_P);
 
 /// A part of a line.
 #[derive(Clone, Copy, PartialEq, Eq, Hash, Debug)]
