@@ -5,7 +5,7 @@ use Rattle.std.specs.List.{list_any, list_all, AllByRecursion}
 use Rattle.tc_changes.specs.Model.{Thing, needs, or_else, at_key, among, found, has, ready}
 use Rattle.tc_changes.specs.Requests.{Request, Make, Change, Delete}
 use Rattle.tc_changes.specs.Plans.{fits, key_of, IsAbout, IsUntouched, IsLeftAlone, CanStay, can_stay, NeedsCanStay}
-use Rattle.tc_changes.proofs.Lookups.{and_left, and_right, or_left, or_right, not_true, by_cases, or_else_none, found-append, found-filter}
+use Rattle.tc_changes.proofs.Lookups.{and_left, and_right, or_left, or_right, not_true, by_cases, or_else_none, found-append, found-filter, in_all}
 use Rattle.tc_changes.proofs.Wholes.{passed, passed_has, ready-append, ready_one, and_both}
 use Rattle.tc_changes.proofs.Keeps.{all_found}
 
@@ -80,12 +80,6 @@ module _ {K C : Type 0} (eq : K → K → Bool) (sound : (a b : K) → eq a b �
       by_cases (test n ≡ false) (eq n m) (λ here. ap test (sound n m here) ∙ or_left (test m) _ none)
       (λ there. named_none ns n (or_right (test m) _ none) (sym (ap (λ b. b || among eq ns n) there) ∙ is))
 
-  in_all : (before ns : List K) (n : K) → list_all (among eq before) ns ≡ true → among eq ns n ≡ true → among eq before n ≡ true
-  in_all before [] n all is = absurd (cc is)
-  in_all before (m ∷ ns) n all is =
-      by_cases (among eq before n ≡ true) (eq n m) (λ here. ap (among eq before) (sound n m here) ∙ and_left (among eq before m) _ all)
-      (λ there. in_all before ns n (and_right (among eq before m) _ all) (sym (ap (λ b. b || among eq ns n) there) ∙ is))
-
   module _ (state want : List (Thing K C)) (order : ready eq [] state ≡ true) (all : AreNamed want) where
     abbrev Stays : K → Type 0
     Stays k = CanStay eq (fits alike takes) state (want ++ others state) k
@@ -106,7 +100,7 @@ module _ {K C : Type 0} (eq : K → K → Bool) (sound : (a b : K) → eq a b �
         let more = and_right (not (among eq before o.key) && list_all (among eq before) (needs o)) (ready eq (o.key ∷ before) rest) is in
         let needed = and_right (not (among eq before o.key)) _ first in
         let own : test o.key ≡ false → NeedsStay o =
-        (λ off n is_needed. earlier n (named_none (needs o) n (free.0 off) is_needed) (in_all before (needs o) n needed is_needed)) in (
+        (λ off n is_needed. earlier n (named_none (needs o) n (free.0 off) is_needed) (in_all eq sound same before (needs o) n needed is_needed)) in (
           own,
           needs_stay (o.key ∷ before) rest more here.1 free.1 (λ k off there.
               by_cases (Stays k) (eq k o.key)

@@ -211,7 +211,7 @@ module _ {K C : Type 0} (eq : K → K → Bool) (sound : (a b : K) → eq a b �
     spared_one k w None = refl
     spared_one k w (Some o) = pick (λ l. list_any (deletes eq k) l ≡ false) (alike o w) [] (Change w ∷ []) (λ is. refl) (λ is. refl)
 
-    spared_makes : (k : K) (stay rest : List (Thing K C)) → list_any (deletes eq k) (makes eq alike stay rest) ≡ false
+    pub spared_makes : (k : K) (stay rest : List (Thing K C)) → list_any (deletes eq k) (makes eq alike stay rest) ≡ false
     spared_makes k stay [] = refl
     spared_makes k stay (w ∷ rest) =
         list_any-append (deletes eq k) (request_of eq alike w (found eq stay w.key)) (makes eq alike stay rest)

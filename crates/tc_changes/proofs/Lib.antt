@@ -16,3 +16,5 @@ pub mod Steps
 pub mod Firsts
 pub mod Named
 pub mod Elsewhere
+pub mod Placed
+pub mod Least

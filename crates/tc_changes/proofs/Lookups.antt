@@ -136,6 +136,13 @@ module _ {K : Type 0} (eq : K → K → Bool) (sound : (a b : K) → eq a b ≡ 
       (λ here. absurd (cc (sym not_there ∙ ap (among eq before) (sound j n here) ∙ and_left _ _ all)))
       (λ there. ap (λ b. b || among eq ns j) there ∙ none_among before j ns not_there (and_right (among eq before n) _ all))
 
+  -- one of some keys that are all among others
+  pub in_all : (before ns : List K) (n : K) → list_all (among eq before) ns ≡ true → among eq ns n ≡ true → among eq before n ≡ true
+  in_all before [] n all is = absurd (cc is)
+  in_all before (m ∷ ns) n all is =
+      by_cases (among eq before n ≡ true) (eq n m) (λ here. ap (among eq before) (sound n m here) ∙ and_left (among eq before m) _ all)
+      (λ there. in_all before ns n (and_right (among eq before m) _ all) (sym (ap (λ b. b || among eq ns n) there) ∙ is))
+
 module _ {K C : Type 0} (eq : K → K → Bool) (sound : (a b : K) → eq a b ≡ true → a ≡ b) where
   filter_step : (x : Thing K C) (w : List (Thing K C)) (k : K) (g : Option (Thing K C)) (a b c : Bool) → eq k x.key ≡ c → (c ≡ true → a ≡ b)
       → found eq w k ≡ cond b None g → found eq (cond (not a) (x ∷ w) w) k ≡ cond b None (or_else g (cond c (Some x) None))

@@ -134,7 +134,7 @@ module _ {K : Type 0} (eq : K → K → Bool) (sound : (a b : K) → eq a b ≡ 
           let rest = deeper (sym (ap (λ q. option_to_list q ++ removers eq removed ns) at) ∙ is) in
           (rest.0, ap (λ b. eq rest.0 m || b) rest.1 ∙ or_true (eq rest.0 m), rest.2)
 
-  any_at : (p : K → Bool) (ns : List K) (n : K) → among eq ns n ≡ true → p n ≡ true → list_any p ns ≡ true
+  pub any_at : (p : K → Bool) (ns : List K) (n : K) → among eq ns n ≡ true → p n ≡ true → list_any p ns ≡ true
   any_at p [] n there is = absurd (cc there)
   any_at p (m ∷ ns) n there is =
       by_cases (list_any p (m ∷ ns) ≡ true) (eq n m)
@@ -248,7 +248,7 @@ module _ {K C : Type 0} (eq : K → K → Bool) (sound : (a b : K) → eq a b �
         × (list_all (eq j) (removers eq removed o.refers) ≡ true)
     only = only_is eq (removers eq removed o.under) (removers eq removed o.refers) j (sym (same_only removed o) ∙ is)
 
-    one_under : (u : K) × (among eq o.under u ≡ true) × (remover eq removed u ≡ Some j)
+    pub one_under : (u : K) × (among eq o.under u ≡ true) × (remover eq removed u ≡ Some j)
     one_under = first_remover eq sound same removed o.under j only.0 only.1
 
     all_needs : (n : K) → among eq (needs o) n ≡ true → (x : K) → remover eq removed n ≡ Some x → j ≡ x

@@ -1,8 +1,8 @@
 -- What a plan promises: what it touches, what it leaves alone, and why there is none.
-use Rattle.std.specs.Prelude.{◌≡◌, Bool, true, false, cond, ◌||◌, List, [], ◌∷◌, Some, All}
+use Rattle.std.specs.Prelude.{◌≡◌, ⊤, Bool, true, false, cond, ◌||◌, List, [], ◌∷◌, Some, All}
 use Rattle.std.specs.List.{list_any, list_all, flat_map, IsDistinct}
 use Rattle.tc_changes.specs.Model.{Thing, needs, among, found, has}
-use Rattle.tc_changes.specs.Requests.{Request, Make, Change, Delete}
+use Rattle.tc_changes.specs.Requests.{Request, Make, Change, Delete, Goes}
 
 -- an object is as wanted, or can be changed into what is wanted
 abbrev pub fits : {X : Type 0} → (X → X → Bool) → (X → X → Bool) → X → X → Bool
@@ -18,6 +18,11 @@ key_of (Delete k) = k
 abbrev pub deletes : {K C : Type 0} → (K → K → Bool) → K → Request K C → Bool
 deletes eq k (Delete key) = eq k key
 deletes eq k r = false
+
+-- a request changes one of these
+abbrev pub changes : {K C : Type 0} → (K → K → Bool) → List K → Request K C → Bool
+changes eq keys (Change o) = among eq keys o.key
+changes eq keys r = false
 
 -- two requests delete one object, or make one object or change it
 abbrev pub is_repeated : {K C : Type 0} → (K → K → Bool) → Request K C → Request K C → Bool
@@ -54,6 +59,25 @@ module _ {K C : Type 0} (eq : K → K → Bool) where
   -- each request is about an object of either state, and no two do the same
   abbrev pub IsExact : List (Thing K C) → List (Thing K C) → List (Request K C) → Type 0
   IsExact state want requests = All (IsAbout state want) requests × IsDistinct (is_repeated eq) requests
+
+  -- no object is made or changed before the change of one that it needs
+  abbrev pub IsPlaced : List (Request K C) → Type 0
+  IsPlaced [] = ⊤
+  IsPlaced (Delete k ∷ requests) = IsPlaced requests
+  IsPlaced (Make o ∷ requests) = (list_any (changes eq (needs o)) requests ≡ false) × IsPlaced requests
+  IsPlaced (Change o ∷ requests) = (list_any (changes eq (needs o)) requests ≡ false) × IsPlaced requests
+
+  abbrev pub IsDeleted : List (Request K C) → K → Type 0
+  IsDeleted requests k = list_any (deletes eq k) requests ≡ true
+
+  -- an object needs something that goes with another delete than that of a key
+  abbrev pub NeedsOther : List (Thing K C) → List (Request K C) → K → Thing K C → Type 0
+  NeedsOther state requests j o = (n : K) × (i : K) × (among eq (needs o) n ≡ true) × IsDeleted requests i × (eq i j ≡ false) × Goes eq state i n
+
+  -- no delete is sent of an object that goes with another one, unless it needs something that goes with a third
+  abbrev pub IsLeast : List (Thing K C) → List (Request K C) → Type 0
+  IsLeast state requests = (j k : K) → IsDeleted requests j → IsDeleted requests k → eq j k ≡ false → Goes eq state j k
+      → (o : Thing K C) × (found eq state k ≡ Some o) × NeedsOther state requests j o
 
 module _ {K C : Type 0} (eq : K → K → Bool) (fit : Thing K C → Thing K C → Bool) (state want : List (Thing K C)) where
   -- an object can stay: it is as wanted or can be changed into that, and all that it needs can stay too

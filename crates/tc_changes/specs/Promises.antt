@@ -2,7 +2,7 @@
 use Rattle.std.specs.Prelude.{◌≡◌, ◌≢◌, ⊤, [], true, Bool, List, All}
 use Rattle.tc_changes.specs.Model.{Same, IsStuck}
 use Rattle.tc_changes.specs.Requests.{Leads, LeavesWhole}
-use Rattle.tc_changes.specs.Plans.{fits, IsExact, IsConfined, IsLeftAlone, IsSpared, IsBarred, barred_keys}
+use Rattle.tc_changes.specs.Plans.{fits, IsExact, IsConfined, IsLeftAlone, IsSpared, IsLeast, IsPlaced, IsBarred, barred_keys}
 use Rattle.tc_changes.specs.Objects.{KernelThing, same_key, alike, IfSteps, IfRefused, IsNothing, IsRefused}
 use Rattle.tc_changes.specs.declared.plan_error.PlanError.{PlanError}
 use Rattle.tc_changes.specs.declared.plan_error.PlanError.TheVariants.{State, Wanted, Elsewhere, OutOfMemory}
@@ -21,6 +21,9 @@ pub record IsPlan {A : Type 0} (takes : KernelThing → KernelThing → Bool) (c
   -- what is as wanted isn't touched, and what can stay isn't deleted
   pub keeps : IfSteps plan (λ steps. IsLeftAlone same_key (fits alike takes) now want steps)
   pub spares : IfSteps plan (λ steps. IsSpared same_key (fits alike takes) now want steps)
+  -- no delete is sent that another makes needless, and nothing is made before the change of what it needs
+  pub least : IfSteps plan (λ steps. IsLeast same_key now steps)
+  pub placed : IfSteps plan (λ steps. IsPlaced same_key steps)
   -- a state to plan from is left wherever they stop
   pub resumes : IfSteps plan (λ steps. LeavesWhole same_key takes now steps)
   -- only what can be made is made, and only what can't be made is refused

@@ -1,7 +1,7 @@
 -- What a kernel does with requests: which it takes, and what they leave.
 use Rattle.std.specs.Prelude.{◌≡◌, ℕ, take, Bool, true, false, not, ◌&&◌, ◌||◌, List, [], ◌∷◌, ◌++◌, Option, Some, None, filter}
 use Rattle.std.specs.List.{list_any, list_all, AllByRecursion}
-use Rattle.tc_changes.specs.Model.{Thing, needs, found, has, Same, ready, IsWhole}
+use Rattle.tc_changes.specs.Model.{Thing, needs, among, found, has, Same, ready, IsWhole}
 
 -- a request: to make an object, to change the one that has this one's key into it, to delete one
 pub data Request (K C : Type 0) : Type 0 where
@@ -28,6 +28,11 @@ module _ {K C : Type 0} (eq : K → K → Bool) where
   without k state = filter (λ o. not (eq k o.key)) state
 
   -- what goes with a key: it, and each object that is under one that goes
+  pub data Goes (state : List (Thing K C)) (k : K) : K → Type 0 where
+    itself : Goes state k k
+    below : (j : K) (o : Thing K C) (n : K) → found eq state j ≡ Some o → among eq o.under n ≡ true → Goes state k n → Goes state k j
+
+  -- a test tells it
   abbrev pub IsAlong : List (Thing K C) → K → (K → Bool) → Type 0
   IsAlong state k away = AllByRecursion (λ o. away o.key ≡ (eq k o.key || list_any away o.under)) state
 

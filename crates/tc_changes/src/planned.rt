@@ -3,7 +3,7 @@
 ghost use Rattle.std.specs.Prelude.{◌≡◌, ◌≢◌, [], ◌++◌, map, true, IfErr, IfOk, List, reverse, option_to_list, All};
 ghost use Rattle.tc_changes.specs.Model.{ready, Same};
 ghost use Rattle.tc_changes.specs.Requests.{Delete, Leads, LeavesWhole};
-ghost use Rattle.tc_changes.specs.Plans.{fits, IsExact, IsConfined, IsLeftAlone, IsSpared, IsBarred, barred_keys, barred_by};
+ghost use Rattle.tc_changes.specs.Plans.{fits, IsExact, IsConfined, IsLeftAlone, IsSpared, IsLeast, IsPlaced, IsBarred, barred_keys, barred_by};
 ghost use Rattle.tc_changes.specs.Planned.{makes, planned};
 ghost use Rattle.tc_changes.specs.Promises.{IsUnready};
 ghost use Rattle.tc_changes.specs.declared.plan_error.PlanError.TheVariants.{OutOfMemory};
@@ -46,6 +46,10 @@ pub fn plan<A: Allocator + Copy, R: Rules<A>>(
         IsLeftAlone same_key (fits alike (R.takes rules.now)) (things state.now) (things want.items) requests)) }
     ensures spares { IfOk result (λ plan. IfSteps plan (λ requests.
         IsSpared same_key (fits alike (R.takes rules.now)) (things state.now) (things want.items) requests)) }
+    ensures least { IfOk result (λ plan. IfSteps plan (λ requests.
+        IsLeast same_key (things state.now) requests)) }
+    ensures placed { IfOk result (λ plan. IfSteps plan (λ requests.
+        IsPlaced same_key requests)) }
     ensures resumes { IfOk result (λ plan. IfSteps plan (λ requests.
         LeavesWhole same_key (R.takes rules.now) (things state.now) requests)) }
     ensures sends { IfOk result (λ plan. IfSteps plan (λ requests.
@@ -92,6 +96,10 @@ pub(crate) fn plan_in_order<A: Allocator + Copy, R: Rules<A>>(
         IsLeftAlone same_key (fits alike (R.takes rules.now)) (things state.now) (things want.items) requests)) }
     ensures spares { IfOk result (λ plan. IfSteps plan (λ requests.
         IsSpared same_key (fits alike (R.takes rules.now)) (things state.now) (things want.items) requests)) }
+    ensures least { IfOk result (λ plan. IfSteps plan (λ requests.
+        IsLeast same_key (things state.now) requests)) }
+    ensures placed { IfOk result (λ plan. IfSteps plan (λ requests.
+        IsPlaced same_key requests)) }
     ensures resumes { IfOk result (λ plan. IfSteps plan (λ requests.
         LeavesWhole same_key (R.takes rules.now) (things state.now) requests)) }
     ensures sends { IfOk result (λ plan. IfSteps plan (λ requests.

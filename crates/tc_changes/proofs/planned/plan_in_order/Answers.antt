@@ -3,11 +3,13 @@ use Rattle.std.proofs.lemmas.Grind.{common_steps}
 use Rattle.std.proofs.lemmas.List.Elements.{All-from_recursion, recursion_from_All}
 use Rattle.std.specs.List.{AllByRecursion}
 use Rattle.tc_changes.specs.Requests.{Leads, LeavesWhole}
-use Rattle.tc_changes.specs.Plans.{fits, IsExact, IsAbout, IsConfined, IsLeftAlone, IsSpared, IsBarred, barred_keys}
+use Rattle.tc_changes.specs.Plans.{fits, IsExact, IsAbout, IsConfined, IsLeftAlone, IsSpared, IsLeast, IsPlaced, IsBarred, barred_keys}
 use Rattle.tc_changes.specs.Planned.{planned}
 use Rattle.tc_changes.specs.Objects.{things, same_key, alike, request}
 use Rattle.tc_changes.proofs.Removals.{least_leads, least_resumes}
 use Rattle.tc_changes.proofs.Keeps.{plan_idle, plan_keeps, plan_spares, plan_barred, none_barred}
+use Rattle.tc_changes.proofs.Least.{plan_least}
+use Rattle.tc_changes.proofs.Placed.{plan_placed}
 use Rattle.tc_changes.proofs.Exact.{plan_about, plan_once, confined}
 use Rattle.tc_changes.proofs.Equal.{key_is, key_same, alike_is, alike_same}
 use Rattle.tc_changes.proofs.planned.plan_in_order.Goals as goal
@@ -63,6 +65,18 @@ returns-then-is_empty-clause-spares g c =
     let takes = g.R.Rules.takes c.args.rules.now in
     subst (IsSpared same_key (fits alike takes) (things c.args.state.now) (things c.args.want.items)) (sym c.in_ok-steps.ensures)
     (plan_spares same_key key_is key_same alike takes alike_is alike_same (things c.args.state.now) (things c.args.want.items) c.requires.state_ready)
+
+pub returns-then-is_empty-clause-least : goal.returns-then-is_empty-clause-least
+returns-then-is_empty-clause-least g c =
+    let takes = g.R.Rules.takes c.args.rules.now in
+    subst (IsLeast same_key (things c.args.state.now)) (sym c.in_ok-steps.ensures)
+    (plan_least same_key key_is key_same alike takes alike_is alike_same (things c.args.state.now) (things c.args.want.items) c.requires.state_ready)
+
+pub returns-then-is_empty-clause-placed : goal.returns-then-is_empty-clause-placed
+returns-then-is_empty-clause-placed g c =
+    let takes = g.R.Rules.takes c.args.rules.now in
+    subst (IsPlaced same_key) (sym c.in_ok-steps.ensures)
+    (plan_placed same_key key_is key_same alike takes (things c.args.state.now) (things c.args.want.items) c.requires.want_ready)
 
 pub returns-then-is_empty-clause-resumes : goal.returns-then-is_empty-clause-resumes
 returns-then-is_empty-clause-resumes g c =
