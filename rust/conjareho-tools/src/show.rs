@@ -1,4 +1,4 @@
-//! What people read: lines, outlines, words, columns, and the runs of `tcshow`.
+//! What people read: lines, outlines, columns, and the runs of `tcshow`.
 
 pub(crate) mod attributes;
 pub(crate) mod brief;
@@ -13,4 +13,3 @@ pub(crate) mod program;
 pub(crate) mod schema;
 pub(crate) mod tree;
 pub(crate) mod units;
-pub(crate) mod words;

@@ -5,14 +5,12 @@ use super::messages::{as_new, chain_of, deletes, has_own_actions, kind_of, paylo
 use super::requests::requests_of_dump;
 use super::tree::Trees;
 use super::words::differing_words;
-use crate::forms_kinds::{ACTION_MESSAGE, TC_MESSAGE, TcTables};
 use crate::netlink::Devices;
 use crate::netlink::message::{
-    RTM_NEWACTION, RTM_NEWCHAIN, RTM_NEWQDISC, RTM_NEWTCLASS, RTM_NEWTFILTER, is_action, tcmsg_of,
+    RTM_NEWACTION, RTM_NEWCHAIN, RTM_NEWQDISC, RTM_NEWTCLASS, RTM_NEWTFILTER, tcmsg_of,
 };
 use crate::show::brief::{self, Said, lines_of};
 use crate::show::columns::{KindColumns, Root};
-use crate::show::words::TcWords;
 use ::serde_json::Value;
 use std::collections::BTreeMap;
 
@@ -264,12 +262,11 @@ fn line_of(sign: &str, message: &[u8], devices: &Devices) -> String {
     let Some((root, object)) = root_of(message) else {
         return format!("{sign} a request of type {}", type_of(message));
     };
-    let form = if is_action(type_of(message)) { ACTION_MESSAGE } else { TC_MESSAGE };
     let names: Vec<(u32, &str)> = devices.iter().map(|device| (device.index, device.name.as_str())).collect();
     let columns = KindColumns { root, interfaces: &names, links: None, all: false };
     let said = Said { begin: sign.as_bytes(), object, statistics: false, port: 0, end: b"" };
     // It fails if memory runs out.
-    let line = lines_of(TcTables, form, columns, TcWords, &said, payload_of(message)).unwrap_or_default();
+    let line = lines_of(columns, &said, payload_of(message)).unwrap_or_default();
     String::from_utf8_lossy(&line).trim_end().to_string()
 }
 

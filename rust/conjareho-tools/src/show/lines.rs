@@ -9,7 +9,6 @@
 
 use crate::user::prelude::*;
 mod answer;
-mod bare;
 mod begin;
 mod ending;
 mod fault;

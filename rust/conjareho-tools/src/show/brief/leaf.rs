@@ -1,10 +1,10 @@
-//! The leaves of a message's JSON, each with its column and its row.
+//! The leaves of a message: its values, each with its row and the section of its words.
 
-use crate::user::prelude::*;
+use conjareho::kinds::visit::{LeftOut, Name, Row, Style};
+use conjareho::kinds::{Handle, Mac};
+use std::net::{Ipv4Addr, Ipv6Addr};
 
-use crate::show::attributes::Display;
-use crate::show::brief::row::{Row, Style};
-use crate::show::units::Name;
+use crate::show::units::Unit;
 
 /// Where the words of a leaf stand in a line.
 #[derive(Clone, Copy, PartialEq, Eq)]
@@ -33,8 +33,20 @@ pub(crate) enum Section {
     OlderStatistics,
 }
 
+impl Section {
+    /// True in an action.
+    pub(crate) fn is_of_action(self) -> bool {
+        matches!(self, Section::Begin | Section::Kind | Section::Actions | Section::Control | Section::ActionStatistics)
+    }
+
+    /// True for statistics.
+    pub(crate) fn is_of_statistics(self) -> bool {
+        matches!(self, Section::Statistics | Section::KindStatistics | Section::OlderStatistics | Section::ActionStatistics)
+    }
+}
+
 /// How a list or a record is written.
-#[derive(Clone, Copy)]
+#[derive(Clone, Copy, PartialEq, Eq)]
 pub(crate) enum Shape {
     /// Its members are written as if they stood in its place.
     Silent,
@@ -44,40 +56,65 @@ pub(crate) enum Shape {
     Brackets,
 }
 
+impl Shape {
+    /// The shape of a record in a list of this shape.
+    pub(crate) fn of_item(self) -> Shape {
+        if self == Shape::Brackets { Shape::Braces } else { Shape::Silent }
+    }
+}
+
 /// The value of a leaf, or the beginning or end of a list or record that is one word.
 #[derive(Clone, Copy)]
-pub(crate) enum Value<'t> {
-    Null,
+pub(crate) enum Value<'b> {
     Bool(bool),
     Unsigned(u64),
+    /// A number below zero.
     Signed(i64),
-    Text(&'t str),
-    /// A name in JSON, and its number.
-    Named(&'t str, u64),
-    /// Malformed bytes instead of a number with names, in hex.
-    Raw(&'t str),
-    /// The index of an interface, and its name if known.
-    Interface(u64, Option<&'t str>),
-    /// The `nla_type` of an attribute without a row, and its bytes in hex.
-    Attribute(u64, &'t str),
+    Handle(Handle),
+    Text(&'b str),
+    Bytes(&'b [u8]),
+    Mac(Mac),
+    Ipv4(Ipv4Addr),
+    Ipv6(Ipv6Addr),
+    /// A number with a name.
+    Named(&'static Name, u64),
+    /// Malformed bytes instead of a number with names.
+    Raw(&'b [u8]),
+    /// A mask right after its address, as the length of a prefix.
+    Prefix(u64),
+    /// The index of an interface.
+    Interface(u64),
+    /// An attribute that the tables lack: its `nla_type`, and its payload.
+    Attribute(u16, &'b [u8]),
     Opens(Shape),
     Closes(Shape),
 }
 
-/// How a leaf is written: by a row, but in this style.
-#[derive(Clone, Copy)]
-pub(crate) struct Way {
-    pub row: &'static Row<'static>,
-    pub style: Style,
+/// How a value is shown, where its row doesn't say it.
+#[derive(Clone, Copy, PartialEq, Eq)]
+pub(crate) enum Shown {
+    /// As the row says.
+    ByRow,
+    /// Without unit and names.
+    Plain,
+    /// Not at all.
+    Hidden,
+    /// A handle, as a number in this unit.
+    Handle(Unit),
+    /// Four bytes as a number.
+    Count,
 }
 
-/// A leaf: its name in JSON, its row, the display and the names of its column, the section of its words, and its value.
+/// A leaf: its name in JSON, its row, what a line makes of the row, the section of its words, and its value.
 #[derive(Clone, Copy)]
-pub(crate) struct Leaf<'t> {
-    pub key: &'t str,
-    pub way: Way,
-    pub display: Display,
-    pub names: &'static [Name<'static>],
+pub(crate) struct Leaf<'b> {
+    pub key: &'static str,
+    pub row: &'static Row,
+    pub word: &'static str,
+    pub style: Style,
+    pub with: &'static str,
+    pub left: LeftOut,
+    pub shown: Shown,
     pub section: Section,
-    pub value: Value<'t>,
+    pub value: Value<'b>,
 }

@@ -2,19 +2,17 @@
 
 use crate::user::prelude::*;
 
-use crate::forms_json::{Form, Tables};
-use crate::show::attributes::{Columns, Display, InfoOf};
-use crate::show::brief::error::BriefError;
-use crate::show::brief::events::walk_of;
-use crate::show::brief::kept::leaves_in;
-use crate::show::brief::leaf::{Leaf, Section, Value};
-use crate::show::brief::named::is_same;
+use conjareho::kinds::Handle;
+use conjareho::kinds::visit::PROTOCOLS;
+
+use crate::show::attributes::Columns;
+use crate::show::brief::leaf::{Leaf, Section, Shown, Value};
+use crate::show::brief::leaves::leaves_of;
 use crate::show::brief::numbers::put_signed;
 use crate::show::brief::parts::{Line, Scope, bare, count_in, is_in, tells};
-use crate::show::brief::row::Words;
 use crate::show::brief::values::{depth_after, is_left_out, is_opening, number_in, put_interface};
-use crate::show::units::{Name, Unit, name_of, put_number as put_exact};
-use crate::tc_texts::{handle_from_tc_text, handle_text};
+use crate::show::columns::{KindColumns, Root};
+use crate::show::units::{Unit, put_number as put_exact};
 
 /// The type of an object.
 #[derive(Clone, Copy, PartialEq, Eq, Debug)]
@@ -54,12 +52,17 @@ fn object_text(object: Object) -> &'static str {
 fn in_head<'l, 't>(leaves: &'l [Leaf<'t>], key: &str) -> Option<&'l Leaf<'t>> {
     let mut left = leaves;
     'each: while let [leaf, rest @ ..] = left {
-        if is_in(Section::Head, leaf) && is_same(leaf.key, key) {
+        if is_in(Section::Head, leaf) && leaf.key == key {
             return Some(leaf);
         }
         left = rest;
     }
     None
+}
+
+// The handle of a leaf, and how it is shown.
+fn handle_of(leaf: &Leaf<'_>) -> Option<(Handle, Shown)> {
+    if let Value::Handle(handle) = leaf.value { Some((handle, leaf.shown)) } else { None }
 }
 
 fn protocol_in(n: u64) -> u64 {
@@ -79,11 +82,11 @@ fn protocol_of(info: Option<&Leaf<'_>>) -> u64 {
 
 // True for the members of the head that have a place of their own.
 fn is_placed(key: &str) -> bool {
-    is_same(key, "index")
-        || (is_same(key, "parent")
-            || (is_same(key, "info")
-                || (is_same(key, "family")
-                    || (is_same(key, "handle") || (is_same(key, "Kind") || is_same(key, "Chain"))))))
+    key == "index"
+        || (key == "parent"
+            || (key == "info"
+                || (key == "family"
+                    || (key == "handle" || (key == "Kind" || key == "Chain")))))
 }
 
 fn is_other(leaf: &Leaf<'_>) -> bool {
@@ -102,7 +105,7 @@ fn one_action<'l, 't>(leaves: &'l [Leaf<'t>]) -> &'l [Leaf<'t>] {
     leaves
 }
 
-impl Line {
+impl Line<'_> {
     // Writes the value of a leaf, or `-`.
     fn text_or_dash(&mut self, leaf: Option<&Leaf<'_>>) -> Result<(), AllocError> {
         match leaf {
@@ -111,43 +114,36 @@ impl Line {
         }
     }
 
-    // Writes a handle in a unit; the text if it isn't a handle.
-    fn handle_in(&mut self, unit: Unit, text: &str) -> Result<(), AllocError> {
-        match handle_from_tc_text(text) {
-            Some(n) => {
-                self.begin();
-                put_exact(&mut self.word, unit, n as u64)?;
-                self.end()
-            }
-            None => self.word(text.as_bytes()),
-        }
+    // Writes a handle in a unit.
+    fn handle_in(&mut self, unit: Unit, handle: Handle) -> Result<(), AllocError> {
+        self.begin();
+        put_exact(&mut self.word, unit, u32::from(handle).into())?;
+        self.end()
     }
 
-    // Writes a handle; `-` for 0.
-    fn handle_value(&mut self, display: &Display, value: &Value<'_>) -> Result<(), AllocError> {
-        match (value, display) {
-            (Value::Text(text), _) if is_same(text, "0:0") => self.word(b"-"),
-            (Value::Text(text), Display::Handle(unit)) => self.handle_in(*unit, text),
-            (Value::Text(text), _) => self.word(text.as_bytes()),
-            _ => self.word(b"-"),
-        }
+    // Writes a handle as `tc` does.
+    fn handle(&mut self, handle: Handle) -> Result<(), AllocError> {
+        self.word(handle.to_string().as_bytes())
     }
 
+    // Writes the handle of the object; `-` for 0.
     fn handle_word(&mut self, leaf: Option<&Leaf<'_>>) -> Result<(), AllocError> {
-        match leaf {
-            Some(leaf) => self.handle_value(&leaf.display, &leaf.value),
-            None => self.word(b"-"),
+        let Some((handle, shown)) = leaf.and_then(handle_of) else { return self.word(b"-") };
+        match shown {
+            _ if u32::from(handle) == 0 => self.word(b"-"),
+            Shown::Handle(unit) => self.handle_in(unit, handle),
+            _ => self.handle(handle),
         }
     }
 
     // Writes the interface, unless it is 0 or a block.
     fn dev(&mut self, value: &Value<'_>) -> Result<(), AllocError> {
         match value {
-            Value::Interface(0, _) | Value::Signed(-1) => Ok(()),
-            Value::Interface(n, name) => {
+            Value::Interface(0) | Value::Signed(-1) => Ok(()),
+            Value::Interface(n) => {
                 self.word(b"dev")?;
                 self.begin();
-                put_interface(&mut self.word, *n, *name)?;
+                put_interface(&mut self.word, *n, self.columns.interface(*n))?;
                 self.end()
             }
             Value::Signed(n) => {
@@ -161,36 +157,32 @@ impl Line {
     }
 
     // Writes the place of an object: `root`, `ingress`, `egress` or a parent.
-    fn parent(&mut self, counted: bool, text: &str) -> Result<(), AllocError> {
-        if is_same(text, "0:0") {
-            if !counted {
-                return Ok(());
+    fn parent(&mut self, counted: bool, handle: Handle) -> Result<(), AllocError> {
+        match u32::from(handle) {
+            0 if !counted => Ok(()),
+            0 => {
+                self.word(b"parent")?;
+                self.word(b"none")
             }
-            self.word(b"parent")?;
-            return self.word(b"none");
+            0xffff_ffff => self.word(b"root"),
+            0xffff_fff2 => self.word(b"ingress"),
+            0xffff_fff3 => self.word(b"egress"),
+            _ => {
+                self.word(b"parent")?;
+                self.handle(handle)
+            }
         }
-        if is_same(text, "root") {
-            return self.word(b"root");
-        }
-        if is_same(text, "ffff:fff2") {
-            return self.word(b"ingress");
-        }
-        if is_same(text, "ffff:fff3") {
-            return self.word(b"egress");
-        }
-        self.word(b"parent")?;
-        self.word(text.as_bytes())
     }
 
     // Writes the place of an object, or the number of a block.
-    fn place_in(&mut self, counted: bool, display: &Display, value: &Value<'_>) -> Result<(), AllocError> {
-        match (value, display) {
-            (Value::Text(text), Display::Handle(unit)) => {
+    fn place_in(&mut self, counted: bool, leaf: &Leaf<'_>) -> Result<(), AllocError> {
+        match handle_of(leaf) {
+            Some((handle, Shown::Handle(unit))) => {
                 self.word(b"block")?;
-                self.handle_in(*unit, text)
+                self.handle_in(unit, handle)
             }
-            (Value::Text(text), _) => self.parent(counted, text),
-            _ => Ok(()),
+            Some((handle, _)) => self.parent(counted, handle),
+            None => Ok(()),
         }
     }
 
@@ -204,13 +196,13 @@ impl Line {
     }
 
     // Writes a protocol, unless it is 0.
-    fn protocol_in(&mut self, names: &[Name<'_>], n: u64) -> Result<(), AllocError> {
+    fn protocol_in(&mut self, n: u64) -> Result<(), AllocError> {
         if n == 0 {
             return Ok(());
         }
         self.word(b"protocol")?;
-        match name_of(names, n) {
-            Some(name) => self.word(name.as_bytes()),
+        match PROTOCOLS.of(n.cast_signed()) {
+            Some(name) => self.word(name.label.as_bytes()),
             None => {
                 self.begin();
                 put_exact(&mut self.word, Unit::LongHex, n)?;
@@ -219,36 +211,24 @@ impl Line {
         }
     }
 
-    // Writes `tcm_info`.
-    fn info(&mut self, counted: bool, of: InfoOf, names: &[Name<'_>], n: u64) -> Result<(), AllocError> {
-        match of {
-            InfoOf::Refcnt if counted => {
+    // Writes `tcm_info`: references of a qdisc, the leaf of a class, of others priority and protocol.
+    fn info(&mut self, counted: bool, value: &Value<'_>) -> Result<(), AllocError> {
+        let Value::Unsigned(n) = *value else { return Ok(()) };
+        match self.columns.root {
+            Root::Qdisc if counted => {
                 self.word(b"refcnt")?;
                 self.decimal(n)
             }
-            InfoOf::Refcnt => Ok(()),
-            InfoOf::Leaf if n == 0 => Ok(()),
-            InfoOf::Leaf => {
+            Root::Qdisc => Ok(()),
+            Root::Class if n == 0 => Ok(()),
+            Root::Class => {
                 self.word(b"leaf")?;
-                self.word(handle_text((n % 0x1_0000_0000) as u32).as_str().as_bytes())
+                self.handle(Handle((n % 0x1_0000_0000) as u32))
             }
-            InfoOf::Pref(_) => {
+            _ => {
                 self.numbered(b"pref", n / 0x10000)?;
-                self.protocol_in(names, protocol_in(n))
+                self.protocol_in(protocol_in(n))
             }
-        }
-    }
-
-    fn info_in(
-        &mut self,
-        counted: bool,
-        display: &Display,
-        names: &[Name<'_>],
-        value: &Value<'_>,
-    ) -> Result<(), AllocError> {
-        match (display, value) {
-            (Display::Info(of), Value::Unsigned(n)) => self.info(counted, *of, names, *n),
-            _ => Ok(()),
         }
     }
 
@@ -256,9 +236,9 @@ impl Line {
     fn family(&mut self, value: &Value<'_>) -> Result<(), AllocError> {
         match value {
             Value::Named(_, 0) => Ok(()),
-            Value::Named(text, _) => {
+            Value::Named(name, _) => {
                 self.word(b"family")?;
-                self.word(text.as_bytes())
+                self.word(name.name.as_bytes())
             }
             Value::Unsigned(n) => self.numbered(b"family", *n),
             _ => Ok(()),
@@ -271,10 +251,10 @@ impl Line {
             self.dev(&leaf.value)?;
         }
         if let Some(leaf) = in_head(leaves, "parent") {
-            self.place_in(counted, &leaf.display, &leaf.value)?;
+            self.place_in(counted, leaf)?;
         }
         if let Some(leaf) = in_head(leaves, "info") {
-            self.info_in(counted, &leaf.display, leaf.names, &leaf.value)?;
+            self.info(counted, &leaf.value)?;
         }
         if let Some(leaf) = in_head(leaves, "family") {
             self.family(&leaf.value)?;
@@ -358,20 +338,20 @@ impl Line {
     }
 
     // Writes statistics.
-    fn statistics(&mut self, scope: &Scope<'_, '_>, section: Section, leaves: &[Leaf<'_>]) -> Result<(), BriefError> {
+    fn statistics(&mut self, scope: &Scope<'_, '_>, section: Section, leaves: &[Leaf<'_>]) -> Result<(), AllocError> {
         self.counts(section, leaves)?;
         self.estimates(section, leaves)?;
         self.section(scope, section, leaves)
     }
 
     // Writes the words of an action after its kind.
-    fn action(&mut self, scope: &Scope<'_, '_>) -> Result<(), BriefError> {
+    fn action(&mut self, scope: &Scope<'_, '_>) -> Result<(), AllocError> {
         self.section(scope, Section::Actions, scope.leaves)?;
         self.section(scope, Section::Control, scope.leaves)
     }
 
     // Writes an action after its kind, and its statistics in brackets.
-    fn counted_action(&mut self, counted: bool, scope: &Scope<'_, '_>) -> Result<(), BriefError> {
+    fn counted_action(&mut self, counted: bool, scope: &Scope<'_, '_>) -> Result<(), AllocError> {
         self.action(scope)?;
         if counted && has_any(Section::ActionStatistics, scope.leaves) {
             self.word(b"[")?;
@@ -382,7 +362,7 @@ impl Line {
     }
 
     // Writes the kind of an action that begins with a leaf.
-    fn action_kind(&mut self, first: &Leaf<'_>, scope: &Scope<'_, '_>) -> Result<(), BriefError> {
+    fn action_kind(&mut self, first: &Leaf<'_>, scope: &Scope<'_, '_>) -> Result<(), AllocError> {
         if is_left_out(first) && !has_any(Section::Kind, scope.leaves) {
             self.word(b"-")?;
             return Ok(());
@@ -403,7 +383,7 @@ impl Line {
     }
 
     // Writes an action of a filter, which begins with a leaf.
-    fn action_of(&mut self, counted: bool, first: &Leaf<'_>, scope: &Scope<'_, '_>) -> Result<(), BriefError> {
+    fn action_of(&mut self, counted: bool, first: &Leaf<'_>, scope: &Scope<'_, '_>) -> Result<(), AllocError> {
         self.word(b"action")?;
         self.action_kind(first, scope)?;
         self.order(counted, &first.value)?;
@@ -411,7 +391,7 @@ impl Line {
     }
 
     // Writes the actions of a filter.
-    fn actions(&mut self, counted: bool, protocol: u64, leaves: &[Leaf<'_>]) -> Result<(), BriefError> {
+    fn actions(&mut self, counted: bool, protocol: u64, leaves: &[Leaf<'_>]) -> Result<(), AllocError> {
         let mut left = leaves;
         'each: while let [leaf, rest @ ..] = left {
             if is_in(Section::Begin, leaf) {
@@ -424,7 +404,7 @@ impl Line {
     }
 
     // Writes the statistics of an object's kind, once if the older ones are the same.
-    fn kind_statistics(&mut self, scope: &Scope<'_, '_>, leaves: &[Leaf<'_>]) -> Result<(), BriefError> {
+    fn kind_statistics(&mut self, scope: &Scope<'_, '_>, leaves: &[Leaf<'_>]) -> Result<(), AllocError> {
         let begin = self.text.len();
         self.section(scope, Section::KindStatistics, leaves)?;
         let middle = self.text.len();
@@ -436,13 +416,13 @@ impl Line {
     }
 
     // Writes all statistics of an object.
-    fn all_statistics(&mut self, scope: &Scope<'_, '_>, leaves: &[Leaf<'_>]) -> Result<(), BriefError> {
+    fn all_statistics(&mut self, scope: &Scope<'_, '_>, leaves: &[Leaf<'_>]) -> Result<(), AllocError> {
         self.statistics(scope, Section::Statistics, leaves)?;
         self.kind_statistics(scope, leaves)
     }
 
     // Writes the statistics of an object after a semicolon.
-    fn object_statistics(&mut self, counted: bool, scope: &Scope<'_, '_>) -> Result<(), BriefError> {
+    fn object_statistics(&mut self, counted: bool, scope: &Scope<'_, '_>) -> Result<(), AllocError> {
         if !counted || !has_statistics(scope.leaves) {
             return Ok(());
         }
@@ -451,7 +431,7 @@ impl Line {
     }
 
     // Writes the statistics of an action after a semicolon.
-    fn own_statistics(&mut self, counted: bool, scope: &Scope<'_, '_>) -> Result<(), BriefError> {
+    fn own_statistics(&mut self, counted: bool, scope: &Scope<'_, '_>) -> Result<(), AllocError> {
         if !counted || !has_any(Section::ActionStatistics, scope.leaves) {
             return Ok(());
         }
@@ -460,7 +440,7 @@ impl Line {
     }
 
     // Writes where the object is, and what it is.
-    fn head(&mut self, counted: bool, object: Object, scope: &Scope<'_, '_>) -> Result<(), BriefError> {
+    fn head(&mut self, counted: bool, object: Object, scope: &Scope<'_, '_>) -> Result<(), AllocError> {
         self.word(object_text(object).as_bytes())?;
         self.kind(object, scope.leaves)?;
         self.place(counted, scope.leaves)?;
@@ -469,7 +449,7 @@ impl Line {
     }
 
     // Writes what has no place of its own in the head.
-    fn others(&mut self, scope: &Scope<'_, '_>, leaves: &[Leaf<'_>]) -> Result<(), BriefError> {
+    fn others(&mut self, scope: &Scope<'_, '_>, leaves: &[Leaf<'_>]) -> Result<(), AllocError> {
         let mut depth = 0;
         let mut left = leaves;
         'each: while let [leaf, rest @ ..] = left {
@@ -478,7 +458,7 @@ impl Line {
             }
             depth = match depth_after(depth, &leaf.value) {
                 Some(depth) => depth,
-                None => return Err(BriefError::NotJson),
+                None => return Err(AllocError),
             };
             left = rest;
         }
@@ -486,7 +466,7 @@ impl Line {
     }
 
     // Writes the words of an object's kind, its hardware flags, and its actions.
-    fn body(&mut self, counted: bool, scope: &Scope<'_, '_>, leaves: &[Leaf<'_>]) -> Result<(), BriefError> {
+    fn body(&mut self, counted: bool, scope: &Scope<'_, '_>, leaves: &[Leaf<'_>]) -> Result<(), AllocError> {
         self.section(scope, Section::Words, leaves)?;
         self.section(scope, Section::Hardware, leaves)?;
         let before = Scope { leaves: one_action(leaves), protocol: scope.protocol };
@@ -495,7 +475,7 @@ impl Line {
     }
 
     // Writes the line of an object after its verb.
-    fn object(&mut self, said: &Said<'_>, leaves: &[Leaf<'_>]) -> Result<(), BriefError> {
+    fn object(&mut self, said: &Said<'_>, leaves: &[Leaf<'_>]) -> Result<(), AllocError> {
         let scope = Scope { leaves, protocol: protocol_of(in_head(leaves, "info")) };
         self.head(said.statistics, said.object, &scope)?;
         self.body(said.statistics, &scope, leaves)?;
@@ -510,7 +490,7 @@ impl Line {
         all: &[Leaf<'_>],
         first: &Leaf<'_>,
         scope: &Scope<'_, '_>,
-    ) -> Result<(), BriefError> {
+    ) -> Result<(), AllocError> {
         self.word(b"action")?;
         self.action_kind(first, scope)?;
         self.word(b"-")?;
@@ -526,7 +506,7 @@ impl Line {
         all: &[Leaf<'_>],
         first: &Leaf<'_>,
         scope: &Scope<'_, '_>,
-    ) -> Result<(), BriefError> {
+    ) -> Result<(), AllocError> {
         self.own_head(said.statistics, all, first, scope)?;
         self.action(scope)?;
         self.section(scope, Section::Words, all)?;
@@ -535,7 +515,7 @@ impl Line {
     }
 
     // Writes a line for each action, and its end.
-    fn own_actions(&mut self, said: &Said<'_>, leaves: &[Leaf<'_>]) -> Result<(), BriefError> {
+    fn own_actions(&mut self, said: &Said<'_>, leaves: &[Leaf<'_>]) -> Result<(), AllocError> {
         let mut left = leaves;
         'each: while let [leaf, rest @ ..] = left {
             if is_in(Section::Begin, leaf) {
@@ -551,7 +531,7 @@ impl Line {
     }
 
     // Writes the lines of a message.
-    fn message(&mut self, said: &Said<'_>, leaves: &[Leaf<'_>]) -> Result<(), BriefError> {
+    fn message(&mut self, said: &Said<'_>, leaves: &[Leaf<'_>]) -> Result<(), AllocError> {
         if is_of_actions(said.object) && has_action(leaves) {
             return self.own_actions(said, leaves);
         }
@@ -602,36 +582,27 @@ fn is_of_actions(object: Object) -> bool {
     matches!(object, Object::Action)
 }
 
-/// The lines of a message, each with a line feed after it: one for each action of an action message, else one. `bytes`
-/// are in `form`, with `columns` and `words` for its members.
+/// The lines of a message, each with a line feed after it: one for each action of an action message, else one. `columns` have the object
+/// that `bytes` are about, and names of interfaces.
 ///
 /// # Errors
 ///
-/// A [`BriefError`].
-pub fn lines_of<T: Tables, C: Columns, W: Words>(
-    table: T,
-    form: Form,
-    columns: C,
-    words: W,
-    said: &Said<'_>,
-    bytes: &[u8],
-) -> Result<Vec<u8>, BriefError> {
-    let walk = walk_of(table, form, columns, words, said.statistics, bytes)?;
-    let found = leaves_in(&columns, walk.texts.as_str(), &walk.out)?;
-    let mut line = Line { text: fallible::with_capacity(256)?, word: fallible::with_capacity(64)? };
-    line.message(said, &found)?;
-    let Line { text, .. } = line;
-    Ok(text)
+/// A [`AllocError`].
+pub fn lines_of(columns: KindColumns<'_>, said: &Said<'_>, bytes: &[u8]) -> Result<Vec<u8>, AllocError> {
+    let leaves = leaves_of(columns.root, said.statistics, bytes);
+    let mut line = Line { text: Vec::with_capacity(256), word: Vec::with_capacity(64), columns };
+    line.message(said, &leaves)?;
+    Ok(line.text)
 }
 
 /// The line of a message if only its object is known.
 ///
 /// # Errors
 ///
-/// A [`BriefError`].
-pub fn lines_of_nothing(said: &Said<'_>) -> Result<Vec<u8>, BriefError> {
-    let mut line = Line { text: fallible::with_capacity(64)?, word: Vec::new() };
+/// A [`AllocError`].
+pub fn lines_of_nothing(said: &Said<'_>) -> Result<Vec<u8>, AllocError> {
+    let columns = KindColumns { root: Root::Qdisc, interfaces: &[], links: None, all: false };
+    let mut line = Line { text: Vec::with_capacity(64), word: Vec::new(), columns };
     line.message(said, &[])?;
-    let Line { text, .. } = line;
-    Ok(text)
+    Ok(line.text)
 }

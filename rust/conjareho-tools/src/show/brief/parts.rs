@@ -2,23 +2,24 @@
 
 use crate::user::prelude::*;
 
-use crate::show::attributes::Display;
-use crate::show::brief::error::BriefError;
-use crate::show::brief::leaf::{Leaf, Section, Shape, Value};
-use crate::show::brief::named::is_same;
+use conjareho::kinds::visit::{Name, Names, Style};
+
+use crate::show::brief::leaf::{Leaf, Section, Shape, Shown, Value};
 use crate::show::brief::numbers::{put_bits, put_burst};
-use crate::show::brief::row::Style;
 use crate::show::brief::values::{
-    depth_after, is_count, is_hollow, is_left_out, is_opening, is_set, is_skipped, is_table, items_of, number_in,
-    put_assigned, put_hex_bytes, put_name_of, put_open, put_value, put_within,
+    depth_after, is_count, is_hollow, is_left_out, is_opening, is_set, is_skipped, is_table, is_verdict, items_of,
+    number_in, put_assigned, put_hex_bytes, put_name_of, put_open, put_value, put_within,
 };
 use crate::show::brief::words::put_word;
-use crate::show::units::{Name, hex_digit, put_decimal, put_hex, put_verdict};
+use crate::show::columns::KindColumns;
+use crate::show::units::{hex_digit, put_decimal, put_hex, put_verdict};
 
 /// A line, and memory for a word.
-pub(crate) struct Line {
+pub(crate) struct Line<'c> {
     pub text: Vec<u8>,
     pub word: Vec<u8>,
+    /// The object, and names of interfaces.
+    pub columns: KindColumns<'c>,
 }
 
 /// The leaves among which a rate is looked up, and the protocol of the message's header.
@@ -28,7 +29,7 @@ pub(crate) struct Scope<'l, 't> {
     pub protocol: u64,
 }
 
-impl Line {
+impl Line<'_> {
     /// Begins a word.
     pub(crate) fn begin(&mut self) {
         self.word.clear();
@@ -46,7 +47,7 @@ impl Line {
 
     // Writes the word of a row, or begins a word with the name. The value comes next.
     fn begin_valued(&mut self, leaf: &Leaf<'_>) -> Result<(), AllocError> {
-        let word = word_before(leaf.way.style, leaf.way.row.word);
+        let word = word_before(leaf.style, leaf.word);
         if word.is_empty() {
             self.begin();
             return put_name_of(&mut self.word, leaf);
@@ -66,10 +67,10 @@ impl Line {
 
     // Writes the word or the name of a leaf that is true.
     fn or_key(&mut self, leaf: &Leaf<'_>) -> Result<(), AllocError> {
-        if leaf.way.row.word.is_empty() {
+        if leaf.word.is_empty() {
             return self.word(leaf.key.as_bytes());
         }
-        self.word(leaf.way.row.word.as_bytes())
+        self.word(leaf.word.as_bytes())
     }
 
     /// Writes `word value` or `Name=value`.
@@ -78,37 +79,37 @@ impl Line {
             return self.or_key(leaf);
         }
         self.begin_valued(leaf)?;
-        put_value(&mut self.word, leaf)?;
+        put_value(&mut self.word, &self.columns, leaf)?;
         self.end()
     }
 
     // Writes `Name=value`, whatever word the row has.
     fn assigned(&mut self, leaf: &Leaf<'_>) -> Result<(), AllocError> {
         self.begin();
-        put_assigned(&mut self.word, leaf)?;
+        put_assigned(&mut self.word, &self.columns, leaf)?;
         self.end()
     }
 
     /// Writes the value without a word.
     pub(crate) fn alone(&mut self, leaf: &Leaf<'_>) -> Result<(), AllocError> {
         self.begin();
-        put_value(&mut self.word, leaf)?;
+        put_value(&mut self.word, &self.columns, leaf)?;
         self.end()
     }
 
     // Writes an address and its mask.
     fn masked(&mut self, leaf: &Leaf<'_>, rest: &[Leaf<'_>]) -> Result<(), AllocError> {
         self.begin_valued(leaf)?;
-        put_value(&mut self.word, leaf)?;
-        put_mask(&mut self.word, next_with(rest, leaf.way.row.with))?;
+        put_value(&mut self.word, &self.columns, leaf)?;
+        put_mask(&mut self.word, &self.columns, next_with(rest, leaf.with))?;
         self.end()
     }
 
     // Writes the first and the last of a range.
     fn ranged(&mut self, leaf: &Leaf<'_>, rest: &[Leaf<'_>]) -> Result<(), AllocError> {
         self.begin_valued(leaf)?;
-        put_value(&mut self.word, leaf)?;
-        put_end(&mut self.word, next_with(rest, leaf.way.row.with))?;
+        put_value(&mut self.word, &self.columns, leaf)?;
+        put_end(&mut self.word, &self.columns, next_with(rest, leaf.with))?;
         self.end()
     }
 
@@ -122,16 +123,16 @@ impl Line {
     // Writes a burst.
     fn burst(&mut self, leaves: &[Leaf<'_>], leaf: &Leaf<'_>) -> Result<(), AllocError> {
         self.begin_valued(leaf)?;
-        let rate = rate_named(leaves, leaf.way.row.with);
+        let rate = rate_named(leaves, leaf.with);
         put_burst(&mut self.word, rate, number_or_zero(leaf))?;
         self.end()
     }
 
     // Writes bytes in hex, or their number.
     fn hex(&mut self, leaf: &Leaf<'_>) -> Result<(), AllocError> {
-        if let Value::Text(hex) = leaf.value {
+        if let Value::Bytes(bytes) = leaf.value {
             self.begin_valued(leaf)?;
-            put_hex_bytes(&mut self.word, hex)?;
+            put_hex_bytes(&mut self.word, bytes)?;
             return self.end();
         }
         self.plain(leaf)
@@ -146,16 +147,17 @@ impl Line {
     }
 
     // Writes the names of the set bits, then the others in hex.
-    fn bits(&mut self, names: &[Name<'_>], n: u64) -> Result<(), AllocError> {
+    fn bits(&mut self, names: &[Name], n: u64) -> Result<(), AllocError> {
         let (name, others) = match names.split_first() {
             Some(parts) => parts,
             None => return self.other_bits(n),
         };
-        if !is_set(name.number, n) {
+        let bit = name.number.cast_unsigned();
+        if !is_set(bit, n) {
             return self.bits(others, n);
         }
-        self.word(name.name.as_bytes())?;
-        self.bits(others, n - name.number)
+        self.word(name.label.as_bytes())?;
+        self.bits(others, n - bit)
     }
 
     fn other_bits(&mut self, n: u64) -> Result<(), AllocError> {
@@ -168,9 +170,10 @@ impl Line {
     }
 
     fn hardware(&mut self, leaf: &Leaf<'_>) -> Result<(), AllocError> {
-        match number_in(&leaf.value) {
-            Some(n) => self.bits(leaf.names, n),
-            None => self.assigned(leaf),
+        match (leaf.row.names, number_in(&leaf.value)) {
+            (Names::Flags(names) | Names::Numbers(names), Some(n)) => self.bits(names, n),
+            (_, Some(n)) => self.bits(&[], n),
+            (_, None) => self.assigned(leaf),
         }
     }
 
@@ -198,8 +201,8 @@ impl Line {
     }
 
     fn control(&mut self, leaf: &Leaf<'_>) -> Result<(), AllocError> {
-        match (leaf.display, number_in(&leaf.value)) {
-            (Display::Verdict(_), Some(n)) => self.verdict((n % 0x1_0000_0000) as u32),
+        match number_in(&leaf.value) {
+            Some(n) if is_verdict(leaf) => self.verdict((n % 0x1_0000_0000) as u32),
             _ => self.plain(leaf),
         }
     }
@@ -240,7 +243,7 @@ impl Line {
     // Writes a text of one word, or of two with a blank between.
     fn phrase(&mut self, text: &str) -> Result<(), AllocError> {
         let (first, second) = at_blank(text);
-        if is_same(second, "") {
+        if second == "" {
             return self.word(text.as_bytes());
         }
         self.word(first.as_bytes())?;
@@ -249,7 +252,7 @@ impl Line {
 
     // Writes the word of a number.
     fn choice(&mut self, leaf: &Leaf<'_>) -> Result<(), AllocError> {
-        let word = choice(leaf.way.row.word, number_in(&leaf.value));
+        let word = choice(leaf.word, number_in(&leaf.value));
         if word.is_empty() {
             return self.assigned(leaf);
         }
@@ -266,7 +269,7 @@ impl Line {
 
     // Writes a leaf as its style says.
     fn styled(&mut self, scope: &Scope<'_, '_>, rest: &[Leaf<'_>], leaf: &Leaf<'_>) -> Result<(), AllocError> {
-        match leaf.way.style {
+        match leaf.style {
             Style::Alone => self.alone_or_raw(leaf),
             Style::Choice => self.choice(leaf),
             Style::Mask => self.masked(leaf, rest),
@@ -284,17 +287,17 @@ impl Line {
     }
 
     // Writes a list or record as one word.
-    fn opened(&mut self, leaf: &Leaf<'_>, shape: Shape, rest: &[Leaf<'_>]) -> Result<(), BriefError> {
+    fn opened(&mut self, leaf: &Leaf<'_>, shape: Shape, rest: &[Leaf<'_>]) -> Result<(), AllocError> {
         if says_nothing(leaf, shape, rest) {
             return Ok(());
         }
         self.begin_valued(leaf)?;
-        put_opened(&mut self.word, shape, rest)?;
+        put_opened(&mut self.word, &self.columns, shape, rest)?;
         self.end()?;
         Ok(())
     }
 
-    fn by_value(&mut self, scope: &Scope<'_, '_>, rest: &[Leaf<'_>], leaf: &Leaf<'_>) -> Result<(), BriefError> {
+    fn by_value(&mut self, scope: &Scope<'_, '_>, rest: &[Leaf<'_>], leaf: &Leaf<'_>) -> Result<(), AllocError> {
         match leaf.value {
             Value::Opens(shape) => self.opened(leaf, shape, rest),
             Value::Closes(_) => Ok(()),
@@ -312,7 +315,7 @@ impl Line {
         before: Option<&Leaf<'_>>,
         rest: &[Leaf<'_>],
         leaf: &Leaf<'_>,
-    ) -> Result<(), BriefError> {
+    ) -> Result<(), AllocError> {
         if is_taken(before, leaf) || is_left_out(leaf) {
             return Ok(());
         }
@@ -325,7 +328,7 @@ impl Line {
         scope: &Scope<'_, '_>,
         section: Section,
         leaves: &[Leaf<'_>],
-    ) -> Result<(), BriefError> {
+    ) -> Result<(), AllocError> {
         let mut depth = 0;
         let mut before = None;
         let mut left = leaves;
@@ -335,7 +338,7 @@ impl Line {
             }
             depth = match depth_after(depth, &leaf.value) {
                 Some(depth) => depth,
-                None => return Err(BriefError::NotJson),
+                None => return Err(AllocError),
             };
             before = Some(leaf);
             left = rest;
@@ -346,7 +349,7 @@ impl Line {
 
 // True of a record without a member, and of a list without an item that has no word of `tc`.
 fn says_nothing(leaf: &Leaf<'_>, shape: Shape, rest: &[Leaf<'_>]) -> bool {
-    (is_braces(shape) || leaf.way.row.word.is_empty()) && is_hollow(rest)
+    (is_braces(shape) || leaf.word.is_empty()) && is_hollow(rest)
 }
 
 /// True if a leaf has words of its own.
@@ -362,14 +365,14 @@ pub(crate) fn tells(leaf: &Leaf<'_>, rest: &[Leaf<'_>]) -> bool {
 }
 
 // Appends a list or record; of a list of more than 32 numbers only how many there are.
-fn put_opened(out: &mut Vec<u8>, shape: Shape, rest: &[Leaf<'_>]) -> Result<(), BriefError> {
+fn put_opened(out: &mut Vec<u8>, columns: &KindColumns<'_>, shape: Shape, rest: &[Leaf<'_>]) -> Result<(), AllocError> {
     let items = items_of(rest);
     if is_table(shape, items) {
         put_count(out, items.len())?;
         return Ok(());
     }
     put_open(out, shape)?;
-    put_within_word(out, rest)
+    put_within_word(out, columns, rest)
 }
 
 // Appends how many numbers there are.
@@ -380,7 +383,7 @@ fn put_count(out: &mut Vec<u8>, n: usize) -> Result<(), AllocError> {
 }
 
 // Appends the rest of a word that began with an open bracket.
-fn put_within_word(out: &mut Vec<u8>, leaves: &[Leaf<'_>]) -> Result<(), BriefError> {
+fn put_within_word(out: &mut Vec<u8>, columns: &KindColumns<'_>, leaves: &[Leaf<'_>]) -> Result<(), AllocError> {
     let mut depth = 1;
     let mut first = true;
     let mut left = leaves;
@@ -392,10 +395,10 @@ fn put_within_word(out: &mut Vec<u8>, leaves: &[Leaf<'_>]) -> Result<(), BriefEr
         if is_skipped(leaf) {
             continue;
         }
-        put_within(out, first, leaf)?;
+        put_within(out, columns, first, leaf)?;
         depth = match depth_after(depth, &leaf.value) {
             Some(depth) => depth,
-            None => return Err(BriefError::NotJson),
+            None => return Err(AllocError),
         };
         first = is_opening(&leaf.value);
     }
@@ -416,11 +419,11 @@ fn word_before(style: Style, word: &str) -> &str {
 
 /// The leaf without its unit.
 pub(crate) fn bare<'t>(leaf: &Leaf<'t>) -> Leaf<'t> {
-    Leaf { display: Display::Plain, ..*leaf }
+    Leaf { shown: Shown::Plain, ..*leaf }
 }
 
 fn is_with(key: &str, leaf: &Leaf<'_>) -> bool {
-    is_same(leaf.key, key) && !is_opening(&leaf.value)
+    leaf.key == key && !is_opening(&leaf.value)
 }
 
 fn takes(style: Style) -> bool {
@@ -430,7 +433,7 @@ fn takes(style: Style) -> bool {
 // True if the leaf before writes this one.
 fn is_taken(before: Option<&Leaf<'_>>, leaf: &Leaf<'_>) -> bool {
     match before {
-        Some(before) => takes(before.way.style) && is_with(before.way.row.with, leaf),
+        Some(before) => takes(before.style) && is_with(before.with, leaf),
         None => false,
     }
 }
@@ -443,21 +446,21 @@ fn next_with<'l, 't>(leaves: &'l [Leaf<'t>], key: &str) -> Option<&'l Leaf<'t>> 
     }
 }
 
-fn put_mask(out: &mut Vec<u8>, mask: Option<&Leaf<'_>>) -> Result<(), AllocError> {
+fn put_mask(out: &mut Vec<u8>, columns: &KindColumns<'_>, mask: Option<&Leaf<'_>>) -> Result<(), AllocError> {
     match mask {
         Some(leaf) if !is_left_out(leaf) => {
             out.try_extend(b"/")?;
-            put_value(out, leaf)
+            put_value(out, columns, leaf)
         }
         _ => Ok(()),
     }
 }
 
-fn put_end(out: &mut Vec<u8>, end: Option<&Leaf<'_>>) -> Result<(), AllocError> {
+fn put_end(out: &mut Vec<u8>, columns: &KindColumns<'_>, end: Option<&Leaf<'_>>) -> Result<(), AllocError> {
     match end {
         Some(leaf) => {
             out.try_extend(b"-")?;
-            put_value(out, leaf)
+            put_value(out, columns, leaf)
         }
         None => Ok(()),
     }
@@ -467,7 +470,7 @@ fn put_end(out: &mut Vec<u8>, end: Option<&Leaf<'_>>) -> Result<(), AllocError> 
 pub(crate) fn count_in<'l, 't>(section: Section, leaves: &'l [Leaf<'t>], key: &str) -> Option<&'l Leaf<'t>> {
     let mut left = leaves;
     'each: while let [leaf, rest @ ..] = left {
-        if is_in(section, leaf) && is_count(leaf.way.style) && is_same(leaf.key, key) {
+        if is_in(section, leaf) && is_count(leaf.style) && leaf.key == key {
             return Some(leaf);
         }
         left = rest;
@@ -502,7 +505,7 @@ fn number_or_zero(leaf: &Leaf<'_>) -> u64 {
 fn number_of(leaves: &[Leaf<'_>], key: &str) -> Option<u64> {
     let mut left = leaves;
     'each: while let [leaf, rest @ ..] = left {
-        if is_same(leaf.key, key) {
+        if leaf.key == key {
             return number_in(&leaf.value);
         }
         left = rest;
@@ -512,7 +515,7 @@ fn number_of(leaves: &[Leaf<'_>], key: &str) -> Option<u64> {
 
 // A rate: that of its 64-bit attribute if that is there.
 fn rate_of(leaves: &[Leaf<'_>], leaf: &Leaf<'_>) -> u64 {
-    match number_of(leaves, leaf.way.row.with) {
+    match number_of(leaves, leaf.with) {
         Some(rate) => rate,
         None => number_or_zero(leaf),
     }
@@ -526,7 +529,7 @@ fn is_rate(style: Style) -> bool {
 fn rate_named(all: &[Leaf<'_>], word: &str) -> u64 {
     let mut left = all;
     'each: while let [leaf, rest @ ..] = left {
-        if is_rate(leaf.way.style) && is_same(leaf.way.row.word, word) {
+        if is_rate(leaf.style) && leaf.word == word {
             return rate_of(all, leaf);
         }
         left = rest;
@@ -576,23 +579,7 @@ fn put_key(out: &mut Vec<u8>, n: u64) -> Result<(), AllocError> {
     put_four(out, (n % 0x10000) as u16)
 }
 
-fn number_of_section(section: Section) -> u8 {
-    match section {
-        Section::Head => 0,
-        Section::Words => 1,
-        Section::Hardware => 2,
-        Section::Statistics => 3,
-        Section::Actions => 4,
-        Section::Control => 5,
-        Section::ActionStatistics => 6,
-        Section::Begin => 7,
-        Section::Kind => 8,
-        Section::KindStatistics => 9,
-        Section::OlderStatistics => 10,
-    }
-}
-
 /// True if the leaf is in this section.
 pub(crate) fn is_in(section: Section, leaf: &Leaf<'_>) -> bool {
-    number_of_section(leaf.section) == number_of_section(section)
+    leaf.section == section
 }

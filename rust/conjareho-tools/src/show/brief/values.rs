@@ -2,13 +2,13 @@
 
 use crate::user::prelude::*;
 
-use crate::hex::FromHex;
-use crate::show::attributes::Display;
-use crate::show::brief::leaf::{Leaf, Shape, Value};
-use crate::show::brief::named::is_same;
+use conjareho::kinds::visit::{self, LeftOut, Name, Names, Row, Style};
+
+use crate::show::attributes::Columns;
+use crate::show::brief::leaf::{Leaf, Shape, Shown, Value};
 use crate::show::brief::numbers::{put_number, put_signed};
-use crate::show::brief::row::{LeftOut, Style};
-use crate::show::units::{Name, Unit, name_of, put_decimal, put_hex, put_verdict};
+use crate::show::columns::KindColumns;
+use crate::show::units::{Unit, hex_digit, put_decimal, put_hex, put_verdict};
 
 /// True if a bit is set.
 pub(crate) fn is_set(bit: u64, n: u64) -> bool {
@@ -23,17 +23,18 @@ fn put_bar(out: &mut Vec<u8>, first: bool) -> Result<(), AllocError> {
 }
 
 // Appends the names of the set bits, then the others in hex.
-fn put_names(out: &mut Vec<u8>, first: bool, names: &[Name<'_>], n: u64) -> Result<(), AllocError> {
+fn put_names(out: &mut Vec<u8>, first: bool, names: &[Name], n: u64) -> Result<(), AllocError> {
     let (name, others) = match names.split_first() {
         Some(parts) => parts,
         None => return put_others(out, first, n),
     };
-    if !is_set(name.number, n) {
+    let bit = name.number.cast_unsigned();
+    if !is_set(bit, n) {
         return put_names(out, first, others, n);
     }
     put_bar(out, first)?;
-    out.try_extend(name.name.as_bytes())?;
-    put_names(out, false, others, n - name.number)
+    out.try_extend(name.label.as_bytes())?;
+    put_names(out, false, others, n - bit)
 }
 
 // Appends the bits without a name in hex.
@@ -46,50 +47,71 @@ fn put_others(out: &mut Vec<u8>, first: bool, n: u64) -> Result<(), AllocError> 
 }
 
 // Appends a flag word: the names of its bits with bars between.
-fn put_flags(out: &mut Vec<u8>, names: &[Name<'_>], n: u64) -> Result<(), AllocError> {
+fn put_flags(out: &mut Vec<u8>, names: &[Name], n: u64) -> Result<(), AllocError> {
     if n == 0 {
         return out.try_extend(b"0");
     }
     put_names(out, true, names, n)
 }
 
-// Appends the name of a number, or the number in its unit.
-fn put_named(out: &mut Vec<u8>, unit: Unit, name: Option<&str>, n: u64) -> Result<(), AllocError> {
-    match name {
-        Some(name) => out.try_extend(name.as_bytes()),
-        None => put_number(out, unit, n),
+/// The unit of a row's numbers.
+fn unit_of(row: &Row) -> Unit {
+    match row.unit {
+        visit::Unit::Hex => Unit::Hex,
+        visit::Unit::LongHex => Unit::LongHex,
+        visit::Unit::NetworkHex => Unit::NetworkHex,
+        visit::Unit::Bytes => Unit::Bytes,
+        visit::Unit::Packets => Unit::Packets,
+        visit::Unit::BytesPerSecond => Unit::BytesPerSecond,
+        visit::Unit::PacketsPerSecond => Unit::PacketsPerSecond,
+        visit::Unit::KilobitsPerSecond => Unit::KilobitsPerSecond,
+        visit::Unit::Nanoseconds => Unit::Nanoseconds,
+        visit::Unit::Microseconds => Unit::Microseconds,
+        visit::Unit::Milliseconds => Unit::Milliseconds,
+        visit::Unit::Seconds => Unit::Seconds,
+        visit::Unit::Ticks => Unit::Ticks,
+        visit::Unit::ClockTicks => Unit::ClockTicks,
+        visit::Unit::Percent => Unit::Percent,
+        visit::Unit::Probability => Unit::Probability,
+        visit::Unit::Power => Unit::Power,
+        visit::Unit::U32Handle => Unit::U32Handle,
+        _ => Unit::Plain,
     }
 }
 
-// Appends a number as its column says.
-fn put_shown(out: &mut Vec<u8>, display: &Display, names: &[Name<'_>], n: u64) -> Result<(), AllocError> {
-    match display {
-        Display::Number(unit) => put_number(out, *unit, n),
-        Display::Named(unit, _) => put_named(out, *unit, name_of(names, n), n),
-        Display::Flags(_) => put_flags(out, names, n),
-        Display::Verdict(_) => put_verdict(out, (n % 0x1_0000_0000) as u32),
+/// True for the verdicts of actions.
+pub(crate) fn is_verdict(leaf: &Leaf<'_>) -> bool {
+    matches!(leaf.row.names, Names::Enum([first, ..]) if first.kernel.starts_with("TC_ACT_"))
+}
+
+// Appends a number as its row says.
+fn put_shown(out: &mut Vec<u8>, leaf: &Leaf<'_>, n: u64) -> Result<(), AllocError> {
+    if leaf.shown != Shown::ByRow {
+        return put_decimal(out, n);
+    }
+    match leaf.row.names {
+        Names::Numbers(_) => match leaf.row.names.of(n.cast_signed()) {
+            Some(name) => out.try_extend(name.label.as_bytes()),
+            None => put_number(out, unit_of(leaf.row), n),
+        },
+        Names::Flags(names) => put_flags(out, names, n),
+        Names::Enum(_) if is_verdict(leaf) => put_verdict(out, (n % 0x1_0000_0000) as u32),
+        Names::None if leaf.style != Style::Range => put_number(out, unit_of(leaf.row), n),
         _ => put_decimal(out, n),
     }
 }
 
-fn put_shown_signed(out: &mut Vec<u8>, display: &Display, n: i64) -> Result<(), AllocError> {
-    match display {
-        Display::Number(unit) => put_signed(out, *unit, n),
-        _ => put_signed(out, Unit::Plain, n),
-    }
+fn put_shown_signed(out: &mut Vec<u8>, leaf: &Leaf<'_>, n: i64) -> Result<(), AllocError> {
+    let unit = if leaf.shown == Shown::ByRow && leaf.row.names == Names::None { unit_of(leaf.row) } else { Unit::Plain };
+    put_signed(out, unit, n)
 }
 
-// Appends a name in JSON with its number.
-fn put_name(out: &mut Vec<u8>, display: &Display, names: &[Name<'_>], text: &str, n: u64) -> Result<(), AllocError> {
-    match display {
-        Display::Verdict(_) => put_verdict(out, (n % 0x1_0000_0000) as u32),
-        Display::Slash(_, _) => put_decimal(out, n),
-        Display::Text(_) => match name_of(names, n) {
-            Some(name) => out.try_extend(name.as_bytes()),
-            None => out.try_extend(text.as_bytes()),
-        },
-        _ => out.try_extend(text.as_bytes()),
+// Appends the name of a number.
+fn put_name(out: &mut Vec<u8>, leaf: &Leaf<'_>, name: &Name, n: u64) -> Result<(), AllocError> {
+    if is_verdict(leaf) {
+        return put_verdict(out, (n % 0x1_0000_0000) as u32);
     }
+    out.try_extend(name.label.as_bytes())
 }
 
 /// Appends an interface, by its name if known.
@@ -100,64 +122,74 @@ pub(crate) fn put_interface(out: &mut Vec<u8>, n: u64, name: Option<&str>) -> Re
     put_decimal(out, n)
 }
 
+// Appends bytes in hex.
+fn put_bytes(out: &mut Vec<u8>, bytes: &[u8]) -> Result<(), AllocError> {
+    for octet in bytes {
+        out.try_extend(&[hex_digit(octet / 16), hex_digit(octet % 16)])?;
+    }
+    Ok(())
+}
+
 /// Appends bytes in hex, or their number if there are more than 32.
-pub(crate) fn put_hex_bytes(out: &mut Vec<u8>, hex: &str) -> Result<(), AllocError> {
-    if hex.len() <= 64 {
+pub(crate) fn put_hex_bytes(out: &mut Vec<u8>, bytes: &[u8]) -> Result<(), AllocError> {
+    if bytes.len() <= 32 {
         out.try_extend(b"0x")?;
-        return out.try_extend(hex.as_bytes());
+        return put_bytes(out, bytes);
     }
     out.try_extend(b"<")?;
-    put_decimal(out, (hex.len() / 2) as u64)?;
+    put_decimal(out, bytes.len() as u64)?;
     out.try_extend(b"B>")
 }
 
-// Appends four bytes in hex as a number, or the text if it isn't four bytes.
-fn put_count(out: &mut Vec<u8>, text: &str) -> Result<(), AllocError> {
-    match <[u8; 4]>::from_hex(text.as_bytes()) {
-        Ok(octets) => put_decimal(out, u32::from_le_bytes(octets) as u64),
-        Err(_) => out.try_extend(text.as_bytes()),
-    }
-}
-
-// Appends a text as its column says.
-fn put_text(out: &mut Vec<u8>, display: &Display, text: &str) -> Result<(), AllocError> {
-    match display {
-        Display::Count => put_count(out, text),
-        _ => out.try_extend(text.as_bytes()),
+// Appends bytes; those that are a number as a number.
+fn put_plain_bytes(out: &mut Vec<u8>, shown: Shown, bytes: &[u8]) -> Result<(), AllocError> {
+    match <[u8; 4]>::try_from(bytes) {
+        Ok(octets) if shown == Shown::Count => put_decimal(out, u32::from_le_bytes(octets).into()),
+        _ => put_bytes(out, bytes),
     }
 }
 
 // Appends malformed bytes in hex.
-fn put_raw(out: &mut Vec<u8>, hex: &str) -> Result<(), AllocError> {
+fn put_raw(out: &mut Vec<u8>, bytes: &[u8]) -> Result<(), AllocError> {
     out.try_extend(b"{raw=")?;
-    out.try_extend(hex.as_bytes())?;
+    put_bytes(out, bytes)?;
     out.try_extend(b"}")
 }
 
-/// Appends the value of a leaf.
-pub(crate) fn put_value(out: &mut Vec<u8>, leaf: &Leaf<'_>) -> Result<(), AllocError> {
+// Appends what has a text.
+fn put_display(out: &mut Vec<u8>, value: impl std::fmt::Display) -> Result<(), AllocError> {
+    std::io::Write::write_fmt(out, format_args!("{value}")).map_err(|_| AllocError)
+}
+
+/// Appends the value of a leaf, with these names of interfaces.
+pub(crate) fn put_value(out: &mut Vec<u8>, columns: &KindColumns<'_>, leaf: &Leaf<'_>) -> Result<(), AllocError> {
     match leaf.value {
-        Value::Null => out.try_extend(b"null"),
         Value::Bool(true) => out.try_extend(b"true"),
         Value::Bool(false) => out.try_extend(b"false"),
-        Value::Unsigned(n) => put_shown(out, &leaf.display, leaf.names, n),
-        Value::Signed(n) => put_shown_signed(out, &leaf.display, n),
-        Value::Text(text) => put_text(out, &leaf.display, text),
-        Value::Named(text, n) => put_name(out, &leaf.display, leaf.names, text, n),
-        Value::Raw(hex) => put_raw(out, hex),
-        Value::Interface(n, name) => put_interface(out, n, name),
-        Value::Attribute(_, hex) => put_hex_bytes(out, hex),
+        Value::Unsigned(n) => put_shown(out, leaf, n),
+        Value::Signed(n) => put_shown_signed(out, leaf, n),
+        Value::Handle(it) => put_display(out, it),
+        Value::Text(text) => out.try_extend(text.as_bytes()),
+        Value::Bytes(bytes) => put_plain_bytes(out, leaf.shown, bytes),
+        Value::Mac(it) => put_display(out, it),
+        Value::Ipv4(it) => put_display(out, it),
+        Value::Ipv6(it) => put_display(out, it),
+        Value::Named(name, n) => put_name(out, leaf, name, n),
+        Value::Raw(bytes) => put_raw(out, bytes),
+        Value::Prefix(n) => put_decimal(out, n),
+        Value::Interface(n) => put_interface(out, n, columns.interface(n)),
+        Value::Attribute(_, bytes) => put_hex_bytes(out, bytes),
         Value::Opens(_) | Value::Closes(_) => Ok(()),
     }
 }
 
 // Appends the name of an attribute without a row.
-fn put_attribute_name(out: &mut Vec<u8>, word: u64) -> Result<(), AllocError> {
+fn put_attribute_name(out: &mut Vec<u8>, word: u16) -> Result<(), AllocError> {
     out.try_extend(b"attr")?;
     if word < 0x4000 {
-        return put_decimal(out, word);
+        return put_decimal(out, word.into());
     }
-    put_hex(out, word)
+    put_hex(out, word.into())
 }
 
 // Appends a name and an equals sign, unless the name is empty.
@@ -179,12 +211,12 @@ pub(crate) fn put_name_of(out: &mut Vec<u8>, leaf: &Leaf<'_>) -> Result<(), Allo
 }
 
 /// Appends `Name=value`, or only the name if it is true.
-pub(crate) fn put_assigned(out: &mut Vec<u8>, leaf: &Leaf<'_>) -> Result<(), AllocError> {
+pub(crate) fn put_assigned(out: &mut Vec<u8>, columns: &KindColumns<'_>, leaf: &Leaf<'_>) -> Result<(), AllocError> {
     if let Value::Bool(true) = leaf.value {
         return out.try_extend(leaf.key.as_bytes());
     }
     put_name_of(out, leaf)?;
-    put_value(out, leaf)
+    put_value(out, columns, leaf)
 }
 
 /// The number of a value, by which a row leaves it out.
@@ -192,14 +224,13 @@ pub(crate) fn number_in(value: &Value<'_>) -> Option<u64> {
     match value {
         Value::Bool(true) => Some(1),
         Value::Bool(false) => Some(0),
-        Value::Unsigned(n) | Value::Named(_, n) | Value::Interface(n, _) => Some(*n),
+        Value::Unsigned(n) | Value::Named(_, n) | Value::Interface(n) | Value::Prefix(n) => Some(*n),
         _ => None,
     }
 }
 
 fn left_by(left: LeftOut, value: &Value<'_>) -> bool {
     match left {
-        LeftOut::Never => false,
         LeftOut::Always => true,
         LeftOut::Equal(n) => match number_in(value) {
             Some(k) => k == n,
@@ -209,17 +240,13 @@ fn left_by(left: LeftOut, value: &Value<'_>) -> bool {
             Some(k) => k < n,
             None => false,
         },
+        _ => false,
     }
-}
-
-// True for the `nla_type` and the padding of an attribute.
-fn is_framing(key: &str) -> bool {
-    is_same(key, "word") || is_same(key, "pad")
 }
 
 /// True if a line leaves the leaf out.
 pub(crate) fn is_left_out(leaf: &Leaf<'_>) -> bool {
-    matches!(leaf.display, Display::Hidden) || is_framing(leaf.key) || left_by(leaf.way.row.left, &leaf.value)
+    leaf.shown == Shown::Hidden || left_by(leaf.left, &leaf.value)
 }
 
 fn put_comma(out: &mut Vec<u8>, first: bool) -> Result<(), AllocError> {
@@ -247,7 +274,7 @@ fn put_close(out: &mut Vec<u8>, shape: Shape) -> Result<(), AllocError> {
 pub(crate) fn is_skipped(leaf: &Leaf<'_>) -> bool {
     match leaf.value {
         Value::Opens(_) | Value::Closes(_) => false,
-        _ => is_left_out(leaf) || (is_count(leaf.way.style) && is_zero(number_in(&leaf.value))),
+        _ => is_left_out(leaf) || (is_count(leaf.style) && is_zero(number_in(&leaf.value))),
     }
 }
 
@@ -280,7 +307,7 @@ pub(crate) fn is_hollow(leaves: &[Leaf<'_>]) -> bool {
 }
 
 /// Appends one leaf within a word.
-pub(crate) fn put_within(out: &mut Vec<u8>, first: bool, leaf: &Leaf<'_>) -> Result<(), AllocError> {
+pub(crate) fn put_within(out: &mut Vec<u8>, columns: &KindColumns<'_>, first: bool, leaf: &Leaf<'_>) -> Result<(), AllocError> {
     if let Value::Closes(shape) = leaf.value {
         return put_close(out, shape);
     }
@@ -289,7 +316,7 @@ pub(crate) fn put_within(out: &mut Vec<u8>, first: bool, leaf: &Leaf<'_>) -> Res
         put_equals(out, leaf.key)?;
         return put_open(out, shape);
     }
-    put_assigned(out, leaf)
+    put_assigned(out, columns, leaf)
 }
 
 /// True for the beginning of a list or record.

@@ -20,7 +20,6 @@ use crate::show::differences::priorities::{filter_of_priority, with_filters};
 use crate::show::differences::states::differences;
 use crate::show::differences::values::put_values;
 use crate::show::outline::{Layout, Page, outline};
-use crate::show::words::TcWords;
 use crate::streams::Stop;
 use crate::tc_changes::Key;
 use crate::tc_changes::places::{index_of, look_up};
@@ -107,7 +106,7 @@ fn put_line(
     text: &mut Vec<u8>,
 ) -> Result<(), Stop> {
     let said = Said { begin: sign, object: words, statistics: false, port: 0, end: b"" };
-    match lines_of(TcTables, form_of(root), columns_of(root, names), TcWords, &said, message) {
+    match lines_of(columns_of(root, names), &said, message) {
         Ok(line) => Ok(text.try_extend(&line)?),
         Err(_) => Err(Stop::NoMemory),
     }

@@ -2,52 +2,20 @@
 
 use crate::user::prelude::*;
 
-use crate::forms_json::Form;
-use crate::forms_kinds::{ACTION_MESSAGE, TC_MESSAGE, TcTables};
-use crate::show::brief::{Said, Words, lines_of, lines_of_nothing};
+use crate::show::brief::{Said, lines_of, lines_of_nothing};
 use crate::show::columns::{KindColumns, LinkNames, Root};
 use crate::show::json::Message;
-use crate::show::lines::bare::without_statistics;
 use crate::show::lines::begin::begin;
 use crate::show::lines::fault::end_of;
 use crate::show::lines::past::Requests;
 use crate::show::lines::times::TimeFormat;
 use crate::show::lines::verb::{object_in, speech_of};
-use crate::show::words::{TcDetails, TcWords};
 use crate::tc_faults::Fault;
 
 /// The lines of a message, each with its line feed, and the name of its fault if it is malformed.
 pub struct Lines {
     pub text: Vec<u8>,
     pub fault: Option<&'static str>,
-}
-
-/// The form of messages of this root.
-pub(crate) fn form_of(root: Root) -> Form {
-    match root {
-        Root::Action | Root::Flush => ACTION_MESSAGE,
-        _ => TC_MESSAGE,
-    }
-}
-
-fn is_of_actions(root: Root) -> bool {
-    matches!(root, Root::Action | Root::Flush)
-}
-
-// The lines of bytes with these rows and these names of interfaces.
-fn lines_in<W: Words>(
-    interfaces: &[(u32, &str)],
-    links: &LinkNames,
-    root: Root,
-    words: W,
-    said: &Said<'_>,
-    bytes: &[u8],
-) -> Result<Vec<u8>, AllocError> {
-    let columns = KindColumns { root, interfaces, links: Some(links), all: false };
-    match lines_of(TcTables, form_of(root), columns, words, said, bytes) {
-        Ok(text) => Ok(text),
-        Err(_) => Err(AllocError),
-    }
 }
 
 // The lines of a message with these names of interfaces.
@@ -58,14 +26,7 @@ fn lines_with(
     said: &Said<'_>,
     bytes: &[u8],
 ) -> Result<Vec<u8>, AllocError> {
-    if said.statistics {
-        return lines_in(interfaces, links, root, TcDetails, said, bytes);
-    }
-    if is_of_actions(root) {
-        return lines_in(interfaces, links, root, TcWords, said, bytes);
-    }
-    let bare = without_statistics(bytes)?;
-    lines_in(interfaces, links, root, TcWords, said, &bare)
+    lines_of(KindColumns { root, interfaces, links: Some(links), all: false }, said, bytes)
 }
 
 fn name_of(fault: &Option<Fault>) -> Option<&'static str> {

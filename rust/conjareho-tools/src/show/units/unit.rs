@@ -3,7 +3,7 @@
 use crate::user::prelude::*;
 
 /// The unit of a number, or its notation.
-#[derive(Clone, Copy)]
+#[derive(Clone, Copy, PartialEq, Eq)]
 pub enum Unit {
     /// No unit: decimal.
     Plain,

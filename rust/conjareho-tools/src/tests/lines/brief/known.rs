@@ -1,9 +1,7 @@
 //! Known lines: those of `model/printed`, which an independent model and `tc` agree with, and lines that show a rule.
 
-use crate::forms_kinds::TcTables;
 use crate::show::brief::{Object, Said, lines_of};
 use crate::show::columns::{KindColumns, Root};
-use crate::show::words::{TcDetails, TcWords};
 
 const PRINTED: &str = include_str!("../../../../testdata/lines/printed");
 const OTHERS: &str = include_str!("../../../../testdata/lines/others");
@@ -60,12 +58,7 @@ fn all(text: &str) -> impl Iterator<Item = Known<'_>> {
 fn text_of(known: &Known, statistics: bool) -> String {
     let columns = KindColumns { root: known.root, interfaces: &[], links: None, all: false };
     let said = Said { begin: known.verb.as_bytes(), object: known.object, statistics, port: known.port, end: &[] };
-    let form = known.root.form();
-    let text = if statistics {
-        lines_of(TcTables, form, columns, TcDetails, &said, &known.bytes)
-    } else {
-        lines_of(TcTables, form, columns, TcWords, &said, &known.bytes)
-    };
+    let text = lines_of(columns, &said, &known.bytes);
     String::from_utf8(text.expect("memory")).expect("lines are text")
 }
 
