@@ -7,7 +7,6 @@
 //           link NUMBER [QUEUES]        makes the dummy link dNUMBER, which stays down, so that no packet is counted
 //           send TYPE FLAGS PAYLOAD     a request: message type and flags in decimal, the payload after nlmsghdr in hex
 //           dump NUMBER,NUMBER..        asks for all that the links dNUMBER have, and for all actions (see `dump_link`)
-//           steps NUMBER,.. FILE        sends each request of a netlink stream, as tcapply does, and after each asks for the same
 //           into FILE                   what comes back from here on is written to FILE too, as a netlink stream
 //           run COMMAND                 runs a command by the shell
 //           watch FILE                  writes all messages of route netlink, in both directions, that processes of the try exchange with
@@ -301,8 +300,6 @@ static struct {
     __u32 chain;
 } priorities[1024]; // of u32, that were dumped last
 static size_t priority_count;
-static struct tcmsg of_cgroup[256]; // the filters of cgroup that were dumped last; a priority has only one
-static size_t of_cgroup_count;
 
 static int is_of_kind(struct nlmsghdr *h, const char *kind) {
     unsigned char *p = (unsigned char *)NLMSG_DATA(h) + sizeof(struct tcmsg);
@@ -344,8 +341,6 @@ static void write_of_link(struct nlmsghdr *h) {
     }
     if (h->nlmsg_type == RTM_NEWTFILTER && !header->tcm_handle)
         keep_priority(h);
-    if (h->nlmsg_type == RTM_NEWTFILTER && header->tcm_handle && is_of_kind(h, "cgroup") && of_cgroup_count < sizeof of_cgroup / sizeof *of_cgroup)
-        of_cgroup[of_cgroup_count++] = *header;
     write_got(h);
 }
 
@@ -441,77 +436,10 @@ static void dump_link(int number) {
 
 // Writes all actions of the namespace, and what some links have. They are numbers, with a comma between two.
 static void dump_links(const char *numbers) {
-    of_cgroup_count = 0;
     dump_actions();
     for (const char *it = numbers; it; it = strchr(it, ',') ? strchr(it, ',') + 1 : NULL)
         dump_link(atoi(it));
     fputs("end 0\n", answers);
-}
-
-// ---- Steps
-
-static int is_tried_again(struct nlmsghdr *last) {
-    int error = last && last->nlmsg_type == NLMSG_ERROR ? -((struct nlmsgerr *)NLMSG_DATA(last))->error : 0;
-
-    return error == EBUSY || error == EEXIST || error == EPERM;
-}
-
-// True for the request of a qdisc in a class of taprio, by the qdiscs that were dumped last. To Linux that class has taprio itself.
-static int is_below_taprio(struct nlmsghdr *request) {
-    struct tcmsg *made = NLMSG_DATA(request), *own;
-    struct nlmsghdr *h;
-
-    for (size_t at = 0; request->nlmsg_type == RTM_NEWQDISC && at < tree_length; at += NLMSG_ALIGN(h->nlmsg_len)) {
-        h = (struct nlmsghdr *)(tree + at), own = NLMSG_DATA(h);
-        if (h->nlmsg_type == RTM_NEWQDISC && own->tcm_ifindex == made->tcm_ifindex && own->tcm_handle == TC_H_MAJ(made->tcm_parent))
-            return is_of_kind(h, "taprio");
-    }
-    return 0;
-}
-
-// True for the request that deletes a filter of cgroup, which Linux does only with its priority.
-static int is_of_cgroup(struct nlmsghdr *request) {
-    struct tcmsg *own = NLMSG_DATA(request), *it;
-
-    for (it = of_cgroup; request->nlmsg_type == RTM_DELTFILTER && it < of_cgroup + of_cgroup_count; it++)
-        if (it->tcm_ifindex == own->tcm_ifindex && it->tcm_parent == own->tcm_parent && it->tcm_info >> 16 == own->tcm_info >> 16 && it->tcm_handle == own->tcm_handle)
-            return 1;
-    return 0;
-}
-
-// Sends each request of a stream, for up to a second if what was deleted before lives on. After each it writes how that ended, and all that
-// some links have.
-static void send_steps(const char *numbers, const char *path) {
-    static unsigned char stream[1 << 20] __attribute__((aligned(NLMSG_ALIGNTO)));
-    FILE *file = fopen(path, "r");
-    int left = file ? (int)fread(stream, 1, sizeof stream, file) : 0;
-
-    for (struct nlmsghdr *h = (struct nlmsghdr *)stream, *last; NLMSG_OK(h, left); h = NLMSG_NEXT(h, left)) {
-        const char *how = "";
-        if (is_of_cgroup(h)) {
-            how = "of cgroup, with its priority";
-            ((struct tcmsg *)NLMSG_DATA(h))->tcm_handle = 0;
-        }
-        for (int tries = 0; tries < 100; tries++) {
-            last = ask(h->nlmsg_type, h->nlmsg_flags | NLM_F_REQUEST | NLM_F_ACK, NLMSG_DATA(h), h->nlmsg_len - NLMSG_HDRLEN, ignore);
-            if (!is_tried_again(last))
-                break;
-            if (is_below_taprio(h)) {
-                how = "in a class of taprio, over it";
-                h->nlmsg_flags = (h->nlmsg_flags & ~NLM_F_EXCL) | NLM_F_REPLACE;
-            }
-            usleep(10000);
-        }
-        if (*how && last && last->nlmsg_type == NLMSG_ERROR && !((struct nlmsgerr *)NLMSG_DATA(last))->error)
-            fprintf(answers, "ack 0 - %s\n", how);
-        else if (last && last->nlmsg_type == NLMSG_ERROR)
-            write_ack(last);
-        else
-            fprintf(answers, "ack %d - no answer\n", errno);
-        dump_links(numbers);
-    }
-    if (file)
-        fclose(file);
 }
 
 // ---- Links
@@ -821,8 +749,6 @@ static void try(char *line) {
             talk(type, flags, payload, from_hex(line + at, payload));
         else if (!strncmp(line, "dump ", 5))
             dump_links(line + 5);
-        else if (sscanf(line, "steps %9s %n", word, &at) == 1)
-            send_steps(word, line + at);
         else if (sscanf(line, "call %1023s %n", path, &at) == 1)
             call(path, line + at);
         else if (!strncmp(line, "into ", 5))

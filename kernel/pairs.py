@@ -14,7 +14,7 @@ from guests import HERE, Guest, Said, fail
 from messages import Names
 from states import LEAVES_NOTHING, State, as_used
 from steps import judge as judge_steps
-from streams import ALL, asked, requests_in, stream_of
+from streams import ALL, asked, requests_in
 
 OF_A_GUEST = 50  # pairs
 ALL_KINDS_IN = 200  # pairs
@@ -56,9 +56,10 @@ class Pair:
         for name, own in (("before", before), ("wanted", wanted)):
             with open(f"{self.file}.{name}.tc", "w") as file:
                 file.writelines(f"{it}\n" for it in own)
-        save, state, sent, now, stream = [f"{self.file}.{it}" for it in ("json", "state", "sent", "now", "stream")]
+        save, state, sent = [f"{self.file}.{it}" for it in ("json", "state", "sent")]
         devs, numbers = [f"d{it}" for it in links], ",".join(map(str, links))
         saving, apply = programs.words("tcsave", *devs), programs.words("tcapply", "--state", state, save)
+        stepping = programs.words("tcapply", "--compare-steps", "--state", state, save)
         dump, last = f"dump {numbers}", [("after", f"dump {numbers}"), ("plan", f"call - {programs.words('tcapply', '-n', save)}")]
         before = [("make_before", self.made("before")), ("before", dump)]
         self.add([("make_wanted", self.made("wanted")), ("wanted", dump), ("save", f"call {save} {saving}")])
@@ -66,8 +67,7 @@ class Pair:
         self.add([*before, ("cut", f"kill {sent} {parts[0]} {apply}"), ("apply", f"call - {apply}"), *last])
         self.add([*before, ("cut", f"spoil {sent} {parts[1]} {apply}"), last[0]])
         self.add([*before, ("cut", f"stop {sent} {parts[2]} {apply}"), last[0]])
-        plan = programs.command(f"$TCMAKE --plan {now} --stream < {save} > {stream} 2> /dev/null")
-        self.add([*before, ("save", f"call {now} {saving}"), ("plan", f"run {plan}"), ("steps", f"steps {numbers} {stream}")])
+        self.add([*before, ("steps", f"call - {stepping}"), last[0]])
 
     def made(self, name):
         return f"call /dev/null {TC} -force -batch {self.file}.{name}.tc"
@@ -76,14 +76,10 @@ class Pair:
         self.tries.append((self.guest.add_lines([*LINKS, *[line for _, line in steps]]), [name for name, _ in steps if name]))
 
     def answers(self):
-        """The answers of each try, by their names; None if they aren't whole. Of steps there is an answer for each request, and one for each dump."""
+        """The answers of each try, by their names; None if they aren't whole."""
         for number, names in self.tries:
             found = self.guest.answers.pop(number, [])
-            own = dict(zip(names, found))
-            if names[-1] == "steps" and len(found) >= len(names) - 1:
-                yield {**own, "steps": found[len(names) - 1 :]}
-            else:
-                yield own if len(found) == len(names) else None
+            yield dict(zip(names, found)) if len(found) == len(names) else None
 
     def judge(self):
         """Returns what is wrong, a text for each try; None if there is no whole answer."""
@@ -142,15 +138,9 @@ class Pair:
         return self.unlike(self.state(answers["before"]), self.state(answers["after"]))
 
     def judge_stepped(self, answers):
-        if answers["save"] != Said(0, []) or answers["plan"] != Said(0, []):
-            return f"{answers['save']}, {answers['plan']}"
-        with open(f"{self.file}.stream", "rb") as file:
-            requests = stream_of(file.read())
-        wrong, counts = judge_steps(requests, [answers["before"], *answers["steps"]])
+        wrong, counts = judge_steps(answers["steps"])
         self.steps += counts
-        # Filters that were deleted last hold their actions for a grace period. It is tcapply that brings back default qdiscs.
-        wanted, after = [self.state(it, ()) for it in (self.wanted, [answers["before"], *answers["steps"]][-1])]
-        return wrong or self.unlike(wanted, after, counts_filters=False)
+        return wrong or self.unlike(self.state(self.wanted), self.state(answers["after"]))
 
 
 class Pairs:

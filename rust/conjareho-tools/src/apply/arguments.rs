@@ -85,6 +85,8 @@ pub(crate) struct Arguments {
     pub(crate) patience: Duration,
     pub(crate) dry_run: bool,
     pub(crate) check: bool,
+    /// What there is after each request is compared with the model that plans are made by: a test of the model.
+    pub(crate) compares_steps: bool,
     /// Nothing is said if it worked.
     pub(crate) quiet: bool,
     /// How long Enter is waited for.
@@ -111,6 +113,7 @@ impl Arguments {
             patience: PATIENCE,
             dry_run: false,
             check: false,
+            compares_steps: false,
             quiet: true,
             trial: None,
             no_rollback: matches.get_flag("no-rollback"),
@@ -141,6 +144,7 @@ pub(crate) fn arguments_of(words: impl IntoIterator<Item = OsString>) -> Result<
         command: matches.remove_many("command").map(Iterator::collect),
         dry_run: matches.get_flag("dry-run"),
         check: matches.get_flag("check"),
+        compares_steps: matches.get_flag("compare-steps"),
         quiet: matches.get_flag("quiet"),
         trial: seconds_of(&matches, "try"),
         patience: seconds_of(&matches, "wait").unwrap_or(PATIENCE),
@@ -215,6 +219,8 @@ fn plans() -> Vec<Arg> {
             .short('n')
             .conflicts_with_all(["check", "try", "quiet"]),
         flag("check", "Carry the plan out in a new network namespace, and send nothing here").conflicts_with("try"),
+        // A test of the model: kernel/steps.py.
+        flag("compare-steps", "Compare what there is after each request with the model that plans are made by").hide(true),
         replace,
         allow,
         // What is so without it.

@@ -255,7 +255,14 @@ fn carried_out<T: Transport, L: Transport>(
     said: &mut Vec<String>,
 ) -> Result<(), Stop> {
     let (way, wanted) = (arguments.way, &prepared.wanted);
+    if arguments.compares_steps {
+        let now = without(&prepared.before.dumps, &prepared.before.others);
+        let none = || Stop::Unplanned(vec!["there is no model of what there is".to_string()]);
+        let model = plan::model(&now, &wanted.messages).ok_or_else(none)?;
+        sending.compare_with(model, prepared.before.others.clone());
+    }
     sending.carry_out(&prepared.steps)?;
+    said.extend(sending.compared().map(|count| format!("compared after each of {count} requests")));
     let after = match reached(way, prepared, sending) {
         Err(stop @ Stop::Differs(_)) if way != Way::Beside => {
             made_anew(prepared, sending, stop, said)?;

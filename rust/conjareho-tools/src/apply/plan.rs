@@ -4,11 +4,11 @@ use super::anew::marked;
 use super::compare::{Key, key_of};
 use super::messages::{Action, actions_of, all_actions, chain_of, deletes, kind_of, payload_of, replaces, type_of};
 use super::requests::{LINES_BEFORE, dumps_of, requests_of_dump};
-use crate::make::program::plans::plan_of_dumps;
+use crate::make::program::plans::{model_of_dumps, plan_of_dumps};
 use crate::make::requests::lines::{Remark, RemarkKind, Source};
 use crate::netlink::message::{HEADER, RTM_NEWCHAIN, RTM_NEWQDISC, RTM_NEWTCLASS, RTM_NEWTFILTER, is_action, tcmsg_of};
 use crate::nla_frames::ParseableBytes as _;
-use crate::plan::objects::KindRules;
+use crate::plan::objects::{KindRules, Model};
 use crate::restore::{Object, request_of, request_of_actions};
 use crate::streams::Stop;
 use crate::tc_action_messages::TcActionMessage;
@@ -151,6 +151,14 @@ fn with_priority(request: Vec<u8>, cgroups: &BTreeSet<OfFilter>) -> Vec<u8> {
         handle.fill(0);
     }
     request
+}
+
+/// The model of a kernel that goes through the requests of the same plan as [`plan`]'s, if there is one.
+pub(crate) fn model(now: &[Vec<u8>], wanted: &[Vec<u8>]) -> Option<Model> {
+    let stays = |_: &Key| false;
+    let mut all = wanted.to_vec();
+    all.extend(others(now, wanted, stays));
+    model_of_dumps(&KindRules, &named(now, stays), dumps_of(&marked(now, wanted)), dumps_of(&all)).ok().flatten()
 }
 
 // What may change although no wanted dump names it: the interfaces and blocks of now, and the actions that may go.

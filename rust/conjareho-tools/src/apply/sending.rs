@@ -1,11 +1,16 @@
 //! Requests as they are sent, one after the other.
 
+use super::blocks::{Others, without};
 use super::check::Scope;
 use super::messages::{deletes, is_plain_chain, kind_of, over, replaces, type_of};
+use super::named::named;
 use super::progress::Progress;
+use super::requests::dumps_of;
 use super::world::{Place, Stop, World};
+use crate::make::program::plans::state_of_dumps;
 use crate::netlink::message::{RTM_NEWQDISC, tcmsg_of};
 use crate::netlink::{Fault, Refusal, Transport};
+use crate::plan::objects::{KindRules, Model};
 use nix::errno::Errno;
 use std::thread::sleep;
 use std::time::{Duration, Instant};
@@ -32,6 +37,15 @@ pub(crate) struct Sending<'w, 's, T, L> {
     left: Option<Vec<Vec<u8>>>,
     // Until then what was deleted may live on.
     settled: Instant,
+    // What there is to be after each request, if that is compared, and the blocks that aren't.
+    steps: Option<Steps>,
+}
+
+/// The model that plans are made by, as it goes through requests.
+struct Steps {
+    model: Model,
+    others: Others,
+    compared: usize,
 }
 
 impl<'w, 's, T: Transport, L: Transport> Sending<'w, 's, T, L> {
@@ -47,6 +61,7 @@ impl<'w, 's, T: Transport, L: Transport> Sending<'w, 's, T, L> {
             minds_signals: true,
             left: None,
             settled: Instant::now(),
+            steps: None,
         }
     }
 
@@ -69,6 +84,7 @@ impl<'w, 's, T: Transport, L: Transport> Sending<'w, 's, T, L> {
                 self.make(step)?;
             }
             progress.iter().for_each(Progress::pass);
+            self.compare()?;
         }
         self.is_carried_out = true;
         Ok(())
@@ -77,6 +93,28 @@ impl<'w, 's, T: Transport, L: Transport> Sending<'w, 's, T, L> {
     /// True if the last plan was sent to its end.
     pub(crate) fn is_carried_out(&self) -> bool {
         self.is_carried_out
+    }
+
+    /// From here on what there is after each request is compared with this model, but for what is in these blocks.
+    pub(crate) fn compare_with(&mut self, model: Model, others: Others) {
+        self.steps = Some(Steps { model, others, compared: 0 });
+    }
+
+    /// How many requests were followed by that.
+    pub(crate) fn compared(&self) -> Option<usize> {
+        self.steps.as_ref().map(|steps| steps.compared)
+    }
+
+    fn compare(&mut self) -> Result<(), Stop> {
+        let Some(Steps { model, others, compared }) = &mut self.steps else { return Ok(()) };
+        let dump = without(&self.world.dump(&self.place.indices())?.messages, others);
+        *compared += 1;
+        let no_state = || Stop::Unplanned(vec![format!("after request {compared}: what there is shows no state")]);
+        model.pass();
+        let found = state_of_dumps(None, dumps_of(&dump)).ok().flatten().ok_or_else(no_state)?;
+        let said = model.differences(&KindRules, &found).map_err(|_| no_state())?;
+        let line = |it: &String| format!("after request {compared}, by the model: {}", named(&self.place.devices, it));
+        if said.is_empty() { Ok(()) } else { Err(Stop::Differs(said.iter().map(line).collect())) }
     }
 
     /// Keeps what is there, while somebody is asked whether it is to stay.
@@ -100,6 +138,7 @@ impl<'w, 's, T: Transport, L: Transport> Sending<'w, 's, T, L> {
 
     /// From here on no signal ends it, and what was deleted is waited for.
     pub(crate) fn turn_back(&mut self) {
+        self.steps = None;
         (self.minds_signals, self.waits) = (false, true);
     }
 

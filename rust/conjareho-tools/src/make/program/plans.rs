@@ -16,8 +16,8 @@ use crate::make::requests::order::{LineRequest, Restored};
 use crate::make::requests::restore::{Dump, dump_of};
 use crate::nla_frames::ParseableBytes;
 use crate::plan::objects::{
-    DELETE_FLAGS, Dump as ParsedDump, Label, PlanRequest, Planned, State, StateError, plan_between, state_after,
-    state_of,
+    DELETE_FLAGS, Dump as ParsedDump, Label, Model, PlanRequest, Planned, State, StateError, model_between,
+    plan_between, state_after, state_of,
 };
 use crate::restore::RTM_NEWACTION;
 use crate::streams::Stop;
@@ -224,6 +224,26 @@ pub fn state_of_dumps(there: Option<&State>, dumps: Vec<(NetlinkHeader, Vec<u8>)
     let mut remarks = Vec::new();
     let found = state_in(Source::Now, there, lines, &mut remarks)?;
     Ok(state_alone(found).filter(|_| !is_void && !has_complaint(&remarks)))
+}
+
+/// The model of a kernel that goes through the steps of the plan of [`plan_of_dumps`]; `None` if there is no plan.
+///
+/// # Errors
+///
+/// A [`Stop`].
+pub fn model_of_dumps<R: Rules>(
+    rules: &R,
+    keys: &[Key],
+    now: Vec<(NetlinkHeader, Vec<u8>)>,
+    want: Vec<(NetlinkHeader, Vec<u8>)>,
+) -> Result<Option<Model>, Stop> {
+    let Some(now) = state_of_dumps(None, now)? else { return Ok(None) };
+    let Some(want) = state_of_dumps(Some(&now), want)? else { return Ok(None) };
+    match model_between(rules, keys, &now, &want) {
+        Ok(model) => Ok(model),
+        Err(PlanError::OutOfMemory) => Err(Stop::from(AllocError)),
+        Err(_) => Ok(None),
+    }
 }
 
 /// The state that lines show.

@@ -4,6 +4,7 @@ use crate::user::prelude::*;
 
 use crate::plan::objects::beside::beside;
 use crate::plan::objects::lost::{copied, copy_of, lost, marked};
+use crate::plan::objects::model::Model;
 use crate::plan::objects::objects::SHARED;
 use crate::plan::objects::requests::{PlanRequest, requests_of};
 use crate::plan::objects::state::{Sent, State};
@@ -29,6 +30,19 @@ pub fn plan_between<R: Rules>(rules: &R, keys: &[Key], now: &State, want: State)
     let plan = plan_by(rules, keys, now, there, &want, wanted)?;
     let requests = requests_by(now, &want.sent, &plan)?;
     Ok(Planned { plan, requests })
+}
+
+/// The model of a kernel that goes through the steps of the same plan; `None` if nothing can lead there.
+///
+/// # Errors
+///
+/// The same.
+pub fn model_between<R: Rules>(rules: &R, keys: &[Key], now: &State, want: &State) -> Result<Option<Model>, PlanError> {
+    let there = beside(rules, now, want)?;
+    match plan_by(rules, keys, now, there, want, completed(keys, now, want))? {
+        Plan::Steps(steps) => Ok(Some(Model::of(rules, now, want, steps)?)),
+        Plan::Refused(_) => Ok(None),
+    }
 }
 
 // The plan, anew as long as it loses something, with that marked. What is marked is made, so that nothing is marked twice.

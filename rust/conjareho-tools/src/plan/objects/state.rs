@@ -19,6 +19,7 @@ use crate::tc_changes::{Key, Object, is_ready};
 use std::collections::{HashMap, HashSet};
 
 /// The objects that a kernel has, or is to have, each after all that it needs.
+#[derive(Default)]
 pub struct State {
     pub objects: Vec<Object>,
     /// The origin of each.
