@@ -1,7 +1,7 @@
 //! The check of requests before they are sent: each is one whole message, and about nothing but what is asked for.
 
 use super::compare::Key;
-use super::messages::actions_of;
+use super::messages::{actions_of, shared_by};
 use super::world::{Place, Stop};
 use crate::tc_check::{self, ActionName, first_outside};
 use std::collections::BTreeSet;
@@ -20,9 +20,10 @@ impl Scope {
         Scope { interfaces: place.indices(), blocks: place.blocks.clone(), actions: BTreeSet::new() }
     }
 
-    /// The standalone actions of dumps, too.
+    /// The standalone actions of dumps, and those that their filters share, too.
     pub(crate) fn add_actions_of(&mut self, dumps: &[Vec<u8>]) {
-        let named = dumps.iter().flat_map(|dump| actions_of(dump)).map(|action| action.key());
+        let shared = dumps.iter().flat_map(|dump| shared_by(dump));
+        let named = dumps.iter().flat_map(|dump| actions_of(dump)).chain(shared).map(|action| action.key());
         self.actions.extend(named.filter_map(|key| match key {
             Key::Action(kind, index) => Some((kind, index)),
             _ => None,

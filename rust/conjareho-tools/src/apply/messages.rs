@@ -1,6 +1,7 @@
 //! Messages: what they are about.
 
 use super::compare::Key;
+use crate::make::requests::nested::nested as flagged;
 use crate::netlink::attributes::attribute;
 use crate::netlink::message::{
     HEADER, NLM_F_ACK, RTM_NEWACTION, RTM_NEWCHAIN, RTM_NEWTFILTER, TCMSG, header_of, is_action, request,
@@ -9,6 +10,7 @@ use crate::nla_frames::{Emitable as _, ParseableBytes as _};
 use crate::restore::{Use, actions_of_filter, kind_of_action, standalone_index, unheld, use_of_action};
 use crate::tc_action_messages::{TcActionMessage, TcActionMessageAttribute};
 use crate::tc_actions::TcAction;
+use crate::tc_capture::MessageType;
 use crate::tc_messages::TcMessage;
 
 /// Flags of `linux/netlink.h`.
@@ -55,6 +57,13 @@ pub(crate) fn as_new(message: &[u8]) -> Vec<u8> {
     as_new
 }
 
+/// A request with `NLA_F_NESTED` on each nest; `None` if memory runs out.
+pub(crate) fn nested(message: &[u8]) -> Option<Vec<u8>> {
+    let holds = if is_action(type_of(message)) { MessageType::Action } else { MessageType::Tc };
+    let header = message.get(..HEADER)?;
+    Some([header, &flagged(holds, payload_of(message)).ok()?].concat())
+}
+
 /// True for a request of a chain without a template, which the kernel makes by itself too.
 pub(crate) fn is_plain_chain(message: &[u8]) -> bool {
     type_of(message) == RTM_NEWCHAIN && kind_of(message).is_none()
@@ -91,6 +100,12 @@ pub(crate) fn actions_of(message: &[u8]) -> Vec<Action> {
     let mut actions = listed_in(message);
     actions.retain(|action| standalone_index(&action.parts).is_some());
     actions
+}
+
+/// The actions that a filter shares.
+pub(crate) fn shared_by(message: &[u8]) -> Vec<Action> {
+    let actions = if type_of(message) == RTM_NEWTFILTER { all_actions(message) } else { Vec::new() };
+    actions.into_iter().filter(|it| standalone_index(it).is_some()).filter_map(Action::of).collect()
 }
 
 /// All numbered actions of a message about actions; filters' own, too.

@@ -2,7 +2,7 @@
 
 use super::anew::marked;
 use super::compare::{Key, key_of};
-use super::messages::{Action, actions_of, all_actions, chain_of, deletes, kind_of, payload_of, replaces, type_of};
+use super::messages::{actions_of, chain_of, deletes, kind_of, payload_of, replaces, shared_by, type_of};
 use super::requests::{LINES_BEFORE, dumps_of, requests_of_dump};
 use crate::make::program::plans::{model_of_dumps, plan_of_dumps};
 use crate::make::requests::lines::{Remark, RemarkKind, Source};
@@ -183,9 +183,7 @@ fn others(now: &[Vec<u8>], wanted: &[Vec<u8>], may_go: impl Fn(&Key) -> bool) ->
         messages.iter().filter(|it| is_action(type_of(it))).flat_map(|it| actions_of(it)).collect::<Vec<_>>()
     };
     let named: BTreeSet<Key> = own(wanted).iter().map(|action| action.key()).collect();
-    let filters = wanted.iter().filter(|it| type_of(it) == RTM_NEWTFILTER);
-    let shared: BTreeSet<Key> =
-        filters.flat_map(|it| all_actions(it)).filter_map(Action::of).map(|it| it.key()).collect();
+    let shared: BTreeSet<Key> = wanted.iter().flat_map(|it| shared_by(it)).map(|action| action.key()).collect();
     let stays = |key: &Key| shared.contains(key) && !named.contains(key) && !may_go(key);
     own(now).into_iter().filter(|action| stays(&action.key())).map(|action| action.change()).collect()
 }

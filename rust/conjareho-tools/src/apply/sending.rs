@@ -2,7 +2,7 @@
 
 use super::blocks::{Others, without};
 use super::check::Scope;
-use super::messages::{deletes, is_plain_chain, kind_of, over, replaces, type_of};
+use super::messages::{deletes, is_plain_chain, kind_of, nested, over, replaces, type_of};
 use super::named::named;
 use super::progress::Progress;
 use super::requests::dumps_of;
@@ -67,13 +67,15 @@ impl<'w, 's, T: Transport, L: Transport> Sending<'w, 's, T, L> {
 
     /// Sends the requests of a plan. What is to be deleted and isn't there is deleted; the kernel makes chains by itself.
     pub(crate) fn carry_out(&mut self, steps: &[Vec<u8>]) -> Result<(), Stop> {
-        self.scope.check(self.place, steps)?;
+        let no_memory = || Stop::Unplanned(vec!["out of memory".to_string()]);
+        let steps: Vec<Vec<u8>> = steps.iter().map(|step| nested(step)).collect::<Option<_>>().ok_or_else(no_memory)?;
+        self.scope.check(self.place, &steps)?;
         // While somebody was asked whether it is to stay, others may have changed something.
         self.look()?;
         self.is_carried_out = false;
         let progress = Progress::of(steps.len());
         let mut has_deleted = false;
-        for step in steps {
+        for step in &steps {
             if deletes(step) {
                 self.delete(step)?;
                 has_deleted = true;

@@ -6,6 +6,7 @@ pub mod complaint;
 pub mod interfaces;
 pub mod lines;
 mod names;
+pub(crate) mod nested;
 mod now;
 pub mod order;
 pub mod restore;

@@ -115,7 +115,8 @@ impl Fake {
 
     fn answer_change(&self, header: Header, message: &[u8]) {
         let mut state = self.state.borrow_mut();
-        state.sent.push(message.to_vec());
+        let message = &unflagged(message);
+        state.sent.push(message.clone());
         let number = state.sent.len();
         let refused = (self.hook.borrow_mut())(&mut state, number, message);
         let error = match refused {
@@ -213,6 +214,26 @@ impl State {
         }
         self.tell(message, OURS);
         0
+    }
+}
+
+// A request without `NLA_F_NESTED`, which the kernel doesn't keep.
+fn unflagged(message: &[u8]) -> Vec<u8> {
+    let header = HEADER + if is_action(header_of(message).map_or(0, |header| header.kind)) { 4 } else { TCMSG };
+    let mut made = message.to_vec();
+    unflag(&mut made[header.min(message.len())..]);
+    made
+}
+
+fn unflag(mut bytes: &mut [u8]) {
+    while bytes.len() >= 4 {
+        let len = usize::from(u16::from_ne_bytes([bytes[0], bytes[1]]));
+        let (one, rest) = bytes.split_at_mut(len.next_multiple_of(4).min(bytes.len()));
+        if u16::from_ne_bytes([one[2], one[3]]) & 0x8000 != 0 {
+            one[3] &= 0x7F;
+            unflag(&mut one[4..len]);
+        }
+        bytes = rest;
     }
 }
 
