@@ -1,10 +1,12 @@
 //! Plans between states that Linux 6.18 dumped: each as `-n` prints it.
 
 use crate::apply::outline::lines;
-use crate::apply::plan::plan;
-use crate::apply::requests::Asked;
+use crate::apply::plan::{model, plan};
+use crate::apply::requests::{Asked, dumps_of};
 use crate::apply::wanted::messages_in;
+use crate::make::program::plans::state_of_dumps;
 use crate::netlink::Devices;
+use crate::plan::objects::KindRules;
 
 /// Each with what there is, what is wanted, and the plan.
 macro_rules! cases {
@@ -52,4 +54,10 @@ fn check(name: &str, now: &str, wanted: &str, expected: &str) {
     let steps = plan(&now, &wanted, |_| false).expect("a plan");
     let said = lines(&steps, &now, &wanted, &Devices::default()).join("\n") + "\n";
     assert_eq!(said, expected, "{name}");
+    // The model that plans are made by ends with what is wanted.
+    let mut model = model(&now, &wanted).expect("a model");
+    let passed = std::iter::repeat_with(|| model.pass()).take_while(|has_passed| *has_passed).count();
+    assert_eq!(passed, steps.len(), "{name}");
+    let end = state_of_dumps(None, dumps_of(&wanted)).ok().flatten().expect("a state");
+    assert_eq!(model.differences(&KindRules, &end), Ok(Vec::new()), "{name}");
 }

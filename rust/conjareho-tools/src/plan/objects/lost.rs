@@ -19,18 +19,23 @@ pub(crate) fn lost(now: &State, want: &State, plan: &Plan) -> HashSet<Key> {
     lost
 }
 
-/// The objects that go without a request of their own, of those that a plan deletes: what is weak goes with all that refers to it, and so does what is under
-/// that; and what is under another object that goes, unless something that it refers to has to be deleted after it.
+/// The objects that go without a request of their own, of those that a plan deletes: what is weak goes with all that refers to it; what is under another
+/// object that goes, goes with it, unless something that it refers to has to be deleted after it.
 pub(crate) fn going_along(now: &State, steps: &[Step]) -> HashSet<Key> {
     let gone = There::after(now, steps).gone;
     let by_key: HashMap<Key, &Object> = now.objects.iter().map(|object| (object.key, object)).collect();
+    let mut holders: HashMap<Key, usize> = HashMap::new();
+    for key in now.objects.iter().flat_map(|object| &object.refers).filter(|key| now.weak.contains(key)) {
+        let count = holders.entry(*key).or_default();
+        *count = count.saturating_add(1);
+    }
+    let vanishes = |key: &Key| now.weak.contains(key) && gone.contains(key);
     let mut along: HashSet<Key> = HashSet::new();
     for object in now.objects.iter().filter(|object| gone.contains(&object.key)) {
-        let vanishes = |key: &Key| now.weak.contains(key) && gone.contains(key);
-        // A table of u32 is under what its priority has in common with others, and refers to the priority.
-        let holds_above = |key: &Key| {
-            by_key.get(key).is_some_and(|it| it.refers.iter().any(|key| object.under.contains(key) && vanishes(key)))
-        };
+        // A table of u32 is under what its priority has in common with others, and refers to the priority. It goes with the only one. Beside others it would
+        // outlive it, and no dump would show it.
+        let is_only = |key: &Key| object.under.contains(key) && vanishes(key) && holders.get(key) == Some(&1);
+        let holds_above = |key: &Key| by_key.get(key).is_some_and(|it| it.refers.iter().any(is_only));
         let passes = |key: &Key| !gone.contains(key) || along.contains(key) || holds_above(key);
         let is_under = object.under.iter().any(|key| gone.contains(key));
         if vanishes(&object.key) || is_under && object.refers.iter().all(passes) {

@@ -61,16 +61,31 @@ impl Model {
                     self.delete(key);
                     return true;
                 }
-                Step::Make(object) | Step::Change(object) => {
-                    let is_asked = is_asked_for(&object);
+                Step::Make(object) | Step::Change(object) if !is_asked_for(&object) => self.put(object),
+                Step::Change(object) => {
                     self.put(object);
-                    if is_asked {
-                        return true;
-                    }
+                    return true;
+                }
+                Step::Make(object) => {
+                    // Its own request holds it.
+                    self.weak.remove(&object.key);
+                    self.put(object);
+                    return true;
                 }
             }
         }
         false
+    }
+
+    // The actions that one filter holds, once or more, and nothing else: to Linux they are the filter's own, and no objects.
+    fn own_actions(&self) -> HashSet<Key> {
+        let mut held: HashMap<Key, HashSet<Key>> = HashMap::new();
+        for object in self.objects.values() {
+            for key in object.refers.iter().filter(|key| matches!(key, Key::Action { .. }) && self.weak.contains(key)) {
+                held.entry(*key).or_default().insert(object.key);
+            }
+        }
+        held.into_iter().filter(|(_, filters)| filters.len() == 1).map(|(action, _)| action).collect()
     }
 
     fn put(&mut self, object: Object) {
@@ -86,7 +101,6 @@ impl Model {
             Some(message) => drop(self.sent.insert(object.key, message.clone())),
             None => drop(self.sent.remove(&object.key)),
         }
-        self.weak.remove(&object.key);
         if matches!(object.key, Key::Block { .. }) || is_common(object.key) {
             self.weak.insert(object.key);
         }
@@ -123,7 +137,12 @@ impl Model {
         let model = State { objects, sent: self.sent.clone(), ..State::default() };
         let there: HashMap<Key, Object> = beside(rules, found, &model)?.into_iter().map(|object| (object.key, object)).collect();
         let mut said = Vec::new();
-        for object in self.objects.values().filter(|object| is_asked_for(object)) {
+        let own = self.own_actions();
+        let is_action = |key: &&Key| matches!(key, Key::Action { .. });
+        let is_own = |it: &Object| {
+            own.contains(&it.key) || it.refers.iter().filter(is_action).any(|action| own.contains(action) && !there.contains_key(action))
+        };
+        for object in self.objects.values().filter(|object| is_asked_for(object) && !is_own(object)) {
             match there.get(&object.key) {
                 None => said.push(format!("{} is gone", Label(object.key))),
                 Some(it) if it.config != object.config => said.push(format!("{} is another one", Label(object.key))),
