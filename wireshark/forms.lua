@@ -34,12 +34,20 @@ local function declare_number(n)
   end
 end
 
--- Gives a form its field and its width, and those in it.
+-- Forms of which any bytes of their length are.
+local ANY = {handle = true, mac = true, ipv4 = true, ipv6 = true}
+
+-- Gives a form its field and its width, and those in it; `always` is the length if any bytes of that length are of the form.
 local function prepare(n)
   local sort = SORTS[n[1]]
   n.width, n.is_leaf = n.width or WIDTHS[n[1]], sort ~= nil
   n.is_number, n.is_signed, n.is_big = sort ~= nil and sort:find("int") ~= nil, n[1]:sub(1, 1) == "s", n[1]:sub(1, 2) == "be"
   for _, inner in ipairs(n.parts or {n.inner or n.other}) do prepare(inner) end
+  if n.is_number or ANY[n[1]] then n.always = n.width end
+  if n[1] == "struct" then
+    n.always = 0
+    for _, x in ipairs(n.parts) do n.always = n.always and x.always and n.always + x.always end
+  end
   if n.element then n.element = declare(n.element, "none", n.inner[3], ABOUT[n.element]) end
   if n[2] and n.is_number then declare_number(n)
   elseif n[2] and n.frame then n.field = declare(n[2], sort, n[3], base.NONE, frametype[n.frame], 0, ABOUT[n[2]])
@@ -65,9 +73,10 @@ local function u32(c, off)
 end
 local function number_at(c, off, len) return len == 4 and u32(c, off) or u16(c, off) end
 
--- What a tree has at bytes: an item of a field, with this text if somebody sees it. If nobody does, only fields that a filter names have items.
+-- What a tree has at bytes: an item of a field, with this text if somebody sees it. If nobody does, only fields that a filter names have items; `c.referenced`
+-- is true if it names any.
 local function set(c, item, label, text) if c.seen then item:set_text(label .. ": " .. text) end end
-local function wanted(c, tree, field) return c.seen or tree:referenced(field) end
+local function wanted(c, tree, field) return c.seen or c.referenced and tree:referenced(field) end
 local function add(c, tree, n, off, len, text)
   local item = c.little and tree:add_le(n.field, c.tvb(off, len)) or tree:add(n.field, c.tvb(off, len))
   if text and c.seen then item:set_text(n[3] .. ": " .. text) end
@@ -134,10 +143,10 @@ local function show_number(c, n, off, len, tree)
     local range = c.tvb(off, len)
     item = is_le and tree:add_le(n.field, range) or tree:add(n.field, range)
     item:set_text(n[3] .. ": " .. number_text(c, n, bytes_of(c, off, len)))
-  elseif tree:referenced(n.field) then
+  elseif c.referenced and tree:referenced(n.field) then
     item = is_le and tree:add_le(n.field, c.tvb(off, len)) or tree:add(n.field, c.tvb(off, len))
   end
-  if n.flags and (c.bits or not c.seen) then
+  if n.flags and (c.bits or not c.seen) and (c.seen or c.referenced) then
     for _, flag in ipairs(n.flags) do
       if wanted(c, tree, flag) then
         local range = c.tvb(off, len)
@@ -170,7 +179,7 @@ local show = {}
 local HEADS = {}
 local function show_head(c, item, head)
   if not head or not head.word or not (c.headers or not c.seen) then return end
-  if not c.seen and not item:referenced(F.length.field) and not item:referenced(F.word.field) then return end
+  if not c.seen and not wanted(c, item, F.length.field) and not wanted(c, item, F.word.field) then return end
   local key = (head.kernel or "") .. head.word .. (head.usual or "")
   local text = HEADS[key]
   if not text then
@@ -242,15 +251,18 @@ end
 
 -- Goes through attributes: the type and word of each, the places of header and payload, and its length. If the rest is no attribute, its type is false.
 local function attributes(c, off, stop)
+  local bytes, little = c.bytes, c.little
   return function()
     if off >= stop then return nil end
-    local at, room = off, stop - off
-    local size = room >= 4 and u16(c, at) or 0
+    local at, room, size, word = off, stop - off, 0, 0
+    if room >= 4 then
+      local a, b, e, d = byte(bytes, at + 1, at + 4)
+      if little then size, word = a + b * 256, e + d * 256 else size, word = a * 256 + b, e * 256 + d end
+    end
     if size < 4 or size > room then
       off = stop
       return false, 0, at, at, room
     end
-    local word = u16(c, at + 2)
     off = at + size + -size % 4
     return word % TYPE, word, at, at + 4, size - 4
   end

@@ -88,8 +88,23 @@ local function ipv6_text(s)
   return table.concat(parts, ":", 1, from - 1) .. "::" .. table.concat(parts, ":", from + best, 8)
 end
 
+-- An unsigned number of at most four bytes.
+local function small_at(c, n, off)
+  local a, b, e, d = byte(c.bytes, off + 1, off + n.width)
+  local little = c.little and not n.is_big
+  if d then
+    if little then a, b, e, d = d, e, b, a end
+    return ((a * 256 + b) * 256 + e) * 256 + d
+  end
+  return not b and a or little and a + b * 256 or a * 256 + b
+end
+
 -- A number: its digits, its sign, and its value, which is nil for a negative one.
 local function digits_at(c, n, off)
+  if n.width <= 4 and not n.is_signed then
+    local v = small_at(c, n, off)
+    return ("%d"):format(v), "", v
+  end
   local s = bytes_of(c, off, n.width)
   local digits, sign = decimal((c.little and not n.is_big and n.width > 1) and s:reverse() or s, n.is_signed)
   return digits, sign, sign == "" and tonumber(digits) or nil
@@ -112,7 +127,7 @@ end
 local function number_in_line(c, n, off)
   local digits, sign, v = digits_at(c, n, off)
   if n.enum == "tc_act" then return verdict(tonumber(sign .. digits)) end
-  local name = n.names_of and n.names_of[tonumber(sign .. digits)]
+  local name = n.names_of and n.names_of[v or tonumber(sign .. digits)]
   if name then return name end
   if n.enum then return sign .. digits end
   if n.bits and not n.names then
@@ -136,12 +151,12 @@ local function other(c, w, body, size) return ("attr%s="):format(w < TYPE and ("
 
 -- The value of a form that holds no others, as part of a word; malformed bytes as `{raw=dead}`, and then true.
 local function leaf_in_line(c, n, off, len)
+  if n.is_number and n.always == len then return number_in_line(c, n, off) end
   local s, what = bytes_of(c, off, len), n[1]
   if fault(n, s) then
     c.odd = true
     return "{raw=" .. hex(s) .. "}", true
   end
-  if n.is_number then return number_in_line(c, n, off) end
   if n.mask then
     local length = prefix(s)
     if length then return ("%d"):format(length) end
@@ -164,8 +179,7 @@ local function is_left_out(c, n, off, len)
   local v
   if n.is_number then
     if len ~= n.width then return false end
-    local _
-    _, _, v = digits_at(c, n, off)
+    if n.width <= 4 and not n.is_signed then v = small_at(c, n, off) else v = select(3, digits_at(c, n, off)) end
   elseif n.mask and len == n.width then v = prefix(bytes_of(c, off, len))
   elseif (n[1] == "bool" and len == 1) or (n[1] == "flag" and len == 0) then v = bytes_of(c, off, len) == "\0" and 0 or 1 end
   return v ~= nil and (left and v == left or below and v < below) or false
@@ -191,6 +205,7 @@ local function sound_list(c, n, off, len, kind, left)
 end
 function sound(c, n, off, len, kind, left)
   if left == 0 then return false end
+  if n.always then return len == n.always end
   if n.is_leaf then return not fault(n, bytes_of(c, off, len)) end
   if n[1] == "struct" then
     if len < n.least then return false end
@@ -435,7 +450,7 @@ end
 -- Writes a member, unless it is left out; true if it wrote the next one as well.
 local function write_member(c, x, off, len, out, S, after)
   if x.s ~= "Head" and x.s ~= "Rate" and is_left_out(c, x, off, len) then
-    if not x.is_leaf or fault(x, bytes_of(c, off, len)) then c.odd = not sound(c, x, off, len, S.kind, DEEPEST) or c.odd end
+    if x.always ~= len and (not x.is_leaf or fault(x, bytes_of(c, off, len))) then c.odd = not sound(c, x, off, len, S.kind, DEEPEST) or c.odd end
     return false
   end
   return (write[x.s] or write.Value)(c, x, off, len, out, S, after)

@@ -226,7 +226,7 @@ local function answer_line(c, ack, quote, at, whole)
     c.is_flush = false
     return lines_of(c, quote.type, at + 16, whole - 16, said .. " " .. request_verb(quote))
   end
-  return {said .. " " .. (ack.line or request_verb(quote) .. " " .. object_of(quote.type) .. " - -")}
+  return {said .. " " .. (ack.line and ack.line() or request_verb(quote) .. " " .. object_of(quote.type) .. " - -")}
 end
 
 -- What is known of an answer to a request of traffic control. An answer that is read for the first time is joined with its request.
@@ -279,14 +279,22 @@ local function show_message(c, h, at, len, tree, answer, speech)
 end
 
 -- A request as answers refer to it. One that is capped has neither its line nor its attributes.
-local function keep(c, h, at, len, number, key, line)
+local function keep(c, h, at, len, number, key, verb)
   local names
+  local copy = {bytes = c.bytes, little = c.little, links = c.links, is_flush = c.is_flush}
   if len > 40 then
-    local copy = {bytes = c.bytes, little = c.little}
     local list, size = is_action(h.type) and "action_message" or "tc", is_action(h.type) and 4 or 20
     names = function(place) return names_to(copy, list, at + 16 + size, at + len, at + place) end
   end
+  local function line() return lines_of(copy, h.type, at + 16, len - 16, verb)[1] end
   asked[bytes_of(c, at, 16)] = {frame = number, key = key, line = line, names = names}
+end
+
+-- True if all bytes of a message follow their forms, so that a tree which nobody sees has nothing to report.
+local function is_sound(c, h, at, len)
+  local size = is_action(h.type) and 4 or 20
+  return len == h.length and len >= 16 + size and bytes_of(c, at + 17, 3) == "\0\0\0"
+    and sound(c, size == 4 and BODIES.action or BODIES.tc, at + 16 + size, len - 16 - size, nil, DEEPEST)
 end
 
 -- The netlink message at a place: a tree of its own if it is traffic control, or answers it. Returns its lines for the list of packets.
@@ -305,14 +313,13 @@ local function show_one(c, h, at, len, root, pinfo, key)
       speech = speech_of(h)
       spoken[key] = speech
     end
-    local is_new = speech.is_request and not c.visited
-    if c.listed or is_new then lines = lines_of(c, h.type, at + 16, len - 16, speech.verb) end
-    if is_new then keep(c, h, at, len, pinfo.number, key, lines[1]) end
+    if c.listed then lines = lines_of(c, h.type, at + 16, len - 16, speech.verb) end
+    if speech.is_request and not c.visited then keep(c, h, at, len, pinfo.number, key, speech.verb) end
     for i, line in ipairs(lines or {}) do lines[i] = line .. (speech.by or "") end
   end
   local tree = root:add(tc, c.tvb(at, len))
   if wanted(c, tree, F.verb.field) then tree:add(F.verb.field, c.tvb(at, math.min(len, 16)), speech.verb):set_generated() end
-  if c.seen or c.referenced or c.odd or not c.listed then
+  if c.seen or c.referenced or c.odd or not c.listed and (is_answer or not is_sound(c, h, at, len)) then
     if len < h.length then tree:add_proto_expert_info(X.cut, ("%d bytes of %.0f are there"):format(len, h.length)) end
     local words = show_netlink(c, h, at, tree)
     if is_answer then

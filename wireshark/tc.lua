@@ -2542,12 +2542,20 @@ local function declare_number(n)
   end
 end
 
--- Gives a form its field and its width, and those in it.
+-- Forms of which any bytes of their length are.
+local ANY = {handle = true, mac = true, ipv4 = true, ipv6 = true}
+
+-- Gives a form its field and its width, and those in it; `always` is the length if any bytes of that length are of the form.
 local function prepare(n)
   local sort = SORTS[n[1]]
   n.width, n.is_leaf = n.width or WIDTHS[n[1]], sort ~= nil
   n.is_number, n.is_signed, n.is_big = sort ~= nil and sort:find("int") ~= nil, n[1]:sub(1, 1) == "s", n[1]:sub(1, 2) == "be"
   for _, inner in ipairs(n.parts or {n.inner or n.other}) do prepare(inner) end
+  if n.is_number or ANY[n[1]] then n.always = n.width end
+  if n[1] == "struct" then
+    n.always = 0
+    for _, x in ipairs(n.parts) do n.always = n.always and x.always and n.always + x.always end
+  end
   if n.element then n.element = declare(n.element, "none", n.inner[3], ABOUT[n.element]) end
   if n[2] and n.is_number then declare_number(n)
   elseif n[2] and n.frame then n.field = declare(n[2], sort, n[3], base.NONE, frametype[n.frame], 0, ABOUT[n[2]])
@@ -2573,9 +2581,10 @@ local function u32(c, off)
 end
 local function number_at(c, off, len) return len == 4 and u32(c, off) or u16(c, off) end
 
--- What a tree has at bytes: an item of a field, with this text if somebody sees it. If nobody does, only fields that a filter names have items.
+-- What a tree has at bytes: an item of a field, with this text if somebody sees it. If nobody does, only fields that a filter names have items; `c.referenced`
+-- is true if it names any.
 local function set(c, item, label, text) if c.seen then item:set_text(label .. ": " .. text) end end
-local function wanted(c, tree, field) return c.seen or tree:referenced(field) end
+local function wanted(c, tree, field) return c.seen or c.referenced and tree:referenced(field) end
 local function add(c, tree, n, off, len, text)
   local item = c.little and tree:add_le(n.field, c.tvb(off, len)) or tree:add(n.field, c.tvb(off, len))
   if text and c.seen then item:set_text(n[3] .. ": " .. text) end
@@ -2642,10 +2651,10 @@ local function show_number(c, n, off, len, tree)
     local range = c.tvb(off, len)
     item = is_le and tree:add_le(n.field, range) or tree:add(n.field, range)
     item:set_text(n[3] .. ": " .. number_text(c, n, bytes_of(c, off, len)))
-  elseif tree:referenced(n.field) then
+  elseif c.referenced and tree:referenced(n.field) then
     item = is_le and tree:add_le(n.field, c.tvb(off, len)) or tree:add(n.field, c.tvb(off, len))
   end
-  if n.flags and (c.bits or not c.seen) then
+  if n.flags and (c.bits or not c.seen) and (c.seen or c.referenced) then
     for _, flag in ipairs(n.flags) do
       if wanted(c, tree, flag) then
         local range = c.tvb(off, len)
@@ -2678,7 +2687,7 @@ local show = {}
 local HEADS = {}
 local function show_head(c, item, head)
   if not head or not head.word or not (c.headers or not c.seen) then return end
-  if not c.seen and not item:referenced(F.length.field) and not item:referenced(F.word.field) then return end
+  if not c.seen and not wanted(c, item, F.length.field) and not wanted(c, item, F.word.field) then return end
   local key = (head.kernel or "") .. head.word .. (head.usual or "")
   local text = HEADS[key]
   if not text then
@@ -2750,15 +2759,18 @@ end
 
 -- Goes through attributes: the type and word of each, the places of header and payload, and its length. If the rest is no attribute, its type is false.
 local function attributes(c, off, stop)
+  local bytes, little = c.bytes, c.little
   return function()
     if off >= stop then return nil end
-    local at, room = off, stop - off
-    local size = room >= 4 and u16(c, at) or 0
+    local at, room, size, word = off, stop - off, 0, 0
+    if room >= 4 then
+      local a, b, e, d = byte(bytes, at + 1, at + 4)
+      if little then size, word = a + b * 256, e + d * 256 else size, word = a * 256 + b, e * 256 + d end
+    end
     if size < 4 or size > room then
       off = stop
       return false, 0, at, at, room
     end
-    local word = u16(c, at + 2)
     off = at + size + -size % 4
     return word % TYPE, word, at, at + 4, size - 4
   end
@@ -2959,8 +2971,23 @@ local function ipv6_text(s)
   return table.concat(parts, ":", 1, from - 1) .. "::" .. table.concat(parts, ":", from + best, 8)
 end
 
+-- An unsigned number of at most four bytes.
+local function small_at(c, n, off)
+  local a, b, e, d = byte(c.bytes, off + 1, off + n.width)
+  local little = c.little and not n.is_big
+  if d then
+    if little then a, b, e, d = d, e, b, a end
+    return ((a * 256 + b) * 256 + e) * 256 + d
+  end
+  return not b and a or little and a + b * 256 or a * 256 + b
+end
+
 -- A number: its digits, its sign, and its value, which is nil for a negative one.
 local function digits_at(c, n, off)
+  if n.width <= 4 and not n.is_signed then
+    local v = small_at(c, n, off)
+    return ("%d"):format(v), "", v
+  end
   local s = bytes_of(c, off, n.width)
   local digits, sign = decimal((c.little and not n.is_big and n.width > 1) and s:reverse() or s, n.is_signed)
   return digits, sign, sign == "" and tonumber(digits) or nil
@@ -2983,7 +3010,7 @@ end
 local function number_in_line(c, n, off)
   local digits, sign, v = digits_at(c, n, off)
   if n.enum == "tc_act" then return verdict(tonumber(sign .. digits)) end
-  local name = n.names_of and n.names_of[tonumber(sign .. digits)]
+  local name = n.names_of and n.names_of[v or tonumber(sign .. digits)]
   if name then return name end
   if n.enum then return sign .. digits end
   if n.bits and not n.names then
@@ -3007,12 +3034,12 @@ local function other(c, w, body, size) return ("attr%s="):format(w < TYPE and ("
 
 -- The value of a form that holds no others, as part of a word; malformed bytes as `{raw=dead}`, and then true.
 local function leaf_in_line(c, n, off, len)
+  if n.is_number and n.always == len then return number_in_line(c, n, off) end
   local s, what = bytes_of(c, off, len), n[1]
   if fault(n, s) then
     c.odd = true
     return "{raw=" .. hex(s) .. "}", true
   end
-  if n.is_number then return number_in_line(c, n, off) end
   if n.mask then
     local length = prefix(s)
     if length then return ("%d"):format(length) end
@@ -3035,8 +3062,7 @@ local function is_left_out(c, n, off, len)
   local v
   if n.is_number then
     if len ~= n.width then return false end
-    local _
-    _, _, v = digits_at(c, n, off)
+    if n.width <= 4 and not n.is_signed then v = small_at(c, n, off) else v = select(3, digits_at(c, n, off)) end
   elseif n.mask and len == n.width then v = prefix(bytes_of(c, off, len))
   elseif (n[1] == "bool" and len == 1) or (n[1] == "flag" and len == 0) then v = bytes_of(c, off, len) == "\0" and 0 or 1 end
   return v ~= nil and (left and v == left or below and v < below) or false
@@ -3062,6 +3088,7 @@ local function sound_list(c, n, off, len, kind, left)
 end
 function sound(c, n, off, len, kind, left)
   if left == 0 then return false end
+  if n.always then return len == n.always end
   if n.is_leaf then return not fault(n, bytes_of(c, off, len)) end
   if n[1] == "struct" then
     if len < n.least then return false end
@@ -3306,7 +3333,7 @@ end
 -- Writes a member, unless it is left out; true if it wrote the next one as well.
 local function write_member(c, x, off, len, out, S, after)
   if x.s ~= "Head" and x.s ~= "Rate" and is_left_out(c, x, off, len) then
-    if not x.is_leaf or fault(x, bytes_of(c, off, len)) then c.odd = not sound(c, x, off, len, S.kind, DEEPEST) or c.odd end
+    if x.always ~= len and (not x.is_leaf or fault(x, bytes_of(c, off, len))) then c.odd = not sound(c, x, off, len, S.kind, DEEPEST) or c.odd end
     return false
   end
   return (write[x.s] or write.Value)(c, x, off, len, out, S, after)
@@ -3735,7 +3762,7 @@ local function answer_line(c, ack, quote, at, whole)
     c.is_flush = false
     return lines_of(c, quote.type, at + 16, whole - 16, said .. " " .. request_verb(quote))
   end
-  return {said .. " " .. (ack.line or request_verb(quote) .. " " .. object_of(quote.type) .. " - -")}
+  return {said .. " " .. (ack.line and ack.line() or request_verb(quote) .. " " .. object_of(quote.type) .. " - -")}
 end
 
 -- What is known of an answer to a request of traffic control. An answer that is read for the first time is joined with its request.
@@ -3788,14 +3815,22 @@ local function show_message(c, h, at, len, tree, answer, speech)
 end
 
 -- A request as answers refer to it. One that is capped has neither its line nor its attributes.
-local function keep(c, h, at, len, number, key, line)
+local function keep(c, h, at, len, number, key, verb)
   local names
+  local copy = {bytes = c.bytes, little = c.little, links = c.links, is_flush = c.is_flush}
   if len > 40 then
-    local copy = {bytes = c.bytes, little = c.little}
     local list, size = is_action(h.type) and "action_message" or "tc", is_action(h.type) and 4 or 20
     names = function(place) return names_to(copy, list, at + 16 + size, at + len, at + place) end
   end
+  local function line() return lines_of(copy, h.type, at + 16, len - 16, verb)[1] end
   asked[bytes_of(c, at, 16)] = {frame = number, key = key, line = line, names = names}
+end
+
+-- True if all bytes of a message follow their forms, so that a tree which nobody sees has nothing to report.
+local function is_sound(c, h, at, len)
+  local size = is_action(h.type) and 4 or 20
+  return len == h.length and len >= 16 + size and bytes_of(c, at + 17, 3) == "\0\0\0"
+    and sound(c, size == 4 and BODIES.action or BODIES.tc, at + 16 + size, len - 16 - size, nil, DEEPEST)
 end
 
 -- The netlink message at a place: a tree of its own if it is traffic control, or answers it. Returns its lines for the list of packets.
@@ -3814,14 +3849,13 @@ local function show_one(c, h, at, len, root, pinfo, key)
       speech = speech_of(h)
       spoken[key] = speech
     end
-    local is_new = speech.is_request and not c.visited
-    if c.listed or is_new then lines = lines_of(c, h.type, at + 16, len - 16, speech.verb) end
-    if is_new then keep(c, h, at, len, pinfo.number, key, lines[1]) end
+    if c.listed then lines = lines_of(c, h.type, at + 16, len - 16, speech.verb) end
+    if speech.is_request and not c.visited then keep(c, h, at, len, pinfo.number, key, speech.verb) end
     for i, line in ipairs(lines or {}) do lines[i] = line .. (speech.by or "") end
   end
   local tree = root:add(tc, c.tvb(at, len))
   if wanted(c, tree, F.verb.field) then tree:add(F.verb.field, c.tvb(at, math.min(len, 16)), speech.verb):set_generated() end
-  if c.seen or c.referenced or c.odd or not c.listed then
+  if c.seen or c.referenced or c.odd or not c.listed and (is_answer or not is_sound(c, h, at, len)) then
     if len < h.length then tree:add_proto_expert_info(X.cut, ("%d bytes of %.0f are there"):format(len, h.length)) end
     local words = show_netlink(c, h, at, tree)
     if is_answer then
