@@ -1,7 +1,7 @@
 // The first process of a guest: it sends the requests of $DIR/script over route netlink, writes to $DIR/answers what
 // comes back, and powers the guest off. Each try of the script gets a process and a network namespace of its own. The
-// kernel's modules are below $MODULES; time limits are $SLOWNESS times as long. In qemu it begins in an initial file
-// system, and first goes on to the machine's files.
+// kernel's modules are below $MODULES, its tc is that of $IPROUTE2 if that is set; time limits are $SLOWNESS times as
+// long. In qemu it begins in an initial file system, and first goes on to the machine's files.
 //
 // script:   try NAME                    what follows up to the next try belongs to NAME
 //           link NUMBER [QUEUES]        makes the dummy link dNUMBER, which stays down, so that no packet is counted
@@ -99,6 +99,30 @@ static void load_modules(void) {
     free(line);
     if (list)
         fclose(list);
+}
+
+// Nothing looks for modules from here on: those that a guest may need are there, and for each kind that a kernel lacks it would start a program.
+static void load_no_more(void) {
+    int fd = open("/proc/sys/kernel/modprobe", O_WRONLY | O_CLOEXEC);
+
+    if (fd < 0 || write(fd, "\n", 1) != 1)
+        fputs("guest: modules are still looked for\n", stderr);
+    close(fd);
+}
+
+// What shells look for in /dev.
+static void link_descriptors(void) {
+    if ((symlink("/proc/self/fd", "/dev/fd") || symlink("fd/0", "/dev/stdin") || symlink("fd/1", "/dev/stdout") || symlink("fd/2", "/dev/stderr")) && errno != EEXIST)
+        fprintf(stderr, "guest: no /dev/fd: %s\n", strerror(errno));
+}
+
+// Programs are the machine's, but for those of the folder $IPROUTE2.
+static void set_path(void) {
+    const char *own = getenv("IPROUTE2");
+    char text[1024];
+
+    snprintf(text, sizeof text, "%s%s%s%s/usr/sbin:/usr/bin:/sbin:/bin", own ? own : "", own ? "/sbin:" : "", own ? own : "", own ? "/usr/sbin:" : "");
+    setenv("PATH", text, 1);
 }
 
 // ---- The machine's files, in qemu
@@ -802,10 +826,12 @@ int main(void) {
     char *script = whole_file(folder, "script");
     if (answers && script) {
         fprintf(answers, "kernel %s\n", system.release);
-        setenv("PATH", "/usr/sbin:/usr/bin:/sbin:/bin", 1);
+        set_path();
         mount("proc", "/proc", "proc", 0, NULL);
         mount("tmpfs", "/run", "tmpfs", 0, "mode=755"); // what programs keep there is not of the machine
+        link_descriptors();
         load_modules();
+        load_no_more();
         open_program();
         for (from = script; *from; from = to) {
             int status;

@@ -41,12 +41,14 @@ def compile_guest():
     if not compiler:
         lacks("The package gcc is not installed, which compiles the guest.")
     os.makedirs(OUT, exist_ok=True)
-    flags = ["-O2", "-Wall", "-Wextra", "-static"]
-    if subprocess.run([compiler, *flags, "-o", f"{OUT}/guest", f"{HERE}/guest.c"]).returncode:
+    flags, own = ["-O2", "-Wall", "-Wextra"], str(os.getpid())
+    if subprocess.run([compiler, *flags, "-static", "-o", f"{OUT}/guest.{own}", f"{HERE}/guest.c"]).returncode:
         lacks("guest.c was not compiled: it takes the packages gcc, libc6-dev and linux-libc-dev.")
     with open("/proc/cpuinfo") as file:
-        own = ["-DAMX"] if "amx_tile" in file.read().split() else []
-    subprocess.run([compiler, *flags[:3], *own, "-shared", "-fPIC", "-o", f"{OUT}/traced.so", f"{HERE}/traced.c"], check=True)
+        flags += ["-DAMX"] if "amx_tile" in file.read().split() else []
+    subprocess.run([compiler, *flags, "-shared", "-fPIC", "-o", f"{OUT}/traced.so.{own}", f"{HERE}/traced.c"], check=True)
+    for it in ("guest", "traced.so"):  # another run may have them open
+        os.replace(f"{OUT}/{it}.{own}", f"{OUT}/{it}")
 
 
 def environment():
@@ -72,10 +74,16 @@ def chosen():
     return CHOSEN[0] if CHOSEN else choose("uml")
 
 
+def place():
+    """Where guests with this kernel have their folders: those of different kernels may run at a time."""
+    return OUT if chosen().is_uml else f"{OUT}/{chosen().name}"
+
+
 def booting(folder):
     """The words that boot a guest with this folder."""
     kernel = chosen()
     own = [f"DIR={folder}", f"OUT={OUT}", f"MODULES={kernel.modules}", f"SLOWNESS={kernel.slowness}", "quiet"]
+    own += [f"IPROUTE2={kernel.iproute2}"] if kernel.iproute2 else []
     if kernel.is_uml:
         return [*kernel.words, "mem=256M", "rootfstype=hostfs", "rw", "con=null", "con0=fd:0,fd:1", f"uml_dir={folder}/", "umid=guest", f"init={OUT}/guest", *own]
     return [*kernel.words, "-append", " ".join(["console=ttyS0", "panic=-1", "no_timer_check", *own])]
@@ -93,7 +101,7 @@ class Guest:
     """A script for the guest, each different try in it once, and the answers by the numbers of the tries."""
 
     def __init__(self, name):
-        self.folder, self.tries, self.answers, self.kernel = f"{OUT}/{name}", {}, {}, ""
+        self.folder, self.tries, self.answers, self.kernel = f"{place()}/{name}", {}, {}, ""
         shutil.rmtree(self.folder, ignore_errors=True)
         os.makedirs(self.folder)
 

@@ -4,12 +4,15 @@ A package is taken from Debian's mirror into out/kernels/VERSION: found by an ap
 with dpkg-deb. Nothing is installed."""
 
 import collections
+import contextlib
+import fcntl
 import glob
 import lzma
 import os
 import re
 import shutil
 import subprocess
+import time
 
 HERE = os.path.dirname(os.path.abspath(__file__))
 OUT = f"{HERE}/out"
@@ -18,7 +21,8 @@ OUT = f"{HERE}/out"
 SUITES = ("bookworm", "bookworm-backports", "trixie", "trixie-backports")
 MIRROR, KEYS = "http://deb.debian.org/debian", "/usr/share/keyrings/debian-archive-keyring.gpg"
 META = "linux-image-amd64"  # depends on the newest kernel of its suite
-PARTS = r"linux-(?:image|modules)-\d"  # the packages with a kernel and its modules, which newer ones have apart
+FRESH = 86400  # seconds after which Debian is asked again
+PARTS = r"linux-(?:image|binary|base|modules)-\d"  # the packages with a kernel and its modules, which newer ones have apart
 
 # Modules by which a guest has the machine's files, before it can load others from there; those that a kernel lacks are built into it.
 FIRST = ("virtio", "virtio_ring", "virtio_pci_modern_dev", "virtio_pci_legacy_dev", "virtio_pci", "fscache", "netfs", "9pnet", "9pnet_virtio", "9p")
@@ -29,8 +33,9 @@ WANTED = r"(net|lib|crypto|arch|kernel|fs/(9p|netfs|fscache)|drivers/(virtio|net
 TRIAL = 30  # seconds in which a kernel has to end with KVM
 SLOWLY = 8  # how much longer what has a time limit takes without KVM
 
-# A kernel: its name as --kernel has it, the command line that boots it up to what depends on the guest, where its modules are, and what time limits are multiplied by.
-Kernel = collections.namedtuple("Kernel", "name words modules slowness is_uml")
+# A kernel: its name, the command line that boots it up to what depends on the guest, where its modules are, what time limits are multiplied by, the folder with
+# an iproute2 of its age, empty for the machine's own, and the version of that.
+Kernel = collections.namedtuple("Kernel", "name words modules slowness is_uml iproute2 tc")
 
 
 class Lacking(Exception):
@@ -49,7 +54,7 @@ def uml():
     if not path or not os.path.isdir("/usr/lib/uml/modules"):
         raise Lacking("The package user-mode-linux is not installed, which has the kernel that is asked.")
     release = next(iter(sorted(os.listdir("/usr/lib/uml/modules"))), "")
-    return Kernel(f"{release}-uml", [path], "/usr/lib/uml/modules", 1, True)
+    return Kernel(f"{release}-uml", [path], "/usr/lib/uml/modules", 1, True, *iproute2(release))
 
 
 # ---- Packages
@@ -73,13 +78,29 @@ def apt(*words):
 
 
 def update():
-    apt("apt-get", "-qq", "update")
+    """What Debian has is asked once a day. Without a network what was there before counts."""
+    own = f"{OUT}/apt/updated"
+    if os.path.exists(own) and time.time() - os.path.getmtime(own) < FRESH:
+        return
+    try:
+        apt("apt-get", "-qq", "update")
+    except Lacking:
+        if not os.path.exists(own):
+            raise
+    open(own, "w").close()
+
+
+def show(package):
+    """What the suites have of a package: a paragraph for each version."""
+    with locked():
+        update()
+        return apt("apt-cache", "show", package)
 
 
 def versions():
     """What the suites have: versions of META, the newest first, each with the packages that have that kernel."""
     out = {}
-    for text in apt("apt-cache", "show", META).split("\n\n"):
+    for text in show(META).split("\n\n"):
         own = dict(re.findall(r"^(Version|Depends): (.*)$", text, re.M))
         if own:
             out[own["Version"]] = re.findall(rf"({PARTS}[^\s,]*)", own.get("Depends", ""))
@@ -93,20 +114,40 @@ def number(version):
 def fetch(wanted):
     """Unpacks the newest kernel whose version begins as wanted (`6.12`) into out/kernels; `newest` is the newest of all. Returns the folder."""
     begins = [] if wanted == "newest" else number(wanted)
-    found = [(version, packages) for version, packages in versions().items() if number(version)[: len(begins)] == begins]
+    known = versions()
+    found = [(version, packages) for version, packages in known.items() if number(version)[: len(begins)] == begins]
     if not found:
-        raise Lacking(f"Debian has no kernel {wanted}: {', '.join(versions())}")
+        raise Lacking(f"Debian has no kernel {wanted}: {', '.join(known)}")
     version, packages = found[0]
-    folder = f"{OUT}/kernels/{version}"
-    if not os.path.exists(f"{folder}/complete"):
-        shutil.rmtree(folder, ignore_errors=True)
-        os.makedirs(folder)
-        depends = re.search(r"^Depends: (.*)$", apt("apt-cache", "show", f"{packages[0]}={version}"), re.M)[1]
-        for it in dict.fromkeys([*packages, *re.findall(rf"({PARTS}[^\s,]*)", depends)]):
-            unpack(f"{it}={version}", folder)
-        make_modules(folder)
-        open(f"{folder}/complete", "w").close()
+    return unpacked(f"kernels/{version}", lambda folder: fill(folder, version, packages))
+
+
+def fill(folder, version, packages):
+    depends = re.search(r"^Depends: (.*)$", apt("apt-cache", "show", f"{packages[0]}={version}"), re.M)[1]
+    for it in dict.fromkeys([*packages, *re.findall(rf"({PARTS}[^\s,]*)", depends)]):
+        unpack(f"{it}={version}", folder)
+    make_modules(folder)
+
+
+def unpacked(name, fill):
+    """The folder of this name below out, which `fill` fills once."""
+    folder = f"{OUT}/{name}"
+    with locked():
+        if not os.path.exists(f"{folder}/complete"):
+            shutil.rmtree(folder, ignore_errors=True)
+            os.makedirs(folder)
+            fill(folder)
+            open(f"{folder}/complete", "w").close()
     return folder
+
+
+@contextlib.contextmanager
+def locked():
+    """One at a time fetches kernels, or records what was found: others wait."""
+    os.makedirs(OUT, exist_ok=True)
+    with open(f"{OUT}/lock", "w") as file:
+        fcntl.flock(file, fcntl.LOCK_EX)
+        yield
 
 
 def unpack(package, folder):
@@ -114,6 +155,26 @@ def unpack(package, folder):
     for path in glob.glob(f"{OUT}/apt/{package.partition('=')[0]}_*.deb"):
         subprocess.run([need("dpkg-deb", "dpkg"), "-x", path, folder], check=True)
         os.remove(path)
+
+
+def iproute2(kernel):
+    """The folder with Debian's newest iproute2 that runs with the machine's libraries, for a kernel that is newer than the machine's own; "" for that. Its version."""
+    own = version_of(need("tc", "iproute2"))
+    if number(kernel)[:2] <= number(own)[:2]:
+        return "", own
+    every = set(re.findall(r"^Version: (.*)$", show("iproute2"), re.M))
+    for version in sorted(every, key=lambda it: (number(it), "~" not in it), reverse=True):
+        folder = unpacked(f"iproute2/{version}", lambda folder: unpack(f"iproute2={version}", folder))
+        found = next((version_of(it) for it in (f"{folder}/sbin/tc", f"{folder}/usr/sbin/tc") if os.path.exists(it)), "")
+        if found:
+            return (folder, found) if number(found) > number(own) else ("", own)
+    return "", own
+
+
+def version_of(tc):
+    """The version of a tc; empty if it doesn't run here."""
+    done = subprocess.run([tc, "-V"], capture_output=True, text=True)
+    return done.stdout.partition("iproute2-")[2].partition(",")[0].strip()
 
 
 def release_of(folder):
@@ -166,7 +227,7 @@ def accelerated(with_kvm):
 
 
 def vmlinuz(folder):
-    return glob.glob(f"{folder}/boot/vmlinuz-*")[0]
+    return next(path for it in ("boot/vmlinuz-*", "usr/lib/modules/*/vmlinuz") for path in glob.glob(f"{folder}/{it}"))
 
 
 def cpio(files):
@@ -205,4 +266,4 @@ def debian(wanted, guest, with_kvm=True):
     for tag, path in (("machine", "/"), ("out", OUT)):
         words += ["-fsdev", f"local,id={tag},path={path},security_model=none,multidevs=remap", "-device", f"virtio-9p-pci,fsdev={tag},mount_tag={tag}"]
     release, modules = release_of(f"{folder}/base")
-    return Kernel(release, words, os.path.dirname(modules), 1 if kvm else SLOWLY, False)
+    return Kernel(release, words, os.path.dirname(modules), 1 if kvm else SLOWLY, False, *iproute2(release))

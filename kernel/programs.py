@@ -32,9 +32,11 @@ class Programs:
             if not os.access(path, os.X_OK):
                 lacks(f"There is no program {path}.")
         os.makedirs(OUT, exist_ok=True)
-        with open(f"{OUT}/programs", "w") as file:
+        own = f"{OUT}/programs.{os.getpid()}"
+        with open(own, "w") as file:
             file.writelines(f"{name.upper()}={path}\nexport {name.upper()}\n" for name, path in self.paths.items())
             file.write(f"TMPDIR={OUT}\nexport TMPDIR\n")
+        os.replace(own, f"{OUT}/programs")  # another run may read it
 
     def rewriting(self):
         """The path of tcrewrite."""
