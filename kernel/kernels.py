@@ -158,7 +158,8 @@ def unpack(package, folder):
 
 
 def iproute2(kernel):
-    """The folder with Debian's newest iproute2 that runs with the machine's libraries, for a kernel that is newer than the machine's own; "" for that. Its version."""
+    """The folder with Debian's newest iproute2 that runs with the machine's libraries, for a kernel that is newer than the machine's own; "" for that. And the
+    version of its tc."""
     own = version_of(need("tc", "iproute2"))
     if number(kernel)[:2] <= number(own)[:2]:
         return "", own
@@ -206,7 +207,8 @@ def make_modules(folder):
 
 
 def works(qemu, folder):
-    """Whether KVM boots this kernel here: without a root file system it ends at once. Some machines have /dev/kvm, and not what such a kernel needs. It is tried once."""
+    """Whether KVM boots this kernel here: without a root file system it ends at once. Some machines have /dev/kvm, and not what such a kernel needs. It is
+    tried once."""
     known = f"{folder}/kvm"
     if not os.access("/dev/kvm", os.R_OK | os.W_OK):
         return False

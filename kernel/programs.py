@@ -57,9 +57,10 @@ class Programs:
         """Applies a save. What was there before is kept in the folder `state`."""
         return self.command(f"timeout {100 * chosen().slowness} $TCAPPLY {ALLOWED['tcapply']} --state {state} {file}")
 
-    def applied(self, dev, command, state):
-        """Applies to an interface what a command makes."""
-        return self.command(f"timeout {100 * chosen().slowness} $TCAPPLY --state {state} --dev {dev} -- {command}")
+    def applied(self, devs, command, state):
+        """Applies to interfaces what a command makes."""
+        named = " ".join(f"--dev {it}" for it in devs)
+        return self.command(f"timeout {100 * chosen().slowness} $TCAPPLY {ALLOWED['tcapply']} --state {state} {named} -- {command}")
 
     def words(self, name, *options):
         """The words that start a program, without a shell."""
