@@ -77,10 +77,7 @@ static void insert(const char *folder, const char *file) {
 // Loads each module whose path starts as one of `wanted`, what it depends on first. A line of modules.dep is
 // `FILE: FILE FILE ..`, the dependencies from the last to be loaded to the first. A module that is already there
 // fails quietly.
-static void load_modules(void) {
-    static const char *wanted[] = {"kernel/drivers/net/dummy.ko", "kernel/drivers/net/ifb.ko", "kernel/drivers/net/nlmon.ko",
-                                   "kernel/drivers/net/veth.ko",  "kernel/drivers/net/netdevsim/", "kernel/net/sched/sch_",
-                                   "kernel/net/sched/cls_",       "kernel/net/sched/act_",     "kernel/net/sched/em_"};
+static void load_each(const char *const *wanted, size_t wanted_count) {
     char path[1024], *line = NULL;
     size_t room = 0;
 
@@ -89,7 +86,7 @@ static void load_modules(void) {
     while (list && getline(&line, &room, list) > 0) {
         char *words[64], *word;
         int count = 0, is_wanted = 0;
-        for (size_t i = 0; i < sizeof wanted / sizeof *wanted; i++)
+        for (size_t i = 0; i < wanted_count; i++)
             is_wanted |= !strncmp(line, wanted[i], strlen(wanted[i]));
         for (word = strtok(line, ": \n"); is_wanted && word && count < 64; word = strtok(NULL, ": \n"))
             words[count++] = word;
@@ -99,6 +96,17 @@ static void load_modules(void) {
     free(line);
     if (list)
         fclose(list);
+}
+
+// The checksum that libcrc32c, and by it csum, ct, connmark and ctinfo need first isn't among their dependencies.
+static void load_modules(void) {
+    static const char *const first[] = {"kernel/crypto/crc32c"};
+    static const char *const wanted[] = {"kernel/drivers/net/dummy.ko", "kernel/drivers/net/ifb.ko", "kernel/drivers/net/nlmon.ko",
+                                         "kernel/drivers/net/veth.ko",  "kernel/drivers/net/netdevsim/", "kernel/net/sched/sch_",
+                                         "kernel/net/sched/cls_",       "kernel/net/sched/act_",     "kernel/net/sched/em_"};
+
+    load_each(first, sizeof first / sizeof *first);
+    load_each(wanted, sizeof wanted / sizeof *wanted);
 }
 
 // Nothing looks for modules from here on: those that a guest may need are there, and for each kind that a kernel lacks it would start a program.

@@ -149,6 +149,12 @@ class Kind:
         return "in place" if count else "anew" if len(fresh) > 1 else "-"
 
 
+def has_module(kind):
+    """Whether the kernel has the module of a kind."""
+    sort, name = kind.split()
+    return bool(glob.glob(f"{chosen().modules}/*/kernel/net/sched/{ {'filter': 'cls', 'action': 'act'}.get(sort, 'sch') }_{name}.ko"))
+
+
 def first(some):
     return next((it for it in some if it), "")
 
@@ -175,7 +181,7 @@ class Kinds:
     def judge(self):
         """Says what isn't shown, restored or there as it should be, but for what `reasons.txt` has."""
         self.rows = [it for it in (kind.judge() for kind in self.kinds) if it]
-        expected, own = reasons(), [it for it in self.rows if not re.search(LACKED, it.made)]
+        expected, own = reasons(), [it for it in self.rows if not re.search(LACKED, it.made) or has_module(it.kind)]
         excused = 0
         for row in own:
             for what, text in zip(Row._fields[1:], row[1:]):
