@@ -143,9 +143,8 @@ mod tests {
         assert!(!is_accepted(&two(RTM_NEWACTION, action("gact", 2, 6))));
         // no kind, no index, no parameters
         for own in [nest(&[(3, &[5, 0, 0, 0])]), nest(&[(1, b"gact")]), nest(&[(1, b"gact"), (2, &[])])] {
-            assert!(
-                ![RTM_NEWACTION, RTM_DELACTION].into_iter().any(|kind| is_accepted(&of_actions(kind, &[own.clone()])))
-            );
+            let own = [own];
+            assert!(![RTM_NEWACTION, RTM_DELACTION].into_iter().any(|kind| is_accepted(&of_actions(kind, &own))));
         }
         // all of a kind
         assert!(!is_accepted(&of_actions(RTM_DELACTION, &[nest(&[(1, b"gact")])])));

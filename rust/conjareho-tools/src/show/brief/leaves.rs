@@ -72,7 +72,7 @@ fn is_address(value: Value<'_>) -> bool {
 
 /// A number as its row says.
 fn number(row: &'static Row, n: u64) -> Value<'static> {
-    let name = if let Names::Enum(_) = row.names { row.names.of(n.cast_signed()) } else { None };
+    let name = if let Names::Enum(_) = row.names { row.names.of(n as i64) } else { None };
     match name {
         Some(name) => Value::Named(name, n),
         None if row.unit == visit::Unit::Interface => Value::Interface(n),
@@ -86,7 +86,7 @@ fn signed(row: &'static Row, n: i64) -> Value<'static> {
     match (name, u64::try_from(n)) {
         (None, Ok(n)) => number(row, n),
         // The bits of a number of 32.
-        (Some(name), _) => Value::Named(name, n.cast_unsigned() & 0xffff_ffff),
+        (Some(name), _) => Value::Named(name, n as u64 & 0xffff_ffff),
         (None, Err(_)) => Value::Signed(n),
     }
 }

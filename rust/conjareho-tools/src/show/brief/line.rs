@@ -201,7 +201,7 @@ impl Line<'_> {
             return Ok(());
         }
         self.word(b"protocol")?;
-        match PROTOCOLS.of(n.cast_signed()) {
+        match PROTOCOLS.of(n as i64) {
             Some(name) => self.word(name.label.as_bytes()),
             None => {
                 self.begin();

@@ -152,7 +152,7 @@ impl Line<'_> {
             Some(parts) => parts,
             None => return self.other_bits(n),
         };
-        let bit = name.number.cast_unsigned();
+        let bit = name.number as u64;
         if !is_set(bit, n) {
             return self.bits(others, n);
         }

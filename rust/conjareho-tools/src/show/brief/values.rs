@@ -28,7 +28,7 @@ fn put_names(out: &mut Vec<u8>, first: bool, names: &[Name], n: u64) -> Result<(
         Some(parts) => parts,
         None => return put_others(out, first, n),
     };
-    let bit = name.number.cast_unsigned();
+    let bit = name.number as u64;
     if !is_set(bit, n) {
         return put_names(out, first, others, n);
     }
@@ -90,7 +90,7 @@ fn put_shown(out: &mut Vec<u8>, leaf: &Leaf<'_>, n: u64) -> Result<(), AllocErro
         return put_decimal(out, n);
     }
     match leaf.row.names {
-        Names::Numbers(_) => match leaf.row.names.of(n.cast_signed()) {
+        Names::Numbers(_) => match leaf.row.names.of(n as i64) {
             Some(name) => out.try_extend(name.label.as_bytes()),
             None => put_number(out, unit_of(leaf.row), n),
         },
