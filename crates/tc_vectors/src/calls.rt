@@ -7,11 +7,11 @@ mod messages;
 mod rewriting;
 
 pub(crate) use attributes::{
-    are_attributes, are_options, is_cut_option, is_option_settled, is_read_attribute,
-    is_read_option, is_settled_attribute, is_settled_option,
+    are_attributes, are_options, is_cut_option, is_read_option, is_settled_attribute,
+    is_settled_option,
 };
 pub(crate) use messages::{
-    Message, emitted, fault_of, is_action, is_cloned, is_read_as, is_settled, is_tc, is_unwritable,
-    length_of, reads_back,
+    Message, emitted, fault_of, is_cloned, is_made, is_read_as, is_unwritable, length_of,
+    reads_back,
 };
 pub(crate) use rewriting::{is_canonical, rewrite, settle};

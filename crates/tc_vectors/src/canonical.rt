@@ -3,7 +3,7 @@
 use crate::calls::is_canonical;
 use crate::row_kinds::{Says, are_right};
 use crate::tables::{bytes_of, cells};
-use std::alloc::Global;
+use std::alloc::{AllocError, Global};
 use std::test::*;
 use tc_canon::{
     canon_action, canon_action_options, canon_actions, canon_lse, canon_mpls, canon_options,
@@ -144,19 +144,12 @@ uml61.note.newaction.gact.001 | 00000000b4000100b0000100090001006761637400000000
 "#;
 
 /// True if a message is canonical as its row has it.
-pub(crate) fn is_judged_rightly(alloc: Global, form: Form, row: &str) -> bool {
-    match cells(row) {
-        Some((_, hex, answer)) => match bytes_of(alloc, &[], hex) {
-            Ok(bytes) => answer
-                == if is_canonical(form, &bytes) {
-                    "yes"
-                } else {
-                    "no"
-                },
-            Err(_) => false,
-        },
-        None => false,
-    }
+pub(crate) fn is_judged_rightly(alloc: Global, form: Form, row: &str) -> Result<bool, AllocError> {
+    let Some((_, hex, answer)) = cells(row) else {
+        return Ok(false);
+    };
+    let is_yes = is_canonical(form, &bytes_of(alloc, &[], hex)?);
+    Ok(answer == if is_yes { "yes" } else { "no" })
 }
 
 #[test]
@@ -200,10 +193,7 @@ fn cut_off(rt: HostRuntime) -> Result<(), Fail> {
     for n in 0..=48usize {
         let (front, _) = bytes.split_at(n.min(bytes.len()));
         assert!(rt; front.len() == n, "{n}");
-        assert!(rt;
-            is_canonical_tc(front) == (n == 20 || n == 36 || n == 48),
-            "{n}"
-        );
+        assert!(rt; is_canonical_tc(front) == matches!(n, 20 | 36 | 48), "{n}");
     }
     Ok(())
 }

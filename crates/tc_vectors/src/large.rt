@@ -84,14 +84,6 @@ fn is_read(alloc: Global, row: &Row, attributes: &str) -> bool {
     }
 }
 
-/// True if the row of this place is read as its attributes are spelled here.
-fn is_spelled(alloc: Global, row: &Row, place: usize) -> bool {
-    match attributes_of(alloc, place) {
-        Ok(attributes) => is_read(alloc, row, &attributes),
-        Err(_) => false,
-    }
-}
-
 /// True if the warning is settled without its NULs, of which each rewrite takes one away.
 fn is_settled(alloc: Global, bytes: &[u8]) -> bool {
     let wanted = [0, 0, 0, 0, 5, 0, 5, 0, b'a', 0, 0, 0];
@@ -104,7 +96,10 @@ fn are_read_and_written(rt: HostRuntime) -> Result<(), Fail> {
     let rows = large_messages(alloc)?;
     assert_eq!(rt; rows.len(), 4);
     for (place, row) in rows.iter().enumerate() {
-        assert!(rt; is_spelled(alloc, row, place), "{place}");
+        assert!(rt;
+            is_read(alloc, row, &attributes_of(alloc, place)?),
+            "{place}"
+        );
     }
     assert!(rt; is_settled(alloc, &rows[3].input.bytes));
     Ok(())

@@ -4,6 +4,7 @@ use crate::calls::{is_unwritable, length_of};
 use crate::made::{kind, message, option, pushed};
 use nla_frames::DefaultNla;
 use std::alloc::{AllocError, Global};
+use std::test::Fail;
 use tc_canon::is_canonical_tc;
 use tc_wire::{TcAttribute, TcMessage, TcOption, TcQdiscFqCodelOption, TcQdiscIngressOption};
 use tests_data::{Form, too_long};
@@ -38,15 +39,9 @@ fn is_too_long(alloc: Global, bytes: &[u8]) -> bool {
 }
 
 #[test]
-fn of_options(rt: HostRuntime) {
-    let alloc = rt.alloc();
-    let input = too_long(alloc, Form::Tc);
-    assert!(rt;
-        match &input {
-            Ok(input) => is_too_long(alloc, &input.bytes),
-            Err(_) => false,
-        }
-    );
+fn of_options(rt: HostRuntime) -> Result<(), Fail> {
+    assert!(rt; is_too_long(rt.alloc(), &too_long(rt.alloc(), Form::Tc)?.bytes));
+    Ok(())
 }
 
 /// The length of a message with an option of this length, if it fits.

@@ -3,8 +3,6 @@
 #![tactic(auto)]
 
 #[cfg(test)]
-mod action_messages;
-#[cfg(test)]
 mod calls;
 #[cfg(test)]
 mod canonical;
@@ -14,8 +12,6 @@ mod exports;
 mod flower;
 #[cfg(test)]
 mod hostile;
-#[cfg(test)]
-mod known;
 #[cfg(test)]
 mod large;
 #[cfg(test)]

@@ -1,6 +1,6 @@
 //! Worked messages.
 
-use crate::calls::{are_attributes, are_options, fault_of, is_cut_option, is_read_option, is_tc};
+use crate::calls::{are_attributes, are_options, fault_of, is_cut_option, is_made, is_read_option};
 use crate::made::{kept, message, pushed};
 use crate::worked::{NO_HEADER, is_message};
 use std::alloc::{AllocError, Global};
@@ -65,15 +65,8 @@ fn messages_are_read_and_written(rt: HostRuntime) {
 fn padding_of_a_header_is_dropped(rt: HostRuntime) {
     let mut padded = [0; 20];
     padded[1] = 7;
-    assert!(rt;
-        is_message(
-            rt.alloc(),
-            Form::Tc,
-            &padded,
-            (NO_HEADER, "[]"),
-            (&[0; 20], true)
-        )
-    );
+    let written = ([0; 20].as_slice(), true);
+    assert!(rt; is_message(rt.alloc(), Form::Tc, &padded, (NO_HEADER, "[]"), written));
 }
 
 fn too_small(len: usize) -> Option<DecodeError> {
@@ -148,10 +141,10 @@ fn messages_are_made(rt: HostRuntime) {
     let alloc = rt.alloc();
     assert!(rt; TcMessage::with_index(alloc, 7).header.index == 7);
     let empty = Some(without_index(alloc));
-    assert!(rt; is_tc(alloc, empty, (NO_HEADER, "[]"), Some((&[0; 20], true))));
+    assert!(rt; is_made(alloc, empty, (NO_HEADER, "[]"), Some((&[0; 20], true))));
     let kept = with_kept(alloc).ok();
     assert!(rt;
-        is_tc(
+        is_made(
             alloc,
             kept,
             (NO_HEADER, KEPT_KIND),

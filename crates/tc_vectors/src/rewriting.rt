@@ -10,10 +10,7 @@ use tests_data::{Form, too_long};
 
 /// True if bytes are rewritten as others.
 pub(crate) fn becomes(alloc: Global, form: Form, bytes: &[u8], written: &[u8]) -> bool {
-    match rewrite(alloc, form, bytes) {
-        Ok(rewritten) => rewritten.as_slice() == written,
-        Err(_) => false,
-    }
+    matches!(&rewrite(alloc, form, bytes), Ok(rewritten) if rewritten.as_slice() == written)
 }
 
 /// True if bytes became these, which are canonical, after so many rewrites.
@@ -86,20 +83,19 @@ fn is_too_small(alloc: Global, form: Form, bytes: &[u8], needed: usize) -> bool 
 }
 
 // True if a message can't be written, since a value would be too long.
-fn does_not_fit(alloc: Global, form: Form) -> bool {
-    match too_long(alloc, form) {
-        Ok(long) => cause_of(alloc, form, &long.bytes) == Some(RewriteError::DoesNotFit),
-        Err(_) => false,
-    }
+fn does_not_fit(alloc: Global, form: Form) -> Result<bool, AllocError> {
+    let long = too_long(alloc, form)?;
+    Ok(cause_of(alloc, form, &long.bytes) == Some(RewriteError::DoesNotFit))
 }
 
 #[test]
-fn refused(rt: HostRuntime) {
+fn refused(rt: HostRuntime) -> Result<(), Fail> {
     let alloc = rt.alloc();
     assert!(rt; is_too_small(alloc, Form::Tc, &[0; 19], 20));
     assert!(rt; is_too_small(alloc, Form::Action, &[0; 3], 4));
-    assert!(rt; does_not_fit(alloc, Form::Tc));
-    assert!(rt; does_not_fit(alloc, Form::Action));
+    assert!(rt; does_not_fit(alloc, Form::Tc)?);
+    assert!(rt; does_not_fit(alloc, Form::Action)?);
+    Ok(())
 }
 
 // True if a cause is printed as this text.
@@ -145,34 +141,24 @@ pub(crate) fn rewritten(
     Ok((bytes, most))
 }
 
-// True if so many rewrites, and no fewer, lead to what an action message is settled as.
-fn is_settled_after(alloc: Global, message: &[u8], frames: &str, count: usize) -> bool {
-    match bytes_of(alloc, Form::Action.header(), frames) {
-        Ok(wanted) => {
-            is_settled_as(alloc, Form::Action, message, &wanted, count)
-                && is_outcome(
-                    &rewritten(alloc, Form::Action, message, 9),
-                    Form::Action,
-                    &wanted,
-                    count,
-                )
-        }
-        Err(_) => false,
-    }
-}
-
-fn is_warning(alloc: Global, row: &(&'static str, &'static str, usize)) -> bool {
-    match bytes_of(alloc, Form::Action.header(), row.0) {
-        Ok(bytes) => is_settled_after(alloc, &bytes, row.1, row.2),
-        Err(_) => false,
-    }
+// True if the message of a row is settled as its frames, after so many rewrites and no fewer.
+fn is_warning(alloc: Global, row: &(&str, &str, usize)) -> Result<bool, AllocError> {
+    let (frames, wanted, count) = *row;
+    let bytes = bytes_of(alloc, Form::Action.header(), frames)?;
+    let wanted = bytes_of(alloc, Form::Action.header(), wanted)?;
+    let again = rewritten(alloc, Form::Action, &bytes, 9);
+    Ok(
+        is_settled_as(alloc, Form::Action, &bytes, &wanted, count)
+            && is_outcome(&again, Form::Action, &wanted, count),
+    )
 }
 
 #[test]
-fn warnings(rt: HostRuntime) {
+fn warnings(rt: HostRuntime) -> Result<(), Fail> {
     for row in &WARNINGS {
-        assert!(rt; is_warning(rt.alloc(), row), "{}", row.0);
+        assert!(rt; is_warning(rt.alloc(), row)?, "{}", row.0);
     }
+    Ok(())
 }
 
 // The header stays.

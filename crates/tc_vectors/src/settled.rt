@@ -1,8 +1,6 @@
 //! Values made by hand: which of them read back as themselves, and as what the others do.
 
-use crate::calls::{
-    fault_of, is_action, is_read_as, is_settled_attribute, is_settled_option, is_tc,
-};
+use crate::calls::{fault_of, is_made, is_read_as, is_settled_attribute, is_settled_option};
 use crate::made::{kept, kind, message, option, options, other, pushed, raw};
 use crate::tables::{bytes_of, is_shown, settles};
 use crate::worked::{NO_ACTION_HEADER, NO_HEADER, front_of};
@@ -42,13 +40,8 @@ enum Made {
     Absent,
 }
 
-fn short(alloc: Global) -> Result<TcAttribute, AllocError> {
-    let stats = TcFqCodelXstats::Other([1, 2, 3].to_vec(alloc)?);
-    Ok(TcAttribute::Xstats(TcXstats::FqCodel(stats)))
-}
-
-fn kept_kind(alloc: Global) -> Result<TcAttribute, AllocError> {
-    Ok(TcAttribute::Other(kept(alloc, 0x8001, b"u32\0")?))
+fn short(alloc: Global) -> Result<TcXstats, AllocError> {
+    Ok(TcXstats::FqCodel(TcFqCodelXstats::Other([1, 2, 3].to_vec(alloc)?)))
 }
 
 fn attribute(alloc: Global, made: &Made) -> Result<TcAttribute, AllocError> {
@@ -58,8 +51,8 @@ fn attribute(alloc: Global, made: &Made) -> Result<TcAttribute, AllocError> {
         Made::Hash => option(alloc, Ok(TcOption::U32(TcFilterU32Option::Hash(5)))),
         Made::NoOptions => options(Ok(Vec::new(alloc))),
         Made::Raw(word, value) => raw(alloc, *word, value),
-        Made::Kept => kept_kind(alloc),
-        Made::Short => short(alloc),
+        Made::Kept => Ok(TcAttribute::Other(kept(alloc, 0x8001, b"u32\0")?)),
+        Made::Short => Ok(TcAttribute::Xstats(short(alloc)?)),
         Made::Absent => Ok(TcAttribute::DumpInvisible(false)),
     }
 }
@@ -69,7 +62,7 @@ fn attribute(alloc: Global, made: &Made) -> Result<TcAttribute, AllocError> {
 type Row = (&'static [Made], &'static str, &'static str, &'static str);
 
 #[rattlefmt::skip]
-static MESSAGES: [Row; 7] = [
+static MESSAGES: [Row; 11] = [
     // an unknown kind, and options of fq_codel
     (&[Made::Kind("sfq"), Made::Limit], "[Kind(\"sfq\"), Options([FqCodel(Limit(5))])]", "08000100 73667100 0c000200 08000200 05000000", "[Kind(\"sfq\"), OptionsRaw(DefaultNla { word: 2, value: [8, 0, 2, 0, 5, 0, 0, 0] })]"),
     // no kind, and options
@@ -84,10 +77,6 @@ static MESSAGES: [Row; 7] = [
     (&[Made::Raw(3, &[])], "[OptionsRaw(DefaultNla { word: 3, value: [] })]", "04000300", "BufferTooSmall { len: 0, needed: 40 }"),
     // DumpInvisible(false)
     (&[Made::Absent], "[DumpInvisible(false)]", "04000a00", "[DumpInvisible(true)]"),
-];
-
-#[rattlefmt::skip]
-static MESSAGES_OF_A_KNOWN_KIND: [Row; 4] = [
     // u32, and options of fq_codel
     (&[Made::Kind("u32"), Made::Limit], "[Kind(\"u32\"), Options([FqCodel(Limit(5))])]", "08000100 75333200 0c000200 08000200 05000000", "[Kind(\"u32\"), Options([U32(Hash(5))])]"),
     // u32, and its own options, kept raw
@@ -114,34 +103,25 @@ fn is_told(alloc: Global, form: Form, bytes: &[u8], text: &str) -> bool {
     }
 }
 
-fn is_message(alloc: Global, row: &Row) -> bool {
-    match bytes_of(alloc, Form::Tc.header(), row.2) {
-        Ok(bytes) => {
-            let written = Some((bytes.as_slice(), row.3.is_empty()));
-            is_tc(
-                alloc,
-                message_of(alloc, row.0).ok(),
-                (NO_HEADER, row.1),
-                written,
-            ) && (row.3.is_empty() || is_told(alloc, Form::Tc, &bytes, row.3))
-        }
-        Err(_) => false,
-    }
-}
-
-fn are_messages(alloc: Global, rows: &[Row]) -> Result<(), Fail> {
-    for row in rows {
-        if !is_message(alloc, row) {
-            return Err(Fail::new(row.1));
-        }
-    }
-    Ok(())
+fn is_message(alloc: Global, row: &Row) -> Result<bool, AllocError> {
+    let (attributes, shown, frames, again) = *row;
+    let bytes = bytes_of(alloc, Form::Tc.header(), frames)?;
+    let (made, written) = (
+        message_of(alloc, attributes).ok(),
+        (bytes.as_slice(), again.is_empty()),
+    );
+    Ok(
+        is_made(alloc, made, (NO_HEADER, shown), Some(written))
+            && (again.is_empty() || is_told(alloc, Form::Tc, &bytes, again)),
+    )
 }
 
 #[test]
 fn of_messages(rt: HostRuntime) -> Result<(), Fail> {
-    are_messages(rt.alloc(), &MESSAGES)?;
-    are_messages(rt.alloc(), &MESSAGES_OF_A_KNOWN_KIND)
+    for row in &MESSAGES {
+        assert!(rt; is_message(rt.alloc(), row)?, "{}", row.1);
+    }
+    Ok(())
 }
 
 /// An attribute of an action message, made by hand.
@@ -201,32 +181,29 @@ static ACTION_MESSAGES: [ActionRow; 5] = [
 
 fn action_message_of(alloc: Global, made: &MadeAction) -> Result<TcActionMessage, AllocError> {
     let attributes = pushed(Ok(Vec::new(alloc)), action_attribute(alloc, made))?;
-    Ok(TcActionMessage {
-        header: TcActionMessageHeader::default(),
-        attributes,
-    })
+    let header = TcActionMessageHeader::default();
+    Ok(TcActionMessage { header, attributes })
 }
 
-fn is_action_message(alloc: Global, row: &ActionRow) -> bool {
-    match bytes_of(alloc, Form::Action.header(), row.2) {
-        Ok(bytes) => {
-            let written = Some((bytes.as_slice(), row.3.is_empty()));
-            is_action(
-                alloc,
-                action_message_of(alloc, &row.0).ok(),
-                (NO_ACTION_HEADER, row.1),
-                written,
-            ) && (row.3.is_empty() || is_told(alloc, Form::Action, &bytes, row.3))
-        }
-        Err(_) => false,
-    }
+fn is_action_message(alloc: Global, row: &ActionRow) -> Result<bool, AllocError> {
+    let (made, shown, frames, again) = row;
+    let bytes = bytes_of(alloc, Form::Action.header(), frames)?;
+    let (made, written) = (
+        action_message_of(alloc, made).ok(),
+        (bytes.as_slice(), again.is_empty()),
+    );
+    Ok(
+        is_made(alloc, made, (NO_ACTION_HEADER, shown), Some(written))
+            && (again.is_empty() || is_told(alloc, Form::Action, &bytes, again)),
+    )
 }
 
 #[test]
-fn of_action_messages(rt: HostRuntime) {
+fn of_action_messages(rt: HostRuntime) -> Result<(), Fail> {
     for row in &ACTION_MESSAGES {
-        assert!(rt; is_action_message(rt.alloc(), row), "{}", row.1);
+        assert!(rt; is_action_message(rt.alloc(), row)?, "{}", row.1);
     }
+    Ok(())
 }
 
 /// The text of `Debug` before the attributes of a message of a family, by its name.
@@ -246,7 +223,7 @@ fn is_of_family(alloc: Global, family: AddressFamily, front: &str, is_settled: b
     let mut message = TcMessage::default_in(alloc);
     message.header.family = family;
     let written = Some((INET_BYTES.as_slice(), is_settled));
-    is_tc(alloc, Some(message), (front, "[]"), written)
+    is_made(alloc, Some(message), (front, "[]"), written)
 }
 
 // The second family is a number that has a name, under which it is read.
@@ -269,22 +246,24 @@ fn are_settled_under(alloc: Global, kind: &str, is_known: bool) -> bool {
 
 // True if an option of `fq_codel` is settled that is kept raw, of this type.
 fn is_settled_of_type(alloc: Global, word: u16) -> Result<bool, AllocError> {
-    let kept = kept(alloc, word, &[5])?;
-    Ok(settles(TcQdiscFqCodelOption::Other(kept)))
+    Ok(settles(TcQdiscFqCodelOption::Other(kept(alloc, word, &[5])?)))
 }
 
 // Options are settled under their own kind.
 #[test]
 fn of_options_under_a_kind(rt: HostRuntime) -> Result<(), Fail> {
     let alloc = rt.alloc();
-    assert!(rt; are_settled_under(alloc, "fq_codel", true));
-    assert!(rt; are_settled_under(alloc, "fq_codel\0", false));
-    assert!(rt; are_settled_under(alloc, "sfq", false));
-    assert!(rt; are_settled_under(alloc, "", false));
-    assert!(rt; !is_settled_of_type(alloc, 2)?);
-    assert!(rt; !is_settled_of_type(alloc, 0x8002)?);
-    assert!(rt; is_settled_of_type(alloc, 99)?);
-    assert!(rt; is_settled_of_type(alloc, 0xc063)?);
+    for (kind, is_known) in [
+        ("fq_codel", true),
+        ("fq_codel\0", false),
+        ("sfq", false),
+        ("", false),
+    ] {
+        assert!(rt; are_settled_under(alloc, kind, is_known), "{kind}");
+    }
+    for (word, is_settled) in [(2, false), (0x8002, false), (99, true), (0xc063, true)] {
+        assert!(rt; is_settled_of_type(alloc, word)? == is_settled, "{word}");
+    }
     Ok(())
 }
 
@@ -297,11 +276,13 @@ fn is_family(family: AddressFamily, is_settled: bool) -> bool {
 
 /// True if the records of this outcome are settled as they have to be.
 fn is_outcome(action: TcActionType, is_settled: bool) -> bool {
-    let mut mirror = TcMirror::default();
+    let (mut mirror, mut nat, mut key) = (
+        TcMirror::default(),
+        TcNat::default(),
+        TcTunnelKey::default(),
+    );
     mirror.generic.action = action;
-    let mut nat = TcNat::default();
     nat.generic.action = action;
-    let mut key = TcTunnelKey::default();
     key.generic.action = action;
     mirror.generic.is_settled() == is_settled
         && mirror.is_settled_under("mirred") == is_settled

@@ -2,7 +2,7 @@
 
 ghost use Rattle.std.specs.Prelude.{◌<◌};
 
-use nla_frames::{Nla, NlaBuffer, Parseable, Res, Settle, emit_list, list_fits, list_len};
+use nla_frames::{Nla, NlaBuffer, Parseable, Res, Settle};
 use std::alloc::{AllocError, Global};
 use std::fmt::Debug;
 use std::str::Split;
@@ -82,20 +82,6 @@ pub(crate) fn is_shown<T: Debug>(alloc: Global, value: &T, text: &str) -> bool {
         Ok(shown) => shown.as_str() == text,
         Err(_) => false,
     }
-}
-
-/// True if attributes are written as these frames in hex.
-pub(crate) fn are_written<T: Nla>(list: &[T], frames: &str) -> bool {
-    let mut buffer = [0x55; 640];
-    if !list_fits(list) {
-        return false;
-    }
-    let len = list_len(list);
-    if len > buffer.len() {
-        return false;
-    }
-    emit_list(list, &mut buffer);
-    is_hex(&buffer[..len], frames)
 }
 
 /// True if an attribute is written as this frame in hex.

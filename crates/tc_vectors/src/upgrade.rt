@@ -1,6 +1,6 @@
 //! Messages that version 1 read, which had no raw options, and what they are upgraded to.
 
-use crate::calls::is_tc;
+use crate::calls::is_made;
 use crate::made::{kind, message, option, options, other, pushed};
 use crate::worked::NO_HEADER;
 use failing_alloc::Failing;
@@ -76,7 +76,7 @@ fn upgraded<A: Allocator>(
 
 // True if a message was made that has an empty header and these attributes.
 fn has_attributes(alloc: Global, made: Result<TcMessage, AllocError>, attributes: &str) -> bool {
-    is_tc(alloc, made.ok(), (NO_HEADER, attributes), None)
+    is_made(alloc, made.ok(), (NO_HEADER, attributes), None)
 }
 
 fn is_empty<A: Allocator>(made: Result<TcMessage<A>, AllocError>) -> bool {
@@ -146,7 +146,7 @@ fn written_as_they_came(rt: HostRuntime) {
     let message = upgraded(made(rt.alloc(), &WITHOUT_KIND));
     let written = Some((WITHOUT_KIND_BYTES.as_slice(), true));
     assert!(rt;
-        is_tc(
+        is_made(
             rt.alloc(),
             message.ok(),
             (NO_HEADER, WITHOUT_KIND.2),

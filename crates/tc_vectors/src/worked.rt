@@ -1,11 +1,11 @@
 //! Worked messages: what they are read as, what is written of them, and why others are refused.
 
-use crate::calls::{fault_of, is_action, is_canonical, is_read_as};
+use crate::calls::{fault_of, is_canonical, is_made, is_read_as};
 use crate::rewriting::{cause_of, is_fault, is_rewritten};
 use crate::row_kinds::{Says, are_right};
-use crate::tables::{bytes_of, cells, is_shown, pair};
+use crate::tables::{bytes_of, cells, is_shown, or_same, pair};
 use nla_frames::{AddressFamily, DecodeError};
-use std::alloc::Global;
+use std::alloc::{AllocError, Global};
 use std::test::Fail;
 use tc_action_messages::TcActionMessage;
 use tests_data::Form;
@@ -127,54 +127,39 @@ pub(crate) fn front_of(form: Form) -> &'static str {
     }
 }
 
-// True if bytes are read as the message of these attributes, and that is written as these frames, or as it came where there are none.
-fn is_written(
+/// True if the message of a row is read, written and settled as it has to be; written as it came where the row has no other frames.
+pub(crate) fn is_read(
     alloc: Global,
     form: Form,
-    bytes: &[u8],
-    cells: (&str, &str),
+    row: &str,
     is_settled: bool,
-) -> bool {
-    let shown = (front_of(form), cells.0);
-    if cells.1.is_empty() {
-        return is_message(alloc, form, bytes, shown, (bytes, is_settled));
-    }
-    match bytes_of(alloc, form.header(), cells.1) {
-        Ok(written) => is_message(alloc, form, bytes, shown, (&written, is_settled)),
-        Err(_) => false,
-    }
+) -> Result<bool, AllocError> {
+    let Some((frames, attributes, written)) = cells(row) else {
+        return Ok(false);
+    };
+    let bytes = bytes_of(alloc, form.header(), frames)?;
+    let written = bytes_of(alloc, form.header(), or_same(frames, written))?;
+    Ok(is_message(
+        alloc,
+        form,
+        &bytes,
+        (front_of(form), attributes),
+        (&written, is_settled),
+    ))
 }
 
-/// True if the message of a row is read, written and settled as it has to be.
-pub(crate) fn is_read(alloc: Global, form: Form, row: &str, is_settled: bool) -> bool {
-    match cells(row) {
-        Some((frames, attributes, written)) => match bytes_of(alloc, form.header(), frames) {
-            Ok(bytes) => is_written(alloc, form, &bytes, (attributes, written), is_settled),
-            Err(_) => false,
-        },
-        None => false,
-    }
-}
-
-// True if bytes are refused with the fault of this text, by each of the calls.
-fn has_fault(alloc: Global, form: Form, bytes: &[u8], text: &str) -> bool {
-    match &fault_of(alloc, form, bytes) {
+/// True if the message of a row is refused with its fault, by each of the calls.
+pub(crate) fn is_refused(alloc: Global, form: Form, row: &str) -> Result<bool, AllocError> {
+    let Some((frames, text)) = pair(row) else {
+        return Ok(false);
+    };
+    let bytes = bytes_of(alloc, form.header(), frames)?;
+    Ok(match &fault_of(alloc, form, &bytes) {
         Some(fault) => {
-            is_shown(alloc, fault, text) && is_fault(&cause_of(alloc, form, bytes), fault)
+            is_shown(alloc, fault, text) && is_fault(&cause_of(alloc, form, &bytes), fault)
         }
         None => false,
-    }
-}
-
-/// True if the message of a row is refused with its fault.
-pub(crate) fn is_refused(alloc: Global, form: Form, row: &str) -> bool {
-    match pair(row) {
-        Some((frames, text)) => match bytes_of(alloc, form.header(), frames) {
-            Ok(bytes) => has_fault(alloc, form, &bytes, text),
-            Err(_) => false,
-        },
-        None => false,
-    }
+    })
 }
 
 #[test]
@@ -205,7 +190,7 @@ static OTHER: &str =
 fn is_family(alloc: Global, family: AddressFamily, front: &str, written: (&[u8], bool)) -> bool {
     let mut message = TcActionMessage::default_in(alloc);
     message.header.family = family;
-    is_action(alloc, Some(message), (front, "[]"), Some(written))
+    is_made(alloc, Some(message), (front, "[]"), Some(written))
 }
 
 // A header with a family, and with padding that isn't zero; one whose family is a number that has a name; and one that is short.
@@ -214,14 +199,8 @@ fn headers_of_action_messages(rt: HostRuntime) {
     let alloc = rt.alloc();
     let (zeros, inet, padded) = ([0; 4], [2, 0, 0, 0], [2, 0, 0, 7]);
     assert!(rt; is_message(alloc, Form::Action, &padded, (INET, "[]"), (&inet, true)));
-    assert!(rt;
-        is_family(
-            alloc,
-            AddressFamily::Unspec,
-            NO_ACTION_HEADER,
-            (&zeros, true)
-        )
-    );
+    let unspec = AddressFamily::Unspec;
+    assert!(rt; is_family(alloc, unspec, NO_ACTION_HEADER, (&zeros, true)));
     assert!(rt; is_family(alloc, AddressFamily::Other(2), OTHER, (&inet, false)));
     let fault = DecodeError::BufferTooSmall { len: 3, needed: 4 };
     assert!(rt; fault_of(alloc, Form::Action, &[0; 3]) == Some(fault));

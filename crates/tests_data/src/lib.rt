@@ -1,16 +1,14 @@
 //! Data for tests: messages, made by hand and captured, and others made from them (cut, changed, with attributes of all
-//! types and many lengths); captures of them in each format; dumps in hex; streams that fail.
+//! types and many lengths); captures of them in each format.
 #![tactic(auto)]
 
 mod captures;
 mod changes;
-pub mod dumps;
 mod input;
 mod large;
 mod long;
 mod row;
 mod rows;
-pub mod streams;
 mod sweep;
 
 pub use captures::{

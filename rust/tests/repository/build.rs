@@ -17,7 +17,6 @@ const OMITTED: &[&str] = &[
     "tc_message_json",
     "tests_forms::build::broken",
     "tests_forms::message_json",
-    "tests_data::streams",
     "tcrewrite_lib",
     "tc_vectors::hostile",
     "tc_vectors::program",

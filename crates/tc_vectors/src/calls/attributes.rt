@@ -20,17 +20,6 @@ fn is_parsed_as<T: ParseableParametrized<Global> + Nla + Settle + Debug + Drop>(
     Ok(attribute.is_settled_under(kind) && is_attribute(alloc, &attribute, text, written))
 }
 
-/// True if a frame is parsed under a kind as an attribute of this text, which is settled there and written as this frame in hex.
-pub(crate) fn is_read_attribute(
-    alloc: Global,
-    kind: &str,
-    frame: &[u8],
-    text: &str,
-    written: &str,
-) -> Res<bool> {
-    is_parsed_as::<TcAttribute>(alloc, kind, frame, text, written)
-}
-
 /// True if a frame is parsed under a kind as an option of this text, which is settled there and written as this frame in hex.
 pub(crate) fn is_read_option(
     alloc: Global,
@@ -40,12 +29,6 @@ pub(crate) fn is_read_option(
     written: &str,
 ) -> Res<bool> {
     is_parsed_as::<TcOption>(alloc, kind, frame, text, written)
-}
-
-/// True if the option that a frame is parsed as under a kind is settled under another.
-pub(crate) fn is_option_settled(alloc: Global, kind: &str, frame: &[u8], other: &str) -> Res<bool> {
-    let option = TcOption::parse_with_param(alloc, &NlaBuffer::new_checked(frame)?, kind)?;
-    Ok(option.is_settled_under(other))
 }
 
 fn settles_under<T: Settle + Drop>(kind: &str, made: Result<T, AllocError>) -> bool {

@@ -3,11 +3,21 @@
 
 use std::alloc::{AllocError, Global};
 use std::fmt::Debug;
-use tc_wire::{DecodeError, Emitable, ParseableBytes, TcActionMessage, TcMessage};
+use tc_wire::{DecodeError, Emitable, ParseableBytes, TcActionMessage, TcMessage, WholeMessage};
 use tests_data::Form;
 
-// The bytes of a message, if it fits. It is emitted to a longer buffer, whose other bytes stay.
-fn emitted_of<M: Emitable>(alloc: Global, message: &M) -> Result<Option<Vec<u8>>, AllocError> {
+/// A message of either form.
+pub(crate) trait Message: WholeMessage<Global> + Clone + PartialEq + Debug + Drop {}
+
+impl Message for TcMessage {}
+
+impl Message for TcActionMessage {}
+
+/// The bytes of a message, if it fits. It is emitted to a longer buffer, whose other bytes stay.
+pub(crate) fn emitted<M: Message>(
+    alloc: Global,
+    message: &M,
+) -> Result<Option<Vec<u8>>, AllocError> {
     if !message.fits() {
         return Ok(None);
     }
@@ -21,131 +31,60 @@ fn emitted_of<M: Emitable>(alloc: Global, message: &M) -> Result<Option<Vec<u8>>
     Ok(Some(bytes))
 }
 
-/// A message of either form.
-#[derive(Clone, Copy)]
-pub(crate) enum Message<'a> {
-    Tc(&'a TcMessage),
-    Action(&'a TcActionMessage),
-}
-
-/// The bytes of a message, if it fits.
-pub(crate) fn emitted(alloc: Global, message: Message<'_>) -> Result<Option<Vec<u8>>, AllocError> {
-    match message {
-        Message::Tc(message) => emitted_of(alloc, message),
-        Message::Action(message) => emitted_of(alloc, message),
-    }
-}
-
-fn is_emitted_as(alloc: Global, message: Message<'_>, bytes: &[u8]) -> bool {
-    match emitted(alloc, message) {
-        Ok(Some(emitted)) => emitted.as_slice() == bytes,
-        _ => false,
-    }
-}
-
-fn is_tc_again(alloc: Global, message: &TcMessage, bytes: &[u8]) -> bool {
-    match TcMessage::parse(alloc, bytes) {
-        Ok(again) => again == *message,
-        Err(_) => false,
-    }
-}
-
-fn is_action_again(alloc: Global, message: &TcActionMessage, bytes: &[u8]) -> bool {
-    match TcActionMessage::parse(alloc, bytes) {
-        Ok(again) => again == *message,
-        Err(_) => false,
-    }
-}
-
 /// True if bytes are parsed as this message.
-pub(crate) fn reads_back(alloc: Global, message: Message<'_>, bytes: &[u8]) -> bool {
-    match message {
-        Message::Tc(message) => is_tc_again(alloc, message, bytes),
-        Message::Action(message) => is_action_again(alloc, message, bytes),
-    }
-}
-
-/// The result of `is_settled`.
-pub(crate) fn is_settled(message: Message<'_>) -> bool {
-    match message {
-        Message::Tc(message) => message.is_settled(),
-        Message::Action(message) => message.is_settled(),
-    }
+pub(crate) fn reads_back<M: Message>(alloc: Global, message: &M, bytes: &[u8]) -> bool {
+    matches!(&M::parse(alloc, bytes), Ok(again) if *again == *message)
 }
 
 /// True if the clone of a message is equal to it.
-pub(crate) fn is_cloned(message: Message<'_>) -> Result<bool, AllocError> {
-    match message {
-        Message::Tc(message) => Ok(message.clone()? == *message),
-        Message::Action(message) => Ok(message.clone()? == *message),
-    }
+pub(crate) fn is_cloned<M: Message>(message: &M) -> Result<bool, AllocError> {
+    Ok(message.clone()? == *message)
 }
 
 // True if a message is emitted as these bytes, and settled as it has to be, which its bytes show too; and its clone is equal to it.
-fn is_written_as(alloc: Global, message: Message<'_>, bytes: &[u8], wanted: bool) -> bool {
-    is_emitted_as(alloc, message, bytes)
-        && is_settled(message) == wanted
-        && reads_back(alloc, message, bytes) == wanted
-        && matches!(is_cloned(message), Ok(true))
+fn is_written<M: Message>(
+    alloc: Global,
+    message: &M,
+    written: (&[u8], bool),
+) -> Result<bool, AllocError> {
+    let (bytes, wanted) = written;
+    let is_emitted = match emitted(alloc, message)? {
+        Some(emitted) => emitted.as_slice() == bytes,
+        None => false,
+    };
+    Ok(
+        is_emitted
+            && message.is_settled() == wanted
+            && reads_back(alloc, message, bytes) == wanted
+            && is_cloned(message)?,
+    )
 }
 
-fn is_written(alloc: Global, message: Message<'_>, written: Option<(&[u8], bool)>) -> bool {
-    match written {
-        Some((bytes, is_settled)) => is_written_as(alloc, message, bytes, is_settled),
-        None => true,
-    }
-}
-
-fn is_shown_as<M: Debug>(alloc: Global, message: &M, shown: (&str, &str)) -> bool {
-    match format!(in alloc; "{message:?}") {
-        Ok(text) => is_text(&text, shown),
-        Err(_) => false,
-    }
-}
-
-fn is_text(text: &str, shown: (&str, &str)) -> bool {
+// True if a message is what it has to be.
+fn is_right<M: Message>(
+    alloc: Global,
+    message: &M,
+    shown: (&str, &str),
+    written: Option<(&[u8], bool)>,
+) -> Result<bool, AllocError> {
     let (front, attributes) = shown;
-    match text.strip_prefix(front) {
-        Some(rest) => is_end(rest, attributes),
-        None => false,
-    }
+    let text = format!(in alloc; "{front}{attributes} }}")?;
+    let is_written = match written {
+        Some(written) => is_written(alloc, message, written)?,
+        None => true,
+    };
+    Ok(is_written && format!(in alloc; "{message:?}")?.as_str() == text.as_str())
 }
 
-// True if a text is that of attributes, and of the end of a message.
-fn is_end(text: &str, attributes: &str) -> bool {
-    match text.strip_suffix(" }") {
-        Some(rest) => rest == attributes,
-        None => false,
-    }
-}
-
-/// True if there is a traffic control message that is what it has to be.
-pub(crate) fn is_tc(
+/// True if there is a message that is what it has to be.
+pub(crate) fn is_made<M: Message>(
     alloc: Global,
-    message: Option<TcMessage>,
+    message: Option<M>,
     shown: (&str, &str),
     written: Option<(&[u8], bool)>,
 ) -> bool {
     match &message {
-        Some(message) => {
-            is_shown_as(alloc, message, shown) && is_written(alloc, Message::Tc(message), written)
-        }
-        None => false,
-    }
-}
-
-/// True if there is an action message that is what it has to be.
-pub(crate) fn is_action(
-    alloc: Global,
-    message: Option<TcActionMessage>,
-    shown: (&str, &str),
-    written: Option<(&[u8], bool)>,
-) -> bool {
-    match &message {
-        Some(message) => {
-            is_shown_as(alloc, message, shown)
-                && is_written(alloc, Message::Action(message), written)
-        }
+        Some(message) => matches!(is_right(alloc, message, shown, written), Ok(true)),
         None => false,
     }
 }
@@ -159,8 +98,8 @@ pub(crate) fn is_read_as(
     written: Option<(&[u8], bool)>,
 ) -> bool {
     match form {
-        Form::Tc => is_tc(alloc, TcMessage::parse(alloc, bytes).ok(), shown, written),
-        Form::Action => is_action(
+        Form::Tc => is_made(alloc, TcMessage::parse(alloc, bytes).ok(), shown, written),
+        Form::Action => is_made(
             alloc,
             TcActionMessage::parse(alloc, bytes).ok(),
             shown,
@@ -177,18 +116,11 @@ pub(crate) fn fault_of(alloc: Global, form: Form, bytes: &[u8]) -> Option<Decode
     }
 }
 
-fn length(alloc: Global, message: Message<'_>) -> Option<usize> {
-    match &emitted(alloc, message) {
-        Ok(Some(bytes)) => Some(bytes.len()),
-        _ => None,
-    }
-}
-
 /// The length of a traffic control message when emitted, if it fits.
 pub(crate) fn length_of(alloc: Global, message: Option<TcMessage>) -> Option<usize> {
-    match &message {
-        Some(message) => length(alloc, Message::Tc(message)),
-        None => None,
+    match emitted(alloc, message.as_ref()?) {
+        Ok(bytes) => Some(bytes?.len()),
+        Err(_) => None,
     }
 }
 
@@ -196,7 +128,7 @@ pub(crate) fn length_of(alloc: Global, message: Option<TcMessage>) -> Option<usi
 pub(crate) fn is_unwritable(alloc: Global, bytes: &[u8], message: Option<TcMessage>) -> bool {
     match &message {
         Some(message) => {
-            message.is_settled() && !message.fits() && is_tc_again(alloc, message, bytes)
+            message.is_settled() && !message.fits() && reads_back(alloc, message, bytes)
         }
         None => false,
     }

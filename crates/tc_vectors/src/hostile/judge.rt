@@ -1,11 +1,9 @@
 //! Properties of every untrusted input.
 
-use crate::calls::{
-    Message, emitted, fault_of, is_canonical, is_cloned, is_settled, reads_back, settle,
-};
+use crate::calls::{Message, emitted, fault_of, is_canonical, is_cloned, reads_back, settle};
 use crate::rewriting::{becomes, cause_of, is_fault, is_outcome, rewritten};
 use std::alloc::Global;
-use tc_wire::{DecodeError, ParseableBytes, RewriteError, TcActionMessage, TcMessage};
+use tc_wire::{DecodeError, RewriteError, TcActionMessage, TcMessage};
 use tests_data::{Form, Input};
 
 /// A fault in the result of a call, if any.
@@ -14,22 +12,15 @@ pub(crate) type Complaint = Option<&'static str>;
 /// A fault in how a message is refused, or read and written.
 pub(crate) fn judge(alloc: Global, input: &Input) -> Complaint {
     match input.form {
-        Form::Tc => judge_tc(alloc, &input.bytes),
-        Form::Action => judge_action(alloc, &input.bytes),
+        Form::Tc => judge_as::<TcMessage>(alloc, input),
+        Form::Action => judge_as::<TcActionMessage>(alloc, input),
     }
 }
 
-fn judge_tc(alloc: Global, bytes: &[u8]) -> Complaint {
-    match &TcMessage::parse(alloc, bytes) {
-        Ok(message) => judge_read(alloc, Form::Tc, bytes, Message::Tc(message)),
-        Err(fault) => judge_fault(alloc, Form::Tc, bytes, fault),
-    }
-}
-
-fn judge_action(alloc: Global, bytes: &[u8]) -> Complaint {
-    match &TcActionMessage::parse(alloc, bytes) {
-        Ok(message) => judge_read(alloc, Form::Action, bytes, Message::Action(message)),
-        Err(fault) => judge_fault(alloc, Form::Action, bytes, fault),
+fn judge_as<M: Message>(alloc: Global, input: &Input) -> Complaint {
+    match &M::parse(alloc, &input.bytes) {
+        Ok(message) => judge_read(alloc, input.form, &input.bytes, message),
+        Err(fault) => judge_fault(alloc, input.form, &input.bytes, fault),
     }
 }
 
@@ -45,25 +36,18 @@ fn judge_fault(alloc: Global, form: Form, bytes: &[u8], fault: &DecodeError) -> 
 }
 
 fn judge_refused(form: Form, bytes: &[u8]) -> Complaint {
-    if is_canonical(form, bytes) {
-        Some("canonical bytes are refused")
-    } else {
-        None
-    }
+    is_canonical(form, bytes).then_some("canonical bytes are refused")
 }
 
-fn judge_read(alloc: Global, form: Form, bytes: &[u8], message: Message<'_>) -> Complaint {
+fn judge_read<M: Message>(alloc: Global, form: Form, bytes: &[u8], message: &M) -> Complaint {
     if !matches!(is_cloned(message), Ok(true)) {
         return Some("a clone differs");
     }
     match &emitted(alloc, message) {
-        Ok(Some(emitted)) => {
-            if reads_back(alloc, message, emitted) != is_settled(message) {
-                Some("settled isn't what reads back")
-            } else {
-                judge_written(alloc, form, bytes, emitted)
-            }
+        Ok(Some(emitted)) if reads_back(alloc, message, emitted) != message.is_settled() => {
+            Some("settled isn't what reads back")
         }
+        Ok(Some(emitted)) => judge_written(alloc, form, bytes, emitted),
         Ok(None) => judge_unwritable(alloc, form, bytes),
         Err(_) => Some("emitting ran out of memory"),
     }
@@ -93,19 +77,9 @@ fn judge_written(alloc: Global, form: Form, bytes: &[u8], emitted: &[u8]) -> Com
 
 // As many rewrites as are counted, and no fewer, lead to canonical bytes, which are what settling returns.
 fn judge_settled(alloc: Global, form: Form, bytes: &[u8]) -> Complaint {
-    match &settle(alloc, form, bytes) {
-        Ok((settled, count)) => {
-            if is_outcome(
-                &rewritten(alloc, form, bytes, *count),
-                form,
-                settled,
-                *count,
-            ) {
-                None
-            } else {
-                Some("settling isn't rewriting to the end")
-            }
-        }
-        Err(_) => Some("settling has a cause"),
-    }
+    let Ok((settled, count)) = settle(alloc, form, bytes) else {
+        return Some("settling has a cause");
+    };
+    let again = rewritten(alloc, form, bytes, count);
+    (!is_outcome(&again, form, &settled, count)).then_some("settling isn't rewriting to the end")
 }

@@ -4,7 +4,7 @@ use crate::calls::{is_canonical, rewrite, settle};
 use failing_alloc::Failing;
 use std::alloc::{AllocError, Global};
 use std::test::Fail;
-use tc_wire::{DecodeError, Emitable, ParseableBytes, RewriteError, TcActionMessage, TcMessage};
+use tc_wire::{DecodeError, Emitable, RewriteError, TcActionMessage, TcMessage, WholeMessage};
 use tests_data::{Expected, Form, Row, made};
 
 /// A fault in the result of a call.
@@ -98,29 +98,31 @@ fn is_emitted<M: Emitable>(message: &M, emitted: &[u8]) -> bool {
 }
 
 // Whether a message that was read is as its row has it, or what is wrong with it.
-fn judge_read<M: Emitable + PartialEq>(row: &Row, message: &M, is_settled: bool) -> Ended {
-    match &row.expected {
-        Expected::Refused(_) => Err(Wrong::Fault),
-        Expected::Accepted {
-            fits,
-            settled,
-            canonical,
-            emitted,
-        } => {
-            if message.fits() != *fits {
-                Err(Wrong::Fits)
-            } else if is_settled != *settled {
-                Err(Wrong::Settled)
-            } else if is_canonical(row.input.form, &row.input.bytes) != *canonical {
-                Err(Wrong::Canonical)
-            } else if !is_emitted(message, emitted) {
-                Err(Wrong::Emitted)
-            } else if *message != *message {
-                Err(Wrong::Equality)
-            } else {
-                Ok(true)
-            }
-        }
+fn judge_read<'f, M: WholeMessage<&'f Failing<Global>> + PartialEq>(
+    row: &Row,
+    message: &M,
+) -> Ended {
+    let Expected::Accepted {
+        fits,
+        settled,
+        canonical,
+        emitted,
+    } = &row.expected
+    else {
+        return Err(Wrong::Fault);
+    };
+    if message.fits() != *fits {
+        Err(Wrong::Fits)
+    } else if message.is_settled() != *settled {
+        Err(Wrong::Settled)
+    } else if is_canonical(row.input.form, &row.input.bytes) != *canonical {
+        Err(Wrong::Canonical)
+    } else if !is_emitted(message, emitted) {
+        Err(Wrong::Emitted)
+    } else if *message != *message {
+        Err(Wrong::Equality)
+    } else {
+        Ok(true)
     }
 }
 
@@ -144,18 +146,6 @@ fn judge_clone<M: PartialEq + Clone + Drop>(failing: &Failing<Global>, message: 
     Err(Wrong::Requests)
 }
 
-// Whether a message was read with all its memory, and as it has to be, without a request since.
-fn judge<M: Emitable + PartialEq + Clone + Drop>(
-    failing: &Failing<Global>,
-    row: &Row,
-    message: &M,
-    is_settled: bool,
-) -> Ended {
-    judge_read(row, message, is_settled)?;
-    is_done(failing, true, Wrong::Memory)?;
-    judge_clone(failing, message)
-}
-
 // Whether a message has to be refused for this fault.
 fn judge_fault(failing: &Failing<Global>, row: &Row, fault: &DecodeError) -> Ended {
     match (fault, &row.expected) {
@@ -174,17 +164,17 @@ fn has_ended(failing: &Failing<Global>) -> bool {
     has_ended
 }
 
-fn is_tc_read(failing: &Failing<Global>, row: &Row) -> Ended {
-    match &TcMessage::parse(failing, &row.input.bytes) {
-        Ok(message) if has_ended(failing) => judge(failing, row, message, message.is_settled()),
-        Ok(_) => Err(Wrong::Memory),
-        Err(fault) => judge_fault(failing, row, fault),
-    }
-}
-
-fn is_action_read(failing: &Failing<Global>, row: &Row) -> Ended {
-    match &TcActionMessage::parse(failing, &row.input.bytes) {
-        Ok(message) if has_ended(failing) => judge(failing, row, message, message.is_settled()),
+// Whether the message of a row is read with all its memory and as it has to be, without a request since, and cloned.
+fn is_read_as<'f, M: WholeMessage<&'f Failing<Global>> + PartialEq + Clone + Drop>(
+    failing: &'f Failing<Global>,
+    row: &Row,
+) -> Ended {
+    match &M::parse(failing, &row.input.bytes) {
+        Ok(message) if has_ended(failing) => {
+            judge_read(row, message)?;
+            is_done(failing, true, Wrong::Memory)?;
+            judge_clone(failing, message)
+        }
         Ok(_) => Err(Wrong::Memory),
         Err(fault) => judge_fault(failing, row, fault),
     }
@@ -193,8 +183,8 @@ fn is_action_read(failing: &Failing<Global>, row: &Row) -> Ended {
 // Whether the message of a row is read as it has to be.
 fn is_read(failing: &Failing<Global>, row: &Row) -> Ended {
     match row.input.form {
-        Form::Tc => is_tc_read(failing, row),
-        Form::Action => is_action_read(failing, row),
+        Form::Tc => is_read_as::<TcMessage<&Failing<Global>>>(failing, row),
+        Form::Action => is_read_as::<TcActionMessage<&Failing<Global>>>(failing, row),
     }
 }
 

@@ -1,11 +1,9 @@
-//! Actions: known answers, worked actions, and what Linux sends.
+//! Actions: worked actions, what Linux sends, and refused memory.
 
-use super::captured::{GACT_TOLD, MIRRED_SENT, MIRRED_TOLD, NAT_TOLD, TUNNEL_KEY_SENT};
-use super::rows::{Row, RowUnder, are_known, are_known_under, are_written};
+use crate::tables::{bytes_of, cells, is_attribute, is_written, or_same, pair, rows};
 use failing_alloc::Failing;
 use nla_frames::{DecodeError, Nla, NlaBuffer, Parseable, Res, Settle};
 use std::alloc::Global;
-use std::slice::from_ref;
 use std::test::Fail;
 use tc_actions::{TcAction, TcActionAttribute};
 
@@ -14,47 +12,65 @@ fn action(alloc: Global, frame: &[u8]) -> Res<TcAction> {
     TcAction::parse(alloc, &NlaBuffer::new_checked(frame)?)
 }
 
-/// True if the action of a frame is settled, and is written as the frame, but for the flag at this place.
-fn is_rewritten(alloc: Global, frame: &[u8], flag: usize) -> Result<bool, Fail> {
-    let read = action(alloc, frame)?;
-    let mut written = frame.to_vec(alloc)?;
-    if let Some(byte) = written.get_mut(flag) {
-        *byte = 0x80;
-    }
-    Ok(read.is_settled() && are_written(from_ref(&read), &written))
-}
-
-#[rattlefmt::skip]
-static ATTRIBUTES: [RowUnder; 7] = [
-    ("", &[8, 0, 1, 0, 0x6e, 0x61, 0x74, 0], "Kind(\"nat\")"),
-    ("tunnel_key", &[12, 0, 2, 0x80, 5, 0, 12, 0, 7, 0, 0, 0], "Options([TunnelKey(EncTos(7))])"),
-    ("", &[8, 0, 3, 0, 0x34, 0x33, 0x32, 0x31], "Index(825373492)"),
-    ("nat", &[12, 0, 4, 0, 7, 0, 4, 0, 0xa1, 0xa2, 0xa3, 0], "Stats([App(Other([161, 162, 163]))])"),
-    ("", &[7, 0, 6, 0, 0xa1, 0xa2, 0xa3, 0], "Cookie([161, 162, 163])"),
-    ("", &[8, 0, 10, 0, 0x24, 0x23, 0x22, 0x21], "InHwCount(555885348)"),
-    ("", &[7, 0, 5, 0x80, 0xa1, 0xa2, 0xa3, 0], "Other(DefaultNla { word: 32773, value: [161, 162, 163] })"),
-];
-
-#[test]
-fn of_an_action(rt: HostRuntime) -> Result<(), Fail> {
-    are_known_under::<TcActionAttribute>(rt.alloc(), &ATTRIBUTES)
-}
-
 /// Statistics of a kind that has some, and of one that has none; options of an unknown kind, which are kept; the kind last; an action with a flag,
-/// which is read away; a truth value of 2, which is written as 1.
-#[rattlefmt::skip]
-static ACTIONS: [Row; 6] = [
-    (&[0x20, 0, 1, 0, 13, 0, 1, 0, 0x66, 0x71, 0x5f, 0x63, 0x6f, 0x64, 0x65, 0x6c, 0, 0, 0, 0, 12, 0, 4, 0, 8, 0, 4, 0, 2, 0, 0, 0], "TcAction { tab: 1, attributes: [Kind(\"fq_codel\"), Stats([App(FqCodel(Other([2, 0, 0, 0])))])] }", &[]),
-    (&[0x18, 0, 1, 0, 8, 0, 1, 0, 0x6e, 0x61, 0x74, 0, 12, 0, 4, 0, 8, 0, 4, 0, 2, 0, 0, 0], "TcAction { tab: 1, attributes: [Kind(\"nat\"), Stats([App(Other([2, 0, 0, 0]))])] }", &[]),
-    (&[0x1c, 0, 1, 0, 9, 0, 1, 0, 0x67, 0x61, 0x63, 0x74, 0, 0, 0, 0, 12, 0, 2, 0x80, 8, 0, 1, 0, 0, 0, 0, 0], "TcAction { tab: 1, attributes: [Kind(\"gact\"), Options([Other(DefaultNla { word: 1, value: [0, 0, 0, 0] })])] }", &[]),
-    (&[0x20, 0, 1, 0, 12, 0, 2, 0x80, 5, 0, 12, 0, 7, 0, 0, 0, 15, 0, 1, 0, 0x74, 0x75, 0x6e, 0x6e, 0x65, 0x6c, 0x5f, 0x6b, 0x65, 0x79, 0, 0], "TcAction { tab: 1, attributes: [Options([TunnelKey(EncTos(7))]), Kind(\"tunnel_key\")] }", &[]),
-    (&[20, 0, 1, 0x80, 8, 0, 3, 0, 5, 0, 0, 0, 8, 0, 1, 0, 0x6e, 0x61, 0x74, 0], "TcAction { tab: 1, attributes: [Index(5), Kind(\"nat\")] }", &[20, 0, 1, 0, 8, 0, 3, 0, 5, 0, 0, 0, 8, 0, 1, 0, 0x6e, 0x61, 0x74, 0]),
-    (&[0x20, 0, 1, 0, 15, 0, 1, 0, 0x74, 0x75, 0x6e, 0x6e, 0x65, 0x6c, 0x5f, 0x6b, 0x65, 0x79, 0, 0, 12, 0, 2, 0x80, 5, 0, 10, 0, 2, 0, 0, 0], "TcAction { tab: 1, attributes: [Kind(\"tunnel_key\"), Options([TunnelKey(NoCsum(true))])] }", &[0x20, 0, 1, 0, 15, 0, 1, 0, 0x74, 0x75, 0x6e, 0x6e, 0x65, 0x6c, 0x5f, 0x6b, 0x65, 0x79, 0, 0, 12, 0, 2, 0x80, 5, 0, 10, 0, 1, 0, 0, 0]),
-];
+/// which is read away; a truth value of 2, which is written as 1. A row is a frame, the action that it is read as, and what is written of that, where
+/// it isn't the same.
+static ACTIONS: &str = r#"
+20000100 0d00010066715f636f64656c000000000c0004000800040002000000 | TcAction { tab: 1, attributes: [Kind("fq_codel"), Stats([App(FqCodel(Other([2, 0, 0, 0])))])] }
+18000100 080001006e6174000c0004000800040002000000 | TcAction { tab: 1, attributes: [Kind("nat"), Stats([App(Other([2, 0, 0, 0]))])] }
+1c000100 0900010067616374000000000c0002800800010000000000 | TcAction { tab: 1, attributes: [Kind("gact"), Options([Other(DefaultNla { word: 1, value: [0, 0, 0, 0] })])] }
+20000100 0c00028005000c00070000000f00010074756e6e656c5f6b65790000 | TcAction { tab: 1, attributes: [Options([TunnelKey(EncTos(7))]), Kind("tunnel_key")] }
+14000180 0800030005000000080001006e617400 | TcAction { tab: 1, attributes: [Index(5), Kind("nat")] } | 14000100 0800030005000000080001006e617400
+20000100 0f00010074756e6e656c5f6b657900000c00028005000a0002000000 | TcAction { tab: 1, attributes: [Kind("tunnel_key"), Options([TunnelKey(NoCsum(true))])] } | 20000100 0f00010074756e6e656c5f6b657900000c00028005000a0001000000
+"#;
+
+/// True if the frame of a row is read as its action, which is settled, and is written as it has to be.
+fn is_known(alloc: Global, row: &str) -> Res<bool> {
+    let Some((frame, text, written)) = cells(row) else {
+        return Ok(false);
+    };
+    let read = action(alloc, &bytes_of(alloc, &[], frame)?)?;
+    Ok(read.is_settled() && is_attribute(alloc, &read, text, or_same(frame, written)))
+}
 
 #[test]
-fn are_read_and_written(rt: HostRuntime) -> Result<(), Fail> {
-    are_known::<TcAction>(rt.alloc(), &ACTIONS)
+fn are_read_and_written(rt: HostRuntime) {
+    for row in rows(ACTIONS) {
+        assert!(rt; matches!(is_known(rt.alloc(), row), Ok(true)), "{row}");
+    }
+}
+
+/// What `tc` sends to make an action `mirred` and one of `tunnel_key`, and what Linux tells of `gact` and `mirred`; then what is written of these. The
+/// word of their options has no nested flag.
+static CAPTURED: &str = r#"
+340001000b0001006d69727265640000240002802000020000000000000000000300000000000000000000000200000006000000 |
+3c0001000f00010074756e6e656c5f6b657900002800028005000a00000000001c000200000000000000000003000000000000000000000002000000 |
+b000010009000100676163740000000004000500500004000400060014000100000000000000000000000000000000000400060014000700000000000000000000000000000000000400060018000300000000000000000000000000000000000000000008000a00000000004400020018000200010000000000000002000000010000000000000004000400240001000000000000000000000000000000000000000000000000000000000000000000 | b000010009000100676163740000000004000500500004000400060014000100000000000000000000000000000000000400060014000700000000000000000000000000000000000400060018000300000000000000000000000000000000000000000008000a00000000004400028018000200010000000000000002000000010000000000000004000400240001000000000000000000000000000000000000000000000000000000000000000000
+b40001000b0001006d69727265640000500004000400060014000100000000000000000000000000000000000400060014000700000000000000000000000000000000000400060018000300000000000000000000000000000000000000000008000a00000000004c000200200002000100000000000000040000000100000001000000010000000800000004000300240001004000000000000000400000000000000000000000000000000000000000000000 | b40001000b0001006d69727265640000500004000400060014000100000000000000000000000000000000000400060014000700000000000000000000000000000000000400060018000300000000000000000000000000000000000000000008000a00000000004c000280200002000100000000000000040000000100000001000000010000000800000004000300240001004000000000000000400000000000000000000000000000000000000000000000
+"#;
+
+/// Linux's message about an action `nat` with a cookie.
+static NAT_TOLD: &str =
+    "70000300080001006e617400040005005000040004000600140001000000000000000000000000000000000004000600140007000000000000000000000000000000000004000600180003000000000000000000000000000000000000000000080003002100000006000600cafe0000";
+
+/// True if the action of a frame is settled, and is written so.
+fn is_rewritten(alloc: Global, frame: &str, written: &str) -> Res<bool> {
+    let read = action(alloc, &bytes_of(alloc, &[], frame)?)?;
+    Ok(read.is_settled() && is_written(&read, written))
+}
+
+#[test]
+fn options_are_written_with_the_nested_flag(rt: HostRuntime) -> Result<(), Fail> {
+    let alloc = rt.alloc();
+    for row in rows(CAPTURED) {
+        let (frame, written) = pair(row).ok_or("two cells")?;
+        assert!(rt;
+            is_rewritten(alloc, frame, or_same(frame, written))?,
+            "{row}"
+        );
+    }
+    assert!(rt; is_rewritten(alloc, NAT_TOLD, NAT_TOLD)?);
+    Ok(())
 }
 
 // Made by hand, flags are written and not settled.
@@ -66,12 +82,7 @@ fn flags_of_an_action_are_written(rt: HostRuntime) -> Result<(), Fail> {
     made.tab = 0x8001;
     made.attributes.push(kind)?;
     assert!(rt; !made.is_settled());
-    assert!(rt;
-        are_written(
-            from_ref(&made),
-            &[12, 0, 1, 0x80, 8, 0, 1, 0, 0x6e, 0x61, 0x74, 0]
-        )
-    );
+    assert!(rt; is_written(&made, "0c000180 08000100 6e617400"));
     Ok(())
 }
 
@@ -103,7 +114,7 @@ fn faults_of_an_action_have_their_order(rt: HostRuntime) {
 fn the_default_has_no_kind(rt: HostRuntime) {
     let default: TcAction = TcAction::default_in(rt.alloc());
     assert!(rt; !default.is_settled());
-    assert!(rt; are_written(from_ref(&default), &[4, 0, 1, 0]));
+    assert!(rt; is_written(&default, "04000100"));
 }
 
 // Attributes of the same value and of different types.
@@ -123,32 +134,21 @@ fn a_cookie_has_at_most_65531_bytes(rt: HostRuntime) -> Result<(), Fail> {
     Ok(())
 }
 
-// What `tc` sends has the flag in the word of its options, and what Linux reports hasn't.
-#[test]
-fn options_are_written_with_the_nested_flag(rt: HostRuntime) -> Result<(), Fail> {
-    for frame in [MIRRED_SENT.as_slice(), &TUNNEL_KEY_SENT, &NAT_TOLD] {
-        assert!(rt; is_rewritten(rt.alloc(), frame, frame.len())?, "{frame:?}");
-    }
-    for (frame, flag) in [(GACT_TOLD.as_slice(), 111), (&MIRRED_TOLD, 107)] {
-        assert!(rt; is_rewritten(rt.alloc(), frame, flag)?, "{frame:?}");
-    }
-    Ok(())
-}
-
 /// True if an action is settled and written as its frame, which takes no memory.
 fn is_written_without_memory(
     failing: &Failing<Global>,
     action: &TcAction<&Failing<Global>>,
-    frame: &[u8],
+    frame: &str,
 ) -> bool {
     failing.refuse(1);
-    action.is_settled() && are_written(from_ref(action), frame) && !failing.has_refused()
+    action.is_settled() && is_written(action, frame) && !failing.has_refused()
 }
 
 /// True if an action is read although the request of this number was to be refused: none had it. Where one was refused, the read fails for that.
-fn is_read(alloc: Global, frame: &[u8], at: u64) -> Result<bool, Fail> {
+fn is_read(alloc: Global, frame: &str, at: u64) -> Result<bool, Fail> {
+    let bytes = bytes_of(alloc, &[], frame)?;
     let failing = Failing::new(alloc, at);
-    let read = TcAction::parse(&failing, &NlaBuffer::new_checked(frame)?);
+    let read = TcAction::parse(&failing, &NlaBuffer::new_checked(&bytes)?);
     let is_right = match &read {
         Ok(action) => {
             !failing.has_refused() && is_written_without_memory(&failing, action, frame)
@@ -166,7 +166,7 @@ fn is_read(alloc: Global, frame: &[u8], at: u64) -> Result<bool, Fail> {
 fn every_refused_allocation_is_reported(rt: HostRuntime) -> Result<(), Fail> {
     let mut is_done = false;
     for at in 1..1000u64 {
-        is_done = is_read(rt.alloc(), &NAT_TOLD, at)?;
+        is_done = is_read(rt.alloc(), NAT_TOLD, at)?;
         if is_done {
             break;
         }

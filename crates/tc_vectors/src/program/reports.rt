@@ -9,25 +9,13 @@ use tcrewrite_lib::mode::Mode;
 use tcrewrite_lib::run::run;
 use tests_data::{Expected, Form, Row, captured, large_messages, made, too_long};
 
-// True if bytes are these texts, one after the other.
-fn are(bytes: &[u8], texts: &[&str]) -> bool {
-    let mut rest = bytes;
-    for text in texts {
-        match rest.strip_prefix(text.as_bytes()) {
-            Some(others) => rest = others,
-            None => return false,
-        }
-    }
-    rest.is_empty()
-}
-
-// Whether these texts are written on a text, with this status, and so many of its bytes are left unread; or that memory ran out, where the
+// Whether this report is written on a text, with this status, and so many of its bytes are left unread; or that memory ran out, where the
 // request for memory of this number is refused (0: none). And whether it was.
 fn reports_at(
     alloc: Global,
     at: u64,
     (mode, text): (Mode, &[u8]),
-    want: &[&str],
+    want: &str,
     status: u8,
     left: usize,
 ) -> (bool, bool) {
@@ -36,16 +24,16 @@ fn reports_at(
     let ended = run(&failing, mode, &mut from, &mut to);
     let is_refused = failing.has_refused();
     let is_right = if is_refused {
-        ended == Ok(1) && are(&to, &["refused OutOfMemory\n"])
+        ended == Ok(1) && to.as_slice() == b"refused OutOfMemory\n".as_slice()
     } else {
-        ended == Ok(status) && are(&to, want) && from.len() == left
+        ended == Ok(status) && to.as_slice() == want.as_bytes() && from.len() == left
     };
     (is_right, is_refused)
 }
 
 // The same with memory enough.
 fn reports(alloc: Global, mode: Mode, text: &[u8], want: &str, status: u8, left: usize) -> bool {
-    reports_at(alloc, 0, (mode, text), &[want], status, left).0
+    reports_at(alloc, 0, (mode, text), want, status, left).0
 }
 
 /// How a message of this form is read.
@@ -60,77 +48,56 @@ fn word_of(holds: bool) -> &'static str {
     if holds { "yes" } else { "no" }
 }
 
-// Whether the report on the message of a row is what the row has, where the request for memory of this number is refused (0: none), and
-// whether it was.
-fn is_reported_at(alloc: Global, at: u64, row: &Row) -> (bool, bool) {
-    match hex::encode(alloc, &row.input.bytes) {
-        Ok(text) => {
-            let text = (mode_of(row.input.form), text.as_bytes());
-            is_expected_at(alloc, at, text, &row.expected)
-        }
-        Err(_) => (false, false),
-    }
-}
-
-// The same of the report on a text.
-fn is_expected_at(
-    alloc: Global,
-    at: u64,
-    text: (Mode, &[u8]),
-    expected: &Expected,
-) -> (bool, bool) {
-    let (fits, settled, canonical, emitted) = match expected {
-        Expected::Refused(name) => {
-            return reports_at(alloc, at, text, &["refused ", name.as_str(), "\n"], 1, 0);
-        }
+// The lines of the report on a message that is read so.
+fn report_on(alloc: Global, expected: &Expected) -> Result<String, AllocError> {
+    match expected {
+        Expected::Refused(name) => format!(in alloc; "refused {name}\n"),
         Expected::Accepted {
             fits,
             settled,
             canonical,
             emitted,
-        } => (*fits, *settled, *canonical, emitted),
-    };
-    let (settled, canonical) = (word_of(settled), word_of(canonical));
-    if !fits {
-        let report = [
-            "fits no\nsettled ",
-            settled,
-            "\ncanonical ",
-            canonical,
-            "\n",
-        ];
-        return reports_at(alloc, at, text, &report, 0, 0);
-    }
-    match hex::encode(alloc, emitted) {
-        Ok(digits) => {
-            let report = [
-                "fits yes\nsettled ",
-                settled,
-                "\ncanonical ",
-                canonical,
-                "\nbytes ",
-                digits.as_str(),
-                "\n",
-            ];
-            reports_at(alloc, at, text, &report, 0, 0)
+        } => {
+            let (fits, settled, canonical) = (
+                word_of(*fits),
+                word_of(*settled),
+                word_of(*canonical),
+            );
+            let front = format!(in alloc;
+                "fits {fits}\nsettled {settled}\ncanonical {canonical}\n"
+            )?;
+            if fits == "no" {
+                return Ok(front);
+            }
+            let digits = hex::encode(alloc, emitted)?;
+            format!(in alloc; "{front}bytes {digits}\n")
         }
-        Err(_) => (false, false),
     }
 }
 
+// Whether the report on the message of a row is what the row has, where the request for memory of this number is refused (0: none), and
+// whether it was.
+fn is_reported_at(alloc: Global, at: u64, row: &Row) -> Result<(bool, bool), AllocError> {
+    let text = hex::encode(alloc, &row.input.bytes)?;
+    let report = report_on(alloc, &row.expected)?;
+    let status = u8::from(matches!(row.expected, Expected::Refused(_)));
+    let text = (mode_of(row.input.form), text.as_bytes());
+    Ok(reports_at(alloc, at, text, &report, status, 0))
+}
+
 // Reports on the messages of rows, and returns how many they are.
-fn are_reported(rt: &impl Abort, alloc: Global, rows: &[Row]) -> usize {
+fn are_reported(rt: &impl Abort, alloc: Global, rows: &[Row]) -> Result<usize, AllocError> {
     for row in rows {
-        assert!(rt; is_reported_at(alloc, 0, row).0, "{:?}", row.input);
+        assert!(rt; is_reported_at(alloc, 0, row)?.0, "{:?}", row.input);
     }
-    rows.len()
+    Ok(rows.len())
 }
 
 // Those that were made by hand are below, with memory refused and with memory enough.
 #[test]
 fn reports_on_captured_messages(rt: HostRuntime) -> Result<(), Fail> {
     let rows = captured(rt.alloc())?;
-    assert_eq!(rt; are_reported(&rt, rt.alloc(), &rows), 20);
+    assert_eq!(rt; are_reported(&rt, rt.alloc(), &rows)?, 20);
     Ok(())
 }
 
@@ -147,7 +114,7 @@ fn is_large(expected: &Expected) -> bool {
 fn reports_on_large_messages(rt: HostRuntime) -> Result<(), Fail> {
     let alloc = rt.alloc();
     let rows = large_messages(alloc)?;
-    assert_eq!(rt; are_reported(&rt, alloc, &rows), 4);
+    assert_eq!(rt; are_reported(&rt, alloc, &rows)?, 4);
     let mut large_reports = 0usize;
     for row in &rows {
         if is_large(&row.expected) {
@@ -172,10 +139,10 @@ fn row_too_long(alloc: Global, form: Form) -> Result<Row, AllocError> {
 
 #[test]
 fn reports_what_does_not_fit(rt: HostRuntime) -> Result<(), Fail> {
-    let row = row_too_long(rt.alloc(), Form::Tc)?;
-    assert!(rt; is_reported_at(rt.alloc(), 0, &row).0);
-    let row = row_too_long(rt.alloc(), Form::Action)?;
-    assert!(rt; is_reported_at(rt.alloc(), 0, &row).0);
+    for form in [Form::Tc, Form::Action] {
+        let row = row_too_long(rt.alloc(), form)?;
+        assert!(rt; is_reported_at(rt.alloc(), 0, &row)?.0);
+    }
     Ok(())
 }
 
@@ -208,15 +175,12 @@ static REFUSED: [&str; 3] = ["0", "0g", "00\x0b"];
 #[test]
 fn refuses_texts(rt: HostRuntime) {
     for text in &REFUSED {
-        let bytes = text.as_bytes();
-        assert!(rt;
-            reports(rt.alloc(), Mode::Tc, bytes, "bad hex\n", 2, 0),
-            "{text}"
-        );
-        assert!(rt;
-            reports(rt.alloc(), Mode::Action, bytes, "bad hex\n", 2, 0),
-            "{text}"
-        );
+        for mode in [Mode::Tc, Mode::Action] {
+            assert!(rt;
+                reports(rt.alloc(), mode, text.as_bytes(), "bad hex\n", 2, 0),
+                "{text}"
+            );
+        }
     }
 }
 
@@ -272,17 +236,17 @@ fn reports_on_the_front_of_a_message(rt: HostRuntime) {
 }
 
 // The number of the first request for memory that is refused and the report is another, or none was where some are needed.
-fn misreported_request(alloc: Global, row: &Row) -> Option<u64> {
+fn misreported_request(alloc: Global, row: &Row) -> Result<Option<u64>, AllocError> {
     for at in 1..1000u64 {
-        let (is_right, is_refused) = is_reported_at(alloc, at, row);
+        let (is_right, is_refused) = is_reported_at(alloc, at, row)?;
         if !is_right || !is_refused && at <= 2 {
-            return Some(at);
+            return Ok(Some(at));
         }
         if !is_refused {
-            return None;
+            return Ok(None);
         }
     }
-    Some(1000)
+    Ok(Some(1000))
 }
 
 // Whatever request for memory is refused, the report says so and nothing else; where none is, it is that of the row.
@@ -290,33 +254,27 @@ fn misreported_request(alloc: Global, row: &Row) -> Option<u64> {
 fn reports_refused_memory_of_each_message(rt: HostRuntime) -> Result<(), Fail> {
     let rows = made(rt.alloc())?;
     for row in &rows {
-        let request = misreported_request(rt.alloc(), row);
+        let request = misreported_request(rt.alloc(), row)?;
         assert!(rt; request.is_none(), "request {request:?}: {:?}", row.input);
     }
     Ok(())
 }
 
-// Whether this is written on so many equal letters.
-fn reports_on_letters(
-    alloc: Global,
-    letter: u8,
-    count: usize,
-    left: usize,
-    want: &str,
-    status: u8,
-) -> bool {
-    match vec![in alloc; letter; count] {
-        Ok(text) => reports(alloc, Mode::Tc, &text, want, status, left),
-        Err(_) => false,
-    }
-}
+// Letters, how many they are, how many bytes are left unread, the report, and its status.
+#[rattlefmt::skip]
+static LETTERS: [(u8, usize, usize, &str, u8); 4] = [
+    (b' ', 1_048_576, 0, "refused BufferTooSmall\n", 1),
+    (b' ', 1_048_577, 0, "too long\n", 2),
+    (b' ', 1_048_579, 2, "too long\n", 2),
+    (b'x', 1_048_577, 0, "too long\n", 2),
+];
 
 #[test]
-fn reads_no_more_than_one_byte_too_much(rt: HostRuntime) {
-    let alloc = rt.alloc();
-    let short = "refused BufferTooSmall\n";
-    assert!(rt; reports_on_letters(alloc, b' ', 1_048_576, 0, short, 1));
-    assert!(rt; reports_on_letters(alloc, b' ', 1_048_577, 0, "too long\n", 2));
-    assert!(rt; reports_on_letters(alloc, b' ', 1_048_579, 2, "too long\n", 2));
-    assert!(rt; reports_on_letters(alloc, b'x', 1_048_577, 0, "too long\n", 2));
+fn reads_no_more_than_one_byte_too_much(rt: HostRuntime) -> Result<(), Fail> {
+    for (letter, count, left, report, status) in &LETTERS {
+        let text = vec![in rt.alloc(); *letter; *count]?;
+        let is_right = reports(rt.alloc(), Mode::Tc, &text, report, *status, *left);
+        assert!(rt; is_right, "{count} of {letter}");
+    }
+    Ok(())
 }

@@ -4,58 +4,18 @@ use crate::program::streams::{LIMIT_OF_FQ_CODEL, REPORT_ON_LIMIT, serves};
 use tcrewrite_lib::mode::Mode;
 use tcrewrite_lib::program::Arguments;
 
-// A text, and the report on it in one mode, with its status.
-struct Row {
-    mode: Mode,
-    text: &'static str,
-    report: &'static str,
-    status: u8,
-}
+// A mode, a text, the report on it, and its status: each status in each mode.
+type Row = (Mode, &'static str, &'static str, u8);
 
-// Each status in each mode.
+#[rattlefmt::skip]
 static ROWS: [Row; 7] = [
-    Row {
-        mode: Mode::Tc,
-        text: "0000000000000000000000000000000000000000",
-        report: "fits yes\nsettled yes\ncanonical yes\nbytes 0000000000000000000000000000000000000000\n",
-        status: 0,
-    },
-    Row {
-        mode: Mode::Tc,
-        text: "00000000",
-        report: "refused BufferTooSmall\n",
-        status: 1,
-    },
-    Row {
-        mode: Mode::Tc,
-        text: "0",
-        report: "bad hex\n",
-        status: 2,
-    },
-    Row {
-        mode: Mode::Action,
-        text: "00000000",
-        report: "fits yes\nsettled yes\ncanonical yes\nbytes 00000000\n",
-        status: 0,
-    },
-    Row {
-        mode: Mode::Action,
-        text: "000000000800010004000100",
-        report: "refused MissingKind\n",
-        status: 1,
-    },
-    Row {
-        mode: Mode::Action,
-        text: "00000000200001001c000100080001006e617400080001006e6174000500030000000000",
-        report: "refused DuplicateKind\n",
-        status: 1,
-    },
-    Row {
-        mode: Mode::Action,
-        text: "0g",
-        report: "bad hex\n",
-        status: 2,
-    },
+    (Mode::Tc, "0000000000000000000000000000000000000000", "fits yes\nsettled yes\ncanonical yes\nbytes 0000000000000000000000000000000000000000\n", 0),
+    (Mode::Tc, "00000000", "refused BufferTooSmall\n", 1),
+    (Mode::Tc, "0", "bad hex\n", 2),
+    (Mode::Action, "00000000", "fits yes\nsettled yes\ncanonical yes\nbytes 00000000\n", 0),
+    (Mode::Action, "000000000800010004000100", "refused MissingKind\n", 1),
+    (Mode::Action, "00000000200001001c000100080001006e617400080001006e6174000500030000000000", "refused DuplicateKind\n", 1),
+    (Mode::Action, "0g", "bad hex\n", 2),
 ];
 
 // How many calls of the input, the output and the error output succeed.
@@ -71,53 +31,27 @@ const NO_COMPLAINT: Counts = (200, 200, 0);
 
 #[test]
 fn ends_with_the_status_of_the_report(rt: HostRuntime) {
-    for row in &ROWS {
-        let request = Arguments::Report(row.mode);
-        assert!(rt;
-            serves(
-                rt.alloc(),
-                request,
-                row.text,
-                ALL,
-                row.status,
-                (row.report, "")
-            ),
-            "{:?} {}",
-            row.mode,
-            row.text
-        );
+    for (mode, text, report, status) in &ROWS {
+        let request = Arguments::Report(*mode);
+        let is_served = serves(rt.alloc(), request, text, ALL, *status, (report, ""));
+        assert!(rt; is_served, "{mode:?} {text}");
     }
 }
 
 #[test]
 fn ends_with_3_where_a_stream_failed(rt: HostRuntime) {
-    for row in &ROWS {
-        let request = Arguments::Report(row.mode);
-        assert!(rt;
-            serves(
+    for (mode, text, _, _) in &ROWS {
+        for (counts, fault) in [(NO_READ, "read failed\n"), (NO_WRITE, "write failed\n")] {
+            let is_served = serves(
                 rt.alloc(),
-                request,
-                row.text,
-                NO_READ,
+                Arguments::Report(*mode),
+                text,
+                counts,
                 3,
-                ("", "read failed\n")
-            ),
-            "{:?}",
-            row.mode
-        );
-        assert!(rt;
-            serves(
-                rt.alloc(),
-                request,
-                row.text,
-                NO_WRITE,
-                3,
-                ("", "write failed\n")
-            ),
-            "{:?} {}",
-            row.mode,
-            row.text
-        );
+                ("", fault),
+            );
+            assert!(rt; is_served, "{mode:?} {text}");
+        }
     }
 }
 
@@ -147,16 +81,14 @@ static ENDS: [(Arguments, Counts, u8, (&str, &str)); 11] = [
 #[test]
 fn ends_with_a_status(rt: HostRuntime) {
     for (request, counts, status, written) in &ENDS {
-        assert!(rt;
-            serves(
-                rt.alloc(),
-                *request,
-                LIMIT_OF_FQ_CODEL,
-                *counts,
-                *status,
-                *written
-            ),
-            "{request:?} {counts:?}"
+        let is_served = serves(
+            rt.alloc(),
+            *request,
+            LIMIT_OF_FQ_CODEL,
+            *counts,
+            *status,
+            *written,
         );
+        assert!(rt; is_served, "{request:?} {counts:?}");
     }
 }

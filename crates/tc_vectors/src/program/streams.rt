@@ -124,10 +124,8 @@ fn stops_where_a_read_fails(rt: HostRuntime) {
 fn stops_where_a_write_fails(rt: HostRuntime) {
     let (alloc, fault) = (rt.alloc(), RunError::Write);
     for count in 0..REPORT.len() {
-        assert!(rt;
-            ends(alloc, calls(200), calls(count), Some(&fault), count),
-            "after {count} writes"
-        );
+        let ended = ends(alloc, calls(200), calls(count), Some(&fault), count);
+        assert!(rt; ended, "after {count} writes");
     }
     assert!(rt; ends(alloc, calls(200), calls(REPORT.len()), None, REPORT.len()));
     // a writer that takes nothing
@@ -173,10 +171,8 @@ fn tries_again(rt: HostRuntime) {
     for (reads, writes, fault) in &INTERRUPTED {
         let written = if fault.is_none() { REPORT.len() } else { 0 };
         let (from, to) = (interrupted(*reads), interrupted(*writes));
-        assert!(rt;
-            ends(rt.alloc(), from, to, fault.as_ref(), written),
-            "{reads:?} {writes:?}"
-        );
+        let ended = ends(rt.alloc(), from, to, fault.as_ref(), written);
+        assert!(rt; ended, "{reads:?} {writes:?}");
     }
 }
 
