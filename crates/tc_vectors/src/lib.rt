@@ -5,15 +5,11 @@
 #[cfg(test)]
 mod calls;
 #[cfg(test)]
-mod canonical;
-#[cfg(test)]
 mod exports;
 #[cfg(test)]
 mod flower;
 #[cfg(test)]
 mod hostile;
-#[cfg(test)]
-mod large;
 #[cfg(test)]
 mod lengths;
 #[cfg(test)]
@@ -28,8 +24,6 @@ mod program;
 mod readme;
 #[cfg(test)]
 mod rewriting;
-#[cfg(test)]
-mod row_kinds;
 #[cfg(test)]
 mod settled;
 #[cfg(test)]

@@ -4,15 +4,13 @@ use crate::calls::{fault_of, is_made, is_read_as, is_settled_attribute, is_settl
 use crate::made::{kept, kind, message, option, options, other, pushed, raw};
 use crate::tables::{bytes_of, is_shown, settles};
 use crate::worked::{NO_ACTION_HEADER, NO_HEADER, front_of};
-use nla_frames::{AddressFamily, Settle, SettleBytes};
+use nla_frames::AddressFamily;
 use std::alloc::{AllocError, Global};
 use std::test::Fail;
 use tc_action_messages::{TcActionMessage, TcActionMessageAttribute};
 use tc_actions::{TcAction, TcActionAttribute, TcFqCodelXstats, TcXstats};
 use tc_options::TcFilterU32Option;
-use tc_records::{
-    TcActionMessageHeader, TcActionType, TcHeader, TcMirror, TcMirrorActionType, TcNat, TcTunnelKey,
-};
+use tc_records::TcActionMessageHeader;
 use tc_wire::{TcAttribute, TcMessage, TcOption, TcQdiscFqCodelOption};
 use tests_data::Form;
 
@@ -265,49 +263,4 @@ fn of_options_under_a_kind(rt: HostRuntime) -> Result<(), Fail> {
         assert!(rt; is_settled_of_type(alloc, word)? == is_settled, "{word}");
     }
     Ok(())
-}
-
-/// True if both headers of this family are settled as they have to be.
-fn is_family(family: AddressFamily, is_settled: bool) -> bool {
-    let mut header = TcHeader::default();
-    header.family = family;
-    header.is_settled() == is_settled && TcActionMessageHeader { family }.is_settled() == is_settled
-}
-
-/// True if the records of this outcome are settled as they have to be.
-fn is_outcome(action: TcActionType, is_settled: bool) -> bool {
-    let (mut mirror, mut nat, mut key) = (
-        TcMirror::default(),
-        TcNat::default(),
-        TcTunnelKey::default(),
-    );
-    mirror.generic.action = action;
-    nat.generic.action = action;
-    key.generic.action = action;
-    mirror.generic.is_settled() == is_settled
-        && mirror.is_settled_under("mirred") == is_settled
-        && nat.is_settled() == is_settled
-        && key.is_settled() == is_settled
-}
-
-/// True if a mirror of this direction is settled.
-fn is_direction_settled(eaction: TcMirrorActionType) -> bool {
-    let mut mirror = TcMirror::default();
-    mirror.eaction = eaction;
-    mirror.is_settled()
-}
-
-// A number that has a name is settled under its name.
-#[test]
-fn of_records(rt: HostRuntime) {
-    assert!(rt; is_family(AddressFamily::Inet, true));
-    assert!(rt; is_family(AddressFamily::Other(2), false));
-    assert!(rt; is_family(AddressFamily::Other(3), true));
-    assert!(rt; is_outcome(TcActionType::Shot, true));
-    assert!(rt; is_outcome(TcActionType::Other(-1), false));
-    assert!(rt; is_outcome(TcActionType::Other(2), false));
-    assert!(rt; is_outcome(TcActionType::Other(9), true));
-    assert!(rt; is_direction_settled(TcMirrorActionType::IngressMirror));
-    assert!(rt; !is_direction_settled(TcMirrorActionType::Other(4)));
-    assert!(rt; is_direction_settled(TcMirrorActionType::Other(0)));
 }

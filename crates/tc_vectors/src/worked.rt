@@ -2,8 +2,7 @@
 
 use crate::calls::{fault_of, is_canonical, is_made, is_read_as};
 use crate::rewriting::{cause_of, is_fault, is_rewritten};
-use crate::row_kinds::{Says, are_right};
-use crate::tables::{bytes_of, cells, is_shown, or_same, pair};
+use crate::tables::{bytes_of, cells, is_shown, or_same, pair, rows};
 use nla_frames::{AddressFamily, DecodeError};
 use std::alloc::{AllocError, Global};
 use std::test::Fail;
@@ -14,7 +13,7 @@ use tests_data::Form;
 // aren't the same, which only canonical ones are. A row of those that are refused: frames in hex, and the first fault in them.
 
 /// Messages that are settled, after a header of 20 zeros.
-pub(crate) static TC: &str = r#"
+static TC: &str = r#"
  | []
 08000100 75333200 0c000200 08000200 05000000 0d000100 66715f636f64656c00000000 0c000200 08000200 05000000 | [Kind("u32"), Options([U32(Hash(5))]), Kind("fq_codel"), Options([FqCodel(Limit(5))])]
 08000180 75333200 0c000200 08000200 05000000 0d000100 66715f636f64656c00000000 0c000200 08000200 05000000 | [Kind("u32"), Options([U32(Hash(5))]), Kind("fq_codel"), Options([FqCodel(Limit(5))])] | 08000100 75333200 0c000200 08000200 05000000 0d000100 66715f636f64656c00000000 0c000200 08000200 05000000
@@ -42,12 +41,12 @@ pub(crate) static TC: &str = r#"
 "#;
 
 /// Messages that aren't settled.
-pub(crate) static TC_UNSETTLED: &str = r#"
+static TC_UNSETTLED: &str = r#"
 0b000100 666c6f7765720000 0c000200 05004400 03000000 | [Kind("flower"), Options([Flower(MplsBos(3))])] | 0b000100 666c6f7765720000 0c000200 05004400 01000000
 "#;
 
 /// Messages that are refused.
-pub(crate) static TC_FAULTS: &str = r#"
+static TC_FAULTS: &str = r#"
 05000100ff000000 | NotUtf8
 08000300 00000000 | BufferTooSmall { len: 4, needed: 40 }
 08000b00 07000000 aabb | FrameHeaderShort { left: 2 }
@@ -66,7 +65,7 @@ pub(crate) static TC_FAULTS: &str = r#"
 "#;
 
 /// Action messages that are settled, after a header of 4 zeros.
-pub(crate) static ACTIONS: &str = r#"
+static ACTIONS: &str = r#"
  | []
 18000100 14000100 08000300 05000000 08000100 6e617400 | [Actions([TcAction { tab: 1, attributes: [Index(5), Kind("nat")] }])]
 18000100 14000180 08000300 05000000 08000100 6e617400 | [Actions([TcAction { tab: 1, attributes: [Index(5), Kind("nat")] }])] | 18000100 14000100 08000300 05000000 08000100 6e617400
@@ -81,14 +80,14 @@ pub(crate) static ACTIONS: &str = r#"
 "#;
 
 /// Action messages that aren't settled.
-pub(crate) static ACTIONS_UNSETTLED: &str = r#"
+static ACTIONS_UNSETTLED: &str = r#"
 07000500 61000000 | [RootExtWarnMsg("a\0")] | 06000500 61000000
 08000500 61000000 | [RootExtWarnMsg("a\0\0")] | 07000500 61000000
 08000500 61000000 07000500 62000000 | [RootExtWarnMsg("a\0\0"), RootExtWarnMsg("b\0")] | 07000500 61000000 06000500 62000000
 "#;
 
 /// Action messages that are refused.
-pub(crate) static ACTION_FAULTS: &str = r#"
+static ACTION_FAULTS: &str = r#"
 08000100 04000100 | MissingKind
 0c000100 08000100 03000100 | FrameTooShort { length: 3 }
 20000100 1c000100 08000100 6e617400 08000100 6e617400 05000300 00000000 | DuplicateKind
@@ -128,12 +127,7 @@ pub(crate) fn front_of(form: Form) -> &'static str {
 }
 
 /// True if the message of a row is read, written and settled as it has to be; written as it came where the row has no other frames.
-pub(crate) fn is_read(
-    alloc: Global,
-    form: Form,
-    row: &str,
-    is_settled: bool,
-) -> Result<bool, AllocError> {
+fn is_read(alloc: Global, form: Form, row: &str, is_settled: bool) -> Result<bool, AllocError> {
     let Some((frames, attributes, written)) = cells(row) else {
         return Ok(false);
     };
@@ -149,7 +143,7 @@ pub(crate) fn is_read(
 }
 
 /// True if the message of a row is refused with its fault, by each of the calls.
-pub(crate) fn is_refused(alloc: Global, form: Form, row: &str) -> Result<bool, AllocError> {
+fn is_refused(alloc: Global, form: Form, row: &str) -> Result<bool, AllocError> {
     let Some((frames, text)) = pair(row) else {
         return Ok(false);
     };
@@ -162,22 +156,38 @@ pub(crate) fn is_refused(alloc: Global, form: Form, row: &str) -> Result<bool, A
     })
 }
 
+/// Checks each row of messages that are settled, or aren't, and fails at the first that is wrong.
+fn are_read(alloc: Global, form: Form, table: &str, is_settled: bool) -> Result<(), Fail> {
+    for row in rows(table) {
+        if !is_read(alloc, form, row, is_settled)? {
+            return Err(Fail::new(row));
+        }
+    }
+    Ok(())
+}
+
+/// Checks each row of messages that are refused, and fails at the first that is wrong.
+fn are_refused(alloc: Global, form: Form, table: &str) -> Result<(), Fail> {
+    for row in rows(table) {
+        if !is_refused(alloc, form, row)? {
+            return Err(Fail::new(row));
+        }
+    }
+    Ok(())
+}
+
 #[test]
 fn messages(rt: HostRuntime) -> Result<(), Fail> {
-    are_right(rt.alloc(), Says::Message(Form::Tc, true), TC)?;
-    are_right(rt.alloc(), Says::Message(Form::Tc, false), TC_UNSETTLED)?;
-    are_right(rt.alloc(), Says::Refused(Form::Tc), TC_FAULTS)
+    are_read(rt.alloc(), Form::Tc, TC, true)?;
+    are_read(rt.alloc(), Form::Tc, TC_UNSETTLED, false)?;
+    are_refused(rt.alloc(), Form::Tc, TC_FAULTS)
 }
 
 #[test]
 fn action_messages(rt: HostRuntime) -> Result<(), Fail> {
-    are_right(rt.alloc(), Says::Message(Form::Action, true), ACTIONS)?;
-    are_right(
-        rt.alloc(),
-        Says::Message(Form::Action, false),
-        ACTIONS_UNSETTLED,
-    )?;
-    are_right(rt.alloc(), Says::Refused(Form::Action), ACTION_FAULTS)
+    are_read(rt.alloc(), Form::Action, ACTIONS, true)?;
+    are_read(rt.alloc(), Form::Action, ACTIONS_UNSETTLED, false)?;
+    are_refused(rt.alloc(), Form::Action, ACTION_FAULTS)
 }
 
 static INET: &str =

@@ -1,8 +1,7 @@
 //! Data for tests: messages, made by hand and captured, and others made from them (cut, changed, with attributes of all
-//! types and many lengths); captures of them in each format.
+//! types and many lengths).
 #![tactic(auto)]
 
-mod captures;
 mod changes;
 mod input;
 mod large;
@@ -11,9 +10,6 @@ mod row;
 mod rows;
 mod sweep;
 
-pub use captures::{
-    FORMATS, Format, MICROSECONDS, SECONDS, beginning, file_of, message, messages, put_packet,
-};
 pub use changes::cut_and_changed;
 pub use input::{Form, Input};
 pub use large::{MANY_ATTRIBUTES, MANY_KEYS, MANY_LETTERS, MANY_NULS, large_messages};

@@ -6,8 +6,6 @@ include!("../../conjareho/crates.rs");
 const TESTS: &[&str] = &[
     "tests_data",
     "tc_vectors",
-    "tests_input",
-    "tests_forms",
 ];
 
 /// Tests of how large Rattle's values are, of refused memory, of random bytes, and of lines of a program. Where a text isn't JSON,
@@ -15,8 +13,6 @@ const TESTS: &[&str] = &[
 const OMITTED: &[&str] = &[
     "failing_alloc",
     "tc_message_json",
-    "tests_forms::build::broken",
-    "tests_forms::message_json",
     "tcrewrite_lib",
     "tc_vectors::hostile",
     "tc_vectors::program",
@@ -28,9 +24,6 @@ const OMITTED: &[&str] = &[
     "tc_vectors::parts::actions::is_read",
     "tc_vectors::parts::actions::is_written_without_memory",
     "tc_vectors::parts::refusals",
-    "tests_forms::forms::random",
-    "tests_forms::forms::wrong::texts",
-    "tests_forms::forms::wrong::a_thousand_levels",
 ];
 
 fn main() {

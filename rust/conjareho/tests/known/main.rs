@@ -2,6 +2,8 @@
 //! Bytes differ from place to place, which shows a field that is elsewhere, is wider or has another byte order. A row that is wrong is named.
 
 mod attributes;
+mod canonical;
+mod frames;
 mod names;
 mod records;
 mod rows;

@@ -1,7 +1,7 @@
 //! The fixed records: their bytes and fields, their raw buffers, and bytes that are too few or zeros. Each byte is its place in the record, counted from 1.
 //! Padding is kept by a raw buffer, not looked at by a record, and written as 0. `parse` is each record's own: no trait that has it is imported.
 
-use crate::rows::rows;
+use crate::rows::{bytes_of, rows};
 use conjareho::tc::{
     TcActionGeneric, TcActionGenericBuffer, TcActionMessage, TcActionMessageBuffer, TcActionMessageFlags,
     TcActionMessageHeader, TcActionType, TcFqCodelClStats, TcFqCodelClStatsBuffer, TcFqCodelQdStats,
@@ -10,7 +10,7 @@ use conjareho::tc::{
     TcStatsQueue, TcStatsQueueBuffer, TcTunnelKey, TcTunnelKeyBuffer, TcU32Key, TcU32KeyBuffer, TcU32Selector,
     TcU32SelectorBuffer, TcU32SelectorFlags, Tcf, TcfBuffer,
 };
-use conjareho::{AddressFamily, DecodeError, Emitable};
+use conjareho::{AddressFamily, DecodeError, Emitable, SettleBytes};
 use std::fmt::Debug;
 use std::ops::Range;
 
@@ -147,5 +147,74 @@ fn defaults() {
     for (_, row) in rows(include_str!("defaults.txt")) {
         let [name, text] = row[..] else { panic!("{row:?}") };
         assert_eq!(shown(name), text);
+    }
+}
+
+// ---- the selector of u32 and its keys
+
+/// A selector that counts so many keys, and has these: the word at byte 16 is 10.0.0.1.
+fn selector(nkeys: u8, keys: usize) -> TcU32Selector {
+    let key = TcU32Key { mask: 0xffff_ffff, val: 0x0a00_0001, off: 16, offmask: 0 };
+    let flags = TcU32SelectorFlags::Terminal;
+    TcU32Selector { flags, offmask: 0x0f00, nkeys, keys: vec![key; keys], ..TcU32Selector::default() }
+}
+
+#[test]
+fn offsets_and_masks_have_their_own_order() {
+    let one = selector(1, 1);
+    let bytes = bytes_of("010001000f0000000000000000000000 ffffffff0a0000011000000000000000");
+    assert_eq!((one.fits(), one.buffer_len()), (true, 32));
+    let mut buffer = [0x55; 40];
+    one.emit(&mut buffer);
+    assert_eq!((&buffer[..32], &buffer[32..]), (&bytes[..], &[0x55; 8][..]));
+    // What follows the key is dropped.
+    assert_eq!(TcU32Selector::parse(&buffer), Ok(one));
+    // More keys are counted than there are.
+    assert!(!selector(1, 0).fits() && !selector(2, 1).fits());
+}
+
+#[test]
+fn short_selectors_are_refused() {
+    let one_key = [0, 0, 1, 0, 0, 0, 0, 0, 0, 0, 0, 0, 0, 0, 0, 0];
+    assert_eq!(TcU32Selector::parse(&one_key).err(), Some(DecodeError::SelectorShort { len: 16, needed: 32 }));
+    assert_eq!(TcU32Selector::parse(&one_key[..15]).err(), Some(DecodeError::SelectorShort { len: 15, needed: 16 }));
+}
+
+// ---- which records are settled
+
+/// A number that has a name is settled under its name alone.
+#[test]
+fn numbers_with_names() {
+    for (family, is_settled) in
+        [(AddressFamily::Inet, true), (AddressFamily::Other(2), false), (AddressFamily::Other(3), true)]
+    {
+        let header = TcHeader { family, ..TcHeader::default() };
+        assert_eq!(header.is_settled(), is_settled, "{family:?}");
+        assert_eq!(TcActionMessageHeader { family }.is_settled(), is_settled, "{family:?}");
+    }
+    let outcomes = [
+        (TcActionType::Shot, true),
+        (TcActionType::Other(-1), false),
+        (TcActionType::Other(2), false),
+        (TcActionType::Other(9), true),
+    ];
+    for (action, is_settled) in outcomes {
+        let generic = TcActionGeneric { action, ..TcActionGeneric::default() };
+        let mut mirror = TcMirror::default();
+        let mut nat = TcNat::default();
+        let mut key = TcTunnelKey::default();
+        (mirror.generic, nat.generic, key.generic) = (generic, generic, generic);
+        let settled =
+            [mirror.generic.is_settled(), mirror.is_settled_under("mirred"), nat.is_settled(), key.is_settled()];
+        assert_eq!(settled, [is_settled; 4], "{action:?}");
+    }
+    let directions = [
+        (TcMirrorActionType::IngressMirror, true),
+        (TcMirrorActionType::Other(4), false),
+        (TcMirrorActionType::Other(0), true),
+    ];
+    for (eaction, is_settled) in directions {
+        let mirror = TcMirror { eaction, ..TcMirror::default() };
+        assert_eq!(mirror.is_settled(), is_settled, "{eaction:?}");
     }
 }

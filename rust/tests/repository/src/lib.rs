@@ -31,4 +31,8 @@ use ::itoa;
 use serde::json as serde_json;
 use small::arrayvec;
 
+mod forms;
+mod large;
+mod texts;
+
 include!(concat!(env!("OUT_DIR"), "/tests.rs"));

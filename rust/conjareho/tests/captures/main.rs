@@ -2,7 +2,6 @@
 
 mod broken;
 mod cuts;
-mod errno;
+mod files;
 mod reading;
-mod same;
-mod stored;
+mod whole;

@@ -1,4 +1,0 @@
-//! JSON that makes no message.
-
-mod broken;
-mod wrong;
