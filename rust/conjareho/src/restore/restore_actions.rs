@@ -6,7 +6,7 @@ use crate::nla_frames::{DecodeError, DefaultNla, NLA_TYPE_MASK, Nla, parse_list}
 use crate::restore::numbers::{number_at, with_number};
 use crate::restore::restore::{Around, NOTHING_AROUND, Restore, is_of, restore_after, restore_own};
 use crate::restore::restore_error::RestoreError;
-use crate::restore::restore_raw::emitted;
+use crate::restore::restore_raw::{emitted, frames_in, nested};
 use crate::restore::restore_tunnels::restored_tunnel;
 use crate::restore::uses::{are_parameters, mirror_restored, nat_restored, record_restored, tunnel_key_restored};
 use crate::tc_actions::{
@@ -239,10 +239,27 @@ fn restored_raw_option(kind: &str, nla: DefaultNla) -> Result<DefaultNla, Restor
         let value = restored_parameters(kind, nla.value())?;
         return Ok(DefaultNla::new(nla.kind(), value));
     }
-    if kind == "tunnel_key" {
-        return kept_tunnel(nla);
+    match kind {
+        "tunnel_key" => kept_tunnel(nla),
+        "gate" if number == ENTRIES => restored_entries(nla),
+        _ => Ok(nla),
     }
-    Ok(nla)
+}
+
+// `TCA_GATE_ENTRY_LIST` of `linux/tc_act/tc_gate.h`.
+const ENTRIES: u16 = 5;
+
+// Restores the entries of gate, each of which Linux takes only with the nested flag.
+fn restored_entries(nla: DefaultNla) -> Result<DefaultNla, RestoreError> {
+    let entries = frames_in(nla.value())?;
+    if entries.is_empty() {
+        return Ok(nla);
+    }
+    let mut made = fallible::with_capacity(entries.len())?;
+    for entry in &entries {
+        made.try_push(nested(entry)?)?;
+    }
+    nested(&DefaultNla::new(nla.kind(), emitted(&made)?))
 }
 
 // `TCA_TUNNEL_KEY_ENC_OPTS` of `linux/tc_act/tc_tunnel_key.h`.

@@ -2,7 +2,9 @@
 
 use crate::fallible::prelude::*;
 
-use crate::nla_frames::{DecodeError, DefaultNla, NLA_TYPE_MASK, Nla, emit_list, list_checked_len, parse_list};
+use crate::nla_frames::{
+    DecodeError, DefaultNla, NLA_F_NESTED, NLA_TYPE_MASK, Nla, emit_list, list_checked_len, parse_list,
+};
 use crate::restore::codel_times::time_set;
 use crate::restore::numbers::{number_at, with_number};
 use crate::restore::restore::is_of;
@@ -14,9 +16,15 @@ pub(crate) fn restored_raw(kind: &str, nla: DefaultNla) -> Result<DefaultNla, Re
         "htb" | "codel" => restored_list(kind, nla),
         "sfq" => restored_sfq(nla),
         "taprio" => restored_taprio(nla),
+        "ets" | "fq_pie" | "dualpi2" => nested(&nla),
         "red" | "choke" | "gred" => Err(RestoreError::MarkingTable),
         _ => Ok(nla),
     }
+}
+
+// What Linux dumps without `NLA_F_NESTED`, and takes only with it (`nla_parse_nested`, not its deprecated form).
+pub(crate) fn nested(nla: &DefaultNla) -> Result<DefaultNla, RestoreError> {
+    Ok(DefaultNla::new(nla.kind() | NLA_F_NESTED, fallible::copy(nla.value())?))
 }
 
 // Restores options that are a list.
@@ -112,7 +120,7 @@ fn restored_taprio(nla: DefaultNla) -> Result<DefaultNla, RestoreError> {
 }
 
 // The attributes of a list; none if it is broken.
-fn frames_in(bytes: &[u8]) -> Result<Vec<DefaultNla>, RestoreError> {
+pub(crate) fn frames_in(bytes: &[u8]) -> Result<Vec<DefaultNla>, RestoreError> {
     match parse_list(bytes) {
         Ok(frames) => Ok(frames),
         Err(DecodeError::OutOfMemory) => Err(RestoreError::OutOfMemory),
