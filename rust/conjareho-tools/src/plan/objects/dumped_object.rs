@@ -21,8 +21,8 @@ pub struct DumpedObject {
     pub priority: u32,
     /// Handles of the classes that a filter names.
     pub classes: Vec<u32>,
-    /// Other objects that it refers to: a filter to actions that it shares and to hash tables of u32, an object in a shared block to the
-    /// qdiscs that have it.
+    /// Other objects that it refers to: a filter to actions that it shares and to hash tables of u32, a qdisc to its blocks, a priority of u32 to what it has in
+    /// common with others.
     pub others: Vec<Key>,
     /// The bytes of its configuration.
     pub config: Vec<u8>,
