@@ -127,7 +127,8 @@ impl Model {
         self.objects.retain(|key, _| !gone.contains(key));
     }
 
-    /// How what a kernel has differs. Actions of filters that were just deleted may be there for a time.
+    /// How what a kernel has differs. Actions of filters that were just deleted may be there for a time; an action that one filter is left to hold is shown as
+    /// that filter's own, at once or later.
     ///
     /// # Errors
     ///
@@ -138,10 +139,7 @@ impl Model {
         let there: HashMap<Key, Object> = beside(rules, found, &model)?.into_iter().map(|object| (object.key, object)).collect();
         let mut said = Vec::new();
         let own = self.own_actions();
-        let is_action = |key: &&Key| matches!(key, Key::Action { .. });
-        let is_own = |it: &Object| {
-            own.contains(&it.key) || it.refers.iter().filter(is_action).any(|action| own.contains(action) && !there.contains_key(action))
-        };
+        let is_own = |it: &Object| own.contains(&it.key) || it.refers.iter().any(|action| own.contains(action));
         for object in self.objects.values().filter(|object| is_asked_for(object) && !is_own(object)) {
             match there.get(&object.key) {
                 None => said.push(format!("{} is gone", Label(object.key))),
