@@ -52,7 +52,8 @@ impl Actions {
 
     /// Those that only filters hold, of which not all are among these: others hold them, or deleted ones that live on for a time.
     pub(crate) fn unheld(&self) -> Vec<Key> {
-        let is_unheld = |action: &&Action| action.references == action.filters && action.filters > self.own_of(&action.key());
+        let is_unheld =
+            |action: &&Action| action.references == action.filters && action.filters > self.own_of(&action.key());
         self.all.iter().filter(is_unheld).map(Action::key).collect()
     }
 

@@ -220,7 +220,8 @@ fn plans() -> Vec<Arg> {
             .conflicts_with_all(["check", "try", "quiet"]),
         flag("check", "Carry the plan out in a new network namespace, and send nothing here").conflicts_with("try"),
         // A test of the model: kernel/steps.py.
-        flag("compare-steps", "Compare what there is after each request with the model that plans are made by").hide(true),
+        flag("compare-steps", "Compare what there is after each request with the model that plans are made by")
+            .hide(true),
         replace,
         allow,
         // What is so without it.

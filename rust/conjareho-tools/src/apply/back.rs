@@ -144,7 +144,10 @@ fn but_for(merged: &Merged, place: &Place) -> String {
     let mut said: Vec<String> = names;
     said.extend((more != 0).then(|| format!("and {more} more")));
     said.extend((merged.gone != 0).then(|| format!("{} that it deleted", merged.gone)));
-    format!("what was there before is there again, but for what another program changed meanwhile, which stays: {}", said.join(", "))
+    format!(
+        "what was there before is there again, but for what another program changed meanwhile, which stays: {}",
+        said.join(", ")
+    )
 }
 
 fn unplanned(place: &Place, faults: &[Fault]) -> Stop {

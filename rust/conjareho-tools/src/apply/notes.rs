@@ -45,7 +45,8 @@ impl Tables {
 
     /// The number of the table that a filter links to, if none of these dumps shows it. Such a table outlives its priority.
     pub(crate) fn unshown(&self, dump: &[u8]) -> Option<u32> {
-        let link = number_in(options_of(dump).filter(|_| is_of_u32(dump))?, TCA_U32_LINK, 0).filter(|link| *link != 0)?;
+        let link =
+            number_in(options_of(dump).filter(|_| is_of_u32(dump))?, TCA_U32_LINK, 0).filter(|link| *link != 0)?;
         let is_shown = self.0.contains(&table_of(tcmsg_of(dump)?, link));
         (!is_shown).then_some(link >> 20)
     }
@@ -78,8 +79,9 @@ fn unset_priorities(now: &[Vec<u8>], wanted: &[Vec<u8>], steps: &[Vec<u8>]) -> V
         let (key, prio) = class(dump)?;
         let was = *there.get(&key)?;
         let is_made = key_of(dump).is_some_and(|key| made.contains(&key));
-        (was != prio && !is_made)
-            .then(|| format!("{}: prio stays {was} instead of {prio}, which no class with children uses", described(dump)))
+        (was != prio && !is_made).then(|| {
+            format!("{}: prio stays {was} instead of {prio}, which no class with children uses", described(dump))
+        })
     };
     wanted.iter().filter_map(|dump| differs(&dump)).collect()
 }
@@ -94,7 +96,11 @@ fn number_in(options: &[u8], kind: u16, at: usize) -> Option<u32> {
 // The filters that are deleted and made again, by where they are; of a block with the interfaces that have it.
 fn made_again(now: &[Vec<u8>], steps: &[Vec<u8>]) -> Vec<String> {
     let filters = |messages: &mut dyn Iterator<Item = &Vec<u8>>| -> Vec<Key> {
-        messages.filter(|it| type_of(it) == RTM_NEWTFILTER).filter_map(|it| key_of(it)).map(|key| key.within_root_table()).collect()
+        messages
+            .filter(|it| type_of(it) == RTM_NEWTFILTER)
+            .filter_map(|it| key_of(it))
+            .map(|key| key.within_root_table())
+            .collect()
     };
     let there: BTreeSet<Key> = filters(&mut now.iter()).into_iter().collect();
     let made = filters(&mut steps.iter().filter(|step| !replaces(step)));
@@ -104,7 +110,8 @@ fn made_again(now: &[Vec<u8>], steps: &[Vec<u8>]) -> Vec<String> {
         *counts.entry(format!("{}{ports}", key.place())).or_default() += 1;
     }
     let line = |(place, count): (String, usize)| {
-        let (filters, them) = if count == 1 { ("1 filter".to_string(), "it") } else { (format!("{count} filters"), "them") };
+        let (filters, them) =
+            if count == 1 { ("1 filter".to_string(), "it") } else { (format!("{count} filters"), "them") };
         let are = if count == 1 { "is" } else { "are" };
         format!("{filters} of {place} {are} made again: packets pass without {them} meanwhile")
     };
@@ -148,7 +155,9 @@ mod tests {
         assert_eq!(said(&[table, u32_key(0x8000_0800, 0x20_0000)], &[], &[]), Vec::<String>::new());
         assert_eq!(
             said(&[u32_key(0x8000_0800, 0x20_0000)], &[], &[]),
-            ["filter 0x80000800 dev 7 parent 1: pref 1 links to table 2:, which no dump shows, so that it couldn't be made again"]
+            [
+                "filter 0x80000800 dev 7 parent 1: pref 1 links to table 2:, which no dump shows, so that it couldn't be made again"
+            ]
         );
     }
 
@@ -167,11 +176,15 @@ mod tests {
 
     #[test]
     fn filters_that_are_made_again_are_counted() {
-        let filter = |index, parent, handle, flags| of(RTM_NEWTFILTER, flags, Tcmsg { index, handle, parent, info: 0x1_0008 }, "bpf", &[]);
+        let filter = |index, parent, handle, flags| {
+            of(RTM_NEWTFILTER, flags, Tcmsg { index, handle, parent, info: 0x1_0008 }, "bpf", &[])
+        };
         let now = [filter(7, 0xFFFF_FFF3, 1, 0), filter(7, 0xFFFF_FFF3, 2, 0), filter(MAGIC_BLOCK, 11, 1, 0)];
-        let mut port = of(RTM_NEWQDISC, 0, Tcmsg { index: 8, handle: 0xFFFF_0000, parent: 0xFFFF_FFF1, info: 0 }, "clsact", &[]);
+        let mut port =
+            of(RTM_NEWQDISC, 0, Tcmsg { index: 8, handle: 0xFFFF_0000, parent: 0xFFFF_FFF1, info: 0 }, "clsact", &[]);
         put(&mut port, 13, &11_u32.to_ne_bytes());
-        let steps = [filter(7, 0xFFFF_FFF3, 2, 0x600), filter(7, 0xFFFF_FFF3, 1, 0x600), filter(MAGIC_BLOCK, 11, 1, 0x600)];
+        let steps =
+            [filter(7, 0xFFFF_FFF3, 2, 0x600), filter(7, 0xFFFF_FFF3, 1, 0x600), filter(MAGIC_BLOCK, 11, 1, 0x600)];
         assert_eq!(
             said(&[&now[..], &[port]].concat(), &[], &steps),
             [

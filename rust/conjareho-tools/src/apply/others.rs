@@ -26,7 +26,9 @@ pub(crate) struct Merged {
 /// of the three shows no state.
 pub(crate) fn merged(before: &[Vec<u8>], left: &[Vec<u8>], now: &[Vec<u8>]) -> Result<Option<Merged>, Stop> {
     let Some(is) = state_of_dumps(None, dumps_of(now))? else { return Ok(None) };
-    let (Some(left), Some(was)) = (state_of_dumps(Some(&is), dumps_of(left))?, state_of_dumps(Some(&is), dumps_of(before))?) else {
+    let (Some(left), Some(was)) =
+        (state_of_dumps(Some(&is), dumps_of(left))?, state_of_dumps(Some(&is), dumps_of(before))?)
+    else {
         return Ok(None);
     };
     let three = Three { was: Side::of(&was), left: Side::of(&left), is: Side::of(&is) };
@@ -37,7 +39,9 @@ pub(crate) fn merged(before: &[Vec<u8>], left: &[Vec<u8>], now: &[Vec<u8>]) -> R
     // Of one object there is one dump: the priority of a filter and the like come with each.
     let known: BTreeSet<Key> = dumps.iter().filter_map(|dump| key_of(dump)).collect();
     let more = three.is.dumps(now, &staying);
-    dumps.extend(more.into_iter().filter(|dump| key_of(dump).is_some_and(|key| !key.is_action() && !known.contains(&key))));
+    dumps.extend(
+        more.into_iter().filter(|dump| key_of(dump).is_some_and(|key| !key.is_action() && !known.contains(&key))),
+    );
     let named: BTreeSet<Key> = three.is.dumps(now, &theirs).iter().filter_map(|dump| key_of(dump)).collect();
     let gone = three.left.objects.keys().filter(|key| is_own(key) && !three.is.objects.contains_key(*key)).count();
     Ok(Some(Merged { dumps, theirs: named.into_iter().filter(Key::has_handle).collect(), gone }))
@@ -63,9 +67,11 @@ impl<'s> Side<'s> {
     // The dumps of these objects, and those that show no object of their own, such as the root tables of u32.
     fn dumps(&self, dumps: &[Vec<u8>], keys: &HashSet<tc_changes::Key>) -> Vec<Vec<u8>> {
         let origins = self.state.objects.iter().zip(&self.state.origins);
-        let own = origins.filter(|(object, _)| is_own(&object.key) || matches!(object.key, tc_changes::Key::Action { .. }));
-        let (wanted, other): (Vec<_>, Vec<_>) =
-            own.partition(|(object, _)| keys.contains(&object.key) || matches!(object.key, tc_changes::Key::Action { .. }));
+        let own =
+            origins.filter(|(object, _)| is_own(&object.key) || matches!(object.key, tc_changes::Key::Action { .. }));
+        let (wanted, other): (Vec<_>, Vec<_>) = own.partition(|(object, _)| {
+            keys.contains(&object.key) || matches!(object.key, tc_changes::Key::Action { .. })
+        });
         let wanted: HashSet<usize> = wanted.into_iter().map(|(_, origin)| origin.place).collect();
         let other: HashSet<usize> = other.into_iter().map(|(_, origin)| origin.place).collect();
         // A chain that isn't an object is made by its filters.
@@ -86,7 +92,8 @@ struct Three<'s> {
 impl Three<'_> {
     // What another made or changed.
     fn theirs(&self) -> HashSet<tc_changes::Key> {
-        let is_theirs = |object: &&&Object| self.left.objects.get(&object.key).is_none_or(|left| !left.is_alike(object));
+        let is_theirs =
+            |object: &&&Object| self.left.objects.get(&object.key).is_none_or(|left| !left.is_alike(object));
         self.is.objects.values().filter(is_theirs).map(|object| object.key).filter(is_own).collect()
     }
 

@@ -6,9 +6,7 @@ use super::requests::requests_of_dump;
 use super::tree::Trees;
 use super::words::differing_words;
 use crate::netlink::Devices;
-use crate::netlink::message::{
-    RTM_NEWACTION, RTM_NEWCHAIN, RTM_NEWQDISC, RTM_NEWTCLASS, RTM_NEWTFILTER, tcmsg_of,
-};
+use crate::netlink::message::{RTM_NEWACTION, RTM_NEWCHAIN, RTM_NEWQDISC, RTM_NEWTCLASS, RTM_NEWTFILTER, tcmsg_of};
 use crate::show::brief::{self, Said, lines_of};
 use crate::show::columns::{KindColumns, Root};
 use ::serde_json::Value;

@@ -34,7 +34,8 @@ impl Progress {
             while !own_over.load(Ordering::Relaxed) {
                 if begin.elapsed() >= first {
                     let done = own_done.load(Ordering::Relaxed);
-                    let written = write!(terminal, "\r{done} of {total} requests\x1b[K").and_then(|()| terminal.flush());
+                    let written =
+                        write!(terminal, "\r{done} of {total} requests\x1b[K").and_then(|()| terminal.flush());
                     is_shown |= written.is_ok();
                 }
                 thread::park_timeout(PAUSE);

@@ -71,10 +71,16 @@ mod tests {
 
     #[test]
     fn a_queue_that_isnt_there() {
-        let tree = |kind| [qdisc(0x1_0000, u32::MAX, kind), qdisc(0x2_0000, 0x1_0004, "sfq"), qdisc(0x3_0000, 0x1_0005, "sfq")];
+        let tree = |kind| {
+            [qdisc(0x1_0000, u32::MAX, kind), qdisc(0x2_0000, 0x1_0004, "sfq"), qdisc(0x3_0000, 0x1_0005, "sfq")]
+        };
         assert_eq!(faults(4, &tree("mq")), ["it is that of queue 5 to send, and wan has 4"]);
         assert_eq!(faults(8, &tree("taprio")), Vec::<String>::new());
         assert_eq!(faults(4, &tree("prio")), Vec::<String>::new(), "a band");
-        assert_eq!(faults(2, &[qdisc(0x1_0000, u32::MAX, "mqprio"), qdisc(0x2_0000, 0x1_FFE1, "sfq")]), Vec::<String>::new(), "a traffic class");
+        assert_eq!(
+            faults(2, &[qdisc(0x1_0000, u32::MAX, "mqprio"), qdisc(0x2_0000, 0x1_FFE1, "sfq")]),
+            Vec::<String>::new(),
+            "a traffic class"
+        );
     }
 }

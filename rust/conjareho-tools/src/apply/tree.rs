@@ -2,7 +2,9 @@
 
 use super::compare::key_of;
 use super::messages::{as_new, chain_of, type_of};
-use crate::netlink::message::{MAGIC_BLOCK, RTM_NEWCHAIN, RTM_NEWQDISC, RTM_NEWTCLASS, RTM_NEWTFILTER, is_action, tcmsg_of};
+use crate::netlink::message::{
+    MAGIC_BLOCK, RTM_NEWCHAIN, RTM_NEWQDISC, RTM_NEWTCLASS, RTM_NEWTFILTER, is_action, tcmsg_of,
+};
 use std::collections::HashMap;
 
 /// How deep trees are looked at.
@@ -31,7 +33,9 @@ pub(crate) struct Trees(HashMap<(i32, u32), u32>);
 
 impl Trees {
     pub(crate) fn of<'a>(dumps: impl Iterator<Item = &'a Vec<u8>>) -> Trees {
-        let nodes = dumps.filter(|dump| matches!(type_of(dump), RTM_NEWQDISC | RTM_NEWTCLASS)).filter_map(|dump| tcmsg_of(dump));
+        let nodes = dumps
+            .filter(|dump| matches!(type_of(dump), RTM_NEWQDISC | RTM_NEWTCLASS))
+            .filter_map(|dump| tcmsg_of(dump));
         Trees(nodes.filter(|it| it.handle != 0).map(|it| ((it.index, it.handle), it.parent)).collect())
     }
 
@@ -39,7 +43,8 @@ impl Trees {
     pub(crate) fn way(&self, message: &[u8]) -> Way {
         let message = &as_new(message);
         let none = Way { rank: 0, index: 0, handles: Vec::new(), part: 0, chain: 0, priority: 0 };
-        let Some(header) = tcmsg_of(message).filter(|_| !is_action(type_of(message)) && key_of(message).is_some()) else {
+        let Some(header) = tcmsg_of(message).filter(|_| !is_action(type_of(message)) && key_of(message).is_some())
+        else {
             return none;
         };
         let rank = if header.index == MAGIC_BLOCK { 2 } else { 1 };
@@ -48,7 +53,9 @@ impl Trees {
             // A request to delete a class has no parent.
             RTM_NEWQDISC | RTM_NEWTCLASS => of(self.handles(header.index, header.handle), 0, 0, 0),
             RTM_NEWCHAIN => of(self.handles(header.index, header.parent), 1, chain_of(message), 0),
-            RTM_NEWTFILTER => of(self.handles(header.index, header.parent), 1, chain_of(message), 1 + (header.info >> 16)),
+            RTM_NEWTFILTER => {
+                of(self.handles(header.index, header.parent), 1, chain_of(message), 1 + (header.info >> 16))
+            }
             _ => none,
         }
     }

@@ -281,7 +281,8 @@ mod tests {
     #[test]
     fn a_link_to_a_table_that_is_nowhere() {
         let key = |link: u32| {
-            let mut message = tc_request(RTM_NEWTFILTER, 0, Tcmsg { index: 7, handle: 0x8000_0800, parent: 0x1_0000, info: 8 });
+            let mut message =
+                tc_request(RTM_NEWTFILTER, 0, Tcmsg { index: 7, handle: 0x8000_0800, parent: 0x1_0000, info: 8 });
             let mut options = Vec::new();
             put(&mut options, 3, &link.to_ne_bytes());
             put(&mut message, 1, b"u32\0");

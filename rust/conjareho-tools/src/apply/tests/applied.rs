@@ -154,7 +154,11 @@ fn what_others_make_while_enter_is_waited_for_stays() {
         let ran = run_held(&saved(otherwise()), tree(2000), &fake, held);
         if answer.is_ok() {
             assert_eq!(ran.status, Status::Restored, "{}", ran.said);
-            assert!(ran.said.contains("netlink port 4242") && ran.said.ends_with("Enter was pressed, so it stays"), "{}", ran.said);
+            assert!(
+                ran.said.contains("netlink port 4242") && ran.said.ends_with("Enter was pressed, so it stays"),
+                "{}",
+                ran.said
+            );
             continue;
         }
         let mut wanted = tree(2000);
@@ -172,9 +176,11 @@ fn what_others_delete_while_enter_is_waited_for_stays_deleted() {
     let fake = Fake::new(taking());
     let held = || {
         let mut state = fake.state.borrow_mut();
-        let is_class = |it: &Vec<u8>| tcmsg_of(it).is_some_and(|own| own.handle == 0x1_0010) && type_of(it) == RTM_NEWTCLASS;
+        let is_class =
+            |it: &Vec<u8>| tcmsg_of(it).is_some_and(|own| own.handle == 0x1_0010) && type_of(it) == RTM_NEWTCLASS;
         let class = state.objects.iter().find(|it| is_class(it)).cloned().expect("a class");
-        let is_bound = |it: &Vec<u8>| type_of(it) == RTM_NEWTFILTER && tcmsg_of(it).is_some_and(|own| own.parent == 0x1_0000);
+        let is_bound =
+            |it: &Vec<u8>| type_of(it) == RTM_NEWTFILTER && tcmsg_of(it).is_some_and(|own| own.parent == 0x1_0000);
         state.objects.retain(|it| !is_class(it) && !is_bound(it));
         let mut notice = class;
         notice[4..6].copy_from_slice(&(RTM_NEWTCLASS + 1).to_ne_bytes());

@@ -3,7 +3,7 @@
 use crate::forms_kinds::{ACTION_MESSAGE, TC_MESSAGE, TcTables};
 use crate::forms_values::{Form, Part, Row, Tables};
 use crate::nla_frames::{DefaultNla, NLA_F_NESTED, Nla};
-use crate::plan::configs::frames::{frames_of, framed, name_in, type_of};
+use crate::plan::configs::frames::{framed, frames_of, name_in, type_of};
 use crate::tc_capture::MessageType;
 use crate::user::prelude::AllocError;
 
@@ -24,7 +24,9 @@ pub(crate) fn nested(holds: MessageType, message: &[u8]) -> Result<Vec<u8>, Allo
         MessageType::Action => (4, ACTION_MESSAGE),
         _ => (20, TC_MESSAGE),
     };
-    let (Some((front, list)), Some(form)) = (message.split_at_checked(header), last_of(form)) else { return Ok(message.to_vec()) };
+    let (Some((front, list)), Some(form)) = (message.split_at_checked(header), last_of(form)) else {
+        return Ok(message.to_vec());
+    };
     match list_flagged(form, list, DEPTH)? {
         Some(list) => Ok([front, &list].concat()),
         None => Ok(message.to_vec()),
@@ -42,7 +44,9 @@ fn last_of(form: Form) -> Option<Form> {
 
 // A list of attributes with the flag on each nest; `None` if the form is no list, or the bytes aren't attributes.
 fn list_flagged(form: Form, bytes: &[u8], depth: u8) -> Result<Option<Vec<u8>>, AllocError> {
-    let (Form::List(place) | Form::InForce(place) | Form::Own(place) | Form::Indexed(place)) = form else { return Ok(None) };
+    let (Form::List(place) | Form::InForce(place) | Form::Own(place) | Form::Indexed(place)) = form else {
+        return Ok(None);
+    };
     let frames = frames_of(bytes)?;
     if depth == 0 || framed(&frames)? != bytes {
         return Ok(None);

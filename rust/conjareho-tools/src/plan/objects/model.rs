@@ -113,10 +113,18 @@ impl Model {
         let mut before = 0;
         while before != gone.len() {
             before = gone.len();
-            let held: HashSet<Key> =
-                self.objects.values().filter(|it| !gone.contains(&it.key)).flat_map(|it| it.refers.iter().copied()).collect();
-            let was_held: HashSet<Key> =
-                self.objects.values().filter(|it| gone.contains(&it.key)).flat_map(|it| it.refers.iter().copied()).collect();
+            let held: HashSet<Key> = self
+                .objects
+                .values()
+                .filter(|it| !gone.contains(&it.key))
+                .flat_map(|it| it.refers.iter().copied())
+                .collect();
+            let was_held: HashSet<Key> = self
+                .objects
+                .values()
+                .filter(|it| gone.contains(&it.key))
+                .flat_map(|it| it.refers.iter().copied())
+                .collect();
             let goes = |it: &&Object| {
                 let is_unheld = self.weak.contains(&it.key) && was_held.contains(&it.key) && !held.contains(&it.key);
                 is_unheld || it.under.iter().any(|above| gone.contains(above))
@@ -136,7 +144,8 @@ impl Model {
     pub(crate) fn differences<R: Rules>(&self, rules: &R, found: &State) -> Result<Vec<String>, AllocError> {
         let objects = self.objects.values().map(copy_of).collect();
         let model = State { objects, sent: self.sent.clone(), ..State::default() };
-        let there: HashMap<Key, Object> = beside(rules, found, &model)?.into_iter().map(|object| (object.key, object)).collect();
+        let there: HashMap<Key, Object> =
+            beside(rules, found, &model)?.into_iter().map(|object| (object.key, object)).collect();
         let mut said = Vec::new();
         let own = self.own_actions();
         let is_own = |it: &Object| own.contains(&it.key) || it.refers.iter().any(|action| own.contains(action));
