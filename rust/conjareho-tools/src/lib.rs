@@ -8,8 +8,6 @@ mod apply;
 #[path = "../../erase/shims/bitflags.rs"]
 #[allow(dead_code)] // what the codec exports besides
 mod bitflags;
-#[path = "../../erase/shims/clap.rs"]
-mod clap;
 #[path = "../../erase/shims/fallible.rs"]
 mod fallible;
 #[path = "../../erase/shims/hex.rs"]

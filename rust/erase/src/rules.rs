@@ -220,8 +220,7 @@ pub(crate) const USER_RULES: &[Rule] = &[
     ("fn $x ( & mut self $*p ) -> Result < ( ) , $e > { Err ( $e :: NotJson ) }", ""),
     ("fn key_cased ( $*a , case : Case ) -> $-r { match case { Case :: AsIs => $*x , _ => { $;y } } }", "fn key($*a) -> $-r {$*x}"),
     ("fn key_cased ( $*a , case : Case ) -> $-r { match case { Case :: AsIs => { $;x } _ => $*y , } }", "fn key($*a) -> $-r {$;x}"),
-    // What the shims of `clap` and `arrayvec` do without.
-    ("value_parser ! ( $t )", "clap::builder::ValueParser(::clap::value_parser!($t).into())"),
+    // What the shim of `arrayvec` does without.
     ("handle_text ( $*x ) . as_bytes ( )", "handle_text($*x).as_str().as_bytes()"),
     // Streams, files and arguments are those of the module `host`.
     ("std :: %H", "crate::host::%H"),
@@ -273,7 +272,7 @@ pub(crate) const STD: &[&str] = &["collections", "hash", "process"];
 
 /// Modules of the shims, beside those crates that one stands for.
 pub(crate) const MODULES: &[&str] = &["fallible", "host", "jsontext", "serde", "strict", "user", "zones"];
-pub(crate) const SHIMS: &[&str] = &["arrayvec", "bitflags", "clap", "hex", "itoa", "jiff_core", "jiff_tz", "memchr", "serde", "serde_json"];
+pub(crate) const SHIMS: &[&str] = &["arrayvec", "bitflags", "hex", "itoa", "jiff_core", "jiff_tz", "memchr", "serde", "serde_json"];
 
 /// Words that would be left of a form that no rule knows.
 pub(crate) const UNKNOWN: &[&str] =
@@ -283,7 +282,7 @@ pub(crate) const UNKNOWN: &[&str] =
 pub(crate) const ATTRIBUTES: &[&str] = &["allow", "cfg", "default", "doc", "derive", "inline", "must_use", "repr", "rustfmt", "test"];
 pub(crate) const MACROS: &[&str] = &[
     "any_of", "assert", "assert_eq", "done", "flags", "format", "format_args", "macro_rules", "matches", "name_of", "sent", "stringify", "type_of",
-    "unreachable", "value_parser", "write",
+    "unreachable", "write",
 ];
 
 /// Lints that erased modules don't meet: contracts used what is now unused, and some code is easier to prove than what clippy prefers.

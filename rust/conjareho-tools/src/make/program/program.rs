@@ -2,18 +2,17 @@
 
 use crate::user::prelude::*;
 
-use crate::clap::Error;
-use crate::clap::error::ErrorKind;
 use crate::forms_json::Tables;
 use crate::host::io::{BufReader, Input, Print, Read, Write};
 use crate::host::rt::{Env, Files};
 use crate::host::{env, fs, io};
 use crate::make::messages::Forms;
-use crate::make::program::arguments::{Arguments, Options, arguments_of};
+use crate::make::program::arguments::{Arguments, Options};
 use crate::make::program::order::RequestOptions;
 use crate::make::program::run::run;
 use crate::read::select::names_in;
 use crate::streams::{Ended, Reader, Stop, Writer, cause_of, write_all, write_text};
+use clap::Parser as _;
 
 /// The whole program: reads its arguments, makes messages of the lines of standard input, and writes them to standard output.
 /// Complaints are written to `errors`.
@@ -51,17 +50,14 @@ fn obey<T: Tables, R: Files + Input + Print, E: Write>(
     words: &[String],
     errors: &mut E,
 ) -> Ended {
-    match arguments_of(words) {
+    match Arguments::try_parse_from(words) {
         Ok(arguments) => with_now(rt, forms, &arguments, errors),
         Err(error) => say(rt, &error, errors),
     }
 }
 
 // Writes what is wrong with the arguments, or the help or the version that they ask for.
-fn say<R: Print, E: Write>(rt: &R, error: &Error, errors: &mut E) -> Ended {
-    if error.kind() == ErrorKind::OutOfMemory {
-        return fail(errors, NO_MEMORY, Stop::NoMemory);
-    }
+fn say<R: Print, E: Write>(rt: &R, error: &clap::Error, errors: &mut E) -> Ended {
     if error.use_stderr() {
         return fail_with(errors, crate::user::formatted(format_args!("{error}")), Stop::Usage);
     }
@@ -77,10 +73,10 @@ const NO_MEMORY: &str = "tcmake: out of memory\n";
 fn with_now<T: Tables, R: Files + Input + Print, E: Write>(
     rt: &R,
     forms: Forms<T>,
-    arguments: &Arguments<'_>,
+    arguments: &Arguments,
     errors: &mut E,
 ) -> Ended {
-    match arguments.now {
+    match arguments.now() {
         None => with_names(rt, forms, arguments, None, errors),
         Some(path) => match fs::read_to_string(rt, path) {
             Ok(text) => with_names(rt, forms, arguments, Some(text.as_bytes()), errors),
@@ -93,21 +89,21 @@ fn with_now<T: Tables, R: Files + Input + Print, E: Write>(
 fn with_names<T: Tables, R: Files + Input + Print, E: Write>(
     rt: &R,
     forms: Forms<T>,
-    arguments: &Arguments<'_>,
+    arguments: &Arguments,
     now: Option<&[u8]>,
     errors: &mut E,
 ) -> Ended {
     let requests = RequestOptions {
-        index: arguments.options.index,
+        index: arguments.options().index,
         now,
-        plans: arguments.plans,
-        replaces_actions: arguments.replaces_actions,
+        plans: arguments.plans(),
+        replaces_actions: arguments.replaces_actions(),
         names: None,
     };
-    match arguments.names {
-        None => make(rt, forms, &arguments.options, &requests, errors),
+    match arguments.names() {
+        None => make(rt, forms, &arguments.options(), &requests, errors),
         Some(path) => match fs::read_to_string(rt, path) {
-            Ok(text) => with_names_in(rt, forms, &arguments.options, requests, path, text.as_str(), errors),
+            Ok(text) => with_names_in(rt, forms, &arguments.options(), requests, path, text.as_str(), errors),
             Err(error) => complain_of_file(path, &error, errors),
         },
     }

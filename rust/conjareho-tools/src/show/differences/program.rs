@@ -26,7 +26,7 @@ use crate::streams::{Reader, Writer, cause_of, write_all, write_text};
 pub struct StateDiffer;
 
 impl Differ for StateDiffer {
-    fn diff<R: Files + Input + Print, E: Write>(&self, rt: &R, arguments: &Arguments<'_>, errors: &mut E) -> Ended {
+    fn diff<R: Files + Input + Print, E: Write>(&self, rt: &R, arguments: &Arguments, errors: &mut E) -> Ended {
         match diff_files(rt, arguments, errors) {
             Ok(has_refused) => Ended { has_refused, ..Ended::well() },
             Err(Stop::NoMemory) => {
@@ -39,12 +39,8 @@ impl Differ for StateDiffer {
 }
 
 // Compares two files, with the names of interfaces in a third one, if there is one. True if they differ.
-fn diff_files<R: Files + Input + Print, E: Write>(
-    rt: &R,
-    arguments: &Arguments<'_>,
-    errors: &mut E,
-) -> Result<bool, Stop> {
-    let Some(path) = arguments.names else {
+fn diff_files<R: Files + Input + Print, E: Write>(rt: &R, arguments: &Arguments, errors: &mut E) -> Result<bool, Stop> {
+    let Some(path) = arguments.names() else {
         return diff_with(rt, arguments, &[], errors);
     };
     let text = match fs::read_to_string(rt, path) {
@@ -62,11 +58,12 @@ fn diff_files<R: Files + Input + Print, E: Write>(
 
 fn diff_with<R: Files + Input + Print, E: Write>(
     rt: &R,
-    arguments: &Arguments<'_>,
+    arguments: &Arguments,
     names: &[(u32, &str)],
     errors: &mut E,
 ) -> Result<bool, Stop> {
-    let [first, second] = arguments.files.as_slice() else {
+    let files = arguments.files();
+    let [first, second] = files.as_slice() else {
         return Err(Stop::Usage);
     };
     let before = state_of_file(rt, arguments, *first, None, errors)?;
@@ -110,7 +107,7 @@ fn print<R: Print, E: Write>(rt: &R, text: &[u8], errors: &mut E) -> Result<(), 
 // The state that a file shows: a capture, hex, or lines of JSON.
 fn state_of_file<R: Files + Input, E: Write>(
     rt: &R,
-    arguments: &Arguments<'_>,
+    arguments: &Arguments,
     name: &str,
     there: Option<&State>,
     errors: &mut E,
@@ -125,7 +122,7 @@ fn state_of_file<R: Files + Input, E: Write>(
 }
 
 fn state_of_reader<I: Read, E: Write>(
-    arguments: &Arguments<'_>,
+    arguments: &Arguments,
     name: &str,
     reader: I,
     there: Option<&State>,
@@ -167,7 +164,7 @@ const FORMS: Forms<TcTables> = Forms { table: TcTables, tc: TC_MESSAGE, action: 
 
 // The state that a capture or hex shows, by the lines that `tcshow --json` prints of it.
 fn state_of_capture<I: Read, E: Write>(
-    arguments: &Arguments<'_>,
+    arguments: &Arguments,
     name: &str,
     reader: I,
     there: Option<&State>,

@@ -5,15 +5,16 @@ use crate::user::prelude::*;
 use crate::read::select::{
     Filter, HANDLE_FORMS, TIME_FORMS, TYPE_FORMS, Types, on_day, parse_clock, parse_handle, parse_time, parse_types,
 };
-use crate::show::program::arguments::Arguments;
+use crate::show::program::arguments::Filters;
 use crate::show::program::kinds::is_known;
 use crate::show::program::names::interface_of;
 use crate::show::program::nearest::nearest_kinds;
 use crate::tc_capture::Time;
 
 /// Parsed values of the options that filter messages.
-pub struct FilterValues<'r, 'a> {
-    arguments: &'r Arguments<'a>,
+pub struct FilterValues<'a> {
+    arguments: &'a Filters,
+    kinds: Vec<&'a str>,
     types: Vec<Types>,
     interfaces: Vec<u32>,
     names: Vec<&'a str>,
@@ -70,19 +71,17 @@ impl<'a> FilterError<'a> {
     }
 }
 
-impl<'r, 'a> FilterValues<'r, 'a> {
+impl<'a> FilterValues<'a> {
     /// Parses the values in arguments. Interfaces have these names.
     ///
     /// # Errors
     ///
     /// A [`FilterError<'a>`].
-    pub fn of_arguments(
-        arguments: &'r Arguments<'a>,
-        names: &[(u32, &str)],
-    ) -> Result<FilterValues<'r, 'a>, FilterError<'a>> {
+    pub fn of_arguments(arguments: &'a Filters, names: &[(u32, &str)]) -> Result<FilterValues<'a>, FilterError<'a>> {
         check_kinds(arguments.kinds.as_slice())?;
         let mut values = FilterValues {
             arguments,
+            kinds: arguments.kinds.iter().map(String::as_str).collect(),
             types: Vec::new(),
             interfaces: Vec::new(),
             names: Vec::new(),
@@ -107,8 +106,8 @@ impl<'r, 'a> FilterValues<'r, 'a> {
     }
 
     fn put_times(&mut self) -> Result<(), FilterError<'a>> {
-        self.since = time_in(self.arguments.since)?;
-        self.until = time_in(self.arguments.until)?;
+        self.since = time_in(self.arguments.since.as_deref())?;
+        self.until = time_in(self.arguments.until.as_deref())?;
         Ok(())
     }
 
@@ -128,7 +127,7 @@ impl<'r, 'a> FilterValues<'r, 'a> {
     #[must_use]
     pub fn filter(&self) -> Filter<'_> {
         Filter {
-            kinds: self.arguments.kinds.as_slice(),
+            kinds: self.kinds.as_slice(),
             types: self.types.as_slice(),
             interfaces: self.interfaces.as_slice(),
             names: self.names.as_slice(),
@@ -143,10 +142,10 @@ impl<'r, 'a> FilterValues<'r, 'a> {
     }
 }
 
-fn check_kinds<'a>(words: &[&'a str]) -> Result<(), FilterError<'a>> {
+fn check_kinds(words: &[String]) -> Result<(), FilterError<'_>> {
     for word in words {
-        if !is_known(*word) {
-            return Err(FilterError::Kind(*word));
+        if !is_known(word) {
+            return Err(FilterError::Kind(word));
         }
     }
     Ok(())
@@ -157,30 +156,30 @@ fn put<T>(value: T, all: &mut Vec<T>) -> Result<(), AllocError> {
     Ok(())
 }
 
-fn put_types<'a>(words: &[&'a str], all: &mut Vec<Types>) -> Result<(), FilterError<'a>> {
+fn put_types<'a>(words: &'a [String], all: &mut Vec<Types>) -> Result<(), FilterError<'a>> {
     for word in words {
-        match parse_types(*word) {
+        match parse_types(word) {
             Some(types) => put(types, all)?,
-            None => return Err(FilterError::Word("type", *word, TYPE_FORMS)),
+            None => return Err(FilterError::Word("type", word, TYPE_FORMS)),
         }
     }
     Ok(())
 }
 
-fn put_handles<'a>(words: &[&'a str], all: &mut Vec<u32>) -> Result<(), FilterError<'a>> {
+fn put_handles<'a>(words: &'a [String], all: &mut Vec<u32>) -> Result<(), FilterError<'a>> {
     for word in words {
-        match parse_handle(*word) {
+        match parse_handle(word) {
             Some(handle) => put(handle, all)?,
-            None => return Err(FilterError::Word("handle", *word, HANDLE_FORMS)),
+            None => return Err(FilterError::Word("handle", word, HANDLE_FORMS)),
         }
     }
     Ok(())
 }
 
 // Adds the u32 handle that a word names too: outlines write a table as `800:`, and a bucket as `800:1`.
-fn put_u32_handles<'a>(words: &[&'a str], all: &mut Vec<u32>) -> Result<(), AllocError> {
+fn put_u32_handles<'a>(words: &'a [String], all: &mut Vec<u32>) -> Result<(), AllocError> {
     for word in words {
-        if let Some(handle) = u32_handle_of(*word) {
+        if let Some(handle) = u32_handle_of(word) {
             put(handle, all)?;
         }
     }
@@ -202,9 +201,9 @@ fn u32_handle_of(word: &str) -> Option<u32> {
 }
 
 // Adds the numbers among the words, and those of the names that are known.
-fn put_interfaces(names: &[(u32, &str)], words: &[&str], all: &mut Vec<u32>) -> Result<(), AllocError> {
+fn put_interfaces(names: &[(u32, &str)], words: &[String], all: &mut Vec<u32>) -> Result<(), AllocError> {
     for word in words {
-        if let Some(number) = interface_of(names, *word) {
+        if let Some(number) = interface_of(names, word) {
             put(number, all)?;
         }
     }
@@ -212,10 +211,10 @@ fn put_interfaces(names: &[(u32, &str)], words: &[&str], all: &mut Vec<u32>) -> 
 }
 
 // Adds the words that aren't numbers: the input may name these interfaces.
-fn put_names<'a>(words: &[&'a str], all: &mut Vec<&'a str>) -> Result<(), AllocError> {
+fn put_names<'a>(words: &'a [String], all: &mut Vec<&'a str>) -> Result<(), AllocError> {
     for word in words {
         if word.parse::<u32>().is_err() {
-            put(*word, all)?;
+            put(word.as_str(), all)?;
         }
     }
     Ok(())

@@ -2,8 +2,6 @@
 
 use crate::user::prelude::*;
 
-use crate::clap::Error;
-use crate::clap::error::ErrorKind;
 use crate::host::io::{Input, Print, Read, Write};
 use crate::host::rt::{Env, Files};
 use crate::host::{env, fs, io};
@@ -13,7 +11,7 @@ use crate::read::input::Input as Begun;
 use crate::read::select::Filter;
 use crate::show::colours::ColouredLines;
 use crate::show::output::{Printer, Stop};
-use crate::show::program::arguments::{Arguments, Task, TimeChoice, arguments_of};
+use crate::show::program::arguments::{Arguments, Task, TimeChoice};
 use crate::show::program::complaints::{
     INPUT, OUTPUT, complain, complain_of_file, complain_of_filter, complain_of_names, complain_of_zone, fail,
     fail_to_read, fail_without_memory, say_failure, say_no_memory, say_no_route, say_of,
@@ -30,11 +28,12 @@ use crate::show::program::run::{Ended, run};
 use crate::show::program::zone::SystemZone;
 use crate::show::tree::tree_lines;
 use crate::streams::{Coloured, Reader, Writer, write_all};
+use clap::Parser as _;
 
 /// The comparison of two inputs (`--diff`). The program brings it, since it needs the crates that make requests of dumps.
 pub trait Differ: Sized {
     /// Compares the two files in the arguments, and prints the differences. `has_refused` is true if there are any.
-    fn diff<R: Files + Input + Print, E: Write>(&self, rt: &R, arguments: &Arguments<'_>, errors: &mut E) -> Ended;
+    fn diff<R: Files + Input + Print, E: Write>(&self, rt: &R, arguments: &Arguments, errors: &mut E) -> Ended;
 }
 
 /// The program `tcshow`: reads its arguments, prints the messages of its input on standard output, and returns how it
@@ -61,10 +60,10 @@ fn obey<R: Env + Files + Input + Print, D: Differ, E: Write>(
     differ: &D,
     errors: &mut E,
 ) -> Ended {
-    match arguments_of(words) {
+    match Arguments::try_parse_from(words) {
         Ok(mut arguments) => {
-            arguments.in_colours =
-                arguments.format != OutputFormat::Json && arguments.colours.are_on(is_terminal && allows_colours(rt));
+            arguments.in_colours = arguments.format() != OutputFormat::Json
+                && arguments.output.colours.are_on(is_terminal && allows_colours(rt));
             perform(rt, &arguments, differ, errors)
         }
         Err(error) => say(rt, &error, errors),
@@ -72,10 +71,7 @@ fn obey<R: Env + Files + Input + Print, D: Differ, E: Write>(
 }
 
 // Prints what is wrong with the arguments, or the help or the version that they ask for.
-fn say<R: Print, E: Write>(rt: &R, error: &Error, errors: &mut E) -> Ended {
-    if error.kind() == ErrorKind::OutOfMemory {
-        return fail_without_memory(errors);
-    }
+fn say<R: Print, E: Write>(rt: &R, error: &clap::Error, errors: &mut E) -> Ended {
     let text = crate::user::formatted(format_args!("{error}"));
     if error.use_stderr() {
         return fail(errors, text, Stop::Usage);
@@ -96,12 +92,12 @@ fn allows_colours<R: Env>(rt: &R) -> bool {
 
 fn perform<R: Env + Files + Input + Print, D: Differ, E: Write>(
     rt: &R,
-    arguments: &Arguments<'_>,
+    arguments: &Arguments,
     differ: &D,
     errors: &mut E,
 ) -> Ended {
-    match arguments.task {
-        Task::Diff if arguments.files.len() != 2 => {
+    match arguments.task() {
+        Task::Diff if arguments.files().len() != 2 => {
             complain(errors, "tcshow: --diff compares two files\n", Stop::Usage)
         }
         Task::Diff => differ.diff(rt, arguments, errors),
@@ -152,8 +148,8 @@ fn print<R: Print, E: Write>(rt: &R, text: &[u8], errors: &mut E) -> Ended {
 }
 
 // Reads the time zone of the system, if times are in it.
-fn show<R: Env + Files + Input + Print, E: Write>(rt: &R, arguments: &Arguments<'_>, errors: &mut E) -> Ended {
-    if arguments.time != TimeChoice::Local {
+fn show<R: Env + Files + Input + Print, E: Write>(rt: &R, arguments: &Arguments, errors: &mut E) -> Ended {
+    if arguments.output.time != Some(TimeChoice::Local) {
         return show_in(rt, arguments, TimeZone::Utc, errors);
     }
     match SystemZone::read(rt) {
@@ -168,11 +164,11 @@ fn show<R: Env + Files + Input + Print, E: Write>(rt: &R, arguments: &Arguments<
 // Reads the file with names of interfaces, if there is one.
 fn show_in<R: Files + Input + Print, E: Write>(
     rt: &R,
-    arguments: &Arguments<'_>,
+    arguments: &Arguments,
     zone: TimeZone<'_>,
     errors: &mut E,
 ) -> Ended {
-    match arguments.names {
+    match arguments.names() {
         None => show_named(rt, arguments, zone, &[], errors),
         Some(path) => match fs::read_to_string(rt, path) {
             Ok(text) => show_with(rt, arguments, zone, path, text.as_str(), errors),
@@ -184,7 +180,7 @@ fn show_in<R: Files + Input + Print, E: Write>(
 // Prints messages, with the names of interfaces in this text of a file.
 fn show_with<R: Files + Input + Print, E: Write>(
     rt: &R,
-    arguments: &Arguments<'_>,
+    arguments: &Arguments,
     zone: TimeZone<'_>,
     path: &str,
     text: &str,
@@ -199,12 +195,12 @@ fn show_with<R: Files + Input + Print, E: Write>(
 
 fn show_named<R: Files + Input + Print, E: Write>(
     rt: &R,
-    arguments: &Arguments<'_>,
+    arguments: &Arguments,
     zone: TimeZone<'_>,
     names: &[(u32, &str)],
     errors: &mut E,
 ) -> Ended {
-    match FilterValues::of_arguments(arguments, names) {
+    match FilterValues::of_arguments(&arguments.filters, names) {
         Ok(values) => show_files(rt, arguments, zone, names, values, errors),
         Err(none) => complain_of_filter(none, errors),
     }
@@ -213,16 +209,16 @@ fn show_named<R: Files + Input + Print, E: Write>(
 // Prints the messages of all files, of standard input, or of a stored capture.
 fn show_files<R: Files + Input + Print, E: Write>(
     rt: &R,
-    arguments: &Arguments<'_>,
+    arguments: &Arguments,
     zone: TimeZone<'_>,
     names: &[(u32, &str)],
-    values: FilterValues<'_, '_>,
+    values: FilterValues<'_>,
     errors: &mut E,
 ) -> Ended {
-    if let Some(example) = arguments.example {
+    if let Some(example) = arguments.example() {
         return show_reader(rt, arguments, zone, names, values, "example", example.bytes(), errors);
     }
-    match arguments.files.as_slice() {
+    match arguments.files().as_slice() {
         [] => show_reader(rt, arguments, zone, names, values, INPUT, rt.reader(), errors),
         [file] => show_file(rt, arguments, zone, names, values, *file, errors),
         files => {
@@ -240,10 +236,10 @@ fn show_files<R: Files + Input + Print, E: Write>(
 
 fn show_file<R: Files + Input + Print, E: Write>(
     rt: &R,
-    arguments: &Arguments<'_>,
+    arguments: &Arguments,
     zone: TimeZone<'_>,
     names: &[(u32, &str)],
-    values: FilterValues<'_, '_>,
+    values: FilterValues<'_>,
     file: &str,
     errors: &mut E,
 ) -> Ended {
@@ -259,10 +255,10 @@ fn show_file<R: Files + Input + Print, E: Write>(
 // Prints the messages of an input of this name: of lines of JSON the messages that they show.
 fn show_reader<R: Print, I: Read, E: Write>(
     rt: &R,
-    arguments: &Arguments<'_>,
+    arguments: &Arguments,
     zone: TimeZone<'_>,
     names: &[(u32, &str)],
-    values: FilterValues<'_, '_>,
+    values: FilterValues<'_>,
     name: &str,
     reader: I,
     errors: &mut E,
@@ -271,7 +267,7 @@ fn show_reader<R: Print, I: Read, E: Write>(
     match Begun::begin(&mut reader) {
         Ok(input) => match form_by(input.first()) {
             None => {
-                let is_bare = arguments.without_header.is_none() && lacks_header(input.rest()).unwrap_or(false);
+                let is_bare = arguments.without_header().is_none() && lacks_header(input.rest()).unwrap_or(false);
                 let whole = input.rest().chain(reader.into_inner());
                 let ended = show_bytes(rt, arguments, zone, names, values, name, whole, errors);
                 if is_bare {
@@ -288,7 +284,7 @@ fn show_reader<R: Print, I: Read, E: Write>(
 // Prints the messages that lines of JSON show, with the names of interfaces in their head too.
 fn show_lines<R: Print, I: Read, E: Write>(
     rt: &R,
-    arguments: &Arguments<'_>,
+    arguments: &Arguments,
     zone: TimeZone<'_>,
     names: &[(u32, &str)],
     name: &str,
@@ -308,7 +304,7 @@ fn show_lines<R: Print, I: Read, E: Write>(
 
 fn show_named_lines<R: Print, I: Read, E: Write>(
     rt: &R,
-    arguments: &Arguments<'_>,
+    arguments: &Arguments,
     zone: TimeZone<'_>,
     names: &[(u32, &str)],
     saved: &[(u32, String)],
@@ -320,7 +316,7 @@ fn show_named_lines<R: Print, I: Read, E: Write>(
     let Ok(names) = joined(names, saved) else {
         return fail_without_memory(errors);
     };
-    match FilterValues::of_arguments(arguments, names.as_slice()) {
+    match FilterValues::of_arguments(&arguments.filters, names.as_slice()) {
         Ok(values) => show_json(rt, arguments, zone, names.as_slice(), values, name, form, reader, errors),
         Err(none) => complain_of_filter(none, errors),
     }
@@ -329,10 +325,10 @@ fn show_named_lines<R: Print, I: Read, E: Write>(
 // Prints the messages that lines of JSON show.
 fn show_json<R: Print, I: Read, E: Write>(
     rt: &R,
-    arguments: &Arguments<'_>,
+    arguments: &Arguments,
     zone: TimeZone<'_>,
     names: &[(u32, &str)],
-    values: FilterValues<'_, '_>,
+    values: FilterValues<'_>,
     name: &str,
     form: MadeFormat,
     reader: I,
@@ -355,10 +351,10 @@ fn show_json<R: Print, I: Read, E: Write>(
 // Prints the messages of a capture or of lines of hex. A time of day is in the day of its first packet that has a time, which is read before.
 fn show_bytes<R: Print, I: Read, E: Write>(
     rt: &R,
-    arguments: &Arguments<'_>,
+    arguments: &Arguments,
     zone: TimeZone<'_>,
     names: &[(u32, &str)],
-    mut values: FilterValues<'_, '_>,
+    mut values: FilterValues<'_>,
     name: &str,
     reader: I,
     errors: &mut E,
@@ -381,7 +377,7 @@ fn show_bytes<R: Print, I: Read, E: Write>(
 
 fn show_filtered<R: Print, I: Read, E: Write>(
     rt: &R,
-    arguments: &Arguments<'_>,
+    arguments: &Arguments,
     zone: TimeZone<'_>,
     names: &[(u32, &str)],
     filter: Filter<'_>,
@@ -392,7 +388,7 @@ fn show_filtered<R: Print, I: Read, E: Write>(
     let options = options_of(arguments, zone, filter, names);
     let mut reader = Reader::new(reader);
     let mut writer = Writer::new(with_colours(arguments, io::writer(rt)));
-    if arguments.tree {
+    if arguments.output.tree {
         return serve_tree(&options, name, &mut reader, &mut writer, errors);
     }
     serve(&options, name, &mut reader, &mut writer, errors)
@@ -436,7 +432,7 @@ fn print_tree<W: crate::host::io::Write, E: Write>(
 // Prints the messages of several files, one after another.
 fn show_each<R: Files + Input + Print, E: Write>(
     rt: &R,
-    arguments: &Arguments<'_>,
+    arguments: &Arguments,
     zone: TimeZone<'_>,
     names: &[(u32, &str)],
     filter: Filter<'_>,
@@ -445,7 +441,7 @@ fn show_each<R: Files + Input + Print, E: Write>(
 ) -> Ended {
     let options = options_of(arguments, zone, filter, names);
     let mut writer = Writer::new(with_colours(arguments, io::writer(rt)));
-    show_each_on(rt, &options, arguments.tree, files, &mut writer, errors)
+    show_each_on(rt, &options, arguments.output.tree, files, &mut writer, errors)
 }
 
 // A writer that adds the colors of lines, of outlines, or none.
@@ -474,10 +470,12 @@ impl<W: crate::host::io::Write> Write for Styled<W> {
 }
 
 // A writer that adds the colors that the arguments ask for.
-fn with_colours<W: crate::host::io::Write>(arguments: &Arguments<'_>, writer: W) -> Styled<W> {
-    match arguments.format {
+fn with_colours<W: crate::host::io::Write>(arguments: &Arguments, writer: W) -> Styled<W> {
+    match arguments.format() {
         OutputFormat::Outline if arguments.in_colours => Styled::Outlines(Coloured::new(writer)),
-        OutputFormat::Lines(_) if arguments.in_colours && !arguments.tree => Styled::Lines(ColouredLines::new(writer)),
+        OutputFormat::Lines(_) if arguments.in_colours && !arguments.output.tree => {
+            Styled::Lines(ColouredLines::new(writer))
+        }
         _ => Styled::Plain(writer),
     }
 }

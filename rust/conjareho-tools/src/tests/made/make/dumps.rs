@@ -2,9 +2,10 @@
 
 use crate::user::prelude::*;
 
-use crate::make::program::arguments::options_of;
+use crate::make::program::arguments::Arguments;
 use crate::tests::made::make::runs::made;
 use crate::user::Fail;
+use clap::Parser as _;
 
 // What kernels dumped and `tc` asked for, each line of which is made into a request, is left out or gets a complaint.
 #[rustfmt::skip]
@@ -42,7 +43,7 @@ static REQUESTS: &str = "\
 
 #[test]
 fn requests_of_dumps() -> Result<(), Fail> {
-    let options = options_of(&["tcmake", "--request"])?;
+    let options = Arguments::try_parse_from(["tcmake", "--request"])?.options();
     let run = made(&options, DUMPS.as_bytes());
     assert!(run.status == 1 && run.written.as_slice() == REQUESTS.as_bytes());
     Ok(())
@@ -66,10 +67,10 @@ static IN_ORDER_OF_LINES: &str = "\
 
 #[test]
 fn requests_in_both_orders() -> Result<(), Fail> {
-    let options = options_of(&["tcmake", "--request"])?;
+    let options = Arguments::try_parse_from(["tcmake", "--request"])?.options();
     let run = made(&options, SHARED.as_bytes());
     assert!(run.status == 0 && run.written.as_slice() == IN_DEFAULT_ORDER.as_bytes());
-    let options = options_of(&["tcmake", "--request", "--in-order"])?;
+    let options = Arguments::try_parse_from(["tcmake", "--request", "--in-order"])?.options();
     let run = made(&options, SHARED.as_bytes());
     assert!(run.status == 0 && run.written.as_slice() == IN_ORDER_OF_LINES.as_bytes());
     Ok(())
@@ -87,6 +88,6 @@ static NO_REQUESTS: [&[&str]; 5] = [
 #[test]
 fn options_of_requests_alone() {
     for words in &NO_REQUESTS {
-        assert!(options_of(*words).is_err(), "{words:?}");
+        assert!(Arguments::try_parse_from(*words).is_err(), "{words:?}");
     }
 }

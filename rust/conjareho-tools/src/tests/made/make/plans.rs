@@ -6,7 +6,7 @@ use crate::user::prelude::*;
 
 use crate::host::io::BufReader;
 use crate::make::lines::{NetlinkHeader, packet_at};
-use crate::make::program::arguments::{Options, arguments_of};
+use crate::make::program::arguments::{Arguments, Options};
 use crate::make::program::order::RequestOptions;
 use crate::make::program::plans::plan_of_dumps;
 use crate::make::program::program::serve_with;
@@ -17,6 +17,7 @@ use crate::tc_capture::{MessageType, Time};
 use crate::tc_changes::Key;
 use crate::tests::made::make::runs::{FORMS, Outcome};
 use crate::user::Fail;
+use clap::Parser as _;
 
 const CAKE_10: &str = r#"{"type":"RTM_NEWQDISC","flags":0,"message":{"header":{"family":"Unspec","index":1,"handle":"1:","parent":"root","info":2},"attributes":[{"Kind":"cake"},{"Options":[{"Cake":{"BaseRate64":1250000}},{"Cake":{"Autorate":0}}]}]}}
 "#;
@@ -79,12 +80,12 @@ const ADD_HTB: &str = "\
 // What becomes of these lines if those are there now.
 fn planned(now: &str, want: &str) -> Result<Outcome, Fail> {
     let words = ["tcmake", "--plan", "now.json"];
-    let arguments = arguments_of(&words)?;
-    let options: Options = arguments.options;
+    let arguments = Arguments::try_parse_from(words)?;
+    let options: Options = arguments.options();
     let requests = RequestOptions {
         index: None,
         now: Some(now.as_bytes()),
-        plans: arguments.plans,
+        plans: arguments.plans(),
         replaces_actions: false,
         names: None,
     };

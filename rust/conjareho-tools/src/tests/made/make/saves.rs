@@ -5,11 +5,12 @@ use crate::user::prelude::*;
 use crate::host::io::BufReader;
 use crate::make::lines::OutputFormat;
 use crate::make::messages::Making;
-use crate::make::program::arguments::{Options, arguments_of};
+use crate::make::program::arguments::{Arguments, Options};
 use crate::make::program::order::RequestOptions;
 use crate::make::program::program::serve_with;
 use crate::streams::{Reader, Writer};
 use crate::tests::made::make::runs::FORMS;
+use clap::Parser as _;
 
 // The first line of a save of the interface wan.
 #[rustfmt::skip]
@@ -244,10 +245,10 @@ static WRONG: [&[&str]; 5] = [
 #[test]
 fn options_of_saves() -> Result<(), crate::user::Fail> {
     let words = ["tcmake", "--request", "--now", "n", "--replace-actions", "--names", "m"];
-    let arguments = arguments_of(&words)?;
-    assert!(arguments.now == Some("n") && arguments.names == Some("m") && arguments.replaces_actions);
+    let arguments = Arguments::try_parse_from(words)?;
+    assert!(arguments.now() == Some("n") && arguments.names() == Some("m") && arguments.replaces_actions());
     for words in &WRONG {
-        assert!(arguments_of(*words).is_err(), "{words:?}");
+        assert!(Arguments::try_parse_from(*words).is_err(), "{words:?}");
     }
     Ok(())
 }

@@ -2,10 +2,11 @@
 
 use crate::user::prelude::*;
 
+use crate::show::program::arguments::{Arguments, Colours, Task, TimeChoice};
 use crate::show::program::example::Example;
-use crate::show::program::arguments::{Arguments, Colours, Task, TimeChoice, arguments_of};
 use crate::show::program::options::OutputFormat;
 use crate::tc_capture::MessageType;
+use clap::Parser as _;
 
 // A part of the arguments.
 #[derive(Clone, Copy)]
@@ -35,54 +36,54 @@ enum Part {
     Defaults,
 }
 
-fn has(arguments: &Arguments<'_>, part: Part) -> bool {
+fn has(arguments: &Arguments, part: Part) -> bool {
     match part {
-        Part::Task(task) => arguments.task == task,
-        Part::Format(form) => arguments.format == form,
-        Part::Time(format) => arguments.time == format,
-        Part::Acks => arguments.acks,
-        Part::Example(example) => arguments.example == Some(example),
-        Part::Files(files) => arguments.files.as_slice() == files,
-        Part::Names(file) => arguments.names == Some(file),
-        Part::WithoutHeader(holds) => arguments.without_header == Some(holds),
-        Part::Kinds(words) => arguments.kinds.as_slice() == words,
-        Part::Types(words) => arguments.types.as_slice() == words,
-        Part::Interfaces(words) => arguments.interfaces.as_slice() == words,
-        Part::Handles(words) => arguments.handles.as_slice() == words,
-        Part::Parents(words) => arguments.parents.as_slice() == words,
-        Part::Chains(numbers) => arguments.chains.as_slice() == numbers,
-        Part::Priorities(numbers) => arguments.priorities.as_slice() == numbers,
-        Part::Since(word) => arguments.since == Some(word),
-        Part::Until(word) => arguments.until == Some(word),
-        Part::Refused => arguments.refused,
-        Part::Summary => arguments.has_summary,
-        Part::Paddings => arguments.all,
-        Part::Colours(colours) => arguments.colours == colours,
+        Part::Task(task) => arguments.task() == task,
+        Part::Format(form) => arguments.format() == form,
+        Part::Time(format) => arguments.output.time == Some(format),
+        Part::Acks => arguments.output.acks,
+        Part::Example(example) => arguments.example() == Some(example),
+        Part::Files(files) => arguments.files() == files,
+        Part::Names(file) => arguments.names() == Some(file),
+        Part::WithoutHeader(holds) => arguments.without_header() == Some(holds),
+        Part::Kinds(words) => arguments.filters.kinds == words,
+        Part::Types(words) => arguments.filters.types == words,
+        Part::Interfaces(words) => arguments.filters.interfaces == words,
+        Part::Handles(words) => arguments.filters.handles == words,
+        Part::Parents(words) => arguments.filters.parents == words,
+        Part::Chains(numbers) => arguments.filters.chains.as_slice() == numbers,
+        Part::Priorities(numbers) => arguments.filters.priorities.as_slice() == numbers,
+        Part::Since(word) => arguments.filters.since.as_deref() == Some(word),
+        Part::Until(word) => arguments.filters.until.as_deref() == Some(word),
+        Part::Refused => arguments.filters.refused,
+        Part::Summary => arguments.output.summary,
+        Part::Paddings => arguments.output.all,
+        Part::Colours(colours) => arguments.output.colours == colours,
         Part::Defaults => is_default(arguments) && chooses_all(arguments),
     }
 }
 
-fn is_default(arguments: &Arguments<'_>) -> bool {
-    arguments.format == OutputFormat::Lines(false)
-        && arguments.files.is_empty()
-        && arguments.time == TimeChoice::Clock
-        && !arguments.acks
-        && arguments.example.is_none()
-        && arguments.names.is_none()
-        && arguments.without_header.is_none()
-        && !arguments.all
-        && !arguments.has_summary
-        && arguments.colours == Colours::Auto
-        && arguments.task == Task::Show
+fn is_default(arguments: &Arguments) -> bool {
+    arguments.format() == OutputFormat::Lines(false)
+        && arguments.files().is_empty()
+        && arguments.output.time.is_none()
+        && !arguments.output.acks
+        && arguments.example().is_none()
+        && arguments.names().is_none()
+        && arguments.without_header().is_none()
+        && !arguments.output.all
+        && !arguments.output.summary
+        && arguments.output.colours == Colours::Auto
+        && arguments.task() == Task::Show
 }
 
-fn chooses_all(arguments: &Arguments<'_>) -> bool {
-    arguments.kinds.is_empty()
-        && arguments.types.is_empty()
-        && arguments.interfaces.is_empty()
-        && arguments.since.is_none()
-        && arguments.until.is_none()
-        && !arguments.refused
+fn chooses_all(arguments: &Arguments) -> bool {
+    arguments.filters.kinds.is_empty()
+        && arguments.filters.types.is_empty()
+        && arguments.filters.interfaces.is_empty()
+        && arguments.filters.since.is_none()
+        && arguments.filters.until.is_none()
+        && !arguments.filters.refused
 }
 
 // Words, and what they say.
@@ -129,7 +130,7 @@ static WORDS: [(&[&str], &[Part]); 20] = [
     (&["tcshow", "--color", "never"], &[Part::Colours(Colours::Never)]),
 ];
 
-fn has_all(arguments: &Arguments<'_>, parts: &[Part]) -> bool {
+fn has_all(arguments: &Arguments, parts: &[Part]) -> bool {
     for part in parts {
         if !has(arguments, *part) {
             return false;
@@ -140,7 +141,7 @@ fn has_all(arguments: &Arguments<'_>, parts: &[Part]) -> bool {
 
 // True if words are taken, and say this.
 fn say(words: &[&str], parts: &[Part]) -> bool {
-    match arguments_of(words) {
+    match Arguments::try_parse_from(words) {
         Ok(arguments) => has_all(&arguments, parts),
         Err(_) => false,
     }
@@ -173,9 +174,15 @@ static OTHERS: [(&[&str], i32); 15] = [
 ];
 
 fn status_of(words: &[&str]) -> i32 {
-    match arguments_of(words) {
+    match Arguments::try_parse_from(words) {
         Ok(_) => 9,
-        Err(error) => error.exit_code(),
+        Err(error) => {
+            if error.use_stderr() {
+                2
+            } else {
+                0
+            }
+        }
     }
 }
 

@@ -3,12 +3,13 @@
 use crate::user::prelude::*;
 
 use crate::read::select::Filter;
-use crate::show::program::arguments::{Arguments, arguments_of};
+use crate::show::program::arguments::Arguments;
 use crate::show::program::filter::{FilterError, FilterValues};
 use crate::show::program::kinds::explain;
 use crate::show::program::names::names_in;
 use crate::show::program::options::{OutputFormat, TimeZone, options_of};
 use crate::tests::shown::show::runs::{Written, all_in, gives, gives_of_hex, is_written};
+use clap::Parser as _;
 
 // What Linux answered tc, a message a line: a qdisc of bfifo, handle 1:; a filter of u32 with an action of mirred, handle 80d::800, parent
 // 1:, chain 0, priority 14, index 7; one of flower with such an action, handle 0x1, priority 49152, chain 0, index 3; such an action alone; a
@@ -38,8 +39,8 @@ static CAPTURE: &str = "d4c3b2a102000400000000000000000000001000fd00000000f15365
 240000060500000000000000000000000200000000000100ffffffff000000000d00010066715f636f64656c000000000c0002000800020000280000";
 
 // True if a run with these arguments and names of interfaces ends with this status and writes this.
-fn gives_by(arguments: &Arguments<'_>, names: &[(u32, &str)], input: &[u8], status: u8, written: Written<'_>) -> bool {
-    match FilterValues::of_arguments(arguments, names) {
+fn gives_by(arguments: &Arguments, names: &[(u32, &str)], input: &[u8], status: u8, written: Written<'_>) -> bool {
+    match FilterValues::of_arguments(&arguments.filters, names) {
         Ok(values) => {
             let options = options_of(arguments, TimeZone::Utc, values.filter(), names);
             gives(&options, input, status, written, "")
@@ -50,11 +51,8 @@ fn gives_by(arguments: &Arguments<'_>, names: &[(u32, &str)], input: &[u8], stat
 
 // True if so many lines of JSON are shown by these words.
 fn counts(words: &[&str], input: &[u8], count: usize, status: u8) -> bool {
-    match arguments_of(words) {
-        Ok(mut arguments) => {
-            arguments.format = OutputFormat::Json;
-            gives_by(&arguments, &[], input, status, Written::Counts(count))
-        }
+    match Arguments::try_parse_from(words.iter().copied().chain(["--json"])) {
+        Ok(arguments) => gives_by(&arguments, &[], input, status, Written::Counts(count)),
         Err(_) => false,
     }
 }
@@ -147,8 +145,8 @@ fn has_part(complaint: FilterError<'_>, part: &str) -> bool {
 }
 
 // True if the values of the filter are refused, and the complaint has this part.
-fn is_refused_filter(arguments: &Arguments<'_>, part: &str) -> bool {
-    match FilterValues::of_arguments(arguments, &[(7, "eth7")]) {
+fn is_refused_filter(arguments: &Arguments, part: &str) -> bool {
+    match FilterValues::of_arguments(&arguments.filters, &[(7, "eth7")]) {
         Err(complaint) => has_part(complaint, part),
         Ok(_) => false,
     }
@@ -156,7 +154,7 @@ fn is_refused_filter(arguments: &Arguments<'_>, part: &str) -> bool {
 
 // True if the complaint about an option has this part.
 fn complains<'a>(option: &'a str, word: &'a str, part: &str) -> bool {
-    match arguments_of(&["tcshow", option, word]) {
+    match Arguments::try_parse_from(["tcshow", option, word]) {
         Ok(arguments) => is_refused_filter(&arguments, part),
         Err(_) => false,
     }
@@ -225,7 +223,7 @@ static BARE_FILTER_LINE: &str = "- filter basic 0x1 dev 3 parent ffff: pref 1 pr
 
 // True if a run by these words, where interfaces have these names, writes this and nothing else.
 fn writes(words: &[&str], names: &[(u32, &str)], input: &str, want: &str) -> bool {
-    match arguments_of(words) {
+    match Arguments::try_parse_from(words) {
         Ok(arguments) => gives_by(&arguments, names, input.as_bytes(), 0, Written::Is(&[want])),
         Err(_) => false,
     }
