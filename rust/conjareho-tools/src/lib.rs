@@ -18,6 +18,7 @@ pub mod host;
 mod interfaces;
 #[path = "../../erase/shims/jsontext.rs"]
 mod jsontext;
+mod line;
 #[cfg(target_os = "linux")]
 pub mod netlink;
 #[cfg(target_os = "linux")]

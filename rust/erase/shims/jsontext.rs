@@ -46,29 +46,6 @@ impl<T: Serialize> Serialize for Vec<T> {
     }
 }
 
-/// Sends the fields of a struct, each under its name or the one after it.
-macro_rules! sent {
-    ($(#[$of:meta])* $see:vis struct $name:ident $(<$life:lifetime>)? {
-        $($(#[$about:meta])* $sees:vis $field:ident $(as $key:literal)? : $type:ty),* $(,)?
-    }) => {
-        $(#[$of])* $see struct $name $(<$life>)? { $($(#[$about])* $sees $field: $type),* }
-
-        impl $(<$life>)? crate::serde::Serialize for $name $(<$life>)? {
-            fn serialize<S: crate::serde::Serializer>(&self, out: &mut S) -> Result<(), S::Error> {
-                out.begin_map(None)?;
-                $(
-                    let key = stringify!($field);
-                    $(let key = $key;)?
-                    out.key(key)?;
-                    crate::serde::Serialize::serialize(&self.$field, out)?;
-                )*
-                out.end_map()
-            }
-        }
-    };
-}
-pub(crate) use sent;
-
 /// JSON as it is written.
 struct Text {
     bytes: Vec<u8>,

@@ -22,7 +22,6 @@ pub use error::{Actual, LineError, Notice, Place};
 pub use given::is_answer;
 pub use maker::{MessageMaker, notices_of};
 pub use making::Making;
-pub use members::{Numbered, number_of, wrong};
+pub(crate) use members::{number_of, wrong};
 pub use message::{Forms, MOST_MESSAGE};
 pub use save::{is_end, is_head, is_of_save};
-pub use verdict::{Said, Verdict};

@@ -12,8 +12,6 @@ mod notice;
 mod pages;
 mod reply;
 mod safe;
-mod serialized;
-mod verdict;
 
 pub use line::{Line, json_of, line_of};
 pub use links::link_in;
@@ -22,4 +20,3 @@ pub use notice::{Notice, NoticeLine};
 pub use pages::{begin_message, show_netlink, show_word, text_of};
 pub use reply::{Reply, put_request, reply_line, show_reason};
 pub use safe::safe_text;
-pub use verdict::is_refused;

@@ -6,12 +6,11 @@ use crate::forms_json::Tables;
 use crate::forms_text::{Difference, ReadError, read_json};
 use crate::make::lines::NetlinkHeader;
 use crate::make::messages::error::LineError;
-use crate::make::messages::given::{given_of, is_answer};
+use crate::make::messages::given::{given_of, is_answer, line_in};
 use crate::make::messages::making::Making;
 use crate::make::messages::message::{Forms, Message, message_of};
 use crate::make::messages::save::is_of_save;
 use crate::serde_json::Value;
-use crate::tc_capture::MessageType;
 
 /// A message that is built from a line, with the netlink header that the line describes.
 pub struct BuiltMessage {
@@ -53,22 +52,11 @@ pub fn json_in(line: Vec<u8>) -> Result<Value, LineError> {
 ///
 /// A [`LineError`].
 pub fn made_of_json<T: Tables>(forms: Forms<T>, json: &Value, making: Making) -> Result<BuiltMessage, LineError> {
-    let given = given_of(json)?;
-    let message = message_in(forms, making, given.holds, json)?;
-    Ok(BuiltMessage { given, bytes: message.bytes, settled: message.settled })
-}
-
-// The message that is made of a line's.
-fn message_in<T: Tables>(
-    forms: Forms<T>,
-    making: Making,
-    holds: MessageType,
-    json: &Value,
-) -> Result<Message, LineError> {
-    match json.get("message") {
-        Some(message) => message_of(forms, making, holds, json, message),
-        None => message_of(forms, making, holds, json, json),
-    }
+    let line = line_in(json)?;
+    let shown = json.get("message").unwrap_or(json);
+    let given = given_of(&line, shown)?;
+    let Message { bytes, settled } = message_of(forms, making, given.holds, &line, shown)?;
+    Ok(BuiltMessage { given, bytes, settled })
 }
 
 // Why a line isn't read as JSON.

@@ -1,66 +1,34 @@
-//! Members of a line.
+//! Members of a line that aren't what they have to be.
 
-use crate::user::prelude::*;
+use serde_json::Value;
 
 use crate::forms_text::brief;
+use crate::line::Member;
 use crate::make::messages::error::{Actual, LineError};
-use crate::serde_json::Value;
 
-/// A member that is a number.
-pub struct Numbered {
-    pub name: &'static str,
-    /// The greatest that it may be.
-    pub most: u64,
-    pub wanted: &'static str,
+/// The value of a member; `None` if it is missing.
+///
+/// # Errors
+///
+/// The member is something else than `wanted`.
+pub(crate) fn or_wrong<T: Clone>(name: &'static str, member: &Member<T>, wanted: &'static str) -> Result<Option<T>, LineError> {
+    match member {
+        Member::Missing => Ok(None),
+        Member::Right(value) => Ok(Some(value.clone())),
+        Member::Wrong(held) => Err(wrong(name, held, wanted)),
+    }
 }
 
 /// The number of a member, if it has one.
 ///
 /// # Errors
 ///
-/// A [`LineError`].
-pub fn number_of(json: &Value, member: &Numbered) -> Result<Option<u64>, LineError> {
-    match json.get(member.name) {
-        None => Ok(None),
-        Some(held) => match held.as_u64() {
-            Some(number) if number <= member.most => Ok(Some(number)),
-            _ => Err(wrong(member.name, held, member.wanted)),
-        },
-    }
-}
-
-/// The number of a member, or else this one.
-///
-/// # Panics
-///
-/// It may, unless this holds, which the proved sources ask of callers:
-///
-/// - `default ≤ member.now.most`
-///
-/// # Errors
-///
-/// A [`LineError`].
-pub fn number_or(json: &Value, member: &Numbered, default: u64) -> Result<u64, LineError> {
-    match number_of(json, member) {
-        Ok(Some(number)) => Ok(number),
-        Ok(None) => Ok(default),
-        Err(error) => Err(error),
-    }
-}
-
-/// True or false, where a member says so.
-///
-/// # Errors
-///
-/// A [`LineError`].
-pub fn bool_of(json: &Value, name: &'static str) -> Result<Option<bool>, LineError> {
-    match json.get(name) {
-        None => Ok(None),
-        Some(held) => match held.as_bool() {
-            Some(is_so) => Ok(Some(is_so)),
-            None => Err(wrong(name, held, "true or false")),
-        },
-    }
+/// The member is something else than `wanted`, a number of at most `most`.
+pub(crate) fn number_of(json: &Value, name: &'static str, most: u64, wanted: &'static str) -> Result<Option<u64>, LineError> {
+    let Some(held) = json.get(name) else {
+        return Ok(None);
+    };
+    held.as_u64().filter(|number| *number <= most).map(Some).ok_or_else(|| wrong(name, held, wanted))
 }
 
 /// The error for a member that isn't there.

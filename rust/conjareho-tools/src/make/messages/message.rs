@@ -4,10 +4,11 @@ use crate::user::prelude::*;
 
 use crate::forms_json::{Form, Tables, made};
 use crate::forms_text::{Difference, StrictError, check_shown, differences, shown_json};
+use crate::line::{Line, Verdict};
 use crate::make::messages::error::{Actual, LineError};
 use crate::make::messages::making::Making;
 use crate::make::messages::unknown::with_kind;
-use crate::make::messages::verdict::{Disagreement, Said, Verdict, agree, said_in, verdict_on};
+use crate::make::messages::verdict::{Disagreement, Said, agree, said_in};
 use crate::nla_frames::DecodeError;
 use crate::serde_json::Value;
 use crate::tc_capture::MessageType;
@@ -50,10 +51,10 @@ pub(crate) fn message_of<T: Tables>(
     forms: Forms<T>,
     making: Making,
     holds: MessageType,
-    line: &Value,
+    line: &Line,
     json: &Value,
 ) -> Result<Message, LineError> {
-    if making == Making::Settled && line.get("refused").is_some() {
+    if making == Making::Settled && !line.fault.refused.is_missing() {
         return Err(LineError::Refused);
     }
     let form = forms.of(holds);
@@ -74,7 +75,7 @@ pub(crate) fn message_of<T: Tables>(
 
 // Fails unless the codec reads the bytes.
 fn read_whole(holds: MessageType, bytes: &[u8]) -> Result<(), LineError> {
-    match verdict_on(holds, bytes)? {
+    match Verdict::on(holds, bytes)? {
         Verdict::Refused(error) => Err(unreadable(holds, bytes, error)),
         Verdict::Read { .. } => Ok(()),
     }
@@ -104,12 +105,12 @@ fn check<T: Tables>(
     table: T,
     form: Form,
     holds: MessageType,
-    line: &Value,
+    line: &Line,
     json: &Value,
     bytes: &[u8],
 ) -> Result<(), LineError> {
     let said = said_in(line)?;
-    let verdict = verdict_on(holds, bytes)?;
+    let verdict = Verdict::on(holds, bytes)?;
     match agree(&said, &verdict) {
         Ok(()) => Ok(()),
         Err(why) => Err(disagreement(table, form, holds, json, bytes, why, said, verdict)),

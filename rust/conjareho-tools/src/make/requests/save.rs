@@ -2,7 +2,7 @@
 
 use crate::user::prelude::*;
 
-use crate::make::messages::{Numbered, is_end, is_head, number_of, wrong};
+use crate::make::messages::{is_end, is_head, number_of, wrong};
 use crate::make::requests::complaint::Complaint;
 use crate::serde_json::{Map, Value};
 use core::fmt;
@@ -129,21 +129,17 @@ impl Save {
     }
 }
 
-const FORM: Numbered = Numbered { name: "save", most: 1, wanted: "1, the form of saves that is known" };
-
-const COUNT: Numbered = Numbered { name: "end", most: u64::MAX, wanted: "a number of lines, or true" };
-
 // The number of lines that the last line of a save says; none of one that says true.
 fn count_in(json: &Value) -> Result<Option<u64>, Complaint> {
     match json.get("end") {
         Some(held) if held.as_bool() == Some(true) => Ok(None),
-        _ => Ok(number_of(json, &COUNT)?),
+        _ => Ok(number_of(json, "end", u64::MAX, "a number of lines, or true")?),
     }
 }
 
 // The names in the first line of a save.
 fn names_in(json: &Value) -> Result<Names, Complaint> {
-    if number_of(json, &FORM)? != Some(1) {
+    if number_of(json, "save", 1, "1, the form of saves that is known")? != Some(1) {
         return Err(Complaint::Save(SaveFault::LateHead));
     }
     let mut names = Vec::new();

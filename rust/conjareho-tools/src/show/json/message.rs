@@ -6,7 +6,7 @@ use crate::nla_frames::{DecodeError, NLA_HEADER_SIZE, NlasIterator, strip_nul};
 use crate::paths::{Path, fault_path_in, path_in};
 use crate::read::select::{is_filter_kind, kind_of};
 use crate::show::columns::Root;
-use crate::show::json::serialized::form_of;
+use crate::line::form_of;
 use crate::show::outline::what_of;
 use crate::tc_capture::{MessageType, NetlinkMessage, Time, rtm_of};
 use crate::tc_faults::{Fault, What, locate};

@@ -2,8 +2,8 @@
 
 use crate::user::prelude::*;
 
-use crate::serde::Serialize;
 use crate::tc_capture::CaptureError;
+use ::serde::Serialize;
 
 /// Why a place in an input holds no message.
 #[derive(Clone, Copy)]
@@ -40,8 +40,10 @@ impl Notice {
 }
 
 /// The JSON line of a notice.
-crate::jsontext::sent! { pub struct NoticeLine <'a> {
-/// The notice in words.
-pub note: &'a str,
-/// Offset in the input, in bytes.
-pub at: u64,} }
+#[derive(Serialize)]
+pub struct NoticeLine<'a> {
+    /// The notice in words.
+    pub note: &'a str,
+    /// Offset in the input, in bytes.
+    pub at: u64,
+}

@@ -2,7 +2,7 @@
 
 use crate::user::prelude::*;
 
-use crate::show::json::line::time_text;
+use crate::line::Seconds;
 use crate::show::json::message::{Message, NetlinkHeader, Origin};
 use crate::show::outline::Page;
 use crate::tc_capture::MessageType;
@@ -130,7 +130,7 @@ fn flags_of(name: &str) -> &'static [(u16, &'static str)] {
 /// A [`AllocError`].
 pub fn show_time_of(page: &mut Page, origin: &Origin) -> Result<(), AllocError> {
     if let Some(time) = &origin.time {
-        page.text(time_text(time).as_str())?;
+        page.text(&Seconds(*time).to_string())?;
         page.blank()?;
     }
     Ok(())

@@ -5,14 +5,13 @@ use crate::user::prelude::*;
 use crate::itoa::Buffer;
 use crate::nla_frames::strip_nul;
 use crate::paths::Path;
-use crate::show::json::line::{borrowed_text, json_of, some_time_text};
+use crate::line::{AnswerLine, Reason};
+use crate::show::json::line::{header_of as line_header, json_of, packet_of};
 use crate::show::json::message::{Message, NetlinkHeader, Origin, header_of};
 use crate::show::json::pages::{show_numbers, show_time_of, show_word, text_of};
-use crate::show::json::serialized::{AnswerLine, Reason};
 use crate::show::outline::Page;
 use crate::tc_capture::{Answer, NLMSG_HEADER_LEN, NetlinkMessage, answer_in, errno_name};
 use crate::tc_texts::put_escaped_byte;
-use core::str;
 
 /// An answer of the kernel to a traffic control request: an error, a warning or an acknowledgement.
 #[derive(Clone, Copy)]
@@ -49,12 +48,10 @@ impl<'a> Reply<'a> {
         }
     }
 
-    // The kernel's text, escaped; empty if there is none.
-    fn text(&self) -> Result<Vec<u8>, AllocError> {
-        match self.answer.text {
-            Some(text) => escaped(strip_nul(text)),
-            None => Ok(Vec::new()),
-        }
+    // The kernel's text, escaped.
+    fn text(&self) -> Result<Option<String>, AllocError> {
+        let text = self.answer.text.map(strip_nul).filter(|text| !text.is_empty());
+        text.map(escaped).transpose()
     }
 
     // Offset of the fault in the request, in bytes from the end of the netlink header.
@@ -67,27 +64,12 @@ impl<'a> Reply<'a> {
 }
 
 // A text with each byte that isn't printable ASCII as `\x1b`.
-fn escaped(text: &[u8]) -> Result<Vec<u8>, AllocError> {
-    let mut escaped = fallible::with_capacity(text.len())?;
+fn escaped(text: &[u8]) -> Result<String, AllocError> {
+    let mut escaped = Vec::with_capacity(text.len());
     for byte in text {
-        push_escaped(&mut escaped, *byte)?;
+        put_escaped_byte(&mut escaped, *byte)?;
     }
-    Ok(escaped)
-}
-
-fn push_escaped(out: &mut Vec<u8>, byte: u8) -> Result<(), AllocError> {
-    put_escaped_byte(out, byte)
-}
-
-// ASCII as a text; `None` if it is empty.
-fn some_ascii(bytes: &[u8]) -> Option<&str> {
-    if bytes.is_empty() {
-        return None;
-    }
-    match core::str::from_utf8(bytes) {
-        Ok(text) => Some(text),
-        Err(_) => unreachable!(),
-    }
+    Ok(String::from_utf8_lossy(&escaped).into_owned())
 }
 
 /// Writes the outline of a request, indented.
@@ -149,9 +131,16 @@ fn show_fault_at(page: &mut Page, offset: u64, reply: &Reply<'_>) -> Result<(), 
 ///
 /// A [`AllocError`].
 pub fn reply_line(reply: &Reply<'_>) -> Result<String, AllocError> {
-    let path = path_of(reply)?;
-    let text = reply.text()?;
-    line_with(reply, &text, pointer_of(&path))
+    let reason = Reason {
+        errno: reply.errno(&mut Buffer::new()).to_owned(),
+        text: reply.text()?,
+        offset: reply.offset(),
+        path: path_of(reply)?.map(|path| path.pointer),
+    };
+    let request = &reply.request;
+    let quoted = request.header.as_ref().map(line_header).unwrap_or_default();
+    let message = (!reply.answer.is_capped).then_some((request.holds, request.payload));
+    json_of(&AnswerLine::new(packet_of(&request.origin), line_header(&reply.header), reason, quoted, message))
 }
 
 // The path of the attribute at fault, if the answer has its offset.
@@ -160,35 +149,4 @@ fn path_of(reply: &Reply<'_>) -> Result<Option<Path>, AllocError> {
         Some(offset) => reply.request.path_at(offset),
         None => Ok(None),
     }
-}
-
-// The JSON pointer of a path.
-fn pointer_of(path: &Option<Path>) -> Option<&str> {
-    match path {
-        Some(path) => Some(path.pointer.as_str()),
-        None => None,
-    }
-}
-
-fn line_with(reply: &Reply<'_>, text: &[u8], path: Option<&str>) -> Result<String, AllocError> {
-    let mut buffer = Buffer::new();
-    let errno = reply.errno(&mut buffer);
-    let text = some_ascii(text);
-    let offset = reply.offset();
-    let reason = Reason { errno, text, offset, path };
-    line_for(reply, reason)
-}
-
-// The line of an answer with this error, text and place.
-fn line_for(reply: &Reply<'_>, reason: Reason<'_, '_, '_>) -> Result<String, AllocError> {
-    let text = some_time_text(&reply.request.origin.time);
-    let time = borrowed_text(&text);
-    line_at(reply, reason, time)
-}
-
-// The line with this time.
-fn line_at(reply: &Reply<'_>, reason: Reason<'_, '_, '_>, time: Option<&str>) -> Result<String, AllocError> {
-    let line =
-        AnswerLine { time, header: reply.header, reason, is_capped: reply.answer.is_capped, request: reply.request };
-    json_of(&line)
 }

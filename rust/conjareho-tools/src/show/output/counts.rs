@@ -2,14 +2,15 @@
 
 use crate::user::prelude::*;
 
-use crate::serde::Serialize;
+use ::serde::Serialize;
+
 use crate::show::json::{Notice, show_word};
 use crate::show::outline::Page;
 use crate::tc_capture::{Contents, Link, Packet, Res};
 use core::fmt;
 
 /// Counts of a run, each at most `u64::MAX`.
-crate::jsontext::sent! { #[derive(Clone, Copy, Default)]
+#[derive(Clone, Copy, Default, Serialize)]
 pub struct Counts {
     /// Messages that were printed, refused ones too.
     pub(crate) shown: u64,
@@ -30,7 +31,8 @@ pub struct Counts {
     /// Packets and lines over the limit.
     pub(crate) skipped: u64,
     /// Places where a capture, a packet or a line can't be read.
-    pub(crate) broken: u64,} }
+    pub(crate) broken: u64,
+}
 
 impl Counts {
     /// Counts a place without a message.
@@ -125,27 +127,36 @@ const MOST_ROWS: usize = 256;
 const MOST_KIND: usize = 64;
 
 /// A row: messages of a type and a kind.
-crate::jsontext::sent! { pub(crate) struct Count {
-/// Name of the message type. Empty for the shared row, and without a netlink header.
-rtm as "type": &'static str,
-/// The kind as outlines have it.
-kind: String,
-count: u64,} }
+#[derive(Serialize)]
+pub(crate) struct Count {
+    /// Name of the message type. Empty for the shared row, and without a netlink header.
+    #[serde(rename = "type")]
+    rtm: &'static str,
+    /// The kind as outlines have it.
+    kind: String,
+    count: u64,
+}
 
 /// A row: messages that are refused for a fault.
-crate::jsontext::sent! { pub(crate) struct FaultCount {
-name: &'static str,
-count: u64,} }
+#[derive(Serialize)]
+pub(crate) struct FaultCount {
+    name: &'static str,
+    count: u64,
+}
 
 /// The summary of a run.
-crate::jsontext::sent! { pub(crate) struct Summary {
-messages: Vec<Count>,
-faults: Vec<FaultCount>,} }
+#[derive(Serialize)]
+pub(crate) struct Summary {
+    messages: Vec<Count>,
+    faults: Vec<FaultCount>,
+}
 
 /// The JSON line of a summary.
-crate::jsontext::sent! { pub(crate) struct SummaryLine <'a> {
-pub(crate) summary: &'a Summary,
-pub(crate) all: &'a Counts,} }
+#[derive(Serialize)]
+pub(crate) struct SummaryLine<'a> {
+    pub(crate) summary: &'a Summary,
+    pub(crate) all: &'a Counts,
+}
 
 impl Summary {
     pub(crate) fn new() -> Summary {

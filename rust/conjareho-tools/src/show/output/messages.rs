@@ -6,7 +6,8 @@ use crate::read::select::Message as Properties;
 use crate::read::select::header::interface_in;
 use crate::show::attributes::Columns;
 use crate::show::columns::LinkNames;
-use crate::show::json::{Message, NetlinkHeader, begin_message, is_refused, line_of};
+use crate::line::is_refused;
+use crate::show::json::{Message, NetlinkHeader, begin_message, line_of};
 use crate::show::lines::lines_of_message;
 use crate::show::output::attributes::{columns_of, show_attributes};
 use crate::show::output::options::Options;
@@ -51,7 +52,7 @@ impl<'a> Printer<'a> {
         if !self.options.filter.refused {
             return Ok(true);
         }
-        let refused = is_refused(found)?;
+        let refused = is_refused(found.holds, found.payload)?;
         Ok(self.options.filter.matches_verdict(refused))
     }
 
