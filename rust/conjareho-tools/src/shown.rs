@@ -1,11 +1,12 @@
-//! Messages as `tcshow` prints them: lines of JSON, and lines for people.
+//! Messages with their netlink headers, as `tcshow` prints each: a line of JSON, or a line for people.
+#![deny(clippy::unwrap_used, clippy::indexing_slicing, clippy::panic, clippy::arithmetic_side_effects)]
+
+use std::collections::BTreeMap;
 
 use crate::netlink::Fault;
-use crate::streams::{Reader, Writer};
-use crate::read::select::Filter;
-use crate::show::outline::Interfaces;
-use crate::show::program::options::{Options, OutputFormat, TimeFormat};
-use crate::show::program::program::serve;
+use crate::show::json::{Message, NO_ORIGIN, line_of as json_line_of, safe_text};
+use crate::show::lines::{Requests, TimeFormat, lines_of_message};
+use crate::tc_capture::Messages;
 
 /// What `tcshow --json` writes of messages.
 #[derive(Clone, PartialEq, Eq, Debug, Default)]
@@ -16,44 +17,34 @@ pub struct Shown {
     pub has_refused: bool,
 }
 
-/// The lines of JSON of messages with their netlink headers, one each.
+/// The lines of JSON of messages of traffic control, one each.
 pub fn lines_of(messages: &[Vec<u8>]) -> Result<Shown, Fault> {
-    if messages.is_empty() {
-        return Ok(Shown::default());
+    let mut shown = Shown::default();
+    for message in messages {
+        let found = found_in(message).ok_or(Fault::Broken("a message that isn't shown as one line"))?;
+        let line = json_line_of(&found).and_then(|line| Ok((safe_text(line.json)?, line.fault)));
+        let (json, fault) = line.map_err(|_| Fault::Broken("a message that isn't shown, since memory ran out"))?;
+        shown.text.push_str(&json);
+        shown.text.push('\n');
+        shown.has_refused |= fault.is_some();
     }
-    let (status, written) = shown_as(OutputFormat::Json, messages);
-    let text = String::from_utf8(written).map_err(|_| Fault::Broken("a message that isn't shown as text"))?;
-    if status > 1 || text.lines().count() != messages.len() || !text.ends_with('\n') {
-        return Err(Fault::Broken("a message that isn't shown as one line"));
-    }
-    Ok(Shown { text, has_refused: status == 1 })
+    Ok(shown)
 }
 
-/// The line for people of a message with its netlink header. `None` if it is no line, or nothing that `tcshow` shows.
+/// The line for people of a message. `None` if it is no line, or the message isn't one of traffic control.
 pub fn line_of(message: &[u8]) -> Option<String> {
-    let (_, written) = shown_as(OutputFormat::Lines(false), &[message.to_vec()]);
-    let text = String::from_utf8(written).ok()?;
+    let found = found_in(message)?;
+    let lines = lines_of_message(&[], &BTreeMap::new(), &Requests::new(), false, TimeFormat::Clock, &found).ok()?;
+    let text = String::from_utf8(lines.text).ok()?;
     let line = text.strip_suffix('\n')?;
     (!line.is_empty() && !line.contains('\n')).then(|| line.to_owned())
 }
 
-/// The status and the output of `tcshow`.
-fn shown_as(format: OutputFormat, messages: &[Vec<u8>]) -> (u8, Vec<u8>) {
-    let stream = stream_of(messages);
-    let options = Options {
-        format,
-        without_header: None,
-        filter: Filter::ALL,
-        time: TimeFormat::Clock,
-        acks: false,
-        all: false,
-        names: Interfaces { names: &[] },
-        has_summary: false,
-    };
-    let (mut written, mut complaints) = (Vec::new(), Vec::new());
-    let (mut reader, mut writer) = (Reader::new(stream.as_slice()), Writer::new(&mut written));
-    let status = serve(&options, "a stream", &mut reader, &mut writer, &mut complaints).status();
-    (status, written)
+// The message of traffic control that these bytes are.
+fn found_in(bytes: &[u8]) -> Option<Message<'_>> {
+    let mut messages = Messages::new(bytes);
+    let message = messages.next()?.ok()?;
+    if messages.next().is_some() { None } else { Message::in_netlink(NO_ORIGIN, &message) }
 }
 
 /// Messages as a stream: each padded to a multiple of four bytes.
@@ -64,4 +55,48 @@ pub fn stream_of(messages: &[Vec<u8>]) -> Vec<u8> {
         stream.resize(stream.len().next_multiple_of(4), 0);
     }
     stream
+}
+
+#[cfg(test)]
+mod tests {
+    use super::{Shown, line_of, lines_of};
+
+    // struct nlmsghdr: 20 bytes more, RTM_NEWQDISC, NLM_F_MULTI, 1, 0; struct tcmsg of interface 7.
+    const QDISC: [u8; 36] = [
+        36, 0, 0, 0, 36, 0, 2, 0, 1, 0, 0, 0, 0, 0, 0, 0, 0, 0, 0, 0, 7, 0, 0, 0, 0, 0, 0, 0, 255, 255, 255, 255, 0, 0,
+        0, 0,
+    ];
+
+    #[test]
+    fn a_message_is_a_line() {
+        let shown = lines_of(&[QDISC.to_vec(), QDISC.to_vec()]).expect("it is shown");
+        let line =
+            r#"{"type":"RTM_NEWQDISC","flags":2,"seq":1,"fits":true,"settled":true,"canonical":true,"message":{"#;
+        assert!(shown.text.lines().count() == 2 && shown.text.lines().all(|it| it.starts_with(line)), "{}", shown.text);
+        assert!(!shown.has_refused && shown.text.ends_with("}\n"));
+        assert_eq!(lines_of(&[]).expect("nothing"), Shown::default());
+        assert_eq!(line_of(&QDISC).as_deref(), Some("is qdisc - - dev 7 root"));
+    }
+
+    #[test]
+    fn what_the_codec_refuses_is_a_line_too() {
+        // An attribute of 12 bytes, of which 8 are there.
+        let mut cut = [&QDISC[..], &[12, 0, 1, 0, 0, 0, 0, 0]].concat();
+        cut[0] = 44;
+        let shown = lines_of(&[cut]).expect("it is shown");
+        assert!(
+            shown.has_refused && shown.text.contains(r#""refused":"FrameTooLong","length":12,"left":8,"#),
+            "{}",
+            shown.text
+        );
+    }
+
+    #[test]
+    fn other_bytes_are_no_line() {
+        let mut other = QDISC;
+        other[4] = 20;
+        for bytes in [&other[..], &QDISC[..35], &[&QDISC[..], &QDISC].concat(), &[]] {
+            assert!(lines_of(&[bytes.to_vec()]).is_err() && line_of(bytes).is_none(), "{bytes:?}");
+        }
+    }
 }
