@@ -48,7 +48,6 @@ mod zones;
 use ::itoa;
 use serde::json as serde_json;
 use small::arrayvec;
-use user::memchr;
 use zones::{jiff_core, jiff_tz};
 
 #[allow(dead_code, missing_docs, unused_doc_comments, unused_imports, unused_labels, unused_must_use, unused_variables, clippy::complexity, clippy::perf, clippy::style, clippy::manual_unwrap_or_default, clippy::unnecessary_get_then_check, clippy::derived_hash_with_manual_eq, rustdoc::broken_intra_doc_links)]
@@ -80,21 +79,21 @@ include!(concat!(env!("OUT_DIR"), "/programs.rs"));
 #[cfg(target_os = "linux")]
 pub use {apply::tcapply, apply::tcrestore, tcnl::tcnl, tcsave::tcsave};
 
-use host::HostRuntime;
-use std::io::IsTerminal as _;
 use std::process::ExitCode;
+
 use forms_kinds::{ACTION_MESSAGE, TC_MESSAGE, TcTables};
-use crate::make::messages::Forms;
+use host::HostRuntime;
+use make::messages::Forms;
 
 /// Shows the traffic control messages of a capture, or of lines of hex.
 pub fn tcshow() -> ExitCode {
-    ExitCode::from(crate::show::program::program::tcshow(&HostRuntime, std::io::stdout().is_terminal(), &crate::show::differences::StateDiffer, &mut HostRuntime.stderr()).status())
+    ExitCode::from(show::program::program::tcshow(&mut HostRuntime.stderr()).status())
 }
 
 /// Makes traffic control messages of JSON.
 pub fn tcmake() -> ExitCode {
     let forms = Forms { table: TcTables, tc: TC_MESSAGE, action: ACTION_MESSAGE };
-    ExitCode::from(crate::make::program::program::tcmake(&HostRuntime, forms, &mut HostRuntime.stderr()).status())
+    ExitCode::from(make::program::program::tcmake(forms, &mut HostRuntime.stderr()).status())
 }
 
 /// Reads a traffic control message as hex text, and reports on it.

@@ -108,7 +108,10 @@ const TC_TYPES: std::ops::RangeInclusive<u16> = 36..=102;
 impl TypeName {
     /// Its number (`nlmsg_type`), and what its messages hold. `None` for an answer of the kernel.
     pub(crate) fn number(self) -> Option<(u16, MessageType)> {
-        TC_TYPES.filter_map(|number| Some((number, rtm_of(number)?))).find(|(_, rtm)| rtm.name == self.0).map(|(number, rtm)| (number, rtm.holds))
+        TC_TYPES
+            .filter_map(|number| Some((number, rtm_of(number)?)))
+            .find(|(_, rtm)| rtm.name == self.0)
+            .map(|(number, rtm)| (number, rtm.holds))
     }
 }
 

@@ -1,24 +1,16 @@
-//! Parts that the programs share: output, retries after an interruption, how a run ends, and outlines in colors.
+//! What the runs of both programs share: their streams, how they end, and outlines in colors.
 //!
-//! [`Coloured`] adds colors to the outlines that are written to it. The first line of a paragraph is bold. In each other
-//! line the name is cyan and the value green. A line about refused, cut or broken input is red. Each write must end with
-//! a whole line.
+//! A run reads from a [`Reader`] and writes to a [`Writer`]. These try again what was interrupted, and keep the error that ends the run;
+//! calls over them say with a [`Stop`] why they ended, and [`shown_reason`] is the reason that the streams confirm. Texts from outside reach
+//! a terminal by [`write_text`] alone, which escapes them.
+#![deny(clippy::unwrap_used, clippy::indexing_slicing, clippy::panic, clippy::arithmetic_side_effects)]
 
-use crate::user::prelude::*;
 mod colours;
-mod copied;
-mod read;
-mod retries;
+mod io;
 mod stop;
-mod streams;
 mod text;
-mod write;
 
-pub use colours::lines::paint;
-pub use colours::writer::Coloured;
-pub use read::read_some;
-pub use retries::Retries;
-pub use stop::{Ended, Stop, status_of};
-pub use streams::{Reader, Writer, shown_reason};
-pub use text::{cause_of, put_text, write_text};
-pub use write::{fail_with, write_all};
+pub use colours::{Coloured, paint};
+pub use io::{Reader, Writer, read_some, shown_reason, write_all};
+pub use stop::{Ended, Stop};
+pub use text::{cause_of, write_text};

@@ -92,13 +92,3 @@ pub(crate) fn collected<T>(items: impl Iterator<Item = T>) -> Result<Vec<T>, All
     }
     Ok(all)
 }
-
-/// As much of the crate `memchr` as is used.
-#[allow(dead_code)]
-pub(crate) mod memchr {
-    /// Where the byte is first. A search in `contains` takes many at a time.
-    pub(crate) fn memchr(byte: u8, bytes: &[u8]) -> Option<usize> {
-        let start = 64 * bytes.chunks(64).position(|chunk| chunk.contains(&byte))?;
-        bytes[start..].iter().position(|it| *it == byte).map(|at| start + at)
-    }
-}

@@ -1,6 +1,5 @@
-//! As much of `jiff_core` and `jiff_tz` as is used, over the C library, and the time zone of the system instead of `tcshow_lib::zone`.
+//! As much of `jiff_core` and `jiff_tz` as is used, over the C library, and the time zone of the system.
 
-use crate::host::{env, rt};
 use jiff_core::{Offset, Timestamp};
 use std::io::Read as _;
 use std::marker::PhantomData;
@@ -40,36 +39,26 @@ impl TimeZone<'_> {
     }
 }
 
-pub(crate) struct SystemZone;
+/// The time zone isn't in the database.
+#[derive(Debug)]
+pub struct NoZone;
 
-/// Why the time zone isn't known.
-#[derive(Clone, Copy, PartialEq, Eq, Debug)]
-#[allow(dead_code)] // memory runs out elsewhere
-pub enum ZoneError {
-    OutOfMemory,
-    NotFound,
-}
-
-impl std::fmt::Display for ZoneError {
+impl std::fmt::Display for NoZone {
     fn fmt(&self, f: &mut std::fmt::Formatter<'_>) -> std::fmt::Result {
         f.write_str("the time zone is not in the database")
     }
 }
 
-impl SystemZone {
-    /// The system's time zone, if there is one. The C library takes UTC for one that isn't there.
-    pub(crate) fn read<R: rt::Env + rt::Files>(rt: &R) -> Result<SystemZone, ZoneError> {
-        let is_there = match env::var(rt, "TZ") {
-            Ok(text) => text.is_empty() || is_rule(&text) || is_name(&text),
-            Err(std::env::VarError::NotPresent) => is_zone(Path::new("/etc/localtime")),
-            Err(_) => false,
-        };
-        is_there.then_some(SystemZone).ok_or(ZoneError::NotFound)
-    }
+impl std::error::Error for NoZone {}
 
-    pub(crate) fn time_zone(&self) -> Result<TimeZone<'_>, ZoneError> {
-        Ok(TimeZone::System(PhantomData))
-    }
+/// The system's time zone, if there is one. The C library takes UTC for one that isn't there.
+pub(crate) fn system_zone() -> Result<TimeZone<'static>, NoZone> {
+    let is_there = match std::env::var("TZ") {
+        Ok(text) => text.is_empty() || is_rule(&text) || is_name(&text),
+        Err(std::env::VarError::NotPresent) => is_zone(Path::new("/etc/localtime")),
+        Err(_) => false,
+    };
+    if is_there { Ok(TimeZone::System(PhantomData)) } else { Err(NoZone) }
 }
 
 // True for a rule: a name of letters, or in angle brackets, and a number.

@@ -46,7 +46,13 @@ struct Quoted<'a> {
 
 impl<'a> AnswerLine<'a> {
     /// `message` is that of the request, if it is quoted.
-    pub(crate) fn new(origin: Origin, header: Header, reason: Reason, request: Header, message: Option<(MessageType, &'a [u8])>) -> AnswerLine<'a> {
+    pub(crate) fn new(
+        origin: Origin,
+        header: Header,
+        reason: Reason,
+        request: Header,
+        message: Option<(MessageType, &'a [u8])>,
+    ) -> AnswerLine<'a> {
         let message = message.map(|(holds, payload)| shown(holds, payload));
         AnswerLine { origin, header, reason, request: Quoted { header: request, message } }
     }

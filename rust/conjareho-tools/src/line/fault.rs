@@ -34,7 +34,12 @@ pub(crate) struct Fault {
 
 impl Fault {
     pub(crate) fn new(error: &DecodeError, offset: usize, path: String) -> Fault {
-        Fault { refused: error.name().to_owned().into(), offset: offset.into(), path: path.into(), ..Fault::numbers_of(error) }
+        Fault {
+            refused: error.name().to_owned().into(),
+            offset: offset.into(),
+            path: path.into(),
+            ..Fault::numbers_of(error)
+        }
     }
 
     fn numbers_of(error: &DecodeError) -> Fault {
@@ -48,7 +53,9 @@ impl Fault {
             DecodeError::FrameHeaderShort { left } => Fault { left: left.into(), ..none },
             DecodeError::FrameTooShort { length } => Fault { length: length.into(), ..none },
             DecodeError::XstatsShort { len } => Fault { len: len.into(), ..none },
-            DecodeError::NotUtf8 | DecodeError::MissingKind | DecodeError::DuplicateKind | DecodeError::OutOfMemory => none,
+            DecodeError::NotUtf8 | DecodeError::MissingKind | DecodeError::DuplicateKind | DecodeError::OutOfMemory => {
+                none
+            }
         }
     }
 

@@ -29,7 +29,9 @@ impl Verdict {
             return Ok(Verdict::Read { fits: true, settled: true, canonical: true });
         }
         match M::read(bytes) {
-            Ok(message) => Ok(Verdict::Read { fits: message.is_writable(), settled: message.is_settled(), canonical: false }),
+            Ok(message) => {
+                Ok(Verdict::Read { fits: message.is_writable(), settled: message.is_settled(), canonical: false })
+            }
             Err(DecodeError::OutOfMemory) => Err(AllocError),
             Err(error) => Ok(Verdict::Refused(error)),
         }

@@ -14,11 +14,10 @@ mod options;
 mod output;
 mod printer;
 mod replies;
-mod stop;
 
 pub use capture::show_capture;
 pub use counts::{Counts, Packets};
 pub use lines::{is_hex_text, show_lines};
 pub use options::{Options, OutputFormat};
 pub use printer::Printer;
-pub use stop::Stop;
+pub use crate::streams::Stop;

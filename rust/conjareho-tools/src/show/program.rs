@@ -1,21 +1,18 @@
 //! The program `tcshow`: prints the traffic control messages of a capture, or of lines of hex, as lines, as outlines or as JSON.
 //!
-//! Its arguments, filter, run and exit status are here. `tcshow_input` reads the input and prints messages, `tcshow_json` writes the lines of JSON.
+//! [`program::tcshow`] reads the arguments, and what they name; `view` prints inputs as they ask; [`run`] is one input, to its exit status.
 
-use crate::user::prelude::*;
 pub mod arguments;
 mod complaints;
 mod day;
 pub mod example;
 pub mod filter;
 pub mod hint;
-pub mod inputs;
 pub mod json;
 pub mod kinds;
-pub mod names;
 mod nearest;
 mod notes;
 pub mod options;
 pub mod program;
 pub mod run;
-mod zone;
+mod view;

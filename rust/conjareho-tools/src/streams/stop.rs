@@ -1,28 +1,28 @@
 //! The end of a run.
 
-use crate::user::prelude::*;
+use crate::fallible::AllocError;
 
-/// The reason why a run ended before the end of its input.
+/// Why a run ended before the end of its input.
 #[derive(Clone, Copy, PartialEq, Eq, Debug)]
 pub enum Stop {
     /// The arguments, or a file that they name, can't be used.
     Usage,
-
-    /// The output was closed (`EPIPE`).
+    /// The input is neither a capture nor lines of hex.
+    NoCapture,
+    /// The capture has packets, but none of route netlink.
+    NoRoute,
+    /// The output was closed (`EPIPE`), which is no failure.
     Closed,
-
     /// Reading failed.
     Read,
-
     /// Writing failed.
     Write,
-
     /// Memory ran out.
     NoMemory,
 }
 
 impl From<AllocError> for Stop {
-    fn from(_e: AllocError) -> Stop {
+    fn from(_: AllocError) -> Stop {
         Stop::NoMemory
     }
 }
@@ -32,26 +32,25 @@ impl From<AllocError> for Stop {
 pub struct Ended {
     /// Why it ended before the end of its input, if it did.
     pub outcome: Result<(), Stop>,
-
-    /// True if a part of the input was refused.
+    /// True if a part of the input was refused, or is broken or cut.
     pub has_refused: bool,
 }
 
 impl Ended {
-    /// The exit status.
+    /// An end before anything was read.
+    #[must_use]
+    pub fn early(stop: Stop) -> Ended {
+        Ended { outcome: Err(stop), has_refused: false }
+    }
+
+    /// The exit status: 3 if a stream failed or memory ran out, 2 for wrong arguments or an input that can't be used, 1 if a part of the
+    /// input was refused, else 0.
     #[must_use]
     pub fn status(self) -> u8 {
-        status_of(self.outcome, self.has_refused)
-    }
-}
-
-/// The exit status: 3 if reading or writing failed or memory ran out, 2 for wrong arguments, 1 if a part of the input was
-/// refused, otherwise 0. A closed output isn't a failure.
-#[must_use]
-pub fn status_of(outcome: Result<(), Stop>, has_refused: bool) -> u8 {
-    match outcome {
-        Err(Stop::Read | Stop::Write | Stop::NoMemory) => 3,
-        Err(Stop::Usage) => 2,
-        Ok(()) | Err(Stop::Closed) => has_refused as u8,
+        match self.outcome {
+            Err(Stop::Read | Stop::Write | Stop::NoMemory) => 3,
+            Err(Stop::Usage | Stop::NoCapture | Stop::NoRoute) => 2,
+            Ok(()) | Err(Stop::Closed) => u8::from(self.has_refused),
+        }
     }
 }

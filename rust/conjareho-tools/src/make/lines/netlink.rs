@@ -1,6 +1,4 @@
-//! Netlink header and packet of a message.
-
-use crate::user::prelude::*;
+//! The netlink header and the packet of a message.
 
 use crate::tc_capture::{MessageType, Time};
 
@@ -29,7 +27,7 @@ pub struct PacketOf {
     pub packet_type: u16,
 }
 
-/// The packet type `PACKET_OUTGOING`.
+/// The packet type `PACKET_OUTGOING` (`linux/if_packet.h`).
 pub const OUTGOING: u16 = 4;
 
 /// An outgoing packet with one message.
@@ -38,17 +36,13 @@ pub fn packet_at(time: Time) -> PacketOf {
     PacketOf { number: None, time, packet_type: OUTGOING }
 }
 
-/// True if two lines are of one packet: same number, time and type.
-pub(crate) fn is_same(p: &PacketOf, q: &PacketOf) -> bool {
-    same_number(p.number, q.number)
-        && p.time.seconds == q.time.seconds
-        && p.time.nanoseconds == q.time.nanoseconds
-        && p.packet_type == q.packet_type
-}
-
-fn same_number(p: Option<u64>, q: Option<u64>) -> bool {
-    match (p, q) {
-        (Some(m), Some(n)) => m == n,
-        _ => false,
+impl PacketOf {
+    /// True if messages are of one packet: same number, time and type.
+    pub(crate) fn is_same(&self, other: &PacketOf) -> bool {
+        let time = |packet: &PacketOf| (packet.time.seconds, packet.time.nanoseconds);
+        self.number.is_some()
+            && self.number == other.number
+            && time(self) == time(other)
+            && self.packet_type == other.packet_type
     }
 }

@@ -1,140 +1,100 @@
-//! Buffered output of messages.
+//! Messages that are to be written.
 
-use crate::user::prelude::*;
+use std::io::Write;
 
-use crate::host::io::Write;
-use crate::make::lines::format::{MOST_MESSAGES, OutputFormat};
-use crate::make::lines::header::{file_header, joined, packet_header_of, pad, put_hex, whole_of};
-use crate::make::lines::netlink::{NetlinkHeader, PacketOf, is_same};
+use super::encoding::{Encoding, FILE_HEADER, MOST_MESSAGES, Unwritable, packet_header, pad, with_header};
+use super::netlink::{NetlinkHeader, PacketOf};
 use crate::streams::{Stop, write_all};
-use core::mem;
+
+// A digit of hex.
+fn digit(half: u8) -> u8 {
+    const DIGITS: &[u8; 16] = b"0123456789abcdef";
+    DIGITS.get(usize::from(half)).copied().unwrap_or_default()
+}
 
 /// Messages that aren't written yet.
 pub struct Output {
-    form: OutputFormat,
-    // The packet that can take the next message; none before the first.
-    of: Option<PacketOf>,
-    // Its messages with their netlink headers.
-    packet: Vec<u8>,
-    // Text to be written.
-    text: Vec<u8>,
+    encoding: Encoding,
+    // The packet that takes the next message if it is its own, and its messages with their netlink headers. None before the first.
+    packet: Option<(PacketOf, Vec<u8>)>,
+    // What is to be written.
+    bytes: Vec<u8>,
 }
 
 impl Output {
-    /// An empty output.
+    /// An output without messages.
     #[must_use]
-    pub fn new(form: OutputFormat) -> Output {
-        Output { form, of: None, packet: Vec::new(), text: Vec::new() }
-    }
-
-    /// The output format.
-    #[must_use]
-    pub fn form(&self) -> OutputFormat {
-        self.form
-    }
-
-    // True if the packet has room for a message.
-    fn has_room(&self, bytes: &[u8]) -> bool {
-        let len = self.packet.len();
-        let padding = (4 - len % 4) % 4;
-        len.saturating_add(padding).saturating_add(bytes.len()).saturating_add(16) <= MOST_MESSAGES
-    }
-
-    /// Appends the header of the format.
-    ///
-    /// # Errors
-    ///
-    /// A [`AllocError`].
-    pub fn begin(&mut self) -> Result<(), AllocError> {
-        if self.form == OutputFormat::Capture {
-            return self.text.try_extend(&file_header());
-        }
-        Ok(())
+    pub fn new(encoding: Encoding) -> Output {
+        let bytes = if encoding == Encoding::Capture { FILE_HEADER.to_vec() } else { Vec::new() };
+        Output { encoding, packet: None, bytes }
     }
 
     /// Appends a message.
     ///
-    /// # Panics
-    ///
-    /// It may, unless this holds, which the proved sources ask of callers:
-    ///
-    /// - `IsWritable self.old.form given.now bytes.now`
-    ///
     /// # Errors
     ///
-    /// A [`AllocError`].
-    pub fn put(&mut self, given: &NetlinkHeader, bytes: &[u8]) -> Result<(), AllocError> {
-        match self.form {
-            OutputFormat::Hex => {
-                let whole = whole_of(given, bytes)?;
-                put_hex(&mut self.text, &whole)
+    /// The message can't be written so.
+    pub fn put(&mut self, given: &NetlinkHeader, bytes: &[u8]) -> Result<(), Unwritable> {
+        match self.encoding {
+            Encoding::Bare => self.put_hex(bytes),
+            Encoding::Hex => self.put_hex(&with_header(given, bytes)?),
+            Encoding::Stream => {
+                let mut whole = with_header(given, bytes)?;
+                pad(&mut whole);
+                self.bytes.extend(whole);
             }
-            OutputFormat::Bare => put_hex(&mut self.text, bytes),
-            OutputFormat::Stream => {
-                let mut whole = whole_of(given, bytes)?;
-                pad(&mut whole)?;
-                self.text.try_extend(&whole)
-            }
-            OutputFormat::Capture => self.put_in_packet(given, bytes),
+            Encoding::Capture => self.put_in_packet(given, with_header(given, bytes)?)?,
         }
-    }
-
-    // Appends a message to its packet; if that is a new one, the packet before it is ended.
-    fn put_in_packet(&mut self, given: &NetlinkHeader, bytes: &[u8]) -> Result<(), AllocError> {
-        if self.takes(given, bytes) {
-            let before = mem::replace(&mut self.packet, Vec::new());
-            let after = joined(before, given, bytes)?;
-            self.packet = after;
-            return Ok(());
-        }
-        self.end()?;
-        let first = whole_of(given, bytes)?;
-        self.of = Some(given.packet);
-        self.packet = first;
         Ok(())
     }
 
-    // True if the message belongs to the packet and has room in it.
-    fn takes(&self, given: &NetlinkHeader, bytes: &[u8]) -> bool {
-        match &self.of {
-            Some(of) => is_same(of, &given.packet) && self.has_room(bytes),
-            None => false,
+    fn put_hex(&mut self, bytes: &[u8]) {
+        self.bytes.reserve(bytes.len().saturating_mul(2));
+        for byte in bytes {
+            self.bytes.extend([digit(byte >> 4), digit(byte & 15)]);
         }
+        self.bytes.push(b'\n');
+    }
+
+    // Appends a message to its packet. If that is a new one, the packet before it ends.
+    fn put_in_packet(&mut self, given: &NetlinkHeader, whole: Vec<u8>) -> Result<(), Unwritable> {
+        // A packet that can't be ended isn't begun.
+        packet_header(given.packet.time, whole.len(), given.packet.packet_type)?;
+        if whole.len() > MOST_MESSAGES {
+            return Err(Unwritable::TooLong);
+        }
+        if let Some((packet, messages)) = &mut self.packet {
+            let len = messages.len().next_multiple_of(4);
+            if packet.is_same(&given.packet) && len.saturating_add(whole.len()) <= MOST_MESSAGES {
+                pad(messages);
+                messages.extend(whole);
+                return Ok(());
+            }
+        }
+        self.end();
+        self.packet = Some((given.packet, whole));
+        Ok(())
     }
 
     /// Ends the packet, if any.
-    ///
-    /// # Errors
-    ///
-    /// A [`AllocError`].
-    pub fn end(&mut self) -> Result<(), AllocError> {
-        if self.form != OutputFormat::Capture {
-            self.of = None;
-            return Ok(());
+    pub fn end(&mut self) {
+        if let Some((packet, messages)) = self.packet.take() {
+            // Each message was looked at when it was put.
+            if let Ok(header) = packet_header(packet.time, messages.len(), packet.packet_type) {
+                self.bytes.extend(header);
+                self.bytes.extend(messages);
+            }
         }
-        if let Some(of) = &self.of {
-            let header = packet_header_of(
-                of.time.seconds as u32,
-                of.time.nanoseconds,
-                self.packet.len() as u32 + 16,
-                of.packet_type,
-            );
-            self.text.try_extend(&header)?;
-            self.text.try_extend(&self.packet)?;
-        }
-        self.of = None;
-        self.packet.clear();
-        Ok(())
     }
 
-    /// Writes the text so far.
+    /// Writes all so far, but for a packet that isn't ended.
     ///
     /// # Errors
     ///
-    /// A [`Stop`].
-    pub fn write<W: crate::host::io::Write>(&mut self, writer: &mut W) -> Result<(), Stop> {
-        let outcome = write_all(writer, &self.text);
-        self.text.clear();
+    /// As [`write_all`].
+    pub fn write<W: Write>(&mut self, writer: &mut W) -> Result<(), Stop> {
+        let outcome = write_all(writer, &self.bytes);
+        self.bytes.clear();
         outcome
     }
 }

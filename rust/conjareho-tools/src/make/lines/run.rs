@@ -1,158 +1,102 @@
 //! A run over an input.
 
-use crate::user::prelude::*;
+use std::fmt;
+use std::io::{BufRead, BufReader, Read, Write};
 
-use crate::host::io::{BufRead, BufReader, Read, Write};
-use crate::make::lines::format::{OutputFormat, check};
-use crate::make::lines::input::{LineContent, LineStatus, content_of, next_line};
-use crate::make::lines::maker::{Answer, Maker};
-use crate::make::lines::netlink::NetlinkHeader;
-use crate::make::lines::output::Output;
-use crate::streams::{Ended, Reader, Stop, Writer, shown_reason, write_text};
+use super::encoding::Encoding;
+use super::input::{LineContent, LineStatus, content_of, next_line};
+use super::netlink::NetlinkHeader;
+use super::output::Output;
+use crate::fallible::AllocError;
+use crate::streams::{Ended, Reader, Stop, Writer, shown_reason};
 
-/// The error for a line longer than [`MOST_LINE`](crate::MOST_LINE).
+/// The error for a line longer than [`MOST_LINE`](super::MOST_LINE).
 pub const LONG_LINE: &str = "longer than 4194304 bytes";
 
-/// The error for a line with more than [`MOST_VALUES`](crate::MOST_VALUES) or [`MOST_QUOTES`](crate::MOST_QUOTES).
+/// The error for a line with more than [`MOST_VALUES`](super::MOST_VALUES) or [`MOST_QUOTES`](super::MOST_QUOTES).
 pub const MANY_VALUES: &str = "more objects, lists, values or texts than a message of 256 KiB has";
 
-/// Builds the messages of all lines of an input, and writes them. Errors and notices are written to `errors`.
-pub fn run<M: Maker, R: Read, W: crate::host::io::Write, E: Write>(
+/// What becomes of a line.
+pub enum Answer {
+    /// A message, its header, and notices on fields that were changed.
+    Message { given: NetlinkHeader, bytes: Vec<u8>, notices: Vec<String> },
+    /// No message in the line, with an optional notice.
+    Nothing { notice: Option<String> },
+    /// An error in the line.
+    Complaint(String),
+}
+
+/// What makes messages of lines.
+pub trait Maker {
+    /// Makes the message of a line, which is freed as soon as it is read.
+    ///
+    /// # Errors
+    ///
+    /// Memory ran out.
+    fn make(&self, line: Vec<u8>) -> Result<Answer, AllocError>;
+}
+
+/// Takes what is said of a line, by its number from 1.
+pub type Say<'a> = &'a mut dyn FnMut(u64, &dyn fmt::Display);
+
+/// Makes the messages of all lines of an input, and writes them. Errors and notices are said.
+pub fn run<M: Maker, R: Read, W: Write>(
     maker: &M,
-    form: OutputFormat,
+    encoding: Encoding,
     reader: &mut BufReader<Reader<R>>,
     writer: &mut Writer<W>,
-    errors: &mut E,
+    say: Say<'_>,
 ) -> Ended {
-    let mut has_refused = false;
-    let outcome = match make_all(maker, form, reader, writer, errors, &mut has_refused) {
-        Ok(()) => Ok(()),
-        Err(stop) => Err(shown_reason(reader.get_ref(), writer, stop)),
-    };
-    Ended { outcome, has_refused }
+    let mut lines = Lines { maker, output: Output::new(encoding), say, has_refused: false };
+    let outcome = lines.make_all(reader, writer).map_err(|stop| shown_reason(reader.get_ref(), writer, stop));
+    Ended { outcome, has_refused: lines.has_refused }
 }
 
-fn make_all<M: Maker, R: BufRead, W: crate::host::io::Write, E: Write>(
-    maker: &M,
-    form: OutputFormat,
-    reader: &mut R,
-    writer: &mut W,
-    errors: &mut E,
-    has_refused: &mut bool,
-) -> Result<(), Stop> {
-    let mut output = Output::new(form);
-    output.begin()?;
-    for number in 1..u64::MAX {
-        output.write(writer)?;
-        let mut line = Vec::new();
-        let found = next_line(reader, &mut line)?;
-        if is_end(found) {
-            output.end()?;
-            output.write(writer)?;
-            return Ok(());
-        }
-        let is_wrong = put_line(maker, found, line, number, &mut output, errors)?;
-        *has_refused = either(*has_refused, is_wrong);
-    }
-    Err(Stop::Read)
+struct Lines<'a, M> {
+    maker: &'a M,
+    output: Output,
+    say: Say<'a>,
+    // A line has an error.
+    has_refused: bool,
 }
 
-fn is_end(found: LineStatus) -> bool {
-    matches!(found, LineStatus::End)
-}
-
-fn either(one: bool, other: bool) -> bool {
-    one || other
-}
-
-// Appends the message of a line to the output. True if the line has an error.
-fn put_line<M: Maker, E: Write>(
-    maker: &M,
-    found: LineStatus,
-    line: Vec<u8>,
-    number: u64,
-    output: &mut Output,
-    errors: &mut E,
-) -> Result<bool, AllocError> {
-    match found {
-        LineStatus::Whole => put_whole_line(maker, line, number, output, errors),
-        LineStatus::TooLong => report(errors, number, LONG_LINE),
-        LineStatus::End => Ok(false),
-    }
-}
-
-// Appends the message of a whole line.
-fn put_whole_line<M: Maker, E: Write>(
-    maker: &M,
-    line: Vec<u8>,
-    number: u64,
-    output: &mut Output,
-    errors: &mut E,
-) -> Result<bool, AllocError> {
-    match content_of(&line) {
-        LineContent::ManyValues => report(errors, number, MANY_VALUES),
-        LineContent::Blank => Ok(false),
-        LineContent::Text => put_text(maker, line, number, output, errors),
-    }
-}
-
-// Appends the message of a line that is read.
-fn put_text<M: Maker, E: Write>(
-    maker: &M,
-    line: Vec<u8>,
-    number: u64,
-    output: &mut Output,
-    errors: &mut E,
-) -> Result<bool, AllocError> {
-    match maker.make(line)? {
-        Answer::Message { given, bytes, notices } => put_message(&given, &bytes, &notices, number, output, errors),
-        Answer::Nothing { notice } => {
-            if let Some(notice) = &notice {
-                say(errors, number, notice.as_str())?;
+impl<M: Maker> Lines<'_, M> {
+    fn make_all<R: BufRead, W: Write>(&mut self, reader: &mut R, writer: &mut W) -> Result<(), Stop> {
+        for number in 1.. {
+            self.output.write(writer)?;
+            let mut line = Vec::new();
+            match next_line(reader, &mut line)? {
+                LineStatus::Whole => self.make(line, number)?,
+                LineStatus::TooLong => self.refuse(number, &LONG_LINE),
+                LineStatus::End => break,
             }
-            Ok(false)
         }
-        Answer::Complaint(complaint) => report(errors, number, complaint.as_str()),
+        self.output.end();
+        self.output.write(writer)
     }
-}
 
-/// Appends a message to the output, and prints its notices. True if it can't be written. Then the error is printed.
-///
-/// # Errors
-///
-/// A [`AllocError`].
-pub fn put_message<E: Write>(
-    given: &NetlinkHeader,
-    bytes: &[u8],
-    notices: &[String],
-    number: u64,
-    output: &mut Output,
-    errors: &mut E,
-) -> Result<bool, AllocError> {
-    if let Err(fault) = check(output.form(), given, bytes) {
-        let complaint = crate::user::formatted(format_args!("{fault}"))?;
-        return report(errors, number, complaint.as_str());
+    fn make(&mut self, line: Vec<u8>, number: u64) -> Result<(), Stop> {
+        match content_of(&line) {
+            LineContent::Blank => return Ok(()),
+            LineContent::ManyValues => {
+                self.refuse(number, &MANY_VALUES);
+                return Ok(());
+            }
+            LineContent::Text => {}
+        }
+        match self.maker.make(line)? {
+            Answer::Message { given, bytes, notices } => match self.output.put(&given, &bytes) {
+                Ok(()) => notices.iter().for_each(|notice| (self.say)(number, notice)),
+                Err(why) => self.refuse(number, &why),
+            },
+            Answer::Nothing { notice } => notice.iter().for_each(|notice| (self.say)(number, notice)),
+            Answer::Complaint(complaint) => self.refuse(number, &complaint),
+        }
+        Ok(())
     }
-    output.put(given, bytes)?;
-    for notice in notices {
-        say(errors, number, notice.as_str())?;
+
+    fn refuse(&mut self, number: u64, why: &dyn fmt::Display) {
+        (self.say)(number, why);
+        self.has_refused = true;
     }
-    Ok(false)
-}
-
-// Prints an error.
-fn report<E: Write>(errors: &mut E, number: u64, text: &str) -> Result<bool, AllocError> {
-    say(errors, number, text)?;
-    Ok(true)
-}
-
-/// Prints a text about a line, if possible. Fails only if memory runs out.
-///
-/// # Errors
-///
-/// A [`AllocError`].
-pub fn say<E: Write>(errors: &mut E, number: u64, text: &str) -> Result<(), AllocError> {
-    let text = crate::user::formatted(format_args!("tcmake: line {number}: {text}\n"))?;
-    let _ = write_text(errors, text.as_str());
-    Ok(())
 }

@@ -56,11 +56,13 @@ fn without_message(json: &Value) -> Option<LineError> {
 fn packet_of(line: &Line) -> Result<PacketOf, LineError> {
     let number = or_wrong("packet", &line.origin.packet, "the number of a packet")?;
     let time = or_wrong("time", &line.origin.time, "seconds, a point and nine digits")?.map_or(NO_TIME, |time| time.0);
-    let packet_type = or_wrong("packet_type", &line.origin.packet_type, "a number from 0 to 65535")?.unwrap_or(OUTGOING);
+    let packet_type =
+        or_wrong("packet_type", &line.origin.packet_type, "a number from 0 to 65535")?.unwrap_or(OUTGOING);
     Ok(PacketOf { number, packet_type, ..packet_at(time) })
 }
 
-const TYPES: &str = "RTM_NEWQDISC, RTM_DELQDISC, RTM_GETQDISC, the same of TCLASS, TFILTER, ACTION or CHAIN, or NLMSG_ERROR";
+const TYPES: &str =
+    "RTM_NEWQDISC, RTM_DELQDISC, RTM_GETQDISC, the same of TCLASS, TFILTER, ACTION or CHAIN, or NLMSG_ERROR";
 
 // The message type, and what the payload is; a line without a type shows that by its header.
 fn type_in(line: &Line, message: &Value) -> Result<(Option<u16>, MessageType), LineError> {

@@ -11,7 +11,11 @@ use crate::make::messages::error::{Actual, LineError};
 /// # Errors
 ///
 /// The member is something else than `wanted`.
-pub(crate) fn or_wrong<T: Clone>(name: &'static str, member: &Member<T>, wanted: &'static str) -> Result<Option<T>, LineError> {
+pub(crate) fn or_wrong<T: Clone>(
+    name: &'static str,
+    member: &Member<T>,
+    wanted: &'static str,
+) -> Result<Option<T>, LineError> {
     match member {
         Member::Missing => Ok(None),
         Member::Right(value) => Ok(Some(value.clone())),
@@ -24,7 +28,12 @@ pub(crate) fn or_wrong<T: Clone>(name: &'static str, member: &Member<T>, wanted:
 /// # Errors
 ///
 /// The member is something else than `wanted`, a number of at most `most`.
-pub(crate) fn number_of(json: &Value, name: &'static str, most: u64, wanted: &'static str) -> Result<Option<u64>, LineError> {
+pub(crate) fn number_of(
+    json: &Value,
+    name: &'static str,
+    most: u64,
+    wanted: &'static str,
+) -> Result<Option<u64>, LineError> {
     let Some(held) = json.get(name) else {
         return Ok(None);
     };

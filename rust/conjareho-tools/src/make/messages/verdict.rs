@@ -19,20 +19,31 @@ pub(crate) fn said_in(line: &Line) -> Result<Said, LineError> {
         return Ok(Said::Refused(fault_of(&line.fault, &name)?));
     }
     let truth = |name, member| or_wrong(name, member, "true or false");
-    Ok(Said::Read { fits: truth("fits", &line.fits)?, settled: truth("settled", &line.settled)?, canonical: truth("canonical", &line.canonical)? })
+    Ok(Said::Read {
+        fits: truth("fits", &line.fits)?,
+        settled: truth("settled", &line.settled)?,
+        canonical: truth("canonical", &line.canonical)?,
+    })
 }
 
 const FAULTS: &str = "BufferTooSmall, FrameHeaderShort, FrameTooLong, FrameTooShort, WrongLength, NotUtf8, SelectorShort, XstatsShort, MissingKind or DuplicateKind";
 
 // The fault that a line names, with its numbers.
 fn fault_of(fault: &Fault, name: &str) -> Result<DecodeError, LineError> {
-    let (len, needed, length, left) = (|| count("len", &fault.len), || count("needed", &fault.needed), || count("length", &fault.length), || count("left", &fault.left));
+    let (len, needed, length, left) = (
+        || count("len", &fault.len),
+        || count("needed", &fault.needed),
+        || count("length", &fault.length),
+        || count("left", &fault.left),
+    );
     Ok(match name {
         "BufferTooSmall" => DecodeError::BufferTooSmall { len: len()?, needed: needed()? },
         "FrameHeaderShort" => DecodeError::FrameHeaderShort { left: left()? },
         "FrameTooLong" => DecodeError::FrameTooLong { length: length()?, left: left()? },
         "FrameTooShort" => DecodeError::FrameTooShort { length: length()? },
-        "WrongLength" => DecodeError::WrongLength { expected: count("expected", &fault.expected)?, got: count("got", &fault.got)? },
+        "WrongLength" => {
+            DecodeError::WrongLength { expected: count("expected", &fault.expected)?, got: count("got", &fault.got)? }
+        }
         "NotUtf8" => DecodeError::NotUtf8,
         "SelectorShort" => DecodeError::SelectorShort { len: len()?, needed: needed()? },
         "XstatsShort" => DecodeError::XstatsShort { len: len()? },
@@ -67,10 +78,17 @@ pub(crate) fn agree(said: &Said, verdict: &Verdict) -> Result<(), Disagreement> 
         (Said::Refused(said), Verdict::Refused(error)) if said == error => Ok(()),
         (Said::Refused(_), _) => Err(Disagreement::OtherFault),
         (Said::Read { .. }, Verdict::Refused(_)) => Err(Disagreement::Refused),
-        (Said::Read { fits: None, settled: None, canonical: None }, Verdict::Read { canonical: false, .. }) => Err(Disagreement::NotCanonical),
-        (Said::Read { fits, settled, canonical }, Verdict::Read { fits: does_fit, settled: is_settled, canonical: is_canonical }) => {
-            let all = [("fits", fits, does_fit), ("settled", settled, is_settled), ("canonical", canonical, is_canonical)];
-            let wrong = all.into_iter().find_map(|(name, said, is)| said.filter(|said| said != is).map(|said| (name, said)));
+        (Said::Read { fits: None, settled: None, canonical: None }, Verdict::Read { canonical: false, .. }) => {
+            Err(Disagreement::NotCanonical)
+        }
+        (
+            Said::Read { fits, settled, canonical },
+            Verdict::Read { fits: does_fit, settled: is_settled, canonical: is_canonical },
+        ) => {
+            let all =
+                [("fits", fits, does_fit), ("settled", settled, is_settled), ("canonical", canonical, is_canonical)];
+            let wrong =
+                all.into_iter().find_map(|(name, said, is)| said.filter(|said| said != is).map(|said| (name, said)));
             wrong.map_or(Ok(()), |(name, said)| Err(Disagreement::Member(name, said)))
         }
     }

@@ -1,6 +1,6 @@
 //! The arguments of `tcmake`.
 
-use crate::make::lines::OutputFormat;
+use crate::make::lines::Encoding;
 use crate::make::messages::Making;
 use clap::{ArgGroup, Args, Parser, value_parser};
 
@@ -8,7 +8,7 @@ use clap::{ArgGroup, Args, Parser, value_parser};
 #[derive(Clone, Copy, Debug)]
 pub struct Options {
     /// How messages are written.
-    pub form: OutputFormat,
+    pub form: Encoding,
     /// How a line is made into a message.
     pub making: Making,
     /// True if requests keep the order of the lines.
@@ -132,12 +132,12 @@ impl Arguments {
         self.requests.names.as_deref()
     }
 
-    fn form(&self) -> OutputFormat {
+    fn form(&self) -> Encoding {
         match self.output {
-            Output { no_header: true, .. } => OutputFormat::Bare,
-            Output { pcap: true, .. } => OutputFormat::Capture,
-            Output { stream: true, .. } => OutputFormat::Stream,
-            Output { .. } => OutputFormat::Hex,
+            Output { no_header: true, .. } => Encoding::Bare,
+            Output { pcap: true, .. } => Encoding::Capture,
+            Output { stream: true, .. } => Encoding::Stream,
+            Output { .. } => Encoding::Hex,
         }
     }
 

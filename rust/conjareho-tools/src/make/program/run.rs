@@ -1,9 +1,9 @@
 //! A whole run.
 
-use crate::user::prelude::*;
+use std::io::{BufReader, Read, Write};
 
+use crate::fallible::AllocError;
 use crate::forms_json::Tables;
-use crate::host::io::{BufReader, Read, Write};
 use crate::make::lines::run::run as run_lines;
 use crate::make::lines::{Answer, Maker};
 use crate::make::messages::{BuiltMessage, Forms, Making, MessageMaker, notices_of};
@@ -13,53 +13,36 @@ use crate::make::requests::complaint::Complaint;
 use crate::make::requests::lines::dump_in_line;
 use crate::make::requests::order::MADE_BY_ANOTHER;
 use crate::make::requests::restore::restored;
-use crate::streams::{Ended, Reader, Writer, shown_reason};
+use crate::streams::{Ended, Reader, Writer, shown_reason, write_text};
 
 /// Makes messages of all lines of an input. Complaints, and what was settled, are written to `errors`.
-pub fn run<T: Tables, R: Read, W: crate::host::io::Write, E: Write>(
+pub fn run<T: Tables, R: Read, W: Write>(
     forms: Forms<T>,
     options: &Options,
     requests: &RequestOptions<'_>,
     reader: &mut BufReader<Reader<R>>,
     writer: &mut Writer<W>,
-    errors: &mut E,
+    mut errors: &mut dyn Write,
 ) -> Ended {
-    if !is_restoring(options.making) {
-        let maker = MessageMaker { forms, making: options.making };
-        return run_lines(&maker, options.form, reader, writer, errors);
+    if options.making == Making::Restored && !options.in_order {
+        let mut has_refused = false;
+        let restored = restore_in_order(forms, options, requests, reader, writer, &mut errors, &mut has_refused);
+        let outcome = restored.map_err(|stop| shown_reason(reader.get_ref(), writer, stop));
+        return Ended { outcome, has_refused };
     }
-    if options.in_order {
-        let maker = RequestMaker { forms, index: requests.index, verbose: options.verbose };
-        return run_lines(&maker, options.form, reader, writer, errors);
-    }
-    restore(forms, options, requests, reader, writer, errors)
-}
-
-// True if requests are made.
-fn is_restoring(making: Making) -> bool {
-    matches!(making, Making::Restored)
-}
-
-// Makes requests of all lines, in an order in which each finds what it needs.
-fn restore<T: Tables, R: Read, W: crate::host::io::Write, E: Write>(
-    forms: Forms<T>,
-    options: &Options,
-    requests: &RequestOptions<'_>,
-    reader: &mut BufReader<Reader<R>>,
-    writer: &mut Writer<W>,
-    errors: &mut E,
-) -> Ended {
-    let mut has_refused = false;
-    let restored = restore_in_order(forms, options, requests, reader, writer, errors, &mut has_refused);
-    let outcome = match restored {
-        Ok(()) => Ok(()),
-        Err(stop) => Err(shown_reason(reader.get_ref(), writer, stop)),
+    let mut say = |number: u64, text: &dyn std::fmt::Display| {
+        let _ = write_text(&mut errors, &format!("tcmake: line {number}: {text}\n"));
     };
-    Ended { outcome, has_refused }
+    match options.making {
+        Making::Restored => {
+            let maker = RequestMaker { forms, index: requests.index, verbose: options.verbose };
+            run_lines(&maker, options.form, reader, writer, &mut say)
+        }
+        making => run_lines(&MessageMaker { forms, making }, options.form, reader, writer, &mut say),
+    }
 }
 
 // What makes requests of lines that show dumps.
-#[derive(Clone, Copy)]
 struct RequestMaker<T> {
     forms: Forms<T>,
     index: Option<i32>,
@@ -68,46 +51,23 @@ struct RequestMaker<T> {
 
 impl<T: Tables> Maker for RequestMaker<T> {
     fn make(&self, line: Vec<u8>) -> Result<Answer, AllocError> {
-        match request_in(self.forms, self.index, line) {
+        match self.request_in(line) {
             Ok(Some(BuiltMessage { given, bytes, settled })) => {
                 Ok(Answer::Message { given, bytes, notices: notices_of(&settled)? })
             }
             Ok(None) => Ok(Answer::Nothing { notice: None }),
-            Err(complaint) => self.answer_for(&complaint),
+            Err(complaint) if complaint.is_no_memory() => Err(AllocError),
+            Err(complaint) if complaint.is_made_by_another() => {
+                Ok(Answer::Nothing { notice: self.verbose.then(|| MADE_BY_ANOTHER.to_owned()) })
+            }
+            Err(complaint) => Ok(Answer::Complaint(complaint.to_string())),
         }
     }
 }
 
-impl<T> RequestMaker<T> {
-    // The answer for a line of which no request is made.
-    fn answer_for(&self, complaint: &Complaint) -> Result<Answer, AllocError> {
-        if complaint.is_no_memory() {
-            return Err(AllocError);
-        }
-        if complaint.is_made_by_another() {
-            return Ok(Answer::Nothing { notice: made_by_another(self.verbose)? });
-        }
-        Ok(Answer::Complaint(text_of(complaint)?))
+impl<T: Tables> RequestMaker<T> {
+    // The request that restores what a line shows.
+    fn request_in(&self, line: Vec<u8>) -> Result<Option<BuiltMessage>, Complaint> {
+        dump_in_line(self.forms, self.index, line)?.map(|dump| restored(&[], &dump)).transpose()
     }
-}
-
-// The request that restores what a line shows.
-fn request_in<T: Tables>(
-    forms: Forms<T>,
-    index: Option<i32>,
-    line: Vec<u8>,
-) -> Result<Option<BuiltMessage>, Complaint> {
-    match dump_in_line(forms, index, line)? {
-        Some(dump) => Ok(Some(restored(&[], &dump)?)),
-        None => Ok(None),
-    }
-}
-
-// The notice on a dump that another request makes, if notices are asked for.
-fn made_by_another(verbose: bool) -> Result<Option<String>, AllocError> {
-    if verbose { Ok(Some(fallible::text(MADE_BY_ANOTHER)?)) } else { Ok(None) }
-}
-
-fn text_of(complaint: &Complaint) -> Result<String, AllocError> {
-    crate::user::formatted(format_args!("{complaint}"))
 }

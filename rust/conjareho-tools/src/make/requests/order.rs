@@ -4,8 +4,7 @@ use crate::user::prelude::*;
 
 use crate::forms_json::Tables;
 use crate::host::io::Write;
-use crate::make::lines::run::put_message;
-use crate::make::lines::{NetlinkHeader, Output, OutputFormat, check};
+use crate::make::lines::{Encoding, NetlinkHeader, Output};
 use crate::make::messages::{BuiltMessage, Forms};
 use crate::make::requests::complaint::Complaint;
 use crate::make::requests::lines::{
@@ -36,28 +35,17 @@ pub struct LineRequest {
 }
 
 impl LineRequest {
-    /// The netlink message, with zeros up to a multiple of four. Fails if memory runs out, or with `Stop::Write` if it is too long, or has no
-    /// message type.
+    /// The netlink message, with zeros up to a multiple of four.
     ///
     /// # Errors
     ///
-    /// A [`Stop`].
+    /// [`Stop::Write`] if it is too long, or has no message type.
     pub fn netlink(&self) -> Result<Vec<u8>, Stop> {
-        match check(OutputFormat::Stream, &self.given, &self.bytes) {
-            Ok(()) => Ok(self.streamed()?),
-            Err(_) => Err(Stop::Write),
-        }
-    }
-
-    // The netlink message of a request that has a header. A vector takes all its bytes, unless memory runs out.
-    fn streamed(&self) -> Result<Vec<u8>, AllocError> {
-        let mut output = Output::new(OutputFormat::Stream);
-        output.put(&self.given, &self.bytes)?;
+        let mut output = Output::new(Encoding::Stream);
+        output.put(&self.given, &self.bytes).map_err(|_| Stop::Write)?;
         let mut bytes = Vec::new();
-        match output.write(&mut bytes) {
-            Ok(()) => Ok(bytes),
-            Err(_) => Err(AllocError),
-        }
+        output.write(&mut bytes)?;
+        Ok(bytes)
     }
 }
 
@@ -595,19 +583,20 @@ fn write_remark<E: Write>(remark: &Remark, plans: bool, errors: &mut E) -> Resul
 ///
 /// A [`Stop`].
 pub fn write_requests<W: crate::host::io::Write, E: Write>(
-    form: OutputFormat,
+    form: Encoding,
     requests: &[LineRequest],
     writer: &mut W,
     errors: &mut E,
     has_refused: &mut bool,
 ) -> Result<(), Stop> {
     let mut output = Output::new(form);
-    output.begin()?;
     for request in requests {
-        let is_wrong = put_message(&request.given, &request.bytes, &[], request.number, &mut output, errors)?;
-        *has_refused = either(*has_refused, is_wrong);
+        if let Err(why) = output.put(&request.given, &request.bytes) {
+            let _ = write_text(errors, &format!("tcmake: line {}: {why}\n", request.number));
+            *has_refused = true;
+        }
         output.write(writer)?;
     }
-    output.end()?;
+    output.end();
     output.write(writer)
 }

@@ -15,7 +15,7 @@ use crate::read::select::Filter;
 use crate::show::differences::lines::{DifferenceLines, difference_lines};
 use crate::show::output::Stop;
 use crate::show::program::arguments::Arguments;
-use crate::show::program::names::names_in;
+use crate::read::select::names_in;
 use crate::show::program::options::{TimeZone, options_of};
 use crate::show::program::program::{Differ, put_json};
 use crate::show::program::run::Ended;
@@ -216,7 +216,7 @@ fn fail<T, E: Write>(name: &str, what: &str, stop: Stop, errors: &mut E) -> Resu
 
 // The same of an error of the system.
 fn fail_for<T, E: Write>(name: &str, error: &io::Error, stop: Stop, errors: &mut E) -> Result<T, Stop> {
-    let cause = cause_of(error)?;
+    let cause = cause_of(error);
     fail(name, cause.as_str(), stop, errors)
 }
 

@@ -3,9 +3,9 @@
 use crate::user::prelude::*;
 
 use crate::itoa::Buffer;
+use crate::line::{AnswerLine, Reason};
 use crate::nla_frames::strip_nul;
 use crate::paths::Path;
-use crate::line::{AnswerLine, Reason};
 use crate::show::json::line::{header_of as line_header, json_of, packet_of};
 use crate::show::json::message::{Message, NetlinkHeader, Origin, header_of};
 use crate::show::json::pages::{show_numbers, show_time_of, show_word, text_of};

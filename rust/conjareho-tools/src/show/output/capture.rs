@@ -8,7 +8,7 @@ use crate::show::json::{Message, Notice, Origin, Reply, link_in};
 use crate::show::output::attributes::learn_name;
 use crate::show::output::counts::Packets;
 use crate::show::output::printer::Printer;
-use crate::show::output::stop::Stop;
+use crate::streams::Stop;
 use crate::tc_capture::{Capture, CaptureError, Contents, Messages, NetlinkMessage, Packet, Piece, Res};
 
 /// Prints the messages of a capture, from its next piece to its end.

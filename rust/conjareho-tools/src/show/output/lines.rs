@@ -7,7 +7,7 @@ use crate::read::input::{Dump, Input, LineGap, OnLine, Place, on_line, place_of}
 use crate::show::json::{Message, NO_ORIGIN, Notice};
 use crate::show::output::first_lines::FirstLines;
 use crate::show::output::printer::Printer;
-use crate::show::output::stop::Stop;
+use crate::streams::Stop;
 
 /// True if lines of hex can begin with these bytes: with a digit, a blank, `#` or a line end.
 #[must_use]

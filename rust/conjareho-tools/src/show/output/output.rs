@@ -4,8 +4,7 @@ use crate::user::prelude::*;
 
 use crate::host::io::Write;
 use crate::show::outline::Page;
-use crate::show::output::stop::Stop;
-use crate::streams::write_all;
+use crate::streams::{Stop, write_all};
 
 /// Text that isn't written yet: printable ASCII and line feeds, or JSON.
 pub(crate) struct Output {
@@ -70,9 +69,6 @@ impl Output {
     pub(crate) fn write<W: crate::host::io::Write>(&mut self, writer: &mut W) -> Result<(), Stop> {
         let outcome = write_all(writer, &self.bytes);
         self.bytes.clear();
-        match outcome {
-            Ok(()) => Ok(()),
-            Err(stop) => Err(Stop::from(stop)),
-        }
+        outcome
     }
 }

@@ -11,7 +11,7 @@ use crate::show::output::counts::{Counts, Summary, SummaryLine};
 use crate::show::output::first_lines::FirstLines;
 use crate::show::output::options::{Options, OutputFormat};
 use crate::show::output::output::Output;
-use crate::show::output::stop::Stop;
+use crate::streams::Stop;
 use std::collections::BTreeMap;
 
 // The output is written once it holds this many bytes.

@@ -1,121 +1,134 @@
-//! Complaints of the program, on standard error.
+//! Complaints of the program, on standard error: each begins with its name, and ends with a line feed.
 
-use crate::user::prelude::*;
+use std::fmt;
+use std::io::{self, Write};
 
-use crate::host::io::Write;
-use crate::host::rt::Env;
-use crate::host::{env, io};
 use crate::read::select::LINK_FORMS;
-use crate::show::output::{Packets, Stop};
 use crate::show::program::filter::FilterError;
 use crate::show::program::run::Ended;
-use crate::show::program::zone::ZoneError;
-use crate::streams::{Reader, cause_of, write_all, write_text};
-
-const NO_MEMORY: &str = "tcshow: out of memory\n";
+use crate::streams::{Reader, Stop, Writer, cause_of, write_text};
+use crate::zones::NoZone;
 
 /// Names of the streams in complaints.
 pub(crate) const INPUT: &str = "standard input";
-
 pub(crate) const OUTPUT: &str = "standard output";
 
-pub(crate) fn say_no_memory<E: Write>(errors: &mut E) {
-    let _ = write_all(errors, NO_MEMORY.as_bytes());
+/// Why nothing, or nothing more, is printed.
+pub(crate) enum Failure<'a> {
+    /// An argument is no text.
+    NoText,
+    /// The arguments are wrong, or ask for the help or the version.
+    Arguments(clap::Error),
+    /// `--diff` has another number of files than two.
+    NotTwoFiles,
+    /// A time of day has no day where there are several files.
+    NoDay,
+    Zone(NoZone),
+    File {
+        path: &'a str,
+        error: io::Error,
+    },
+    /// A line in a file of names.
+    Names {
+        path: &'a str,
+        line: u64,
+    },
+    Filter(FilterError<'a>),
+    /// Reading or writing this stream failed, which ends the run so.
+    Stream {
+        name: &'a str,
+        error: Option<String>,
+        stop: Stop,
+    },
+    NoMemory,
 }
 
-pub(crate) fn fail_without_memory<E: Write>(errors: &mut E) -> Ended {
-    say_no_memory(errors);
-    Ended::early(Stop::NoMemory)
+impl fmt::Display for Failure<'_> {
+    fn fmt(&self, f: &mut fmt::Formatter<'_>) -> fmt::Result {
+        match self {
+            Failure::Arguments(error) => return error.fmt(f),
+            Failure::NoText => f.write_str("tcshow: an argument is not valid UTF-8"),
+            Failure::NotTwoFiles => f.write_str("tcshow: --diff compares two files"),
+            Failure::NoDay => {
+                f.write_str("tcshow: with several files, --since and --until take a date: 2026-11-26T20:00:00Z")
+            }
+            Failure::Zone(error) => match std::env::var("TZ") {
+                Ok(zone) => write!(f, "tcshow: TZ={zone}: {error}"),
+                Err(_) => write!(f, "tcshow: /etc/localtime: {error}"),
+            },
+            Failure::File { path, error } => write!(f, "tcshow: {path}: {}", cause_of(error)),
+            Failure::Names { path, line } => write!(f, "tcshow: {path}: line {line}: {LINK_FORMS}"),
+            Failure::Filter(error) => write!(f, "tcshow: {error}"),
+            Failure::Stream { name, error, .. } => {
+                write!(f, "tcshow: {name}: {}", error.as_deref().unwrap_or("failed"))
+            }
+            Failure::NoMemory => f.write_str("tcshow: out of memory"),
+        }?;
+        f.write_str("\n")
+    }
 }
 
-pub(crate) fn complain<E: Write>(errors: &mut E, text: &str, stop: Stop) -> Ended {
-    let _ = write_all(errors, text.as_bytes());
-    Ended::early(stop)
+impl From<crate::fallible::AllocError> for Failure<'_> {
+    fn from(_: crate::fallible::AllocError) -> Self {
+        Failure::NoMemory
+    }
 }
 
-/// Writes a complaint as a terminal gets it, and ends for this reason.
-pub(crate) fn fail<E: Write>(errors: &mut E, text: Result<String, AllocError>, stop: Stop) -> Ended {
-    match text {
-        Ok(text) => {
-            let _ = write_text(errors, text.as_str());
-            Ended::early(stop)
+impl<'a> From<FilterError<'a>> for Failure<'a> {
+    fn from(error: FilterError<'a>) -> Self {
+        Failure::Filter(error)
+    }
+}
+
+impl<'a> Failure<'a> {
+    /// Why the first bytes of an input can't be read.
+    pub(crate) fn of_input<R>(name: &'a str, stop: Stop, reader: &Reader<R>) -> Self {
+        match stop {
+            Stop::Read => Failure::Stream { name, error: reader.failure().map(cause_of), stop },
+            _ => Failure::NoMemory,
         }
-        Err(_) => fail_without_memory(errors),
+    }
+
+    /// Why standard output can't be written to.
+    pub(crate) fn of_output<W>(stop: Stop, writer: &Writer<W>) -> Self {
+        Failure::Stream { name: OUTPUT, error: writer.failure().map(cause_of), stop }
+    }
+
+    /// Says it, and ends for it.
+    pub(crate) fn say(&self, errors: &mut dyn Write) -> Ended {
+        say(errors, self);
+        Ended::early(match self {
+            Failure::NoMemory => Stop::NoMemory,
+            Failure::Stream { stop, .. } => *stop,
+            _ => Stop::Usage,
+        })
     }
 }
 
-/// Writes what is wrong with a stream.
-pub(crate) fn say_of<E: Write>(errors: &mut E, name: &str, what: &str) {
-    match crate::user::formatted(format_args!("tcshow: {name}: {what}\n")) {
-        Ok(text) => {
-            let _ = write_text(errors, text.as_str());
+/// Writes a text as a terminal gets it, if it can.
+pub(crate) fn say(mut errors: &mut dyn Write, text: impl fmt::Display) {
+    let _ = write_text(&mut errors, &text.to_string());
+}
+
+/// Writes what is to be said of an input.
+pub(crate) fn say_of(errors: &mut dyn Write, name: &str, what: impl fmt::Display) {
+    say(errors, format_args!("tcshow: {name}: {what}\n"));
+}
+
+/// Writes why a run over an input of this name ended early.
+pub(crate) fn say_end<R, W>(errors: &mut dyn Write, name: &str, ended: &Ended, reader: &Reader<R>, writer: &Writer<W>) {
+    match ended.outcome {
+        Ok(()) | Err(Stop::Usage | Stop::Closed) => {}
+        Err(Stop::NoCapture) => {
+            say_of(
+                errors,
+                name,
+                "not a capture, and its first lines are not hex; lines of JSON have to be the only FILE",
+            );
         }
-        Err(_) => say_no_memory(errors),
+        Err(Stop::NoRoute) => say_of(errors, name, ended.packets),
+        Err(stop @ Stop::Read) => say(errors, Failure::of_input(name, stop, reader)),
+        Err(stop @ Stop::Write) => say(errors, Failure::of_output(stop, writer)),
+        Err(Stop::NoMemory) => say(errors, Failure::NoMemory),
     }
-}
-
-/// Writes why a stream failed, if it is known.
-pub(crate) fn say_failure<E: Write>(errors: &mut E, name: &str, failure: Option<io::Error>) {
-    match failure {
-        Some(error) => say_cause(errors, name, &error),
-        None => say_of(errors, name, "failed"),
-    }
-}
-
-fn say_cause<E: Write>(errors: &mut E, name: &str, error: &io::Error) {
-    match cause_of(error) {
-        Ok(cause) => say_of(errors, name, cause.as_str()),
-        Err(_) => say_no_memory(errors),
-    }
-}
-
-/// Writes what a capture without route netlink holds.
-pub(crate) fn say_no_route<E: Write>(errors: &mut E, name: &str, packets: &Packets) {
-    match crate::user::formatted(format_args!("{packets}")) {
-        Ok(text) => say_of(errors, name, text.as_str()),
-        Err(_) => say_no_memory(errors),
-    }
-}
-
-/// Complains about a file that can't be read.
-pub(crate) fn complain_of_file<E: Write>(path: &str, error: &io::Error, errors: &mut E) -> Ended {
-    say_cause(errors, path, error);
-    Ended::early(Stop::Usage)
-}
-
-/// Complains about the time zone of the system, by where it is named.
-pub(crate) fn complain_of_zone<R: Env, E: Write>(rt: &R, error: ZoneError, errors: &mut E) -> Ended {
-    if error == ZoneError::OutOfMemory {
-        return fail_without_memory(errors);
-    }
-    let text = match env::var(rt, "TZ") {
-        Ok(zone) => crate::user::formatted(format_args!("tcshow: TZ={zone}: {error}\n")),
-        Err(_) => crate::user::formatted(format_args!("tcshow: /etc/localtime: {error}\n")),
-    };
-    fail(errors, text, Stop::Usage)
-}
-
-/// Complains about a line in a file of names.
-pub(crate) fn complain_of_names<E: Write>(path: &str, line: u64, errors: &mut E) -> Ended {
-    let text = crate::user::formatted(format_args!("tcshow: {path}: line {line}: {LINK_FORMS}\n"));
-    fail(errors, text, Stop::Usage)
-}
-
-/// Complains about a value of a filter.
-pub(crate) fn complain_of_filter<E: Write>(none: FilterError<'_>, errors: &mut E) -> Ended {
-    fail(errors, none.text(), Stop::Usage)
-}
-
-/// Complains about an input whose first bytes can't be read.
-pub(crate) fn fail_to_read<I, E: Write>(
-    stop: crate::streams::Stop,
-    name: &str,
-    reader: &Reader<I>,
-    errors: &mut E,
-) -> Ended {
-    if stop != crate::streams::Stop::Read {
-        return fail_without_memory(errors);
-    }
-    say_failure(errors, name, reader.failure());
-    Ended::early(Stop::Read)
 }

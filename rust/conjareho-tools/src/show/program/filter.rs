@@ -1,13 +1,12 @@
 //! Values of the options that filter messages.
 
-use crate::user::prelude::*;
+use std::fmt;
 
 use crate::read::select::{
     Filter, HANDLE_FORMS, TIME_FORMS, TYPE_FORMS, Types, on_day, parse_clock, parse_handle, parse_time, parse_types,
 };
 use crate::show::program::arguments::Filters;
 use crate::show::program::kinds::is_known;
-use crate::show::program::names::interface_of;
 use crate::show::program::nearest::nearest_kinds;
 use crate::tc_capture::Time;
 
@@ -33,82 +32,57 @@ enum Moment {
 }
 
 /// Why the values of a filter are refused.
-#[derive(Clone, Copy)]
+#[derive(Clone, Copy, Debug)]
 pub enum FilterError<'a> {
     /// An unknown kind.
     Kind(&'a str),
     /// Another word that can't be parsed: what is expected, the word, and the forms it can have.
     Word(&'static str, &'a str, &'static str),
-    /// Memory ran out.
-    NoMemory,
 }
 
-impl<'a> From<AllocError> for FilterError<'a> {
-    fn from(_e: AllocError) -> FilterError<'a> {
-        FilterError::NoMemory
-    }
-}
-
-impl<'a> FilterError<'a> {
-    /// The complaint: the word, and the words or forms that it may have been.
-    ///
-    /// # Errors
-    ///
-    /// A [`AllocError`].
-    pub fn text(&self) -> Result<String, AllocError> {
+impl fmt::Display for FilterError<'_> {
+    fn fmt(&self, f: &mut fmt::Formatter<'_>) -> fmt::Result {
         match *self {
             FilterError::Kind(kind) => {
                 let [first, second, third] = nearest_kinds(kind);
-                crate::user::formatted(format_args!(
-                    "tcshow: unknown kind '{kind}'; near it are {first}, {second} and {third} (tcshow --explain lists all)\n"
-                ))
+                write!(
+                    f,
+                    "unknown kind '{kind}'; near it are {first}, {second} and {third} (tcshow --explain lists all)"
+                )
             }
-            FilterError::Word(what, word, forms) => {
-                crate::user::formatted(format_args!("tcshow: unknown {what} '{word}': {forms}\n"))
-            }
-            FilterError::NoMemory => Err(AllocError),
+            FilterError::Word(what, word, forms) => write!(f, "unknown {what} '{word}': {forms}"),
         }
     }
 }
+
+impl std::error::Error for FilterError<'_> {}
 
 impl<'a> FilterValues<'a> {
     /// Parses the values in arguments. Interfaces have these names.
     ///
     /// # Errors
     ///
-    /// A [`FilterError<'a>`].
+    /// The first word that isn't what it has to be.
     pub fn of_arguments(arguments: &'a Filters, names: &[(u32, &str)]) -> Result<FilterValues<'a>, FilterError<'a>> {
-        check_kinds(arguments.kinds.as_slice())?;
-        let mut values = FilterValues {
+        let kinds =
+            each(&arguments.kinds, |kind| if is_known(kind) { Ok(kind) } else { Err(FilterError::Kind(kind)) })?;
+        let types =
+            each(&arguments.types, |word| parse_types(word).ok_or(FilterError::Word("type", word, TYPE_FORMS)))?;
+        let interfaces = arguments.interfaces.iter();
+        let mut handles = handles_in(&arguments.handles)?;
+        handles.extend(arguments.handles.iter().filter_map(|word| u32_handle_of(word)));
+        Ok(FilterValues {
             arguments,
-            kinds: arguments.kinds.iter().map(String::as_str).collect(),
-            types: Vec::new(),
-            interfaces: Vec::new(),
-            names: Vec::new(),
-            handles: Vec::new(),
-            parents: Vec::new(),
-            since: None,
-            until: None,
-        };
-        values.put_words(names)?;
-        Ok(values)
-    }
-
-    fn put_words(&mut self, names: &[(u32, &str)]) -> Result<(), FilterError<'a>> {
-        let arguments = self.arguments;
-        put_types(arguments.types.as_slice(), &mut self.types)?;
-        put_interfaces(names, arguments.interfaces.as_slice(), &mut self.interfaces)?;
-        put_names(arguments.interfaces.as_slice(), &mut self.names)?;
-        put_handles(arguments.handles.as_slice(), &mut self.handles)?;
-        put_u32_handles(arguments.handles.as_slice(), &mut self.handles)?;
-        put_handles(arguments.parents.as_slice(), &mut self.parents)?;
-        self.put_times()
-    }
-
-    fn put_times(&mut self) -> Result<(), FilterError<'a>> {
-        self.since = time_in(self.arguments.since.as_deref())?;
-        self.until = time_in(self.arguments.until.as_deref())?;
-        Ok(())
+            kinds,
+            types,
+            interfaces: interfaces.clone().filter_map(|word| interface_of(names, word)).collect(),
+            // The input may name the interfaces that aren't numbers.
+            names: interfaces.map(String::as_str).filter(|word| word.parse::<u32>().is_err()).collect(),
+            handles,
+            parents: handles_in(&arguments.parents)?,
+            since: time_in(arguments.since.as_deref())?,
+            until: time_in(arguments.until.as_deref())?,
+        })
     }
 
     /// True if a value is a time of day.
@@ -142,51 +116,19 @@ impl<'a> FilterValues<'a> {
     }
 }
 
-fn check_kinds(words: &[String]) -> Result<(), FilterError<'_>> {
-    for word in words {
-        if !is_known(word) {
-            return Err(FilterError::Kind(word));
-        }
-    }
-    Ok(())
+// What each word stands for.
+fn each<'a, T>(
+    words: &'a [String],
+    parse: impl Fn(&'a str) -> Result<T, FilterError<'a>>,
+) -> Result<Vec<T>, FilterError<'a>> {
+    words.iter().map(|word| parse(word)).collect()
 }
 
-fn put<T>(value: T, all: &mut Vec<T>) -> Result<(), AllocError> {
-    all.try_push(value)?;
-    Ok(())
+fn handles_in(words: &[String]) -> Result<Vec<u32>, FilterError<'_>> {
+    each(words, |word| parse_handle(word).ok_or(FilterError::Word("handle", word, HANDLE_FORMS)))
 }
 
-fn put_types<'a>(words: &'a [String], all: &mut Vec<Types>) -> Result<(), FilterError<'a>> {
-    for word in words {
-        match parse_types(word) {
-            Some(types) => put(types, all)?,
-            None => return Err(FilterError::Word("type", word, TYPE_FORMS)),
-        }
-    }
-    Ok(())
-}
-
-fn put_handles<'a>(words: &'a [String], all: &mut Vec<u32>) -> Result<(), FilterError<'a>> {
-    for word in words {
-        match parse_handle(word) {
-            Some(handle) => put(handle, all)?,
-            None => return Err(FilterError::Word("handle", word, HANDLE_FORMS)),
-        }
-    }
-    Ok(())
-}
-
-// Adds the u32 handle that a word names too: outlines write a table as `800:`, and a bucket as `800:1`.
-fn put_u32_handles<'a>(words: &'a [String], all: &mut Vec<u32>) -> Result<(), AllocError> {
-    for word in words {
-        if let Some(handle) = u32_handle_of(word) {
-            put(handle, all)?;
-        }
-    }
-    Ok(())
-}
-
-// The handle of a u32 table, or of a bucket in it.
+// The u32 handle that a word names besides: outlines write a table as `800:`, and a bucket as `800:1`.
 fn u32_handle_of(word: &str) -> Option<u32> {
     let (table, bucket) = word.split_once(':')?;
     if table.is_empty() || bucket.contains(':') {
@@ -200,24 +142,9 @@ fn u32_handle_of(word: &str) -> Option<u32> {
     Some(table * 0x10_0000 + bucket * 0x1000)
 }
 
-// Adds the numbers among the words, and those of the names that are known.
-fn put_interfaces(names: &[(u32, &str)], words: &[String], all: &mut Vec<u32>) -> Result<(), AllocError> {
-    for word in words {
-        if let Some(number) = interface_of(names, word) {
-            put(number, all)?;
-        }
-    }
-    Ok(())
-}
-
-// Adds the words that aren't numbers: the input may name these interfaces.
-fn put_names<'a>(words: &'a [String], all: &mut Vec<&'a str>) -> Result<(), AllocError> {
-    for word in words {
-        if word.parse::<u32>().is_err() {
-            put(word.as_str(), all)?;
-        }
-    }
-    Ok(())
+// The number of an interface, from its number or its name.
+fn interface_of(names: &[(u32, &str)], word: &str) -> Option<u32> {
+    names.iter().find(|(_, name)| *name == word).map(|(number, _)| *number).or_else(|| word.parse().ok())
 }
 
 fn time_in(word: Option<&str>) -> Result<Option<Moment>, FilterError<'_>> {

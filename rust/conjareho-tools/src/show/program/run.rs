@@ -1,11 +1,10 @@
-//! A run over an input, and its exit status.
+//! A run over an input.
 
-use crate::user::prelude::*;
+use std::io::{Read, Write};
 
-use crate::host::io::{Read, Write};
 use crate::read::input::Input;
-use crate::show::output::{Options, Packets, Printer, Stop, is_hex_text, show_capture, show_lines};
-use crate::streams::{Reader, Writer};
+use crate::show::output::{Options, Packets, Printer, is_hex_text, show_capture, show_lines};
+use crate::streams::{Ended as End, Reader, Stop, Writer, shown_reason};
 use crate::tc_capture::Capture;
 
 /// How a run ended.
@@ -23,7 +22,7 @@ impl Ended {
     /// An end before anything was read.
     #[must_use]
     pub fn early(stop: Stop) -> Ended {
-        Ended { outcome: Err(stop), has_refused: false, packets: Packets::new() }
+        Ended { outcome: Err(stop), ..Ended::well() }
     }
 
     /// The end of a run that has nothing to read.
@@ -41,127 +40,57 @@ impl Ended {
     /// The exit status.
     #[must_use]
     pub fn status(&self) -> u8 {
-        status_of(self.outcome, self.has_refused)
+        End { outcome: self.outcome, has_refused: self.has_refused }.status()
+    }
+
+    /// The end of two runs: the one with the larger status, the first if it is the same.
+    #[must_use]
+    pub fn or_worse(self, other: Ended) -> Ended {
+        if other.status() > self.status() { other } else { self }
     }
 }
 
-// The exit status: 3 if a stream failed or memory ran out, 2 for wrong arguments or if the input is neither a capture nor
-// hex or has no route netlink, 1 if something was refused, broken or cut, else 0. A closed output isn't a failure.
-fn status_of(outcome: Result<(), Stop>, has_refused: bool) -> u8 {
-    match outcome {
-        Err(Stop::Read | Stop::Write | Stop::NoMemory) => 3,
-        Err(Stop::Usage | Stop::NoCapture | Stop::NoRoute) => 2,
-        Ok(()) | Err(Stop::Closed) => refused_status(has_refused),
-    }
-}
-
-fn refused_status(has_refused: bool) -> u8 {
-    if has_refused { 1 } else { 0 }
-}
-
-/// Prints the messages of an input. Text is written before each read, and at the end.
-pub fn run<R: Read, W: crate::host::io::Write>(
-    options: &Options<'_>,
-    reader: &mut Reader<R>,
-    writer: &mut Writer<W>,
-) -> Ended {
+/// Prints the messages of an input, and the summary. Text is written before each read, and at the end.
+pub fn run<R: Read, W: Write>(options: &Options<'_>, reader: &mut Reader<R>, writer: &mut Writer<W>) -> Ended {
     let mut printer = Printer::new(options);
     let mut packets = Packets::new();
-    let outcome = show_to_end(&mut printer, &mut packets, reader, writer);
+    let shown = show(&mut printer, &mut packets, reader, writer).and_then(|()| {
+        printer.put_summary()?;
+        if packets.are_foreign() { Err(Stop::NoRoute) } else { Ok(()) }
+    });
+    let outcome = match shown {
+        Ok(()) => printer.write(writer),
+        // Nothing is written of an input that is no capture and no hex.
+        Err(Stop::NoCapture) => Err(Stop::NoCapture),
+        Err(stop) => {
+            let _ = printer.write(writer);
+            Err(stop)
+        }
+    };
+    let outcome = outcome.map_err(|stop| shown_reason(reader, writer, stop));
     Ended { outcome, has_refused: printer.counts.has_refused(), packets }
 }
 
-// Prints all messages. If that ends early, the streams show why.
-fn show_to_end<R: Read, W: crate::host::io::Write>(
-    printer: &mut Printer<'_>,
-    packets: &mut Packets,
-    reader: &mut Reader<R>,
-    writer: &mut Writer<W>,
-) -> Result<(), Stop> {
-    match show_and_write(printer, packets, reader, writer) {
-        Ok(()) => Ok(()),
-        Err(stop) => Err(shown_end(reader, writer, stop)),
-    }
+/// Prints the messages of the next of several inputs, and no summary.
+pub fn run_next<R: Read, W: Write>(printer: &mut Printer<'_>, reader: &mut Reader<R>, writer: &mut Writer<W>) -> Ended {
+    let mut packets = Packets::new();
+    let shown = show(printer, &mut packets, reader, writer).and_then(|()| printer.write(writer));
+    let outcome = shown.and_then(|()| if packets.are_foreign() { Err(Stop::NoRoute) } else { Ok(()) });
+    let outcome = outcome.map_err(|stop| shown_reason(reader, writer, stop));
+    Ended { outcome, has_refused: printer.counts.has_refused(), packets }
 }
 
-// The reason for an early end, if the input or the streams show it; otherwise memory ran out.
-pub(crate) fn shown_end<R, W>(reader: &Reader<R>, writer: &Writer<W>, stop: Stop) -> Stop {
-    match stop {
-        Stop::NoCapture => Stop::NoCapture,
-        Stop::NoRoute => Stop::NoRoute,
-        Stop::Read if reader.failure().is_some() => Stop::Read,
-        Stop::Write if writer.has_failed_for(crate::streams::Stop::Write) => Stop::Write,
-        Stop::Closed if writer.has_failed_for(crate::streams::Stop::Closed) => Stop::Closed,
-        _ => Stop::NoMemory,
-    }
-}
-
-// Prints all messages, and writes the rest of the text, however the run ends.
-fn show_and_write<R: Read, W: crate::host::io::Write>(
-    printer: &mut Printer<'_>,
-    packets: &mut Packets,
-    reader: &mut R,
-    writer: &mut W,
-) -> Result<(), Stop> {
-    match show(printer, packets, reader, writer) {
-        Ok(()) => printer.write(writer),
-        Err(stop) => {
-            write_rest(printer, writer, stop);
-            Err(stop)
-        }
-    }
-}
-
-// Writes the rest of the text of a run that ended early; of an input that is no capture and no hex nothing.
-fn write_rest<W: crate::host::io::Write>(printer: &mut Printer<'_>, writer: &mut W, stop: Stop) {
-    if stop == Stop::NoCapture {
-        return;
-    }
-    let _ = printer.write(writer);
-}
-
-// Prints all messages and the summary.
-fn show<R: Read, W: crate::host::io::Write>(
+// Prints the messages of a capture, or of lines of hex.
+fn show<R: Read, W: Write>(
     printer: &mut Printer<'_>,
     packets: &mut Packets,
     reader: &mut R,
     writer: &mut W,
 ) -> Result<(), Stop> {
     let mut input = Input::begin(reader)?;
-    show_all(printer, packets, &mut input, reader, writer)
-}
-
-// Prints the messages of an input whose first bytes were read, and the summary.
-fn show_all<R: Read, W: crate::host::io::Write>(
-    printer: &mut Printer<'_>,
-    packets: &mut Packets,
-    input: &mut Input,
-    reader: &mut R,
-    writer: &mut W,
-) -> Result<(), Stop> {
-    show_input(printer, packets, input, reader, writer)?;
-    printer.put_summary()?;
-    if packets.are_foreign() {
-        return Err(Stop::NoRoute);
-    }
-    Ok(())
-}
-
-// Prints the messages of a capture, or of lines of hex.
-pub(crate) fn show_input<R: Read, W: crate::host::io::Write>(
-    printer: &mut Printer<'_>,
-    packets: &mut Packets,
-    input: &mut Input,
-    reader: &mut R,
-    writer: &mut W,
-) -> Result<(), Stop> {
     match Capture::of_first(input.first()) {
-        Some(capture) => show_capture(printer, packets, input, capture, reader, writer),
-        None => {
-            if !is_hex_text(input.first()) {
-                return Err(Stop::NoCapture);
-            }
-            show_lines(printer, input, reader, writer)
-        }
+        Some(capture) => show_capture(printer, packets, &mut input, capture, reader, writer),
+        None if is_hex_text(input.first()) => show_lines(printer, &mut input, reader, writer),
+        None => Err(Stop::NoCapture),
     }
 }

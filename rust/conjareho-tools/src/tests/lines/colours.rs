@@ -15,7 +15,7 @@ static COLOURS: &str = "\x1b[1mRTM_NEWQDISC seq 5\x1b[0m\n\x1b[36mkind\x1b[0m\x1
 #[test]
 fn lines_in_colours() -> core::result::Result<(), Fail> {
     let mut out = Vec::new();
-    assert!(paint(&mut out, true, PLAIN.as_bytes())? == false);
+    assert!(!paint(&mut out, true, PLAIN.as_bytes()));
     assert!(out.as_slice() == COLOURS.as_bytes());
     Ok(())
 }

@@ -4,7 +4,7 @@
 
 use crate::user::prelude::*;
 
-use crate::host::io::BufReader;
+use std::io::BufReader;
 use crate::make::lines::{NetlinkHeader, packet_at};
 use crate::make::program::arguments::{Arguments, Options};
 use crate::make::program::order::RequestOptions;
@@ -89,7 +89,7 @@ fn planned(now: &str, want: &str) -> Result<Outcome, Fail> {
         replaces_actions: false,
         names: None,
     };
-    let mut reader = BufReader::new(Reader::new(want.as_bytes()))?;
+    let mut reader = BufReader::new(Reader::new(want.as_bytes()));
     let mut writer = Writer::new(Vec::new());
     let mut errors = Vec::new();
     let ended = serve_with(FORMS, &options, &requests, &mut reader, &mut writer, &mut errors);

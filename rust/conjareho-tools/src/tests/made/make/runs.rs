@@ -3,8 +3,8 @@
 use crate::user::prelude::*;
 
 use crate::forms_kinds::{ACTION_MESSAGE, TC_MESSAGE, TcTables};
-use crate::host::io::BufReader;
-use crate::make::lines::OutputFormat;
+use std::io::BufReader;
+use crate::make::lines::Encoding;
 use crate::make::messages::{Forms, Making};
 use crate::make::program::arguments::Options;
 use crate::make::program::program::serve;
@@ -15,19 +15,19 @@ pub(crate) const FORMS: Forms<TcTables> = Forms { table: TcTables, tc: TC_MESSAG
 
 /// The options without arguments.
 pub(crate) const HEX: Options =
-    Options { form: OutputFormat::Hex, making: Making::Checked, in_order: false, index: None, verbose: false };
+    Options { form: Encoding::Hex, making: Making::Checked, in_order: false, index: None, verbose: false };
 
 /// A capture instead of lines of hex.
 pub(crate) const PCAP: Options =
-    Options { form: OutputFormat::Capture, making: Making::Checked, in_order: false, index: None, verbose: false };
+    Options { form: Encoding::Capture, making: Making::Checked, in_order: false, index: None, verbose: false };
 
 /// Messages one after the other instead of lines of hex.
 pub(crate) const STREAM: Options =
-    Options { form: OutputFormat::Stream, making: Making::AsGiven, in_order: false, index: None, verbose: false };
+    Options { form: Encoding::Stream, making: Making::AsGiven, in_order: false, index: None, verbose: false };
 
 /// Messages without a netlink header, made so.
 pub(crate) fn bare(making: Making) -> Options {
-    Options { form: OutputFormat::Bare, making, in_order: false, index: None, verbose: false }
+    Options { form: Encoding::Bare, making, in_order: false, index: None, verbose: false }
 }
 
 /// The output of a run, and its status.
@@ -41,10 +41,8 @@ pub(crate) struct Outcome {
 pub(crate) fn made(options: &Options, lines: &[u8]) -> Outcome {
     let mut writer = Writer::new(Vec::new());
     let mut errors = Vec::new();
-    let status = match BufReader::new(Reader::new(lines)) {
-        Ok(mut reader) => serve(FORMS, options, &mut reader, &mut writer, &mut errors).status(),
-        Err(_) => 3,
-    };
+    let mut reader = BufReader::new(Reader::new(lines));
+    let status = serve(FORMS, options, &mut reader, &mut writer, &mut errors).status();
     Outcome { status, written: writer.into_inner(), errors }
 }
 

@@ -2,8 +2,8 @@
 
 use crate::user::prelude::*;
 
-use crate::host::io::BufReader;
-use crate::make::lines::OutputFormat;
+use std::io::BufReader;
+use crate::make::lines::Encoding;
 use crate::make::messages::Making;
 use crate::make::program::arguments::{Arguments, Options};
 use crate::make::program::order::RequestOptions;
@@ -84,10 +84,10 @@ const MAKES: &str = "4c000000300005061d00000000000000";
 const CHANGES: &str = "4c000000300005051d00000000000000";
 
 const BARE: Options =
-    Options { form: OutputFormat::Bare, making: Making::Restored, in_order: false, index: None, verbose: false };
+    Options { form: Encoding::Bare, making: Making::Restored, in_order: false, index: None, verbose: false };
 
 const HEX: Options =
-    Options { form: OutputFormat::Hex, making: Making::Restored, in_order: false, index: None, verbose: true };
+    Options { form: Encoding::Hex, making: Making::Restored, in_order: false, index: None, verbose: true };
 
 const ALONE: RequestOptions<'static> =
     RequestOptions { index: None, now: None, plans: false, replaces_actions: false, names: None };
@@ -113,9 +113,7 @@ fn makes(
 ) -> bool {
     match (joined(input), joined(written)) {
         (Some(lines), Some(wanted)) => {
-            let Ok(mut reader) = BufReader::new(Reader::new(lines.as_bytes())) else {
-                return false;
-            };
+            let mut reader = BufReader::new(Reader::new(lines.as_bytes()));
             let mut output = Writer::new(Vec::new());
             let mut errors = Vec::new();
             let ended = serve_with(FORMS, options, requests, &mut reader, &mut output, &mut errors);

@@ -2,7 +2,7 @@
 
 use crate::user::prelude::*;
 
-use crate::host::io::{BufReader, ErrorKind, Result};
+use std::io::{BufReader, ErrorKind, Result};
 use crate::make::program::arguments::Options;
 use crate::make::program::program::serve;
 use crate::streams::{Reader, Writer};

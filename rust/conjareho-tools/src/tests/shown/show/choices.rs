@@ -6,7 +6,7 @@ use crate::read::select::Filter;
 use crate::show::program::arguments::Arguments;
 use crate::show::program::filter::{FilterError, FilterValues};
 use crate::show::program::kinds::explain;
-use crate::show::program::names::names_in;
+use crate::read::select::names_in;
 use crate::show::program::options::{OutputFormat, TimeZone, options_of};
 use crate::tests::shown::show::runs::{Written, all_in, gives, gives_of_hex, is_written};
 use clap::Parser as _;
@@ -125,7 +125,7 @@ static UNKNOWN: [(&str, &str, &str); 8] = [
     (
         "--kind",
         "fq_code",
-        "unknown kind 'fq_code'; near it are fq_codel, fq_pie and codel (tcshow --explain lists all)\n",
+        "unknown kind 'fq_code'; near it are fq_codel, fq_pie and codel (tcshow --explain lists all)",
     ),
     ("--kind", "Htb", "near it are htb, "),
     ("--kind", "gac", "near it are gact, "),
@@ -138,10 +138,7 @@ static UNKNOWN: [(&str, &str, &str); 8] = [
 
 // True if a complaint has this part.
 fn has_part(complaint: FilterError<'_>, part: &str) -> bool {
-    match complaint.text() {
-        Ok(text) => text.contains(part),
-        Err(_) => false,
-    }
+    complaint.to_string().contains(part)
 }
 
 // True if the values of the filter are refused, and the complaint has this part.

@@ -2,9 +2,9 @@
 
 use crate::user::prelude::*;
 
-use crate::show::program::inputs::{Printer, run_next, worse};
+use crate::show::output::Printer;
 use crate::show::program::options::{Options, OutputFormat};
-use crate::show::program::run::Ended;
+use crate::show::program::run::{Ended, run_next};
 use crate::streams::{Reader, Writer};
 use crate::tests::data::Format;
 use crate::tests::shown::show::runs::{all_in, counted_in, file_of_first, shown};
@@ -19,7 +19,7 @@ fn shown_each(options: &Options<'_>, inputs: &[(&str, &[u8])]) -> Result<(Vec<u8
     for (name, input) in inputs {
         printer.restart();
         printer.put_name(*name)?;
-        worst = worse(worst, run_next(&mut printer, &mut Reader::new(*input), &mut writer));
+        worst = worst.or_worse(run_next(&mut printer, &mut Reader::new(*input), &mut writer));
     }
     printer.restart();
     printer.put_summary()?;

@@ -2,8 +2,8 @@
 
 use crate::user::prelude::*;
 
-use crate::make::lines::OutputFormat as MadeFormat;
-use crate::show::program::json::{form_by, made_of};
+use crate::make::lines::Encoding;
+use crate::show::program::json::{encoding_by, made_of};
 use crate::show::program::kinds::{explain, write_all_kinds};
 use crate::show::program::options::OutputFormat;
 use crate::tests::shown::show::runs::{all_in, shown};
@@ -23,7 +23,7 @@ static MISSPELT: &str = r#"{"type":"RTM_NEWQDISC","flags":2,"seq":5,"message":{"
 
 // True if lines of JSON are shown so, and a complaint about them begins so.
 fn are_shown(json: &str, lines: &str, complaint: &str) -> bool {
-    let Some(form) = form_by(json.as_bytes()) else {
+    let Some(form) = encoding_by(json.as_bytes()) else {
         return false;
     };
     let mut errors = Vec::new();
@@ -42,9 +42,9 @@ fn are_shown(json: &str, lines: &str, complaint: &str) -> bool {
 
 #[test]
 fn lines_of_json() {
-    assert!(form_by(b"{\"ti") == Some(MadeFormat::Capture));
-    assert!(form_by(b"{\"sa") == Some(MadeFormat::Stream));
-    assert!(form_by(b"3800").is_none() && form_by(b"").is_none());
+    assert!(encoding_by(b"{\"ti") == Some(Encoding::Capture));
+    assert!(encoding_by(b"{\"sa") == Some(Encoding::Stream));
+    assert!(encoding_by(b"3800").is_none() && encoding_by(b"").is_none());
     let line = "is qdisc fq_codel 1: dev 2 root limit 10240p\n";
     assert!(are_shown(SAVE, line, ""));
     let line = "22:13:20.123456 new qdisc fq_codel 1: dev 2 root limit 10240p\n";
@@ -67,7 +67,7 @@ static AROUND: [(&str, &str); 2] = [
 // True if messages are made of lines, and there is no complaint.
 fn are_made(lines: &str) -> bool {
     let mut errors = Vec::new();
-    match made_of("input", MadeFormat::Stream, lines.as_bytes(), &mut errors) {
+    match made_of("input", Encoding::Stream, lines.as_bytes(), &mut errors) {
         Ok(made) => !made.has_wrong && errors.is_empty() && !made.bytes.is_empty(),
         Err(_) => false,
     }

@@ -1,3 +1,0 @@
-pub(crate) use crate::host::copied;
-pub(crate) use crate::host::copied_if_any;
-use crate::user::prelude::*;
