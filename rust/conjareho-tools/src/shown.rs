@@ -81,8 +81,7 @@ mod tests {
     #[test]
     fn what_the_codec_refuses_is_a_line_too() {
         // An attribute of 12 bytes, of which 8 are there.
-        let mut cut = [&QDISC[..], &[12, 0, 1, 0, 0, 0, 0, 0]].concat();
-        cut[0] = 44;
+        let cut = [&[44], &QDISC[1..], &[12, 0, 1, 0, 0, 0, 0, 0]].concat();
         let shown = lines_of(&[cut]).expect("it is shown");
         assert!(
             shown.has_refused && shown.text.contains(r#""refused":"FrameTooLong","length":12,"left":8,"#),

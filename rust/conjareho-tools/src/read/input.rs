@@ -1,9 +1,7 @@
-//! Reads an input in parts: the pieces of a capture, or lines of hex, several of which can form a dump.
-//!
-//! Contracts are about all bytes of the input, if the reader's are known: the result doesn't depend on the parts.
-//! Calls that take an allocator fail with `AllocError` or `Stop::Memory` if it fails.
+//! Reads an input in parts: the pieces of a capture, or lines of hex, several of which can form a dump. What is found doesn't depend on the
+//! parts.
+#![deny(clippy::unwrap_used, clippy::indexing_slicing, clippy::panic, clippy::arithmetic_side_effects)]
 
-use crate::user::prelude::*;
 mod dumps;
 mod input;
 mod lines;

@@ -1,19 +1,19 @@
-//! The selection of messages (a filter by kind, type, interface, handle, parent, chain, priority, time and verdict), and
-//! the values of a command line: times, handles, message types, names of interfaces, and pasted hex.
+//! The selection of messages (a filter by kind, type, interface, handle, parent, chain, priority, time and verdict), and the words of a
+//! command line that say what is selected: times, handles, message types, names of interfaces. And hex, as it is pasted and dumped.
+#![deny(clippy::unwrap_used, clippy::indexing_slicing, clippy::panic, clippy::arithmetic_side_effects)]
 
-use crate::user::prelude::*;
-pub mod calendar;
-pub mod digits;
-pub mod dump;
-pub mod filter;
-pub mod handles;
+mod calendar;
+mod digits;
+mod dump;
+mod filter;
+mod handles;
 pub mod header;
-pub mod kinds;
-pub mod links;
-pub mod names;
-pub mod pasted;
-pub mod times;
-pub mod types;
+mod kinds;
+mod links;
+mod names;
+mod pasted;
+mod times;
+mod types;
 
 pub use dump::{DumpLine, digits_of_line, dump_line, end_of_dump, is_asterisk};
 pub use filter::{Filter, Message};

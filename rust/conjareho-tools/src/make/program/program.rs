@@ -21,7 +21,6 @@ enum Failure {
     Arguments(clap::Error),
     File { path: String, error: io::Error },
     Names { path: String, line: u64 },
-    NoMemory,
 }
 
 impl fmt::Display for Failure {
@@ -36,7 +35,6 @@ impl fmt::Display for Failure {
                     "tcmake: {path}: line {line}: found no index and name, wanted lines as ip -o link writes them"
                 )
             }
-            Failure::NoMemory => f.write_str(NO_MEMORY),
         }
     }
 }
@@ -53,7 +51,7 @@ pub fn tcmake<T: Tables>(forms: Forms<T>, mut errors: &mut dyn Write) -> Ended {
         }
         Err(failure) => {
             let _ = write_text(&mut errors, &failure.to_string());
-            Ended::early(if matches!(failure, Failure::NoMemory) { Stop::NoMemory } else { Stop::Usage })
+            Ended::early(Stop::Usage)
         }
     }
 }
@@ -66,8 +64,7 @@ fn obey<T: Tables>(forms: Forms<T>, errors: &mut dyn Write) -> Result<Ended, Fai
     let named = arguments.names().map(read).transpose()?;
     let names = match (arguments.names(), &named) {
         (Some(path), Some(text)) => {
-            let names = names_in(text).map_err(|_| Failure::NoMemory)?;
-            Some(names.map_err(|line| Failure::Names { path: path.to_owned(), line })?)
+            Some(names_in(text).map_err(|line| Failure::Names { path: path.to_owned(), line })?)
         }
         _ => None,
     };

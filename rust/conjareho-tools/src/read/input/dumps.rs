@@ -1,9 +1,7 @@
 //! Bytes on several lines: dumps with offsets, and rows of plain hex.
 
-use crate::user::prelude::*;
-
-use crate::read::input::input::MOST_PIECE;
-use crate::read::input::lines::{MOST_LINE, before_comment, bytes_of};
+use super::input::MOST_PIECE;
+use super::lines::{MOST_LINE, before_comment, bytes_of};
 use crate::read::select::{DumpLine, digits_of_line, dump_line, end_of_dump, is_asterisk};
 
 /// The lines that may follow the lines of a dump.
@@ -28,7 +26,6 @@ pub struct Dump {
 }
 
 /// The role of a line in a dump.
-#[repr(u8)]
 pub enum Place {
     /// The first line of a dump.
     Begins(Dump),
@@ -52,159 +49,80 @@ impl Dump {
     }
 
     /// Appends the bytes of more lines.
-    ///
-    /// # Errors
-    ///
-    /// A [`AllocError`].
-    pub fn go_on(&mut self, more: Dump) -> Result<(), AllocError> {
-        self.bytes.try_extend(&more.bytes)?;
+    pub fn go_on(&mut self, more: Dump) {
+        self.bytes.extend(more.bytes);
         self.next = more.next;
-        Ok(())
+    }
+}
+
+impl Default for Dump {
+    fn default() -> Dump {
+        Dump::new()
     }
 }
 
 /// The role of a line after the lines of a dump: at offset 0 it begins one. At the offset where the bytes end it continues it, as
 /// an asterisk does and the offset of the end. A row of 60 digits begins rows, and a row of at most 60 continues them.
-///
-/// # Errors
-///
-/// A [`AllocError`].
-pub fn place_of(dump: &Dump, line: &[u8]) -> Result<Place, AllocError> {
+#[must_use]
+pub fn place_of(dump: &Dump, line: &[u8]) -> Place {
     if line.len() > MOST_LINE {
-        return Ok(Place::Apart);
+        return Place::Apart;
     }
     let text = before_comment(line);
-    match dump_line(text) {
-        Some(dumped) => placed(dump, dumped),
-        None => unplaced(dump, text),
-    }
-}
-
-// The role of a line with an offset.
-fn placed(dump: &Dump, line: DumpLine<'_>) -> Result<Place, AllocError> {
-    if line.offset == 0 {
-        return match bytes_of(line.columns)? {
-            None => Ok(Place::Apart),
-            Some(bytes) => Ok(Place::Begins(of_line(bytes))),
-        };
-    }
-    match filling_to(dump, line.offset)? {
-        None => Ok(Place::Apart),
-        Some(filling) => goes_on_with(filling, line.columns),
-    }
-}
-
-// A line with an offset.
-fn of_line(bytes: Vec<u8>) -> Dump {
-    let count = bytes.len();
-    Dump { bytes, next: Next::AtOffset(count) }
-}
-
-// Copies of the line before, and the bytes in these columns.
-fn goes_on_with(filling: Vec<u8>, columns: &[u8]) -> Result<Place, AllocError> {
-    let Some(line) = bytes_of(columns)? else {
-        return Ok(Place::Apart);
+    let place = match dump_line(text) {
+        Some(line) => with_offset(dump, line),
+        None => without_offset(dump, text),
     };
-    let count = line.len();
-    let mut bytes = filling;
-    bytes.try_extend(&line)?;
-    Ok(Place::GoesOn(Dump { bytes, next: Next::AtOffset(count) }))
+    place.unwrap_or(Place::Apart)
 }
 
-// The bytes between those of a dump and an offset.
-fn filling_to(dump: &Dump, offset: u64) -> Result<Option<Vec<u8>>, AllocError> {
+// The role of a line with an offset. Before its bytes come copies of the line before, if an asterisk stands for them.
+fn with_offset(dump: &Dump, line: DumpLine<'_>) -> Option<Place> {
+    let filling = if line.offset == 0 { Vec::new() } else { filling_to(dump, line.offset)? };
+    let bytes = bytes_of(line.columns)?;
+    let next = Next::AtOffset(bytes.len());
+    let more = Dump { bytes: [filling, bytes].concat(), next };
+    Some(if line.offset == 0 { Place::Begins(more) } else { Place::GoesOn(more) })
+}
+
+// The bytes between those of a dump and an offset: the last ones, repeated.
+fn filling_to(dump: &Dump, offset: u64) -> Option<Vec<u8>> {
+    let offset = usize::try_from(offset).ok()?;
+    let left = offset.checked_sub(dump.bytes.len());
     match dump.next {
-        Next::Nothing | Next::Digits => Ok(None),
-        Next::AtOffset(_) => {
-            if offset == dump.bytes.len() as u64 {
-                Ok(Some(Vec::new()))
-            } else {
-                Ok(None)
-            }
+        Next::Nothing | Next::Digits => None,
+        Next::AtOffset(_) => (left? == 0).then(Vec::new),
+        Next::Repeated(count) => {
+            let line = dump.bytes.get(dump.bytes.len().saturating_sub(count)..)?;
+            let is_whole = offset <= MOST_PIECE && left?.checked_rem(count)? == 0;
+            is_whole.then_some(line.repeat(left?.checked_div(count)?))
         }
-        Next::Repeated(count) => filling_at(count, dump.bytes.as_slice(), offset),
     }
-}
-
-// The last `n` bytes, repeated up to an offset.
-fn filling_at(n: usize, bytes: &[u8], offset: u64) -> Result<Option<Vec<u8>>, AllocError> {
-    let count = bytes.len();
-    if offset > MOST_PIECE as u64 {
-        return Ok(None);
-    }
-    let offset = offset as usize;
-    if n == 0 || count > offset || !((offset - count) % (n) == 0) {
-        return Ok(None);
-    }
-    let (_, line) = bytes.split_at(count.saturating_sub(n));
-    Ok(Some(copies((offset - count) / n, line)?))
-}
-
-// So many copies of some bytes.
-fn copies(count: usize, bytes: &[u8]) -> Result<Vec<u8>, AllocError> {
-    let mut all = Vec::new();
-    'each: for i in 0..count {
-        all.try_extend(bytes)?;
-    }
-    Ok(all)
 }
 
 // The role of a line without an offset.
-fn unplaced(dump: &Dump, text: &[u8]) -> Result<Place, AllocError> {
+fn without_offset(dump: &Dump, text: &[u8]) -> Option<Place> {
     match dump.next {
-        Next::Nothing => first_row(text),
-        Next::AtOffset(count) => {
-            if is_asterisk(text) {
-                Ok(Place::GoesOn(Dump { bytes: Vec::new(), next: Next::Repeated(count) }))
-            } else {
-                end_or_row(dump, text)
-            }
+        Next::AtOffset(count) if is_asterisk(text) => {
+            Some(Place::GoesOn(Dump { bytes: Vec::new(), next: Next::Repeated(count) }))
         }
-        Next::Repeated(_) => end_or_row(dump, text),
-        Next::Digits => next_row(text),
-    }
-}
-
-// The end of a dump with offsets, or the first row of 60 digits.
-fn end_or_row(dump: &Dump, text: &[u8]) -> Result<Place, AllocError> {
-    if digits_of_line(text) == MOST_DIGITS {
-        return first_row(text);
-    }
-    match end_of_dump(text) {
-        None => Ok(Place::Apart),
-        Some(offset) => match filling_to(dump, offset)? {
-            None => Ok(Place::Apart),
-            Some(bytes) => Ok(Place::GoesOn(Dump { bytes, next: Next::Nothing })),
-        },
+        Next::AtOffset(_) | Next::Repeated(_) if digits_of_line(text) != MOST_DIGITS => {
+            Some(Place::GoesOn(Dump { bytes: filling_to(dump, end_of_dump(text)?)?, next: Next::Nothing }))
+        }
+        Next::Digits => row(text).map(Place::GoesOn),
+        Next::Nothing | Next::AtOffset(_) | Next::Repeated(_) => {
+            row(text).filter(|row| row.next == Next::Digits).map(Place::Begins)
+        }
     }
 }
 
 // The digits of each row but the last.
 const MOST_DIGITS: usize = 60;
 
-// The first row, of 60 digits.
-fn first_row(text: &[u8]) -> Result<Place, AllocError> {
-    if digits_of_line(text) != MOST_DIGITS {
-        return Ok(Place::Apart);
-    }
-    match bytes_of(text)? {
-        None => Ok(Place::Apart),
-        Some(bytes) => Ok(Place::Begins(Dump { bytes, next: Next::Digits })),
-    }
-}
-
-// A row after others, of at most 60 digits.
-fn next_row(text: &[u8]) -> Result<Place, AllocError> {
+// A row of at most 60 digits, of which fewer end the rows.
+fn row(text: &[u8]) -> Option<Dump> {
     let count = digits_of_line(text);
-    if count == 0 || count > MOST_DIGITS {
-        return Ok(Place::Apart);
-    }
-    match bytes_of(text)? {
-        None => Ok(Place::Apart),
-        Some(bytes) => Ok(Place::GoesOn(Dump { bytes, next: after_row(count) })),
-    }
-}
-
-fn after_row(count: usize) -> Next {
-    if count == MOST_DIGITS { Next::Digits } else { Next::Nothing }
+    let next = if count == MOST_DIGITS { Next::Digits } else { Next::Nothing };
+    let bytes = if (1..=MOST_DIGITS).contains(&count) { bytes_of(text)? } else { return None };
+    Some(Dump { bytes, next })
 }

@@ -1,9 +1,8 @@
 //! Lines of text, and the hex on them.
 
-use crate::user::prelude::*;
+use std::io::Read;
 
-use crate::host::io::Read;
-use crate::read::input::input::{Input, MOST_PIECE};
+use super::input::{Input, MOST_PIECE};
 use crate::read::select::push_hex;
 use crate::streams::Stop;
 
@@ -21,138 +20,83 @@ pub enum LineGap {
     Last,
 }
 
-// The offset of the first line feed.
-fn feed_in(bytes: &[u8]) -> Option<usize> {
-    'bytes: for place in 0..bytes.len() {
-        if bytes[place] == b'\n' {
-            return Some(place);
-        }
-    }
-    None
-}
-
 impl Input {
     /// The end of the first line in the unused bytes, if any.
     pub fn line_end(&mut self) -> Option<usize> {
-        let (_, after) = self.rest().split_at(self.searched);
-        match feed_in(after) {
-            Some(place) => Some(self.searched + place),
-            None => {
-                self.searched = self.rest().len();
-                None
-            }
+        let after = self.rest().get(self.searched..).unwrap_or_default();
+        let end = after.iter().position(|byte| *byte == b'\n').map(|place| self.searched.saturating_add(place));
+        if end.is_none() {
+            self.searched = self.rest().len();
         }
+        end
     }
 
     /// Uses the line that ends there, and its line feed.
-    ///
-    /// # Panics
-    ///
-    /// It may, unless this holds, which the proved sources ask of callers:
-    ///
-    /// - `end < length (rest_of self.old)`
     pub fn use_line(&mut self, end: usize) {
-        self.use_up(end + 1);
+        self.use_up(end.saturating_add(1));
     }
 
-    /// Reads more, if no line ends in the unused bytes, or skips a line that is too long.
-    ///
-    /// # Panics
-    ///
-    /// It may, unless this holds, which the proved sources ask of callers:
-    ///
-    /// - `HasNoFeed (rest_of self.old)`
+    /// Reads more after no line ended in the unused bytes, or skips a line that is too long.
     ///
     /// # Errors
     ///
-    /// A [`Stop`].
+    /// [`Stop::Read`].
     pub fn read_line<R: Read>(&mut self, reader: &mut R) -> Result<LineGap, Stop> {
         if self.rest().len() > MOST_LINE {
-            return self.pass_over_line(reader);
+            let at = self.offset();
+            let goes_on = self.skip_line(reader)?;
+            let long = self.offset().saturating_sub(at).saturating_sub(u64::from(goes_on));
+            return Ok(LineGap::Long(long, goes_on));
         }
-        if self.more(reader)? {
-            return Ok(LineGap::More);
-        }
-        Ok(LineGap::Last)
-    }
-
-    // Skips a line that is too long.
-    fn pass_over_line<R: Read>(&mut self, reader: &mut R) -> Result<LineGap, Stop> {
-        let at = self.offset();
-        let goes_on = self.skip_line(reader)?;
-        let long = self.offset().saturating_sub(at).saturating_sub(u64::from(goes_on));
-        Ok(LineGap::Long(long, goes_on))
+        Ok(if self.more(reader)? { LineGap::More } else { LineGap::Last })
     }
 
     // Skips a line and its line feed. False if the input ends in the line.
     fn skip_line<R: Read>(&mut self, reader: &mut R) -> Result<bool, Stop> {
         self.use_all();
-        'parts: for _ in 0..u64::MAX {
-            if !self.more(reader)? {
-                return Ok(false);
+        while self.more(reader)? {
+            if let Some(end) = self.line_end() {
+                self.use_line(end);
+                return Ok(true);
             }
-            match self.line_end() {
-                Some(end) => {
-                    self.use_up(end + 1);
-                    return Ok(true);
-                }
-                None => self.use_all(),
-            }
+            self.use_all();
         }
-        Err(Stop::Read)
+        Ok(false)
     }
 }
 
 /// The content of a line.
-#[repr(u8)]
 pub enum OnLine {
     /// Nothing but blanks and a comment.
     Nothing,
     /// Not hex.
     NoHex,
-    /// Longer than [`MOST_LINE`](crate::MOST_LINE).
+    /// Longer than [`MOST_LINE`].
     TooLong,
     /// Bytes.
     Bytes(Vec<u8>),
 }
 
 /// Reads a line of hex: digits with blanks, colons and `0x` among them, then a comment.
-///
-/// # Errors
-///
-/// A [`AllocError`].
-pub fn on_line(line: &[u8]) -> Result<OnLine, AllocError> {
+#[must_use]
+pub fn on_line(line: &[u8]) -> OnLine {
     if line.len() > MOST_LINE {
-        return Ok(OnLine::TooLong);
+        return OnLine::TooLong;
     }
-    match bytes_of(before_comment(line))? {
-        Some(bytes) => {
-            if bytes.is_empty() {
-                Ok(OnLine::Nothing)
-            } else {
-                Ok(OnLine::Bytes(bytes))
-            }
-        }
-        None => Ok(OnLine::NoHex),
+    match bytes_of(before_comment(line)) {
+        Some(bytes) if bytes.is_empty() => OnLine::Nothing,
+        Some(bytes) => OnLine::Bytes(bytes),
+        None => OnLine::NoHex,
     }
 }
 
 /// Reads hex. `None` if it isn't.
-pub(crate) fn bytes_of(text: &[u8]) -> Result<Option<Vec<u8>>, AllocError> {
+pub(super) fn bytes_of(text: &[u8]) -> Option<Vec<u8>> {
     let mut bytes = Vec::new();
-    let is_hex = push_hex(&mut bytes, text)?;
-    if is_hex {
-        return Ok(Some(bytes));
-    }
-    Ok(None)
+    push_hex(&mut bytes, text).then_some(bytes)
 }
 
 /// The part of a line before its comment.
-pub(crate) fn before_comment(line: &[u8]) -> &[u8] {
-    'bytes: for place in 0..line.len() {
-        if line[place] == b'#' {
-            return line.split_at(place).0;
-        }
-    }
-    line
+pub(super) fn before_comment(line: &[u8]) -> &[u8] {
+    line.split(|byte| *byte == b'#').next().unwrap_or(line)
 }

@@ -1,9 +1,8 @@
 //! The pieces of a capture.
 
-use crate::user::prelude::*;
+use std::io::Read;
 
-use crate::host::io::Read;
-use crate::read::input::input::{Input, MOST_PIECE};
+use super::input::{Input, MOST_PIECE};
 use crate::streams::Stop;
 use crate::tc_capture::{Capture, CaptureError, Piece, Res};
 
@@ -22,71 +21,28 @@ pub enum Gap {
     End,
 }
 
-// The leading bytes in which a piece is searched.
-fn front_of_rest(bytes: &[u8]) -> &[u8] {
-    if bytes.len() <= MOST_PIECE {
-        return bytes;
-    }
-    bytes.split_at(MOST_PIECE).0
-}
-
 /// The piece at the front of the unused bytes.
 ///
 /// # Errors
 ///
-/// A [`DecodeError`].
+/// The bytes don't begin with a whole piece.
 pub fn next_piece<'a>(capture: &mut Capture, input: &'a Input) -> Res<Piece<'a>> {
-    capture.next(front_of_rest(input.rest()))
+    let rest = input.rest();
+    capture.next(rest.get(..MOST_PIECE).unwrap_or(rest))
 }
 
-/// Reads more of a capture after `next_piece` failed with this fault, or skips a piece that is too long.
-///
-/// # Panics
-///
-/// It may, unless this holds, which the proved sources ask of callers:
-///
-/// - `next_piece (state_of capture.now) (take 1048576 (rest_of input.old)) ≡ Err fault`
+/// Reads more of a capture after [`next_piece`] failed with this fault, or skips a piece that is too long.
 ///
 /// # Errors
 ///
-/// A [`Stop`].
-pub fn read_on<R: Read>(
-    capture: &Capture,
-    input: &mut Input,
-    fault: CaptureError,
-    reader: &mut R,
-) -> Result<Gap, Stop> {
-    match fault {
-        CaptureError::Short { needed, left } => read_more(capture, input, needed, left, reader),
-        _ => Ok(Gap::Broken(fault)),
-    }
-}
-
-// `read_on` for a piece of `needed` bytes of which `left` are there.
-fn read_more<R: Read>(
-    capture: &Capture,
-    input: &mut Input,
-    needed: usize,
-    left: usize,
-    reader: &mut R,
-) -> Result<Gap, Stop> {
-    if input.rest().len() >= MOST_PIECE {
-        return pass_over(capture, input, needed, left, reader);
-    }
-    if input.more(reader)? {
+/// [`Stop::Read`].
+pub fn read_on<R: Read>(input: &mut Input, fault: CaptureError, reader: &mut R) -> Result<Gap, Stop> {
+    let CaptureError::Short { needed, left } = fault else {
+        return Ok(Gap::Broken(fault));
+    };
+    if input.rest().len() < MOST_PIECE && input.more(reader)? {
         return Ok(Gap::More);
     }
-    pass_over(capture, input, needed, left, reader)
-}
-
-// Skips a piece that is too long, or returns how the capture ends.
-fn pass_over<R: Read>(
-    capture: &Capture,
-    input: &mut Input,
-    needed: usize,
-    left: usize,
-    reader: &mut R,
-) -> Result<Gap, Stop> {
     if input.rest().is_empty() {
         return Ok(Gap::End);
     }
@@ -97,6 +53,6 @@ fn pass_over<R: Read>(
     if input.skip(needed, reader)? {
         return Ok(Gap::Skipped(needed));
     }
-    let left = input.offset().saturating_sub(at) as usize;
+    let left = usize::try_from(input.offset().saturating_sub(at)).unwrap_or(usize::MAX);
     Ok(Gap::Broken(CaptureError::Short { needed, left }))
 }

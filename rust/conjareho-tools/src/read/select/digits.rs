@@ -1,61 +1,17 @@
 //! Parsing numbers.
 
-use crate::user::prelude::*;
-
-/// Parses a number of at most `most` in this radix. 0 if there are no digits.
-///
-/// # Panics
-///
-/// It may, unless this holds, which the proved sources ask of callers:
-///
-/// - `radix ≤ 16`
-#[must_use]
-pub fn digits_of(radix: u64, most: u64, text: &[u8]) -> Option<u64> {
-    assert!(radix <= 16, "required radix ≤ 16");
-    let mut number = 0;
-    for c in text {
-        number = add_char(radix, most, number, *c)?;
-    }
-    Some(number)
+/// The number of at most `most` that digits of this radix say, and nothing else.
+pub(crate) fn number_of(radix: u32, most: u64, text: &str) -> Option<u64> {
+    let is_digits = text.chars().all(|letter| letter.is_digit(radix));
+    u64::from_str_radix(text, radix).ok().filter(|number| is_digits && *number <= most)
 }
 
-/// Parses a number of at most `most` in this radix. `None` if there are no digits.
-///
-/// # Panics
-///
-/// It may, unless this holds, which the proved sources ask of callers:
-///
-/// - `radix ≤ 16`
-#[must_use]
-pub fn number_of(radix: u64, most: u64, text: &[u8]) -> Option<u64> {
-    assert!(radix <= 16, "required radix ≤ 16");
-    if text.is_empty() {
-        return None;
-    }
-    digits_of(radix, most, text)
-}
-
-// Appends a character to the digits of a number.
-fn add_char(radix: u64, most: u64, number: u64, c: u8) -> Option<u64> {
-    add_digit(radix, most, number, digit(c)?)
-}
-
-// Appends a digit to a number.
-fn add_digit(radix: u64, most: u64, number: u64, digit: u8) -> Option<u64> {
-    let more = number as u128 * radix as u128 + digit as u128;
-    if (digit as u64) < radix && more <= most as u128 { Some(more as u64) } else { None }
+/// The number of 64 bits that digits of hex say.
+pub(crate) fn hex_of(text: &[u8]) -> Option<u64> {
+    number_of(16, u64::MAX, std::str::from_utf8(text).ok()?)
 }
 
 /// The value of a hex digit, in either case.
-#[must_use]
-pub fn digit(c: u8) -> Option<u8> {
-    if b'0' <= c && c <= b'9' {
-        Some(c - b'0')
-    } else if b'a' <= c && c <= b'f' {
-        Some(c - b'a' + 10)
-    } else if b'A' <= c && c <= b'F' {
-        Some(c - b'A' + 10)
-    } else {
-        None
-    }
+pub(crate) fn digit(byte: u8) -> Option<u8> {
+    char::from(byte).to_digit(16).and_then(|digit| u8::try_from(digit).ok())
 }

@@ -1,10 +1,8 @@
 //! Filters of messages.
 
-use crate::user::prelude::*;
-
-use crate::read::select::header::{chain_in, handle_in, interface_in, parent_in, priority_in};
-use crate::read::select::kinds::{has_kind, is_kind};
-use crate::read::select::types::Types;
+use super::header::{chain_in, handle_in, interface_in, parent_in, priority_in};
+use super::kinds::has_kind;
+use super::types::Types;
 use crate::tc_capture::{MessageType, Time};
 
 /// A filter of messages. A message matches if it matches each option: if it has one of the option's values, or the
@@ -87,13 +85,14 @@ impl<'a> Filter<'a> {
     }
 
     fn matches_type(&self, message: &Message<'_>) -> bool {
-        self.types.is_empty() || is_in(self.types, message.rtm)
+        let is_in = |rtm| self.types.iter().any(|range| (range.first..=range.last).contains(&rtm));
+        self.types.is_empty() || message.rtm.is_some_and(is_in)
     }
 
     fn matches_interface(&self, message: &Message<'_>) -> bool {
         (self.interfaces.is_empty() && self.names.is_empty())
             || is_among(self.interfaces, interface_in(message.holds, message.payload))
-            || is_called(self.names, message.name)
+            || message.name.is_some_and(|name| self.names.contains(&name))
     }
 
     fn matches_header(&self, message: &Message<'_>) -> bool {
@@ -117,64 +116,17 @@ fn allows(values: &[u32], number: Option<u32>) -> bool {
 
 // True if one of the values is the number.
 fn is_among(values: &[u32], number: Option<u32>) -> bool {
-    let Some(number) = number else {
-        return false;
-    };
-    for one in values {
-        if *one == number {
-            return true;
-        }
-    }
-    false
+    number.is_some_and(|number| values.contains(&number))
 }
 
-// True if one of the values is the name.
-fn is_called(values: &[&str], name: Option<&str>) -> bool {
-    match name {
-        Some(name) => is_kind(values, name.as_bytes()),
-        None => false,
-    }
-}
-
-// True if the message type is in one of these ranges.
-fn is_in(values: &[Types], rtm: Option<u16>) -> bool {
-    let Some(rtm) = rtm else {
-        return false;
-    };
-    for range in values {
-        if range.first <= rtm && rtm <= range.last {
-            return true;
-        }
-    }
-    false
-}
-
-// True if a time is in a span.
+// True if a time is in a span. One that isn't known is in the span without ends alone.
 fn is_within(since: Option<Time>, until: Option<Time>, time: Option<Time>) -> bool {
-    is_since(since, time) && is_until(until, time)
-}
-
-fn is_since(since: Option<Time>, time: Option<Time>) -> bool {
-    match (since, time) {
-        (None, _) => true,
-        (Some(first), Some(time)) => is_by(first, time),
-        (Some(_), None) => false,
-    }
-}
-
-fn is_until(until: Option<Time>, time: Option<Time>) -> bool {
-    match (until, time) {
-        (None, _) => true,
-        (Some(last), Some(time)) => is_by(time, last),
-        (Some(_), None) => false,
-    }
-}
-
-// True if the first time isn't after the second.
-fn is_by(a: Time, b: Time) -> bool {
-    nanoseconds(a) <= nanoseconds(b)
+    let Some(time) = time.map(nanoseconds) else {
+        return since.is_none() && until.is_none();
+    };
+    since.is_none_or(|first| nanoseconds(first) <= time) && until.is_none_or(|last| time <= nanoseconds(last))
 }
 
 fn nanoseconds(time: Time) -> u128 {
-    time.seconds as u128 * 1_000_000_000 + time.nanoseconds as u128
+    u128::from(time.seconds).saturating_mul(1_000_000_000).saturating_add(u128::from(time.nanoseconds))
 }

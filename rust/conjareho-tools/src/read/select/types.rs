@@ -1,8 +1,6 @@
 //! Message types as they are given on a command line.
 
-use crate::user::prelude::*;
-
-use crate::read::select::digits::number_of;
+use super::digits::number_of;
 
 /// Message types from one to another, both included.
 #[derive(Clone, Copy, PartialEq, Eq, Debug)]
@@ -17,68 +15,39 @@ pub struct Types {
 pub const TYPE_FORMS: &str = "a type is one of qdisc, tclass, tfilter, chain and action, with new, del or get before it if it is one alone, \
 such as newtclass or RTM_NEWTCLASS, or a number";
 
+/// The first of the three types of each object, such as `RTM_NEWQDISC` (`linux/rtnetlink.h`), and the two after it.
+const OBJECTS: [(&str, Types); 5] = [
+    ("qdisc", Types { first: 36, last: 38 }),
+    ("tclass", Types { first: 40, last: 42 }),
+    ("tfilter", Types { first: 44, last: 46 }),
+    ("action", Types { first: 48, last: 50 }),
+    ("chain", Types { first: 100, last: 102 }),
+];
+
 /// Parses message types: `tclass` is all three, `newtclass` or `RTM_NEWTCLASS` is one, and so is a number.
 #[must_use]
 pub fn parse_types(text: &str) -> Option<Types> {
-    let text = text.as_bytes();
-    match number_of(10, 0xFFFF, text) {
-        Some(number) => Some(Types { first: number as u16, last: number as u16 }),
-        None => named_types(without_rtm(text)),
-    }
+    let number = number_of(10, u64::from(u16::MAX), text).and_then(|number| u16::try_from(number).ok());
+    number.map(one).or_else(|| named_types(text.strip_prefix("RTM_").unwrap_or(text)))
 }
 
-// The types with a name that doesn't begin with `RTM_`.
-fn named_types(text: &[u8]) -> Option<Types> {
-    match first_type(text) {
-        Some(first) => Some(Types { first, last: first + 2 }),
-        None => {
-            let (front, rest) = text.split_at(text.len().min(3));
-            let which = verb(front)?;
-            let first = first_type(rest)?;
-            Some(Types { first: first + which, last: first + which })
-        }
-    }
+fn one(number: u16) -> Types {
+    Types { first: number, last: number }
 }
 
-fn without_rtm(text: &[u8]) -> &[u8] {
-    let (front, rest) = text.split_at(text.len().min(4));
-    if is(front, "RTM_") { rest } else { text }
+fn named_types(text: &str) -> Option<Types> {
+    object(text).or_else(|| {
+        let (verb, name) = text.split_at_checked(3)?;
+        let mut types = object(name).map(|types| types.first..=types.last)?;
+        types.nth(["new", "del", "get"].iter().position(|it| is_either(verb, it))?).map(one)
+    })
 }
 
-// The first of the three types of an object, such as `RTM_NEWQDISC` for `qdisc`.
-fn first_type(text: &[u8]) -> Option<u16> {
-    if is_either(text, "qdisc", "QDISC") {
-        Some(36)
-    } else if is_either(text, "tclass", "TCLASS") {
-        Some(40)
-    } else if is_either(text, "tfilter", "TFILTER") {
-        Some(44)
-    } else if is_either(text, "action", "ACTION") {
-        Some(48)
-    } else if is_either(text, "chain", "CHAIN") {
-        Some(100)
-    } else {
-        None
-    }
+fn object(name: &str) -> Option<Types> {
+    OBJECTS.iter().find(|(object, _)| is_either(name, object)).map(|(_, types)| *types)
 }
 
-// The place among the three types: new, del, get.
-fn verb(text: &[u8]) -> Option<u16> {
-    if is_either(text, "new", "NEW") {
-        Some(0)
-    } else if is_either(text, "del", "DEL") {
-        Some(1)
-    } else if is_either(text, "get", "GET") {
-        Some(2)
-    } else {
-        None
-    }
-}
-
-fn is_either(text: &[u8], lower: &str, upper: &str) -> bool {
-    is(text, lower) || is(text, upper)
-}
-
-fn is(text: &[u8], word: &str) -> bool {
-    text == word.as_bytes()
+// True for a word in small letters or in capitals.
+fn is_either(text: &str, word: &str) -> bool {
+    text == word || text == word.to_ascii_uppercase()
 }

@@ -47,7 +47,7 @@ fn diff_files<R: Files + Input + Print, E: Write>(rt: &R, arguments: &Arguments,
         Ok(text) => text,
         Err(error) => return fail_for(path, &error, Stop::Usage, errors),
     };
-    match names_in(text.as_str())? {
+    match names_in(text.as_str()) {
         Ok(names) => diff_with(rt, arguments, names.as_slice(), errors),
         Err(line) => {
             let what = crate::user::formatted(format_args!("line {line}: found no index and name"))?;

@@ -2,7 +2,6 @@
 
 use crate::user::prelude::*;
 
-use crate::read::select::names::if_utf8;
 use crate::read::select::{RTM_NEWLINK, link_of_message};
 use crate::tc_capture::NetlinkMessage;
 
@@ -14,7 +13,7 @@ pub fn link_in<'a>(message: &NetlinkMessage<'a>) -> Option<(u32, &'a str)> {
         return None;
     }
     match link_of_message(message.payload) {
-        Some(link) => if_utf8(link),
+        Some(link) => link.text(),
         None => None,
     }
 }

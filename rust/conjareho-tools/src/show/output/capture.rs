@@ -51,7 +51,7 @@ fn show_piece<R: Read, W: crate::host::io::Write>(
             printer.write_much(writer)?;
             Ok(true)
         }
-        Err(fault) => goes_on(printer, input, capture, fault, reader, writer),
+        Err(fault) => goes_on(printer, input, fault, reader, writer),
     }
 }
 
@@ -59,14 +59,13 @@ fn show_piece<R: Read, W: crate::host::io::Write>(
 fn goes_on<R: Read, W: crate::host::io::Write>(
     printer: &mut Printer<'_>,
     input: &mut Input,
-    capture: &Capture,
     fault: CaptureError,
     reader: &mut R,
     writer: &mut W,
 ) -> Result<bool, Stop> {
     let at = input.offset();
     printer.write(writer)?;
-    let gap = read_on(capture, input, fault, reader)?;
+    let gap = read_on(input, fault, reader)?;
     printer.put_gap(gap, at)?;
     Ok(is_passed(gap))
 }

@@ -1,7 +1,5 @@
 //! The first lines of a text, which tell whether it is hex.
 
-use crate::user::prelude::*;
-
 use crate::read::input::{Dump, OnLine, Place, on_line, place_of};
 
 // If none of so many first lines is hex, a text isn't hex.
@@ -25,16 +23,12 @@ impl FirstLines {
     }
 
     /// Counts a line, which comes after the lines of a dump.
-    pub(crate) fn see(&mut self, dump: &Dump, line: &[u8]) -> Result<(), AllocError> {
+    pub(crate) fn see(&mut self, dump: &Dump, line: &[u8]) {
         if self.has_hex {
-            return Ok(());
+            return;
         }
-        match is_hex_at(dump, line)? {
-            Some(is_hex) => {
-                self.count(is_hex);
-                Ok(())
-            }
-            None => Ok(()),
+        if let Some(is_hex) = is_hex_at(dump, line) {
+            self.count(is_hex);
         }
     }
 
@@ -42,7 +36,7 @@ impl FirstLines {
     fn count(&mut self, is_hex: bool) {
         self.has_any = true;
         if self.left > 0 {
-            self.left -= 1;
+            self.left = self.left.saturating_sub(1);
             self.has_hex = is_hex;
         }
     }
@@ -59,18 +53,10 @@ impl FirstLines {
 }
 
 // True if a line after the lines of a dump is hex. `None` if it doesn't count.
-fn is_hex_at(dump: &Dump, line: &[u8]) -> Result<Option<bool>, AllocError> {
-    match place_of(dump, line)? {
-        Place::Begins(_) | Place::GoesOn(_) => Ok(Some(true)),
-        Place::Apart => is_hex_alone(line),
-    }
-}
-
-// True if a line that isn't part of a dump is hex. `None` if it doesn't count.
-fn is_hex_alone(line: &[u8]) -> Result<Option<bool>, AllocError> {
-    match on_line(line)? {
-        OnLine::Nothing | OnLine::TooLong => Ok(None),
-        OnLine::NoHex => Ok(Some(false)),
-        OnLine::Bytes(_) => Ok(Some(true)),
+fn is_hex_at(dump: &Dump, line: &[u8]) -> Option<bool> {
+    match (place_of(dump, line), on_line(line)) {
+        (Place::Begins(_) | Place::GoesOn(_), _) | (Place::Apart, OnLine::Bytes(_)) => Some(true),
+        (Place::Apart, OnLine::NoHex) => Some(false),
+        (Place::Apart, OnLine::Nothing | OnLine::TooLong) => None,
     }
 }

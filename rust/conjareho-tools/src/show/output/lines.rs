@@ -93,7 +93,7 @@ fn show_line<R: Read, W: crate::host::io::Write>(
 ) -> Result<bool, Stop> {
     match input.line_end() {
         Some(end) => {
-            see_front(first, dump, input, end)?;
+            see_front(first, dump, input, end);
             put_front(printer, dump, input, end)?;
             input.use_line(end);
             if first.are_other_text() {
@@ -126,7 +126,7 @@ fn more_of_line<R: Read, W: crate::host::io::Write>(
         }
         LineGap::Last => {
             let line = input.rest();
-            first.see(dump, line)?;
+            first.see(dump, line);
             printer.put_last(dump, line, input.offset())?;
             Ok(false)
         }
@@ -134,9 +134,9 @@ fn more_of_line<R: Read, W: crate::host::io::Write>(
 }
 
 // Counts the line of `len` bytes at the front of what was read.
-fn see_front(first: &mut FirstLines, dump: &Dump, input: &Input, len: usize) -> Result<(), AllocError> {
+fn see_front(first: &mut FirstLines, dump: &Dump, input: &Input, len: usize) {
     let (line, _) = input.rest().split_at(len);
-    first.see(dump, line)
+    first.see(dump, line);
 }
 
 // Prints the line of `len` bytes at the front of what was read.
@@ -154,7 +154,7 @@ impl<'a> Printer<'a> {
 
     // Prints a line of text, after the bytes of a dump.
     fn put_text(&mut self, dump: &mut Dump, line: &[u8], at: u64) -> Result<(), AllocError> {
-        let place = place_of(dump, line)?;
+        let place = place_of(dump, line);
         self.put_place(dump, place, line, at)
     }
 
@@ -162,7 +162,7 @@ impl<'a> Printer<'a> {
     fn put_place(&mut self, dump: &mut Dump, place: Place, line: &[u8], at: u64) -> Result<(), AllocError> {
         match place {
             Place::GoesOn(more) => {
-                dump.go_on(more)?;
+                dump.go_on(more);
                 Ok(())
             }
             Place::Begins(other) => self.put_begun(dump, other, at),
@@ -203,7 +203,7 @@ impl<'a> Printer<'a> {
 
     // Prints a line that isn't part of a dump.
     fn put_single(&mut self, line: &[u8], at: u64) -> Result<(), AllocError> {
-        match on_line(line)? {
+        match on_line(line) {
             OnLine::Nothing => Ok(()),
             OnLine::NoHex => self.put_hole(Notice::NoHex, at),
             OnLine::TooLong => self.put_hole(Notice::Skipped(line.len() as u64), at),

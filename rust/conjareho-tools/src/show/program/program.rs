@@ -88,7 +88,7 @@ fn show<'a>(arguments: &'a Arguments, errors: &mut dyn Write) -> Result<Ended, F
         arguments.names().map(|path| std::fs::read_to_string(path).map_err(|error| Failure::File { path, error }));
     let named = named.transpose()?;
     let names = match (arguments.names(), &named) {
-        (Some(path), Some(text)) => names_in(text)?.map_err(|line| Failure::Names { path, line })?,
+        (Some(path), Some(text)) => names_in(text).map_err(|line| Failure::Names { path, line })?,
         _ => Vec::new(),
     };
     let values = FilterValues::of_arguments(&arguments.filters, &names)?;

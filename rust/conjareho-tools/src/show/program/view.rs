@@ -54,7 +54,7 @@ impl<'a> View<'a> {
             Err(stop) => return Failure::of_input(name, stop, &reader).say(errors),
         };
         let Some(encoding) = encoding_by(input.first()) else {
-            let is_bare = self.arguments.without_header().is_none() && lacks_header(input.rest()).unwrap_or(false);
+            let is_bare = self.arguments.without_header().is_none() && lacks_header(input.rest());
             let ended = self.show_bytes(name, input.rest().chain(reader.into_inner()), values, errors);
             if is_bare {
                 say_of(errors, name, HINT);

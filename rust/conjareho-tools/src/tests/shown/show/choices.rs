@@ -171,17 +171,11 @@ static NO_NAMES: [(&str, u64); 3] = [("eth7", 1), ("7 eth7\n\n8\n", 3), ("5: :",
 
 // True if the first line that is no name has this number.
 fn is_wrong_at(text: &str, number: u64) -> bool {
-    match names_in(text) {
-        Ok(Err(line)) => line == number,
-        _ => false,
-    }
+    names_in(text) == Err(number)
 }
 
 fn are_names(text: &str, want: &[(u32, &str)]) -> bool {
-    match names_in(text) {
-        Ok(Ok(names)) => names.as_slice() == want,
-        _ => false,
-    }
+    names_in(text).as_deref() == Ok(want)
 }
 
 #[test]
@@ -228,10 +222,7 @@ fn writes(words: &[&str], names: &[(u32, &str)], input: &str, want: &str) -> boo
 
 // The same with the names of a text.
 fn writes_with(words: &[&str], text: &str, input: &str, want: &str) -> bool {
-    match names_in(text) {
-        Ok(Ok(names)) => writes(words, &names, input, want),
-        _ => false,
-    }
+    names_in(text).is_ok_and(|names| writes(words, &names, input, want))
 }
 
 static WORDS: [&str; 12] = [

@@ -159,6 +159,6 @@ static BARE: [(&str, bool); 10] = [
 fn a_missing_header_is_noticed() {
     for (text, is_missing) in &BARE {
         let lacks = lacks_header(text.as_bytes());
-        assert!(lacks.ok() == Some(*is_missing), "{text}");
+        assert!(lacks == *is_missing, "{text}");
     }
 }

@@ -17,7 +17,7 @@ static BYTES: [u8; 56] = [
 // Appends the bytes of a line of a dump; false where it isn't one, at their offset.
 fn push_line(bytes: &mut Vec<u8>, line: &str) -> bool {
     match dump_line(line.as_bytes()) {
-        Some(line) => line.offset == bytes.len() as u64 && matches!(push_hex(bytes, line.columns), Ok(true)),
+        Some(line) => line.offset == bytes.len() as u64 && push_hex(bytes, line.columns),
         None => false,
     }
 }
@@ -40,13 +40,13 @@ fn is_dump(dump: &str, want: &[u8]) -> bool {
 // True if a text is plain hex of these bytes.
 fn is_plain(text: &str, want: &[u8]) -> bool {
     let mut bytes = Vec::new();
-    matches!(push_hex(&mut bytes, text.as_bytes()), Ok(true)) && bytes.as_slice() == want
+    push_hex(&mut bytes, text.as_bytes()) && bytes.as_slice() == want
 }
 
 // True if a text isn't hex.
 fn is_no_hex(text: &str) -> bool {
     let mut bytes = Vec::new();
-    matches!(push_hex(&mut bytes, text.as_bytes()), Ok(false))
+    !push_hex(&mut bytes, text.as_bytes())
 }
 
 static DUMPS: [&str; 5] = [XXD, XXD_SINGLE, TCPDUMP, TCPDUMP_TEXT, TSHARK];
