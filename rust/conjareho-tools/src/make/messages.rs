@@ -3,9 +3,9 @@
 //! [`made_of`] makes the message of a line, and [`MessageMaker`] the messages of all lines of an input. A line that no message is
 //! made of has a [`LineError`], which says where the mistake is.
 //!
-//! Calls that take an allocator fail with `LineError::NoMemory` or `AllocError` if it fails.
+//! The envelope of a line is [`Line`](crate::line::Line).
+#![deny(clippy::unwrap_used, clippy::indexing_slicing, clippy::panic, clippy::arithmetic_side_effects)]
 
-use crate::user::prelude::*;
 mod built;
 mod error;
 mod given;

@@ -7,7 +7,6 @@
 //!
 //! A line that makes no message gets a complaint with its number and the place of the mistake. The others go on.
 
-use crate::user::prelude::*;
 pub mod arguments;
 pub mod order;
 mod plan_complaint;

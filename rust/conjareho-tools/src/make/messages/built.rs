@@ -1,7 +1,5 @@
 //! The message that is built from a line.
 
-use crate::user::prelude::*;
-
 use crate::forms_json::Tables;
 use crate::forms_text::{Difference, ReadError, read_json};
 use crate::make::lines::NetlinkHeader;
@@ -10,7 +8,7 @@ use crate::make::messages::given::{given_of, is_answer, line_in};
 use crate::make::messages::making::Making;
 use crate::make::messages::message::{Forms, Message, message_of};
 use crate::make::messages::save::is_of_save;
-use crate::serde_json::Value;
+use serde_json::Value;
 
 /// A message that is built from a line, with the netlink header that the line describes.
 pub struct BuiltMessage {
@@ -24,26 +22,26 @@ pub struct BuiltMessage {
 ///
 /// # Errors
 ///
-/// A [`LineError`].
+/// Why none is made of it.
 pub fn made_of<T: Tables>(forms: Forms<T>, line: Vec<u8>, making: Making) -> Result<Option<BuiltMessage>, LineError> {
     let json = json_in(line)?;
     if is_answer(&json) || is_of_save(&json) {
         return Ok(None);
     }
-    let made = made_of_json(forms, &json, making)?;
-    Ok(Some(made))
+    made_of_json(forms, &json, making).map(Some)
 }
 
 /// The JSON of a line, which is freed.
 ///
 /// # Errors
 ///
-/// A [`LineError`].
+/// Why it isn't read.
 pub fn json_in(line: Vec<u8>) -> Result<Value, LineError> {
-    match read_json(&line) {
-        Ok(json) => Ok(json),
-        Err(error) => Err(unread(error, &line)),
-    }
+    read_json(&line).map_err(|error| match error {
+        ReadError::OutOfMemory => LineError::NoMemory,
+        ReadError::NotJson { .. } if is_one_part(&line) => LineError::OnePart,
+        error => LineError::Read(error),
+    })
 }
 
 /// The message of JSON that isn't an answer of the kernel, nor the first or the last line of a save.
@@ -57,15 +55,6 @@ pub fn made_of_json<T: Tables>(forms: Forms<T>, json: &Value, making: Making) ->
     let given = given_of(&line, shown)?;
     let Message { bytes, settled } = message_of(forms, making, given.holds, &line, shown)?;
     Ok(BuiltMessage { given, bytes, settled })
-}
-
-// Why a line isn't read as JSON.
-fn unread(error: ReadError, line: &[u8]) -> LineError {
-    match error {
-        ReadError::OutOfMemory => LineError::NoMemory,
-        ReadError::NotJson { .. } if is_one_part(line) => LineError::OnePart,
-        error => LineError::Read(error),
-    }
 }
 
 // True of a line of JSON that is written on several lines: a bracket alone, or what is indented.

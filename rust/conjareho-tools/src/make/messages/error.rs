@@ -1,13 +1,13 @@
 //! Why no message is made of a line.
 
-use crate::user::prelude::*;
+use std::fmt::{self, Write as _};
 
+use crate::fallible::AllocError;
 use crate::forms_json::MakeError;
 use crate::forms_text::{Difference, ReadError, StrictError};
 use crate::make::lines::run::{LONG_LINE, MANY_VALUES};
 use crate::nla_frames::DecodeError;
 use crate::tc_capture::rtm_of;
-use core::fmt;
 
 /// Why no message is made of a line.
 pub enum LineError {
@@ -117,7 +117,7 @@ impl fmt::Display for Actual {
 #[derive(Clone, Copy)]
 pub struct Place<'a>(pub &'a str);
 
-impl<'a> fmt::Display for Place<'a> {
+impl fmt::Display for Place<'_> {
     fn fmt(&self, f: &mut fmt::Formatter<'_>) -> fmt::Result {
         for c in self.0.chars() {
             if c.is_control() {
@@ -136,7 +136,7 @@ impl fmt::Display for LineError {
             LineError::Read(error) => show_read(error, f),
             LineError::Member { name, found, wanted } => write!(f, "/{name}: found {found}, wanted {wanted}"),
             LineError::Unknown(name) => {
-                write!(f, "/{}: found a member that a line doesn't have", Place(name.as_str()))
+                write!(f, "/{}: found a member that a line doesn't have", Place(name))
             }
             LineError::Make(error) => show_make(error, f),
             LineError::Attribute { path, found, kind } => {
@@ -182,7 +182,7 @@ impl LineError {
 fn show_read(error: &ReadError, f: &mut fmt::Formatter<'_>) -> fmt::Result {
     match error {
         ReadError::Repeated { path } => {
-            write!(f, "{}: found twice, wanted once", Place(path.as_str()))
+            write!(f, "{}: found twice, wanted once", Place(path))
         }
         ReadError::NotJson { column, .. } => write!(f, "not JSON at byte {column}"),
         ReadError::TooDeep { .. } => f.write_str("lists and objects nest more than 127 deep"),
@@ -203,46 +203,25 @@ fn show_make(error: &MakeError, f: &mut fmt::Formatter<'_>) -> fmt::Result {
 // Where the attributes are listed that may be at a place.
 fn show_list(path: &str, kind: &Option<String>, f: &mut fmt::Formatter<'_>) -> fmt::Result {
     match kind {
-        Some(kind) => {
-            if path.ends_with("/Options") {
-                write!(f, " (the kind {kind} isn't known; tcshow --explain lists those that are)")
-            } else {
-                write!(f, " (tcshow --explain {kind} lists them)")
-            }
+        Some(kind) if path.ends_with("/Options") => {
+            write!(f, " (the kind {kind} isn't known; tcshow --explain lists those that are)")
         }
-        None => {
-            if is_of_options(path) {
-                f.write_str(" (options need a Kind before them)")
-            } else {
-                Ok(())
-            }
-        }
+        Some(kind) => write!(f, " (tcshow --explain {kind} lists them)"),
+        None if is_of_options(path) => f.write_str(" (options need a Kind before them)"),
+        None => Ok(()),
     }
 }
 
 // True of the place of options, and of one option by its name.
 fn is_of_options(path: &str) -> bool {
-    path.ends_with("/Options") || parent(parent(path)).ends_with("/Options")
-}
-
-// The place that a place is in.
-fn parent(path: &str) -> &str {
-    match path.rsplit_once('/') {
-        Some((parent, _)) => parent,
-        None => "",
-    }
+    let parent = |path: &str| path.rsplit_once('/').map_or(String::new(), |(parent, _)| parent.to_owned());
+    path.ends_with("/Options") || parent(&parent(path)).ends_with("/Options")
 }
 
 fn show_difference(difference: &Difference, f: &mut fmt::Formatter<'_>) -> fmt::Result {
-    show_path(difference.path.as_str(), f)?;
-    match &difference.found {
-        Some(found) => write!(f, "found {found}, wanted ")?,
-        None => f.write_str("found nothing, wanted ")?,
-    }
-    match &difference.wanted {
-        Some(wanted) => f.write_str(wanted.as_str()),
-        None => f.write_str("nothing"),
-    }
+    let [found, wanted] = [&difference.found, &difference.wanted].map(|value| value.as_deref().unwrap_or("nothing"));
+    show_path(&difference.path, f)?;
+    write!(f, "found {found}, wanted {wanted}")
 }
 
 // The place in the message; nothing of the whole.
@@ -257,15 +236,12 @@ fn show_path(path: &str, f: &mut fmt::Formatter<'_>) -> fmt::Result {
 #[derive(Clone, Copy)]
 pub struct Notice<'a>(pub &'a Difference);
 
-impl<'a> fmt::Display for Notice<'a> {
+impl fmt::Display for Notice<'_> {
     fn fmt(&self, f: &mut fmt::Formatter<'_>) -> fmt::Result {
-        let Notice(place) = self;
-        show_path(place.path.as_str(), f)?;
-        match &place.found {
-            Some(found) => write!(f, "found {found}, ")?,
-            None => f.write_str("found nothing, ")?,
-        }
-        match &place.wanted {
+        let Difference { path, found, wanted } = self.0;
+        show_path(path, f)?;
+        write!(f, "found {}, ", found.as_deref().unwrap_or("nothing"))?;
+        match wanted {
             Some(wanted) => write!(f, "settled to {wanted}"),
             None => f.write_str("dropped"),
         }

@@ -1,7 +1,5 @@
 //! How a line is made into a message.
 
-use crate::user::prelude::*;
-
 /// How a line is made into a message.
 #[derive(Clone, Copy, PartialEq, Eq, Debug)]
 pub enum Making {

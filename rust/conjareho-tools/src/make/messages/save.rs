@@ -1,8 +1,6 @@
 //! The first and the last line of a save, which hold no message.
 
-use crate::user::prelude::*;
-
-use crate::serde_json::Value;
+use serde_json::Value;
 
 /// True if the line is the first or the last line of a save.
 #[must_use]

@@ -1,16 +1,14 @@
 //! Requests in order: each after all that it needs.
 
-use crate::user::prelude::*;
+use std::io::{BufRead, Write};
 
 use crate::forms_json::Tables;
-use crate::host::io::{BufRead, Write};
 use crate::make::messages::Forms;
 use crate::make::program::arguments::Options;
 use crate::make::program::plans::{named_by, of_interfaces, plan_by};
 use crate::make::requests::lines::{Lines, Reading, Source, has_complaint, read_lines};
-use crate::make::requests::order::{
-    Restored, either, lines_of_now, requests_by, requests_by_now, write_remarks, write_requests,
-};
+use crate::make::requests::order::{Restored, lines_of_now, requests_by, requests_by_now};
+use crate::make::requests::written::{write_remarks, write_requests};
 use crate::plan::objects::KindRules;
 use crate::streams::Stop;
 
@@ -66,27 +64,22 @@ fn requests_of_plan<T: Tables>(
     plan_by(&KindRules, &keys, there, wanted)
 }
 
-/// Makes the requests of all lines of an input, and writes them and what is said of the lines.
-///
-/// # Panics
-///
-/// It may, unless this holds, which the proved sources ask of callers:
-///
-/// - `has_refused.old ≡ false`
-pub(crate) fn restore_in_order<T: Tables, R: BufRead, W: crate::host::io::Write, E: Write>(
+/// Makes the requests of all lines of an input, and writes them and what is said of the lines. `has_refused` becomes true if something is
+/// wrong with a line.
+pub(crate) fn restore_in_order<T: Tables, R: BufRead, W: Write>(
     forms: Forms<T>,
     options: &Options,
     requests: &RequestOptions<'_>,
     reader: &mut R,
     writer: &mut W,
-    errors: &mut E,
+    errors: &mut dyn Write,
     has_refused: &mut bool,
 ) -> Result<(), Stop> {
     let restored = requests_of(forms, requests, reader)?;
-    *has_refused = either(restored.is_void, has_complaint(&restored.remarks));
-    write_remarks(&restored.remarks, options.verbose, requests.plans, errors)?;
-    if restored.is_void {
-        return Ok(());
+    *has_refused = restored.is_void || has_complaint(&restored.remarks);
+    write_remarks(&restored.remarks, options.verbose, requests.plans, errors);
+    if !restored.is_void {
+        *has_refused |= write_requests(options.form, &restored.requests, writer, errors)?;
     }
-    write_requests(options.form, &restored.requests, writer, errors, has_refused)
+    Ok(())
 }

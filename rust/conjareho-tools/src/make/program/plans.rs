@@ -10,7 +10,7 @@ use crate::make::program::plan_complaint::PlanComplaint;
 use crate::make::requests::blocks::blocks_of;
 use crate::make::requests::complaint::Complaint;
 use crate::make::requests::lines::{
-    Dumped, Lines, Reading, Remark, Source, complain, has_complaint, lines_of, read_lines, say_all,
+    Dumped, Lines, Reading, Remark, Source, complain, has_complaint, lines_of, read_lines,
 };
 use crate::make::requests::order::{LineRequest, Restored};
 use crate::make::requests::restore::{Dump, dump_of};
@@ -49,8 +49,8 @@ pub fn plan_of_dumps<R: Rules>(
     now: Vec<(NetlinkHeader, Vec<u8>)>,
     want: Vec<(NetlinkHeader, Vec<u8>)>,
 ) -> Result<Restored, Stop> {
-    let now = lines_of(now)?;
-    let want = lines_of(want)?;
+    let now = lines_of(now);
+    let want = lines_of(want);
     plan_by(rules, keys, now, want)
 }
 
@@ -193,15 +193,15 @@ fn requests_to<R: Rules>(
         Ok(planned) => Ok(line_requests(planned, was, is, remarks)?),
         Err(PlanError::OutOfMemory) => Err(AllocError),
         Err(PlanError::State(key)) => {
-            complain(Source::Now, number_of(&key, was), &PlanComplaint::Unready(Label(key)), remarks)?;
+            complain(Source::Now, number_of(&key, was), &PlanComplaint::Unready(Label(key)), remarks);
             Ok(Vec::new())
         }
         Err(PlanError::Wanted(key)) => {
-            complain(Source::Wanted, number_of(&key, is), &PlanComplaint::Unready(Label(key)), remarks)?;
+            complain(Source::Wanted, number_of(&key, is), &PlanComplaint::Unready(Label(key)), remarks);
             Ok(Vec::new())
         }
         Err(PlanError::Elsewhere(key)) => {
-            complain(Source::Now, number_of(&key, was), &PlanComplaint::Elsewhere(Label(key)), remarks)?;
+            complain(Source::Now, number_of(&key, was), &PlanComplaint::Elsewhere(Label(key)), remarks);
             Ok(Vec::new())
         }
     }
@@ -219,7 +219,7 @@ fn number_of(key: &Key, numbers: &Numbers) -> u64 {
 ///
 /// A [`Stop`].
 pub fn state_of_dumps(there: Option<&State>, dumps: Vec<(NetlinkHeader, Vec<u8>)>) -> Result<Option<State>, Stop> {
-    let lines = lines_of(dumps)?;
+    let lines = lines_of(dumps);
     let is_void = lines.is_void;
     let mut remarks = Vec::new();
     let found = state_in(Source::Now, there, lines, &mut remarks)?;
@@ -294,7 +294,7 @@ fn state_in(
     remarks: &mut Vec<Remark>,
 ) -> Result<Option<(State, Numbers)>, AllocError> {
     let Lines { dumps, remarks: said, .. } = lines;
-    say_all(said, remarks)?;
+    remarks.extend(said);
     let parsed = parsed_dumps(source, &dumps, remarks)?;
     state_by(source, there, parsed, remarks)
 }
@@ -313,7 +313,7 @@ fn with_dump(source: Source, dump: &Dumped, parsed: Parsed, remarks: &mut Vec<Re
     match parsed_dump(&dump.made) {
         Ok(shown) => with_shown(parsed, shown, dump.number),
         Err(complaint) => {
-            complain(source, dump.number, &complaint, remarks)?;
+            complain(source, dump.number, &complaint, remarks);
             Ok(parsed)
         }
     }
@@ -343,7 +343,7 @@ fn state_by(
         Err(StateError::OutOfMemory) => Err(AllocError),
         Err(error) => {
             let number = number_at(&numbers, error.place());
-            complain(source, number, &PlanComplaint::State(error), remarks)?;
+            complain(source, number, &PlanComplaint::State(error), remarks);
             Ok(None)
         }
     }
@@ -413,7 +413,7 @@ fn say_unmade(keys: &[Key], is: &Numbers, remarks: &mut Vec<Remark>) -> Result<(
     for key in keys {
         let number = number_of(key, is);
         let complaint = PlanComplaint::Unmade(Label(*key));
-        complain(Source::Wanted, number, &complaint, remarks)?;
+        complain(Source::Wanted, number, &complaint, remarks);
     }
     Ok(())
 }

@@ -26,7 +26,7 @@ pub fn run<T: Tables, R: Read, W: Write>(
 ) -> Ended {
     if options.making == Making::Restored && !options.in_order {
         let mut has_refused = false;
-        let restored = restore_in_order(forms, options, requests, reader, writer, &mut errors, &mut has_refused);
+        let restored = restore_in_order(forms, options, requests, reader, writer, errors, &mut has_refused);
         let outcome = restored.map_err(|stop| shown_reason(reader.get_ref(), writer, stop));
         return Ended { outcome, has_refused };
     }
@@ -53,7 +53,7 @@ impl<T: Tables> Maker for RequestMaker<T> {
     fn make(&self, line: Vec<u8>) -> Result<Answer, AllocError> {
         match self.request_in(line) {
             Ok(Some(BuiltMessage { given, bytes, settled })) => {
-                Ok(Answer::Message { given, bytes, notices: notices_of(&settled)? })
+                Ok(Answer::Message { given, bytes, notices: notices_of(&settled) })
             }
             Ok(None) => Ok(Answer::Nothing { notice: None }),
             Err(complaint) if complaint.is_no_memory() => Err(AllocError),

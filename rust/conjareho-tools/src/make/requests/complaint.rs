@@ -1,12 +1,12 @@
 //! Why no request is made of a line.
 
-use crate::user::prelude::*;
+use std::fmt;
 
+use crate::fallible::AllocError;
 use crate::make::messages::{LineError, Place};
 use crate::make::requests::save::SaveFault;
 use crate::nla_frames::DecodeError;
 use crate::restore::RestoreError;
-use core::fmt;
 
 /// Why no request is made of a line.
 pub enum Complaint {
@@ -36,19 +36,13 @@ impl Complaint {
     /// True if memory ran out.
     #[must_use]
     pub fn is_no_memory(&self) -> bool {
-        match self {
-            Complaint::Line(error) => is_no_memory(error),
-            _ => false,
-        }
+        matches!(self, Complaint::Line(LineError::NoMemory))
     }
 
     /// True if another request makes what is dumped.
     #[must_use]
     pub fn is_made_by_another(&self) -> bool {
-        match self {
-            Complaint::Restore(error) => is_made_by_kernel(error),
-            _ => false,
-        }
+        matches!(self, Complaint::Restore(RestoreError::MadeByKernel))
     }
 
     /// True if no request at all is made because of it.
@@ -62,14 +56,6 @@ impl Complaint {
                 | Complaint::OtherInterface(_)
         )
     }
-}
-
-fn is_no_memory(error: &LineError) -> bool {
-    matches!(error, LineError::NoMemory)
-}
-
-fn is_made_by_kernel(error: &RestoreError) -> bool {
-    matches!(error, RestoreError::MadeByKernel)
 }
 
 impl From<AllocError> for Complaint {

@@ -7,8 +7,9 @@ use crate::host::io::Write;
 use crate::make::lines::{Encoding, NetlinkHeader, Output};
 use crate::make::messages::{BuiltMessage, Forms};
 use crate::make::requests::complaint::Complaint;
+use crate::make::requests::facts::{DumpFacts, facts_of};
 use crate::make::requests::lines::{
-    Dumped, Lines, Reading, Remark, RemarkKind, Source, complain, lines_of, read_lines, say_all,
+    Dumped, Lines, Reading, Remark, RemarkKind, Source, complain, lines_of, read_lines,
 };
 use crate::make::requests::now::{Counts, Single, now_of, singles_of, unlisted_in};
 use crate::make::requests::restore::{Dump, dump_of, restored};
@@ -19,7 +20,7 @@ use crate::plan::restored::{
     shared_action,
 };
 use crate::restore::{Object, RestoreError, RootTable, actions_of_filter, notice_of, root_table};
-use crate::streams::{Stop, write_text};
+use crate::streams::Stop;
 use crate::tc_action_messages::{TcActionMessage, TcActionMessageAttribute};
 use crate::tc_actions::{TcAction, TcActionAttribute};
 use crate::tc_messages::TcMessage;
@@ -261,7 +262,7 @@ pub fn requests_by_now<T: Tables>(
 ) -> Result<Restored, Stop> {
     let mut there = lines_of_now(forms, None, now)?;
     let now = now_of(&mut there)?;
-    let all = with_remarks(lines, there)?;
+    let all = with_remarks(lines, there);
     requests_by(all, Some(&now), replaces_actions)
 }
 
@@ -271,7 +272,7 @@ pub fn requests_by_now<T: Tables>(
 ///
 /// A [`Stop`].
 pub fn requests_of_dumps(dumps: Vec<(NetlinkHeader, Vec<u8>)>) -> Result<Restored, Stop> {
-    let lines = lines_of(dumps)?;
+    let lines = lines_of(dumps);
     requests_by(lines, None, false)
 }
 
@@ -287,11 +288,11 @@ pub fn lines_of_now<T: Tables>(forms: Forms<T>, index: Option<i32>, text: &[u8])
 }
 
 // Lines, with what is said of others.
-fn with_remarks(lines: Lines, others: Lines) -> Result<Lines, AllocError> {
+fn with_remarks(lines: Lines, others: Lines) -> Lines {
     let mut lines = lines;
-    lines.is_void = either(lines.is_void, others.is_void);
-    say_all(others.remarks, &mut lines.remarks)?;
-    Ok(lines)
+    lines.is_void |= others.is_void;
+    lines.remarks.extend(others.remarks);
+    lines
 }
 
 /// The requests of what lines hold.
@@ -327,124 +328,16 @@ fn keep_all(
     requests: &mut Requests,
     remarks: &mut Vec<Remark>,
 ) -> Result<(), AllocError> {
-    let DumpFacts { roots, ingress, listed, shared, offloaded } = facts_of(dumps, remarks)?;
+    let DumpFacts { roots, ingress, listed, shared, offloaded } = facts_of(dumps, remarks);
     let by_filters = made_by_filters(shared, &offloaded);
     let known =
         Known { roots: &roots, ingress: &ingress, listed: &listed, by_filters: &by_filters, now, replaces_actions };
     for dump in dumps {
         if let Err(complaint) = requests.keep(known, dump) {
-            complain(Source::Wanted, dump.number, &complaint, remarks)?;
+            complain(Source::Wanted, dump.number, &complaint, remarks);
         }
     }
     Ok(())
-}
-
-// The parts of all dumps on which requests depend.
-fn facts_of(dumps: &[Dumped], remarks: &mut Vec<Remark>) -> Result<DumpFacts, AllocError> {
-    let mut facts = DumpFacts {
-        roots: Vec::new(),
-        ingress: Vec::new(),
-        listed: Vec::new(),
-        shared: Vec::new(),
-        offloaded: Vec::new(),
-    };
-    for dump in dumps {
-        if let Err(complaint) = facts.keep(dump) {
-            complain(Source::Wanted, dump.number, &complaint, remarks)?;
-        }
-    }
-    Ok(facts)
-}
-
-// Parts of all dumps on which requests depend.
-struct DumpFacts {
-    // The root tables of u32.
-    roots: Vec<RootTable>,
-    // The interfaces that have ingress.
-    ingress: Vec<i32>,
-    // The actions that dumps have by themselves.
-    listed: Vec<Named>,
-    // Those of them that filters share and nothing else holds.
-    shared: Vec<Key>,
-    // The actions of filters with an offload flag, and those that filters have and that have one themselves.
-    offloaded: Vec<Key>,
-}
-
-impl DumpFacts {
-    // Keeps the parts of a dump. A line that isn't a dump has its complaint where its request is made.
-    fn keep(&mut self, dump: &Dumped) -> Result<(), Complaint> {
-        match dump_of(dump.made.given.kind) {
-            Ok(Dump::Of(object)) => {
-                let message = TcMessage::parse(&dump.made.bytes)?;
-                if let Some(root) = root_table(object, &message) {
-                    self.roots.try_push(root)?;
-                }
-                if let Some(index) = ingress_of(object, &message) {
-                    self.ingress.try_push(index)?;
-                }
-                if object == Object::Filter {
-                    let offloaded = offloaded_by(message)?;
-                    self.offloaded.try_extend(&offloaded)?;
-                    let filter = TcMessage::parse(&dump.made.bytes)?;
-                    self.keep_flagged(filter)?;
-                }
-                Ok(())
-            }
-            Ok(Dump::Actions) => self.keep_actions(&dump.made.bytes),
-            Err(_) => Ok(()),
-        }
-    }
-
-    // An action takes the offload flag of a filter that has it, even of another interface's.
-    fn keep_flagged(&mut self, filter: TcMessage) -> Result<(), Complaint> {
-        for action in &actions_of_filter(filter)? {
-            if let (true, Some(key)) = (has_offload_flag(action), shared_action(action)) {
-                self.offloaded.try_push(key)?;
-            }
-        }
-        Ok(())
-    }
-
-    fn keep_actions(&mut self, bytes: &[u8]) -> Result<(), Complaint> {
-        for attribute in &TcActionMessage::parse(bytes)?.attributes {
-            if let TcActionMessageAttribute::Actions(actions) = attribute {
-                for action in actions {
-                    if let Some(name) = name_of_action(action) {
-                        self.listed.try_push(name)?;
-                    }
-                    if let Some(key) = shared_action(action) {
-                        self.shared.try_push(key)?;
-                    }
-                }
-            }
-        }
-        Ok(())
-    }
-}
-
-// `TCA_ACT_FLAGS`, a bitfield, and `TCA_ACT_FLAGS_SKIP_HW` with `TCA_ACT_FLAGS_SKIP_SW` in its value.
-const ACTION_FLAGS: u16 = 7;
-
-const OFFLOAD_FLAGS: u8 = 6;
-
-fn has_offload_flag(action: &TcAction) -> bool {
-    action.attributes.iter().any(|attribute| is_offload_flag(attribute))
-}
-
-fn is_offload_flag(attribute: &TcActionAttribute) -> bool {
-    match attribute {
-        TcActionAttribute::Other(nla) => {
-            nla.kind() & NLA_TYPE_MASK == ACTION_FLAGS && begins_with_offload_flag(nla.value())
-        }
-        _ => false,
-    }
-}
-
-fn begins_with_offload_flag(value: &[u8]) -> bool {
-    match value.split_first() {
-        Some((first, _)) => *first & OFFLOAD_FLAGS != 0,
-        None => false,
-    }
 }
 
 fn say(remarks: &mut Vec<Remark>, number: u64, kind: RemarkKind, text: String) -> Result<(), AllocError> {
@@ -538,65 +431,4 @@ fn put_request(planned: &mut Planned, requests: &mut Vec<LineRequest>) -> Result
         requests.try_push(LineRequest { number: planned.number, given: made.given, bytes: made.bytes })?;
     }
     Ok(())
-}
-
-/// True if at least one is true.
-#[must_use]
-pub fn either(one: bool, other: bool) -> bool {
-    one || other
-}
-
-/// Writes the remarks on lines. That a dump needs no request is written with `verbose` only.
-///
-/// # Errors
-///
-/// A [`AllocError`].
-pub fn write_remarks<E: Write>(
-    remarks: &[Remark],
-    verbose: bool,
-    plans: bool,
-    errors: &mut E,
-) -> Result<(), AllocError> {
-    for remark in remarks {
-        if remark.kind != RemarkKind::Made || verbose {
-            write_remark(remark, plans, errors)?;
-        }
-    }
-    Ok(())
-}
-
-fn write_remark<E: Write>(remark: &Remark, plans: bool, errors: &mut E) -> Result<(), AllocError> {
-    let place = match remark.source {
-        Source::Wanted => "line",
-        Source::Now if plans => "--plan, line",
-        Source::Now => "--now, line",
-    };
-    let (number, said) = (remark.number, remark.text.as_str());
-    let text = crate::user::formatted(format_args!("tcmake: {place} {number}: {said}\n"))?;
-    let _ = write_text(errors, text.as_str());
-    Ok(())
-}
-
-/// Writes requests in order, and complaints about those that can't be written.
-///
-/// # Errors
-///
-/// A [`Stop`].
-pub fn write_requests<W: crate::host::io::Write, E: Write>(
-    form: Encoding,
-    requests: &[LineRequest],
-    writer: &mut W,
-    errors: &mut E,
-    has_refused: &mut bool,
-) -> Result<(), Stop> {
-    let mut output = Output::new(form);
-    for request in requests {
-        if let Err(why) = output.put(&request.given, &request.bytes) {
-            let _ = write_text(errors, &format!("tcmake: line {}: {why}\n", request.number));
-            *has_refused = true;
-        }
-        output.write(writer)?;
-    }
-    output.end();
-    output.write(writer)
 }

@@ -1,11 +1,11 @@
 //! The first and the last line of a save: `{"save":1,"names":{"2":"wan"},..}` and `{"end":39}`.
 
-use crate::user::prelude::*;
+use std::fmt;
+
+use serde_json::Value;
 
 use crate::make::messages::{is_end, is_head, number_of, wrong};
 use crate::make::requests::complaint::Complaint;
-use crate::serde_json::{Map, Value};
-use core::fmt;
 
 /// Why a save isn't taken.
 #[derive(Clone, Copy)]
@@ -99,9 +99,8 @@ impl Save {
         if !is_first {
             return Err(Complaint::Save(SaveFault::LateHead));
         }
-        let names = names_in(json)?;
-        self.names = Some(names);
-        self.devices = devices_in(json)?;
+        self.names = Some(names_in(json)?);
+        self.devices = devices_in(json);
         Ok(())
     }
 
@@ -142,41 +141,18 @@ fn names_in(json: &Value) -> Result<Names, Complaint> {
     if number_of(json, "save", 1, "1, the form of saves that is known")? != Some(1) {
         return Err(Complaint::Save(SaveFault::LateHead));
     }
-    let mut names = Vec::new();
-    if let Some(held) = json.get("names") {
-        let Some(members) = held.as_object() else {
-            return Err(Complaint::Line(wrong("names", held, NAMES)));
-        };
-        for (index, name) in members {
-            match (index.as_str().parse::<u32>(), name.as_str()) {
-                (Ok(index), Some(name)) => names.try_push((index, fallible::text(name)?))?,
-                _ => return Err(Complaint::Line(wrong("names", held, NAMES))),
-            }
-        }
-    }
-    Ok(names)
+    let Some(held) = json.get("names") else {
+        return Ok(Names::new());
+    };
+    let name = |(index, name): (&String, &Value)| Some((index.parse().ok()?, name.as_str()?.to_owned()));
+    let names = held.as_object().and_then(|members| members.iter().map(name).collect());
+    names.ok_or_else(|| Complaint::Line(wrong("names", held, NAMES)))
 }
 
 // The indices of the interfaces in the first line of a save.
-fn devices_in(json: &Value) -> Result<Option<Vec<i32>>, AllocError> {
-    let Some(devices) = members_of(json, "devs") else {
-        return Ok(None);
-    };
-    let mut indices = Vec::new();
-    for (_, device) in devices {
-        if let Some(index) = index_of(device) {
-            indices.try_push(index)?;
-        }
-    }
-    Ok(Some(indices))
-}
-
-fn members_of<'a>(json: &'a Value, name: &str) -> Option<&'a Map<String, Value>> {
-    json.get(name)?.as_object()
-}
-
-fn index_of(device: &Value) -> Option<i32> {
-    i32::try_from(device.get("index")?.as_i64()?).ok()
+fn devices_in(json: &Value) -> Option<Vec<i32>> {
+    let index = |device: &Value| i32::try_from(device.get("index")?.as_i64()?).ok();
+    Some(json.get("devs")?.as_object()?.values().filter_map(index).collect())
 }
 
 const NAMES: &str = "names of interfaces by their indices";
