@@ -34,6 +34,20 @@ enum { FLOWER_L2_MISS = 106, FLOWER_KEY_CFM, FLOWER_KEY_SPI, FLOWER_KEY_SPI_MASK
 enum { ENC_OPTS_PFCP = 5, ENC_OPT_PFCP_TYPE = 1, ENC_OPT_PFCP_SEID, CFM_MD_LEVEL = 1, CFM_OPCODE };
 enum { MQPRIO_TC_ENTRY = 5, MQPRIO_TC_ENTRY_INDEX = 1, MQPRIO_TC_ENTRY_FP, TAPRIO_TC_ENTRY_FP, FP_EXPRESS = 1, FP_PREEMPTIBLE };
 
+// of Linux 7.3: pkt_sched.h
+enum { FQ_OFFLOAD_HORIZON = 18, CAKE_STATS_ACTIVE_QUEUES = 17 };
+enum { DUALPI2_LIMIT = 1, DUALPI2_MEMORY_LIMIT, DUALPI2_TARGET, DUALPI2_TUPDATE, DUALPI2_ALPHA, DUALPI2_BETA, DUALPI2_STEP_THRESH_PKTS, DUALPI2_STEP_THRESH_US };
+enum { DUALPI2_MIN_QLEN_STEP = 9, DUALPI2_COUPLING, DUALPI2_DROP_OVERLOAD, DUALPI2_DROP_EARLY, DUALPI2_C_PROTECTION, DUALPI2_ECN_MASK, DUALPI2_SPLIT_GSO };
+enum { DUALPI2_PAD = 16, ECN_MASK_L4S_ECT = 1, ECN_MASK_ANY_ECT = 3 };
+struct dualpi2_xstats {
+    __u32 prob, delay_c, delay_l, packets_in_c, packets_in_l, maxq, ecn_mark, step_marks;
+    __s32 credit;
+    __u32 memory_used, max_memory_used, memory_limit;
+};
+struct netem_xstats {
+    __u64 delayed, dropped, corrupted, duplicated, reordered, ecn_marked, allocation_errors;
+};
+
 // ---- Bytes
 
 static unsigned char bytes[1 << 16], last;
@@ -346,9 +360,30 @@ static void actions(void) {
             IN(TCA_GACT_PROB, RECORD(struct tc_gact_p, it.ptype = type, FIELD(pval), it.paction = TC_ACT_REPEAT)));
 }
 
+// ---- What is newer than Linux 6.12
+
+static void newer(void) {
+    MESSAGE("fq", IN(TCA_OPTIONS, n32(FQ_OFFLOAD_HORIZON)));
+    MESSAGE("cake", IN(TCA_STATS2, IN(TCA_STATS_APP, n32(CAKE_STATS_ACTIVE_QUEUES))));
+    MESSAGE("cake_mq", IN(TCA_OPTIONS, n64(TCA_CAKE_BASE_RATE64); is32(TCA_CAKE_DIFFSERV_MODE, CAKE_DIFFSERV_BESTEFFORT); n32(TCA_CAKE_MEMORY)));
+    MESSAGE("netem",
+        IN(TCA_XSTATS, RECORD(struct netem_xstats, FIELD(delayed), FIELD(dropped), FIELD(corrupted), FIELD(duplicated), FIELD(reordered), FIELD(ecn_marked),
+            FIELD(allocation_errors))));
+    for (int mask = ECN_MASK_L4S_ECT; mask <= ECN_MASK_ANY_ECT; mask++)
+        MESSAGE("dualpi2",
+            IN(TCA_OPTIONS,
+                n32(DUALPI2_LIMIT); n32(DUALPI2_MEMORY_LIMIT); n32(DUALPI2_TARGET); n32(DUALPI2_TUPDATE); n32(DUALPI2_ALPHA); n32(DUALPI2_BETA);
+                n32(DUALPI2_STEP_THRESH_PKTS); n32(DUALPI2_STEP_THRESH_US); n32(DUALPI2_MIN_QLEN_STEP); n8(DUALPI2_COUPLING);
+                is8(DUALPI2_DROP_OVERLOAD, mask % 2); is8(DUALPI2_DROP_EARLY, mask % 2); n8(DUALPI2_C_PROTECTION); is8(DUALPI2_ECN_MASK, mask);
+                is8(DUALPI2_SPLIT_GSO, mask % 2); flag(DUALPI2_PAD));
+            IN(TCA_XSTATS, RECORD(struct dualpi2_xstats, FIELD(prob), FIELD(delay_c), FIELD(delay_l), FIELD(packets_in_c), FIELD(packets_in_l), FIELD(maxq),
+                FIELD(ecn_mark), FIELD(step_marks), FIELD(credit), FIELD(memory_used), FIELD(max_memory_used), FIELD(memory_limit))));
+}
+
 int main(void) {
     qdiscs();
     filters();
     actions();
+    newer();
     return 0;
 }

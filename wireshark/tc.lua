@@ -28,6 +28,10 @@ local ENUMS = {
   cake_atm = {[0] = "none", [1] = "atm", [2] = "ptm"},
   cake_flow = {[0] = "none", [1] = "src_ip", [2] = "dst_ip", [3] = "hosts", [4] = "flows", [5] = "dual_src", [6] = "dual_dst", [7] = "triple"},
   cake_ack = {[0] = "none", [1] = "filter", [2] = "aggressive"},
+  dualpi2_drop_overload = {[0] = "overflow", [1] = "drop"},
+  dualpi2_drop_early = {[0] = "drop_dequeue", [1] = "drop_enqueue"},
+  dualpi2_ecn_mask = {[1] = "l4s_ect", [2] = "cla_ect", [3] = "any_ect"},
+  dualpi2_split_gso = {[0] = "no_split_gso", [1] = "split_gso"},
   tc_mqprio_mode = {[0] = "dcb", [1] = "channel"},
   tc_mqprio_shaper = {[0] = "dcb", [1] = "bw_rate"},
   tcq_plug = {[0] = "buffer", [1] = "release_one", [2] = "release_indefinite", [3] = "limit"},
@@ -676,6 +680,7 @@ local LISTS = {
     [14] = {"TCA_CAKE_STATS_DROP_NEXT_US", {"s32", "tc.cake_stats.drop_next_us", "Drop next us", unit="us", key="DropNextUs", left=0}},
     [15] = {"TCA_CAKE_STATS_P_DROP", {"u32", "tc.cake_stats.pdrop", "Pdrop", key="PDrop", left=0}},
     [16] = {"TCA_CAKE_STATS_BLUE_TIMER_US", {"s32", "tc.cake_stats.blue_timer_us", "Blue timer us", unit="us", key="BlueTimerUs", left=0}},
+    [17] = {"TCA_CAKE_STATS_ACTIVE_QUEUES", {"u32", "tc.cake_stats.active_queues", "Active queues", key="ActiveQueues", left=0}},
   },
   cake_tin_stats = {
     [1] = {"TCA_CAKE_TIN_STATS_PAD", {"flag", "tc.cake_tin_stats.pad", "Pad", key="Pad", left=-1}},
@@ -738,6 +743,24 @@ local LISTS = {
     [4] = {"TCA_DSMARK_MASK", {"u8", "tc.dsmark.mask", "Mask", unit="hex", key="Mask", w="mask"}},
     [5] = {"TCA_DSMARK_VALUE", {"u8", "tc.dsmark.value", "Value", unit="hex", key="Value", w="value"}},
   },
+  dualpi2 = {
+    [1] = {"TCA_DUALPI2_LIMIT", {"u32", "tc.dualpi2.limit", "Limit", unit="packets", key="Limit", w="limit"}},
+    [2] = {"TCA_DUALPI2_MEMORY_LIMIT", {"u32", "tc.dualpi2.memory_limit", "Memory limit", unit="bytes", key="MemoryLimit", w="memlimit"}},
+    [3] = {"TCA_DUALPI2_TARGET", {"u32", "tc.dualpi2.target", "Target", unit="us", key="Target", w="target"}},
+    [4] = {"TCA_DUALPI2_TUPDATE", {"u32", "tc.dualpi2.tupdate", "Tupdate", unit="us", key="Tupdate", w="tupdate"}},
+    [5] = {"TCA_DUALPI2_ALPHA", {"u32", "tc.dualpi2.alpha", "Alpha", key="Alpha"}},
+    [6] = {"TCA_DUALPI2_BETA", {"u32", "tc.dualpi2.beta", "Beta", key="Beta"}},
+    [7] = {"TCA_DUALPI2_STEP_THRESH_PKTS", {"u32", "tc.dualpi2.step_thresh_pkts", "Step thresh pkts", unit="packets", key="StepThreshPkts", w="step_thresh", twin="tc.dualpi2.step_thresh"}},
+    [8] = {"TCA_DUALPI2_STEP_THRESH_US", {"u32", "tc.dualpi2.step_thresh_us", "Step thresh us", unit="us", key="StepThreshUs", w="step_thresh", twin="tc.dualpi2.step_thresh"}},
+    [9] = {"TCA_DUALPI2_MIN_QLEN_STEP", {"u32", "tc.dualpi2.min_qlen_step", "Min qlen step", unit="packets", key="MinQlenStep", w="min_qlen_step"}},
+    [10] = {"TCA_DUALPI2_COUPLING", {"u8", "tc.dualpi2.coupling", "Coupling", key="Coupling", w="coupling_factor"}},
+    [11] = {"TCA_DUALPI2_DROP_OVERLOAD", {"u8", "tc.dualpi2.drop_overload", "Drop overload", key="DropOverload", w="overflow|drop_on_overload", s="Choice", enum="dualpi2_drop_overload"}},
+    [12] = {"TCA_DUALPI2_DROP_EARLY", {"u8", "tc.dualpi2.drop_early", "Drop early", key="DropEarly", w="drop_dequeue|drop_enqueue", s="Choice", enum="dualpi2_drop_early"}},
+    [13] = {"TCA_DUALPI2_C_PROTECTION", {"u8", "tc.dualpi2.cprotection", "Cprotection", unit="percent", key="CProtection", w="classic_protection"}},
+    [14] = {"TCA_DUALPI2_ECN_MASK", {"u8", "tc.dualpi2.ecn_mask", "ECN mask", key="EcnMask", w="|l4s_ect||any_ect", s="Choice", enum="dualpi2_ecn_mask"}},
+    [15] = {"TCA_DUALPI2_SPLIT_GSO", {"u8", "tc.dualpi2.split_gso", "Split GSO", key="SplitGso", w="no_split_gso|split_gso", s="Choice", enum="dualpi2_split_gso"}},
+    [16] = {"TCA_DUALPI2_PAD", {"flag", "tc.dualpi2.pad", "Pad", key="Pad", left=-1}},
+  },
   etf = {
     [1] = {"TCA_ETF_PARMS", {"struct", "tc.etf.parms", "Parms", key="Parms", s="Flat", width=12, least=12, parts={{"s32", "tc.etf.parms.delta", "Delta", unit="ns", key="delta", w="delta"}, {"s32", "tc.etf.parms.clockid", "Clockid", names="clockid", key="clockid", w="clockid"}, {"u32", "tc.etf.parms.flags", "Flags", key="flags", w="flags", bits="tc_etf"}}}},
   },
@@ -773,6 +796,7 @@ local LISTS = {
     [15] = {"TCA_FQ_HORIZON_DROP", {"u8", "tc.fq.horizon_drop", "Horizon drop", key="HorizonDrop", w="horizon_cap|horizon_drop", s="Choice"}},
     [16] = {"TCA_FQ_PRIOMAP", {"struct", "tc.fq.priomap", "Priomap", key="Priomap", s="Flat", width=20, least=20, parts={{"s32", "tc.fq.priomap.bands", "Bands", key="bands", w="bands"}, {"array", false, "Priomap", key="priomap", w="priomap", inner={"u8", "tc.fq.priomap.priomap", "Priomap"}, width=16}}}},
     [17] = {"TCA_FQ_WEIGHTS", {"array", false, "Weights", key="Weights", w="weights", inner={"s32", "tc.fq.weights", "Weights"}, width=12}},
+    [18] = {"TCA_FQ_OFFLOAD_HORIZON", {"u32", "tc.fq.offload_horizon", "Offload horizon", unit="us", key="OffloadHorizon", w="offload_horizon", left=0}},
   },
   fq_codel = {
     [1] = {"TCA_FQ_CODEL_TARGET", {"u32", "tc.fq_codel.target", "Target", unit="us", key="Target", w="target"}},
@@ -1042,12 +1066,14 @@ KINDS.tc.tcindex = {options={"list", false, "", list="tcindex", layer="Tcindex"}
 KINDS.tc.u32 = {options={"list", false, "", list="u32", layer="U32"}}
 KINDS.tc.atm = {options={"list", false, "", list="atm", layer="Atm"}}
 KINDS.tc.cake = {options={"list", false, "", list="cake", layer="Cake"}, statistics={"list", false, "", list="cake_stats"}}
+KINDS.tc.cake_mq = {options={"list", false, "", list="cake", layer="CakeMq"}}
 KINDS.tc.cbq = {options={"list", false, "", list="cbq", layer="Cbq"}, statistics={"struct", false, "", width=16, least=16, parts={{"u32", "tc.cbq.xstats.borrows", "Borrows", key="borrows", left=0}, {"u32", "tc.cbq.xstats.overactions", "Overactions", key="overactions", left=0}, {"s32", "tc.cbq.xstats.avgidle", "Avgidle", key="avgidle", left=0}, {"s32", "tc.cbq.xstats.undertime", "Undertime", key="undertime", left=0}}}}
 KINDS.tc.cbs = {options={"list", false, "", list="cbs", layer="Cbs"}}
 KINDS.tc.choke = {options={"list", false, "", list="choke", layer="Choke"}, statistics={"struct", false, "", width=20, least=20, parts={{"u32", "tc.choke.xstats.early", "Early", key="early", left=0}, {"u32", "tc.choke.xstats.pdrop", "Pdrop", key="pdrop", left=0}, {"u32", "tc.choke.xstats.other", "Other", key="other", left=0}, {"u32", "tc.choke.xstats.marked", "Marked", key="marked", left=0}, {"u32", "tc.choke.xstats.matched", "Matched", key="matched", left=0}}}}
 KINDS.tc.codel = {options={"list", false, "", list="codel", layer="Codel"}, statistics={"struct", false, "", width=36, least=36, parts={{"u32", "tc.codel.xstats.maxpacket", "Maxpacket", key="maxpacket", left=0}, {"u32", "tc.codel.xstats.count", "Count", key="count", left=0}, {"u32", "tc.codel.xstats.lastcount", "Lastcount", key="lastcount", left=0}, {"u32", "tc.codel.xstats.ldelay", "Ldelay", unit="us", key="ldelay", left=0}, {"s32", "tc.codel.xstats.drop_next", "Drop next", unit="us", key="drop_next", left=0}, {"u32", "tc.codel.xstats.drop_overlimit", "Drop overlimit", key="drop_overlimit", left=0}, {"u32", "tc.codel.xstats.ecn_mark", "ECN mark", key="ecn_mark", left=0}, {"u32", "tc.codel.xstats.dropping", "Dropping", key="dropping", left=0}, {"u32", "tc.codel.xstats.ce_mark", "Ce mark", key="ce_mark", left=0}}}}
 KINDS.tc.drr = {options={"list", false, "", list="drr", layer="Drr"}, statistics={"struct", false, "", width=4, least=4, parts={{"u32", "tc.drr.xstats.deficit", "Deficit", key="deficit", left=0}}}}
 KINDS.tc.dsmark = {options={"list", false, "", list="dsmark", layer="Dsmark"}}
+KINDS.tc.dualpi2 = {options={"list", false, "", list="dualpi2", layer="Dualpi2"}, statistics={"struct", false, "", width=48, least=48, parts={{"u32", "tc.dualpi2.xstats.prob", "Prob", key="prob", left=0}, {"u32", "tc.dualpi2.xstats.delay_c", "Delay c", unit="us", key="delay_c", left=0}, {"u32", "tc.dualpi2.xstats.delay_l", "Delay l", unit="us", key="delay_l", left=0}, {"u32", "tc.dualpi2.xstats.packets_in_c", "Packets in c", unit="packets", key="packets_in_c", left=0}, {"u32", "tc.dualpi2.xstats.packets_in_l", "Packets in l", unit="packets", key="packets_in_l", left=0}, {"u32", "tc.dualpi2.xstats.maxq", "Maxq", unit="packets", key="maxq", left=0}, {"u32", "tc.dualpi2.xstats.ecn_mark", "ECN mark", unit="packets", key="ecn_mark", left=0}, {"u32", "tc.dualpi2.xstats.step_marks", "Step marks", unit="packets", key="step_marks", left=0}, {"s32", "tc.dualpi2.xstats.credit", "Credit", key="credit", left=0}, {"u32", "tc.dualpi2.xstats.memory_used", "Memory used", unit="bytes", key="memory_used", left=0}, {"u32", "tc.dualpi2.xstats.max_memory_used", "Max memory used", unit="bytes", key="max_memory_used", left=0}, {"u32", "tc.dualpi2.xstats.memory_limit", "Memory limit", unit="bytes", key="memory_limit", left=0}}}}
 KINDS.tc.etf = {options={"list", false, "", list="etf", layer="Etf"}}
 KINDS.tc.ets = {options={"list", false, "", list="ets", nested=true, layer="Ets"}}
 KINDS.tc.pfifo = {options={"struct", false, "", width=4, least=4, parts={{"u32", "tc.pfifo.limit", "Limit", unit="packets", key="limit", w="limit"}}}}
@@ -1063,7 +1089,7 @@ KINDS.tc.htb = {options={"list", false, "", list="htb", layer="Htb"}, statistics
 KINDS.tc.ingress = {options={"list", false, "", list="ingress", layer="Ingress"}}
 KINDS.tc.mqprio = {options={"struct", false, "", least=84, parts={{"u8", "tc.mqprio.num_tc", "Num TC", key="num_tc", w="num_tc"}, {"array", false, "Prio TC map", key="prio_tc_map", w="map", inner={"u8", "tc.mqprio.prio_tc_map", "Prio TC map"}, width=16}, {"u8", "tc.mqprio.hw", "HW", key="hw", w="hw"}, {"array", false, "Count", key="count", inner={"u16", "tc.mqprio.count", "Count"}, width=32}, {"array", false, "Offset", key="offset", inner={"u16", "tc.mqprio.offset", "Offset"}, width=32}, {"pad", "tc.mqprio.padding", "Padding", key="padding", width=2}, {"list", false, "Attributes", key="attributes", s="Flat", list="mqprio"}}}}
 KINDS.tc.multiq = {options={"struct", false, "", width=4, least=4, parts={{"u16", "tc.multiq.bands", "Bands", key="bands", w="bands"}, {"u16", "tc.multiq.max_bands", "Max bands", key="max_bands"}}}}
-KINDS.tc.netem = {options={"struct", false, "", least=24, parts={{"u32", "tc.netem.latency", "Latency", unit="ticks", key="latency", left=0}, {"u32", "tc.netem.limit", "Limit", unit="packets", key="limit", w="limit"}, {"u32", "tc.netem.loss", "Loss", unit="probability", key="loss", w="loss", left=0}, {"u32", "tc.netem.gap", "Gap", unit="packets", key="gap", w="gap", left=0}, {"u32", "tc.netem.duplicate", "Duplicate", unit="probability", key="duplicate", w="duplicate", left=0}, {"u32", "tc.netem.jitter", "Jitter", unit="ticks", key="jitter", left=0}, {"list", false, "Attributes", key="attributes", s="Flat", list="netem"}}}}
+KINDS.tc.netem = {options={"struct", false, "", least=24, parts={{"u32", "tc.netem.latency", "Latency", unit="ticks", key="latency", left=0}, {"u32", "tc.netem.limit", "Limit", unit="packets", key="limit", w="limit"}, {"u32", "tc.netem.loss", "Loss", unit="probability", key="loss", w="loss", left=0}, {"u32", "tc.netem.gap", "Gap", unit="packets", key="gap", w="gap", left=0}, {"u32", "tc.netem.duplicate", "Duplicate", unit="probability", key="duplicate", w="duplicate", left=0}, {"u32", "tc.netem.jitter", "Jitter", unit="ticks", key="jitter", left=0}, {"list", false, "Attributes", key="attributes", s="Flat", list="netem"}}}, statistics={"struct", false, "", width=56, least=56, parts={{"u64", "tc.netem.xstats.delayed", "Delayed", unit="packets", key="delayed", left=0}, {"u64", "tc.netem.xstats.dropped", "Dropped", unit="packets", key="dropped", left=0}, {"u64", "tc.netem.xstats.corrupted", "Corrupted", unit="packets", key="corrupted", left=0}, {"u64", "tc.netem.xstats.duplicated", "Duplicated", unit="packets", key="duplicated", left=0}, {"u64", "tc.netem.xstats.reordered", "Reordered", unit="packets", key="reordered", left=0}, {"u64", "tc.netem.xstats.ecn_marked", "ECN marked", unit="packets", key="ecn_marked", left=0}, {"u64", "tc.netem.xstats.allocation_errors", "Allocation errors", key="allocation_errors", left=0}}}}
 KINDS.tc.noop = {options={"list", false, "", list="no_options"}}
 KINDS.tc.noqueue = KINDS.tc.noop
 KINDS.tc.blackhole = KINDS.tc.noop
@@ -1884,6 +1910,7 @@ local ABOUT = {
   ["tc.cake_stats.drop_next_us"] = "TCA_CAKE_STATS_DROP_NEXT_US, us",
   ["tc.cake_stats.pdrop"] = "TCA_CAKE_STATS_P_DROP",
   ["tc.cake_stats.blue_timer_us"] = "TCA_CAKE_STATS_BLUE_TIMER_US, us",
+  ["tc.cake_stats.active_queues"] = "TCA_CAKE_STATS_ACTIVE_QUEUES",
   ["tc.cake_tin_stats.pad"] = "TCA_CAKE_TIN_STATS_PAD",
   ["tc.cake_tin_stats.sent_packets"] = "TCA_CAKE_TIN_STATS_SENT_PACKETS, packets",
   ["tc.cake_tin_stats.sent_bytes64"] = "TCA_CAKE_TIN_STATS_SENT_BYTES64, bytes",
@@ -1957,6 +1984,23 @@ local ABOUT = {
   ["tc.dsmark.set_tc_index"] = "TCA_DSMARK_SET_TC_INDEX",
   ["tc.dsmark.mask"] = "TCA_DSMARK_MASK",
   ["tc.dsmark.value"] = "TCA_DSMARK_VALUE",
+  ["tc.dualpi2.limit"] = "TCA_DUALPI2_LIMIT, packets",
+  ["tc.dualpi2.memory_limit"] = "TCA_DUALPI2_MEMORY_LIMIT, bytes",
+  ["tc.dualpi2.target"] = "TCA_DUALPI2_TARGET, us",
+  ["tc.dualpi2.tupdate"] = "TCA_DUALPI2_TUPDATE, us",
+  ["tc.dualpi2.alpha"] = "TCA_DUALPI2_ALPHA, Hz, times 256",
+  ["tc.dualpi2.beta"] = "TCA_DUALPI2_BETA, Hz, times 256",
+  ["tc.dualpi2.step_thresh"] = "in the words of tc: step_thresh_pkts, step_thresh_us",
+  ["tc.dualpi2.step_thresh_pkts"] = "TCA_DUALPI2_STEP_THRESH_PKTS, packets",
+  ["tc.dualpi2.step_thresh_us"] = "TCA_DUALPI2_STEP_THRESH_US, us",
+  ["tc.dualpi2.min_qlen_step"] = "TCA_DUALPI2_MIN_QLEN_STEP, packets",
+  ["tc.dualpi2.coupling"] = "TCA_DUALPI2_COUPLING",
+  ["tc.dualpi2.drop_overload"] = "TCA_DUALPI2_DROP_OVERLOAD",
+  ["tc.dualpi2.drop_early"] = "TCA_DUALPI2_DROP_EARLY",
+  ["tc.dualpi2.cprotection"] = "TCA_DUALPI2_C_PROTECTION, percent",
+  ["tc.dualpi2.ecn_mask"] = "TCA_DUALPI2_ECN_MASK",
+  ["tc.dualpi2.split_gso"] = "TCA_DUALPI2_SPLIT_GSO",
+  ["tc.dualpi2.pad"] = "TCA_DUALPI2_PAD",
   ["tc.etf.parms.delta"] = "ns",
   ["tc.etf.parms.flags.deadline_mode_on"] = "TC_ETF_DEADLINE_MODE_ON",
   ["tc.etf.parms.flags.offload_on"] = "TC_ETF_OFFLOAD_ON",
@@ -1986,6 +2030,7 @@ local ABOUT = {
   ["tc.fq.horizon"] = "TCA_FQ_HORIZON, us",
   ["tc.fq.horizon_drop"] = "TCA_FQ_HORIZON_DROP",
   ["tc.fq.priomap"] = "TCA_FQ_PRIOMAP",
+  ["tc.fq.offload_horizon"] = "TCA_FQ_OFFLOAD_HORIZON, us",
   ["tc.fq_codel.target"] = "TCA_FQ_CODEL_TARGET, us",
   ["tc.fq_codel.limit"] = "TCA_FQ_CODEL_LIMIT, packets",
   ["tc.fq_codel.interval"] = "TCA_FQ_CODEL_INTERVAL, us",
@@ -2279,6 +2324,16 @@ local ABOUT = {
   ["tc.answer_in"] = "of a request: the frame of the answer",
   ["tc.codel.xstats.ldelay"] = "us",
   ["tc.codel.xstats.drop_next"] = "us",
+  ["tc.dualpi2.xstats.delay_c"] = "us",
+  ["tc.dualpi2.xstats.delay_l"] = "us",
+  ["tc.dualpi2.xstats.packets_in_c"] = "packets",
+  ["tc.dualpi2.xstats.packets_in_l"] = "packets",
+  ["tc.dualpi2.xstats.maxq"] = "packets",
+  ["tc.dualpi2.xstats.ecn_mark"] = "packets",
+  ["tc.dualpi2.xstats.step_marks"] = "packets",
+  ["tc.dualpi2.xstats.memory_used"] = "bytes",
+  ["tc.dualpi2.xstats.max_memory_used"] = "bytes",
+  ["tc.dualpi2.xstats.memory_limit"] = "bytes",
   ["tc.pfifo.limit"] = "packets",
   ["tc.bfifo.limit"] = "bytes",
   ["tc.fq.xstats.time_next_delayed_flow"] = "ns",
@@ -2302,6 +2357,12 @@ local ABOUT = {
   ["tc.netem.gap"] = "packets",
   ["tc.netem.duplicate"] = "2^-32 each",
   ["tc.netem.jitter"] = "ticks of 64 ns",
+  ["tc.netem.xstats.delayed"] = "packets",
+  ["tc.netem.xstats.dropped"] = "packets",
+  ["tc.netem.xstats.corrupted"] = "packets",
+  ["tc.netem.xstats.duplicated"] = "packets",
+  ["tc.netem.xstats.reordered"] = "packets",
+  ["tc.netem.xstats.ecn_marked"] = "packets",
   ["tc.pie.xstats.delay"] = "us",
   ["tc.pie.xstats.avg_dq_rate"] = "bytes a second",
   ["tc.plug.limit"] = "bytes",

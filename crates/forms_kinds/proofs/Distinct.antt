@@ -11,14 +11,15 @@ use Rattle.forms_kinds.specs.Parts.{parts_of_actions_skbedit, parts_of_actions_s
 use Rattle.forms_kinds.specs.Parts.{parts_of_elements, parts_of_ematch, parts_of_filters_basic, parts_of_filters_bpf, parts_of_filters_cgroup}
 use Rattle.forms_kinds.specs.Parts.{parts_of_filters_flow, parts_of_filters_flower, parts_of_filters_fw, parts_of_filters_matchall}
 use Rattle.forms_kinds.specs.Parts.{parts_of_filters_route, parts_of_filters_rsvp, parts_of_filters_tcindex, parts_of_filters_u32}
-use Rattle.forms_kinds.specs.Parts.{parts_of_message, parts_of_qdiscs_atm, parts_of_qdiscs_cake, parts_of_qdiscs_cbq, parts_of_qdiscs_cbs}
-use Rattle.forms_kinds.specs.Parts.{parts_of_qdiscs_choke, parts_of_qdiscs_codel, parts_of_qdiscs_drr, parts_of_qdiscs_dsmark}
-use Rattle.forms_kinds.specs.Parts.{parts_of_qdiscs_etf, parts_of_qdiscs_ets, parts_of_qdiscs_fifo, parts_of_qdiscs_fq, parts_of_qdiscs_fq_codel}
-use Rattle.forms_kinds.specs.Parts.{parts_of_qdiscs_fq_pie, parts_of_qdiscs_gred, parts_of_qdiscs_hfsc, parts_of_qdiscs_hhf, parts_of_qdiscs_htb}
-use Rattle.forms_kinds.specs.Parts.{parts_of_qdiscs_ingress, parts_of_qdiscs_mqprio, parts_of_qdiscs_multiq, parts_of_qdiscs_netem}
-use Rattle.forms_kinds.specs.Parts.{parts_of_qdiscs_none, parts_of_qdiscs_pie, parts_of_qdiscs_plug, parts_of_qdiscs_prio, parts_of_qdiscs_qfq}
-use Rattle.forms_kinds.specs.Parts.{parts_of_qdiscs_red, parts_of_qdiscs_sfb, parts_of_qdiscs_sfq, parts_of_qdiscs_skbprio}
-use Rattle.forms_kinds.specs.Parts.{parts_of_qdiscs_taprio, parts_of_qdiscs_tbf, parts_of_shared, parts_of_statistics}
+use Rattle.forms_kinds.specs.Parts.{parts_of_message, parts_of_qdiscs_atm, parts_of_qdiscs_cake, parts_of_qdiscs_cake_mq, parts_of_qdiscs_cbq}
+use Rattle.forms_kinds.specs.Parts.{parts_of_qdiscs_cbs, parts_of_qdiscs_choke, parts_of_qdiscs_codel, parts_of_qdiscs_drr}
+use Rattle.forms_kinds.specs.Parts.{parts_of_qdiscs_dsmark, parts_of_qdiscs_dualpi2, parts_of_qdiscs_etf, parts_of_qdiscs_ets}
+use Rattle.forms_kinds.specs.Parts.{parts_of_qdiscs_fifo, parts_of_qdiscs_fq, parts_of_qdiscs_fq_codel, parts_of_qdiscs_fq_pie}
+use Rattle.forms_kinds.specs.Parts.{parts_of_qdiscs_gred, parts_of_qdiscs_hfsc, parts_of_qdiscs_hhf, parts_of_qdiscs_htb, parts_of_qdiscs_ingress}
+use Rattle.forms_kinds.specs.Parts.{parts_of_qdiscs_mqprio, parts_of_qdiscs_multiq, parts_of_qdiscs_netem, parts_of_qdiscs_none}
+use Rattle.forms_kinds.specs.Parts.{parts_of_qdiscs_pie, parts_of_qdiscs_plug, parts_of_qdiscs_prio, parts_of_qdiscs_qfq, parts_of_qdiscs_red}
+use Rattle.forms_kinds.specs.Parts.{parts_of_qdiscs_sfb, parts_of_qdiscs_sfq, parts_of_qdiscs_skbprio, parts_of_qdiscs_taprio}
+use Rattle.forms_kinds.specs.Parts.{parts_of_qdiscs_tbf, parts_of_shared, parts_of_statistics}
 use Rattle.forms_kinds.specs.Table.{tc_tables}
 
 fields_distinct : EachFile (λ part. names_distinct (fields_of part))
@@ -28,11 +29,11 @@ unfolding parts_of_action parts_of_actions_bpf parts_of_actions_connmark parts_o
     parts_of_actions_skbmod parts_of_actions_tunnel_key parts_of_actions_vlan parts_of_elements parts_of_ematch parts_of_filters_basic
     parts_of_filters_bpf parts_of_filters_cgroup parts_of_filters_flow parts_of_filters_flower parts_of_filters_fw parts_of_filters_matchall
     parts_of_filters_route parts_of_filters_rsvp parts_of_filters_tcindex parts_of_filters_u32 parts_of_message parts_of_qdiscs_atm
-    parts_of_qdiscs_cake parts_of_qdiscs_cbq parts_of_qdiscs_cbs parts_of_qdiscs_choke parts_of_qdiscs_codel parts_of_qdiscs_drr
-    parts_of_qdiscs_dsmark parts_of_qdiscs_etf parts_of_qdiscs_ets parts_of_qdiscs_fifo parts_of_qdiscs_fq parts_of_qdiscs_fq_codel
-    parts_of_qdiscs_fq_pie parts_of_qdiscs_gred parts_of_qdiscs_hfsc parts_of_qdiscs_hhf parts_of_qdiscs_htb parts_of_qdiscs_ingress
-    parts_of_qdiscs_mqprio parts_of_qdiscs_multiq parts_of_qdiscs_netem parts_of_qdiscs_none parts_of_qdiscs_pie parts_of_qdiscs_plug
-    parts_of_qdiscs_prio parts_of_qdiscs_qfq parts_of_qdiscs_red parts_of_qdiscs_sfb parts_of_qdiscs_sfq parts_of_qdiscs_skbprio
+    parts_of_qdiscs_cake parts_of_qdiscs_cake_mq parts_of_qdiscs_cbq parts_of_qdiscs_cbs parts_of_qdiscs_choke parts_of_qdiscs_codel
+    parts_of_qdiscs_drr parts_of_qdiscs_dsmark parts_of_qdiscs_dualpi2 parts_of_qdiscs_etf parts_of_qdiscs_ets parts_of_qdiscs_fifo parts_of_qdiscs_fq
+    parts_of_qdiscs_fq_codel parts_of_qdiscs_fq_pie parts_of_qdiscs_gred parts_of_qdiscs_hfsc parts_of_qdiscs_hhf parts_of_qdiscs_htb
+    parts_of_qdiscs_ingress parts_of_qdiscs_mqprio parts_of_qdiscs_multiq parts_of_qdiscs_netem parts_of_qdiscs_none parts_of_qdiscs_pie
+    parts_of_qdiscs_plug parts_of_qdiscs_prio parts_of_qdiscs_qfq parts_of_qdiscs_red parts_of_qdiscs_sfb parts_of_qdiscs_sfq parts_of_qdiscs_skbprio
     parts_of_qdiscs_taprio parts_of_qdiscs_tbf parts_of_shared parts_of_statistics
 fields_distinct = record {
   bytes = refl;
@@ -74,12 +75,14 @@ fields_distinct = record {
   message = refl;
   qdiscs_atm = refl;
   qdiscs_cake = refl;
+  qdiscs_cake_mq = refl;
   qdiscs_cbq = refl;
   qdiscs_cbs = refl;
   qdiscs_choke = refl;
   qdiscs_codel = refl;
   qdiscs_drr = refl;
   qdiscs_dsmark = refl;
+  qdiscs_dualpi2 = refl;
   qdiscs_etf = refl;
   qdiscs_ets = refl;
   qdiscs_fifo = refl;

@@ -12,14 +12,15 @@ use Rattle.forms_kinds.specs.Parts.{parts_of_actions_skbedit, parts_of_actions_s
 use Rattle.forms_kinds.specs.Parts.{parts_of_elements, parts_of_ematch, parts_of_filters_basic, parts_of_filters_bpf, parts_of_filters_cgroup}
 use Rattle.forms_kinds.specs.Parts.{parts_of_filters_flow, parts_of_filters_flower, parts_of_filters_fw, parts_of_filters_matchall}
 use Rattle.forms_kinds.specs.Parts.{parts_of_filters_route, parts_of_filters_rsvp, parts_of_filters_tcindex, parts_of_filters_u32}
-use Rattle.forms_kinds.specs.Parts.{parts_of_message, parts_of_qdiscs_atm, parts_of_qdiscs_cake, parts_of_qdiscs_cbq, parts_of_qdiscs_cbs}
-use Rattle.forms_kinds.specs.Parts.{parts_of_qdiscs_choke, parts_of_qdiscs_codel, parts_of_qdiscs_drr, parts_of_qdiscs_dsmark}
-use Rattle.forms_kinds.specs.Parts.{parts_of_qdiscs_etf, parts_of_qdiscs_ets, parts_of_qdiscs_fifo, parts_of_qdiscs_fq, parts_of_qdiscs_fq_codel}
-use Rattle.forms_kinds.specs.Parts.{parts_of_qdiscs_fq_pie, parts_of_qdiscs_gred, parts_of_qdiscs_hfsc, parts_of_qdiscs_hhf, parts_of_qdiscs_htb}
-use Rattle.forms_kinds.specs.Parts.{parts_of_qdiscs_ingress, parts_of_qdiscs_mqprio, parts_of_qdiscs_multiq, parts_of_qdiscs_netem}
-use Rattle.forms_kinds.specs.Parts.{parts_of_qdiscs_none, parts_of_qdiscs_pie, parts_of_qdiscs_plug, parts_of_qdiscs_prio, parts_of_qdiscs_qfq}
-use Rattle.forms_kinds.specs.Parts.{parts_of_qdiscs_red, parts_of_qdiscs_sfb, parts_of_qdiscs_sfq, parts_of_qdiscs_skbprio}
-use Rattle.forms_kinds.specs.Parts.{parts_of_qdiscs_taprio, parts_of_qdiscs_tbf, parts_of_shared, parts_of_statistics}
+use Rattle.forms_kinds.specs.Parts.{parts_of_message, parts_of_qdiscs_atm, parts_of_qdiscs_cake, parts_of_qdiscs_cake_mq, parts_of_qdiscs_cbq}
+use Rattle.forms_kinds.specs.Parts.{parts_of_qdiscs_cbs, parts_of_qdiscs_choke, parts_of_qdiscs_codel, parts_of_qdiscs_drr}
+use Rattle.forms_kinds.specs.Parts.{parts_of_qdiscs_dsmark, parts_of_qdiscs_dualpi2, parts_of_qdiscs_etf, parts_of_qdiscs_ets}
+use Rattle.forms_kinds.specs.Parts.{parts_of_qdiscs_fifo, parts_of_qdiscs_fq, parts_of_qdiscs_fq_codel, parts_of_qdiscs_fq_pie}
+use Rattle.forms_kinds.specs.Parts.{parts_of_qdiscs_gred, parts_of_qdiscs_hfsc, parts_of_qdiscs_hhf, parts_of_qdiscs_htb, parts_of_qdiscs_ingress}
+use Rattle.forms_kinds.specs.Parts.{parts_of_qdiscs_mqprio, parts_of_qdiscs_multiq, parts_of_qdiscs_netem, parts_of_qdiscs_none}
+use Rattle.forms_kinds.specs.Parts.{parts_of_qdiscs_pie, parts_of_qdiscs_plug, parts_of_qdiscs_prio, parts_of_qdiscs_qfq, parts_of_qdiscs_red}
+use Rattle.forms_kinds.specs.Parts.{parts_of_qdiscs_sfb, parts_of_qdiscs_sfq, parts_of_qdiscs_skbprio, parts_of_qdiscs_taprio}
+use Rattle.forms_kinds.specs.Parts.{parts_of_qdiscs_tbf, parts_of_shared, parts_of_statistics}
 use Rattle.forms_kinds.specs.Table.{parts_from_0, parts_from_18, parts_from_36, parts_from_54, parts_of, part_in, tc_tables}
 
 -- a test of a part
@@ -81,12 +82,14 @@ module _ (Test : Part → Bool) where
     pub message : list_all Test parts_of_message ≡ true
     pub qdiscs_atm : list_all Test parts_of_qdiscs_atm ≡ true
     pub qdiscs_cake : list_all Test parts_of_qdiscs_cake ≡ true
+    pub qdiscs_cake_mq : list_all Test parts_of_qdiscs_cake_mq ≡ true
     pub qdiscs_cbq : list_all Test parts_of_qdiscs_cbq ≡ true
     pub qdiscs_cbs : list_all Test parts_of_qdiscs_cbs ≡ true
     pub qdiscs_choke : list_all Test parts_of_qdiscs_choke ≡ true
     pub qdiscs_codel : list_all Test parts_of_qdiscs_codel ≡ true
     pub qdiscs_drr : list_all Test parts_of_qdiscs_drr ≡ true
     pub qdiscs_dsmark : list_all Test parts_of_qdiscs_dsmark ≡ true
+    pub qdiscs_dualpi2 : list_all Test parts_of_qdiscs_dualpi2 ≡ true
     pub qdiscs_etf : list_all Test parts_of_qdiscs_etf ≡ true
     pub qdiscs_ets : list_all Test parts_of_qdiscs_ets ≡ true
     pub qdiscs_fifo : list_all Test parts_of_qdiscs_fifo ≡ true
@@ -165,45 +168,47 @@ module _ (Test : Part → Bool) where
   unfolding parts_from_36
   parts_from_36_pass each file =
       in_branch (file == 36) (all_pass parts_of_qdiscs_cake each.qdiscs_cake) (
-      in_branch (file == 37) (all_pass parts_of_qdiscs_cbq each.qdiscs_cbq) (
-      in_branch (file == 38) (all_pass parts_of_qdiscs_cbs each.qdiscs_cbs) (
-      in_branch (file == 39) (all_pass parts_of_qdiscs_choke each.qdiscs_choke) (
-      in_branch (file == 40) (all_pass parts_of_qdiscs_codel each.qdiscs_codel) (
-      in_branch (file == 41) (all_pass parts_of_qdiscs_drr each.qdiscs_drr) (
-      in_branch (file == 42) (all_pass parts_of_qdiscs_dsmark each.qdiscs_dsmark) (
-      in_branch (file == 43) (all_pass parts_of_qdiscs_etf each.qdiscs_etf) (
-      in_branch (file == 44) (all_pass parts_of_qdiscs_ets each.qdiscs_ets) (
-      in_branch (file == 45) (all_pass parts_of_qdiscs_fifo each.qdiscs_fifo) (
-      in_branch (file == 46) (all_pass parts_of_qdiscs_fq each.qdiscs_fq) (
-      in_branch (file == 47) (all_pass parts_of_qdiscs_fq_codel each.qdiscs_fq_codel) (
-      in_branch (file == 48) (all_pass parts_of_qdiscs_fq_pie each.qdiscs_fq_pie) (
-      in_branch (file == 49) (all_pass parts_of_qdiscs_gred each.qdiscs_gred) (
-      in_branch (file == 50) (all_pass parts_of_qdiscs_hfsc each.qdiscs_hfsc) (
-      in_branch (file == 51) (all_pass parts_of_qdiscs_hhf each.qdiscs_hhf) (
-      in_branch (file == 52) (all_pass parts_of_qdiscs_htb each.qdiscs_htb) (
-      in_branch (file == 53) (all_pass parts_of_qdiscs_ingress each.qdiscs_ingress) (
+      in_branch (file == 37) (all_pass parts_of_qdiscs_cake_mq each.qdiscs_cake_mq) (
+      in_branch (file == 38) (all_pass parts_of_qdiscs_cbq each.qdiscs_cbq) (
+      in_branch (file == 39) (all_pass parts_of_qdiscs_cbs each.qdiscs_cbs) (
+      in_branch (file == 40) (all_pass parts_of_qdiscs_choke each.qdiscs_choke) (
+      in_branch (file == 41) (all_pass parts_of_qdiscs_codel each.qdiscs_codel) (
+      in_branch (file == 42) (all_pass parts_of_qdiscs_drr each.qdiscs_drr) (
+      in_branch (file == 43) (all_pass parts_of_qdiscs_dsmark each.qdiscs_dsmark) (
+      in_branch (file == 44) (all_pass parts_of_qdiscs_dualpi2 each.qdiscs_dualpi2) (
+      in_branch (file == 45) (all_pass parts_of_qdiscs_etf each.qdiscs_etf) (
+      in_branch (file == 46) (all_pass parts_of_qdiscs_ets each.qdiscs_ets) (
+      in_branch (file == 47) (all_pass parts_of_qdiscs_fifo each.qdiscs_fifo) (
+      in_branch (file == 48) (all_pass parts_of_qdiscs_fq each.qdiscs_fq) (
+      in_branch (file == 49) (all_pass parts_of_qdiscs_fq_codel each.qdiscs_fq_codel) (
+      in_branch (file == 50) (all_pass parts_of_qdiscs_fq_pie each.qdiscs_fq_pie) (
+      in_branch (file == 51) (all_pass parts_of_qdiscs_gred each.qdiscs_gred) (
+      in_branch (file == 52) (all_pass parts_of_qdiscs_hfsc each.qdiscs_hfsc) (
+      in_branch (file == 53) (all_pass parts_of_qdiscs_hhf each.qdiscs_hhf) (
       all_pass [] each.none))))))))))))))))))
 
   parts_from_54_pass : EachFile → (file : ℕ) → AllPass (parts_from_54 file)
   unfolding parts_from_54
   parts_from_54_pass each file =
-      in_branch (file == 54) (all_pass parts_of_qdiscs_mqprio each.qdiscs_mqprio) (
-      in_branch (file == 55) (all_pass parts_of_qdiscs_multiq each.qdiscs_multiq) (
-      in_branch (file == 56) (all_pass parts_of_qdiscs_netem each.qdiscs_netem) (
-      in_branch (file == 57) (all_pass parts_of_qdiscs_none each.qdiscs_none) (
-      in_branch (file == 58) (all_pass parts_of_qdiscs_pie each.qdiscs_pie) (
-      in_branch (file == 59) (all_pass parts_of_qdiscs_plug each.qdiscs_plug) (
-      in_branch (file == 60) (all_pass parts_of_qdiscs_prio each.qdiscs_prio) (
-      in_branch (file == 61) (all_pass parts_of_qdiscs_qfq each.qdiscs_qfq) (
-      in_branch (file == 62) (all_pass parts_of_qdiscs_red each.qdiscs_red) (
-      in_branch (file == 63) (all_pass parts_of_qdiscs_sfb each.qdiscs_sfb) (
-      in_branch (file == 64) (all_pass parts_of_qdiscs_sfq each.qdiscs_sfq) (
-      in_branch (file == 65) (all_pass parts_of_qdiscs_skbprio each.qdiscs_skbprio) (
-      in_branch (file == 66) (all_pass parts_of_qdiscs_taprio each.qdiscs_taprio) (
-      in_branch (file == 67) (all_pass parts_of_qdiscs_tbf each.qdiscs_tbf) (
-      in_branch (file == 68) (all_pass parts_of_shared each.shared) (
-      in_branch (file == 69) (all_pass parts_of_statistics each.statistics) (
-      all_pass [] each.none))))))))))))))))
+      in_branch (file == 54) (all_pass parts_of_qdiscs_htb each.qdiscs_htb) (
+      in_branch (file == 55) (all_pass parts_of_qdiscs_ingress each.qdiscs_ingress) (
+      in_branch (file == 56) (all_pass parts_of_qdiscs_mqprio each.qdiscs_mqprio) (
+      in_branch (file == 57) (all_pass parts_of_qdiscs_multiq each.qdiscs_multiq) (
+      in_branch (file == 58) (all_pass parts_of_qdiscs_netem each.qdiscs_netem) (
+      in_branch (file == 59) (all_pass parts_of_qdiscs_none each.qdiscs_none) (
+      in_branch (file == 60) (all_pass parts_of_qdiscs_pie each.qdiscs_pie) (
+      in_branch (file == 61) (all_pass parts_of_qdiscs_plug each.qdiscs_plug) (
+      in_branch (file == 62) (all_pass parts_of_qdiscs_prio each.qdiscs_prio) (
+      in_branch (file == 63) (all_pass parts_of_qdiscs_qfq each.qdiscs_qfq) (
+      in_branch (file == 64) (all_pass parts_of_qdiscs_red each.qdiscs_red) (
+      in_branch (file == 65) (all_pass parts_of_qdiscs_sfb each.qdiscs_sfb) (
+      in_branch (file == 66) (all_pass parts_of_qdiscs_sfq each.qdiscs_sfq) (
+      in_branch (file == 67) (all_pass parts_of_qdiscs_skbprio each.qdiscs_skbprio) (
+      in_branch (file == 68) (all_pass parts_of_qdiscs_taprio each.qdiscs_taprio) (
+      in_branch (file == 69) (all_pass parts_of_qdiscs_tbf each.qdiscs_tbf) (
+      in_branch (file == 70) (all_pass parts_of_shared each.shared) (
+      in_branch (file == 71) (all_pass parts_of_statistics each.statistics) (
+      all_pass [] each.none))))))))))))))))))
 
   parts_of_pass : EachFile → (file : ℕ) → AllPass (parts_of file)
   unfolding parts_of

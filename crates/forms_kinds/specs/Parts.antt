@@ -16,17 +16,18 @@ use Rattle.forms_kinds.specs.declared.parts.filters.TheConstants.{PARTS_OF_FILTE
 use Rattle.forms_kinds.specs.declared.parts.filters.TheConstants.{PARTS_OF_FILTERS_MATCHALL, PARTS_OF_FILTERS_ROUTE, PARTS_OF_FILTERS_RSVP}
 use Rattle.forms_kinds.specs.declared.parts.filters.TheConstants.{PARTS_OF_FILTERS_TCINDEX, PARTS_OF_FILTERS_U32}
 use Rattle.forms_kinds.specs.declared.parts.message.TheConstants.{PARTS_OF_MESSAGE}
-use Rattle.forms_kinds.specs.declared.parts.qdiscs.TheConstants.{PARTS_OF_QDISCS_ATM, PARTS_OF_QDISCS_CAKE, PARTS_OF_QDISCS_CBQ}
-use Rattle.forms_kinds.specs.declared.parts.qdiscs.TheConstants.{PARTS_OF_QDISCS_CBS, PARTS_OF_QDISCS_CHOKE, PARTS_OF_QDISCS_CODEL}
-use Rattle.forms_kinds.specs.declared.parts.qdiscs.TheConstants.{PARTS_OF_QDISCS_DRR, PARTS_OF_QDISCS_DSMARK, PARTS_OF_QDISCS_ETF}
-use Rattle.forms_kinds.specs.declared.parts.qdiscs.TheConstants.{PARTS_OF_QDISCS_ETS, PARTS_OF_QDISCS_FIFO, PARTS_OF_QDISCS_FQ}
-use Rattle.forms_kinds.specs.declared.parts.qdiscs.TheConstants.{PARTS_OF_QDISCS_FQ_CODEL, PARTS_OF_QDISCS_FQ_PIE, PARTS_OF_QDISCS_GRED}
-use Rattle.forms_kinds.specs.declared.parts.qdiscs.TheConstants.{PARTS_OF_QDISCS_HFSC, PARTS_OF_QDISCS_HHF, PARTS_OF_QDISCS_HTB}
-use Rattle.forms_kinds.specs.declared.parts.qdiscs.TheConstants.{PARTS_OF_QDISCS_INGRESS, PARTS_OF_QDISCS_MQPRIO, PARTS_OF_QDISCS_MULTIQ}
-use Rattle.forms_kinds.specs.declared.parts.qdiscs.TheConstants.{PARTS_OF_QDISCS_NETEM, PARTS_OF_QDISCS_NONE, PARTS_OF_QDISCS_PIE}
-use Rattle.forms_kinds.specs.declared.parts.qdiscs.TheConstants.{PARTS_OF_QDISCS_PLUG, PARTS_OF_QDISCS_PRIO, PARTS_OF_QDISCS_QFQ}
-use Rattle.forms_kinds.specs.declared.parts.qdiscs.TheConstants.{PARTS_OF_QDISCS_RED, PARTS_OF_QDISCS_SFB, PARTS_OF_QDISCS_SFQ}
-use Rattle.forms_kinds.specs.declared.parts.qdiscs.TheConstants.{PARTS_OF_QDISCS_SKBPRIO, PARTS_OF_QDISCS_TAPRIO, PARTS_OF_QDISCS_TBF}
+use Rattle.forms_kinds.specs.declared.parts.qdiscs.TheConstants.{PARTS_OF_QDISCS_ATM, PARTS_OF_QDISCS_CAKE, PARTS_OF_QDISCS_CAKE_MQ}
+use Rattle.forms_kinds.specs.declared.parts.qdiscs.TheConstants.{PARTS_OF_QDISCS_CBQ, PARTS_OF_QDISCS_CBS, PARTS_OF_QDISCS_CHOKE}
+use Rattle.forms_kinds.specs.declared.parts.qdiscs.TheConstants.{PARTS_OF_QDISCS_CODEL, PARTS_OF_QDISCS_DRR, PARTS_OF_QDISCS_DSMARK}
+use Rattle.forms_kinds.specs.declared.parts.qdiscs.TheConstants.{PARTS_OF_QDISCS_DUALPI2, PARTS_OF_QDISCS_ETF, PARTS_OF_QDISCS_ETS}
+use Rattle.forms_kinds.specs.declared.parts.qdiscs.TheConstants.{PARTS_OF_QDISCS_FIFO, PARTS_OF_QDISCS_FQ, PARTS_OF_QDISCS_FQ_CODEL}
+use Rattle.forms_kinds.specs.declared.parts.qdiscs.TheConstants.{PARTS_OF_QDISCS_FQ_PIE, PARTS_OF_QDISCS_GRED, PARTS_OF_QDISCS_HFSC}
+use Rattle.forms_kinds.specs.declared.parts.qdiscs.TheConstants.{PARTS_OF_QDISCS_HHF, PARTS_OF_QDISCS_HTB, PARTS_OF_QDISCS_INGRESS}
+use Rattle.forms_kinds.specs.declared.parts.qdiscs.TheConstants.{PARTS_OF_QDISCS_MQPRIO, PARTS_OF_QDISCS_MULTIQ, PARTS_OF_QDISCS_NETEM}
+use Rattle.forms_kinds.specs.declared.parts.qdiscs.TheConstants.{PARTS_OF_QDISCS_NONE, PARTS_OF_QDISCS_PIE, PARTS_OF_QDISCS_PLUG}
+use Rattle.forms_kinds.specs.declared.parts.qdiscs.TheConstants.{PARTS_OF_QDISCS_PRIO, PARTS_OF_QDISCS_QFQ, PARTS_OF_QDISCS_RED}
+use Rattle.forms_kinds.specs.declared.parts.qdiscs.TheConstants.{PARTS_OF_QDISCS_SFB, PARTS_OF_QDISCS_SFQ, PARTS_OF_QDISCS_SKBPRIO}
+use Rattle.forms_kinds.specs.declared.parts.qdiscs.TheConstants.{PARTS_OF_QDISCS_TAPRIO, PARTS_OF_QDISCS_TBF}
 use Rattle.forms_kinds.specs.declared.parts.shared.TheConstants.{PARTS_OF_SHARED}
 use Rattle.forms_kinds.specs.declared.parts.statistics.TheConstants.{PARTS_OF_STATISTICS}
 
@@ -141,6 +142,9 @@ parts_of_qdiscs_atm = map const_part_view PARTS_OF_QDISCS_ATM
 unfoldable pub parts_of_qdiscs_cake : List Part
 parts_of_qdiscs_cake = map const_part_view PARTS_OF_QDISCS_CAKE
 
+unfoldable pub parts_of_qdiscs_cake_mq : List Part
+parts_of_qdiscs_cake_mq = map const_part_view PARTS_OF_QDISCS_CAKE_MQ
+
 unfoldable pub parts_of_qdiscs_cbq : List Part
 parts_of_qdiscs_cbq = map const_part_view PARTS_OF_QDISCS_CBQ
 
@@ -158,6 +162,9 @@ parts_of_qdiscs_drr = map const_part_view PARTS_OF_QDISCS_DRR
 
 unfoldable pub parts_of_qdiscs_dsmark : List Part
 parts_of_qdiscs_dsmark = map const_part_view PARTS_OF_QDISCS_DSMARK
+
+unfoldable pub parts_of_qdiscs_dualpi2 : List Part
+parts_of_qdiscs_dualpi2 = map const_part_view PARTS_OF_QDISCS_DUALPI2
 
 unfoldable pub parts_of_qdiscs_etf : List Part
 parts_of_qdiscs_etf = map const_part_view PARTS_OF_QDISCS_ETF

@@ -11,14 +11,15 @@ use Rattle.forms_kinds.specs.Parts.{parts_of_actions_skbedit, parts_of_actions_s
 use Rattle.forms_kinds.specs.Parts.{parts_of_elements, parts_of_ematch, parts_of_filters_basic, parts_of_filters_bpf, parts_of_filters_cgroup}
 use Rattle.forms_kinds.specs.Parts.{parts_of_filters_flow, parts_of_filters_flower, parts_of_filters_fw, parts_of_filters_matchall}
 use Rattle.forms_kinds.specs.Parts.{parts_of_filters_route, parts_of_filters_rsvp, parts_of_filters_tcindex, parts_of_filters_u32}
-use Rattle.forms_kinds.specs.Parts.{parts_of_message, parts_of_qdiscs_atm, parts_of_qdiscs_cake, parts_of_qdiscs_cbq, parts_of_qdiscs_cbs}
-use Rattle.forms_kinds.specs.Parts.{parts_of_qdiscs_choke, parts_of_qdiscs_codel, parts_of_qdiscs_drr, parts_of_qdiscs_dsmark}
-use Rattle.forms_kinds.specs.Parts.{parts_of_qdiscs_etf, parts_of_qdiscs_ets, parts_of_qdiscs_fifo, parts_of_qdiscs_fq, parts_of_qdiscs_fq_codel}
-use Rattle.forms_kinds.specs.Parts.{parts_of_qdiscs_fq_pie, parts_of_qdiscs_gred, parts_of_qdiscs_hfsc, parts_of_qdiscs_hhf, parts_of_qdiscs_htb}
-use Rattle.forms_kinds.specs.Parts.{parts_of_qdiscs_ingress, parts_of_qdiscs_mqprio, parts_of_qdiscs_multiq, parts_of_qdiscs_netem}
-use Rattle.forms_kinds.specs.Parts.{parts_of_qdiscs_none, parts_of_qdiscs_pie, parts_of_qdiscs_plug, parts_of_qdiscs_prio, parts_of_qdiscs_qfq}
-use Rattle.forms_kinds.specs.Parts.{parts_of_qdiscs_red, parts_of_qdiscs_sfb, parts_of_qdiscs_sfq, parts_of_qdiscs_skbprio}
-use Rattle.forms_kinds.specs.Parts.{parts_of_qdiscs_taprio, parts_of_qdiscs_tbf, parts_of_shared, parts_of_statistics}
+use Rattle.forms_kinds.specs.Parts.{parts_of_message, parts_of_qdiscs_atm, parts_of_qdiscs_cake, parts_of_qdiscs_cake_mq, parts_of_qdiscs_cbq}
+use Rattle.forms_kinds.specs.Parts.{parts_of_qdiscs_cbs, parts_of_qdiscs_choke, parts_of_qdiscs_codel, parts_of_qdiscs_drr}
+use Rattle.forms_kinds.specs.Parts.{parts_of_qdiscs_dsmark, parts_of_qdiscs_dualpi2, parts_of_qdiscs_etf, parts_of_qdiscs_ets}
+use Rattle.forms_kinds.specs.Parts.{parts_of_qdiscs_fifo, parts_of_qdiscs_fq, parts_of_qdiscs_fq_codel, parts_of_qdiscs_fq_pie}
+use Rattle.forms_kinds.specs.Parts.{parts_of_qdiscs_gred, parts_of_qdiscs_hfsc, parts_of_qdiscs_hhf, parts_of_qdiscs_htb, parts_of_qdiscs_ingress}
+use Rattle.forms_kinds.specs.Parts.{parts_of_qdiscs_mqprio, parts_of_qdiscs_multiq, parts_of_qdiscs_netem, parts_of_qdiscs_none}
+use Rattle.forms_kinds.specs.Parts.{parts_of_qdiscs_pie, parts_of_qdiscs_plug, parts_of_qdiscs_prio, parts_of_qdiscs_qfq, parts_of_qdiscs_red}
+use Rattle.forms_kinds.specs.Parts.{parts_of_qdiscs_sfb, parts_of_qdiscs_sfq, parts_of_qdiscs_skbprio, parts_of_qdiscs_taprio}
+use Rattle.forms_kinds.specs.Parts.{parts_of_qdiscs_tbf, parts_of_shared, parts_of_statistics}
 
 -- RTM_*QDISC, RTM_*TCLASS, RTM_*TFILTER, RTM_*CHAIN
 abbrev pub tc_message : Form
@@ -75,44 +76,46 @@ parts_from_18 file =
 unfoldable pub parts_from_36 : ℕ → List Part
 parts_from_36 file =
     if file == 36 then parts_of_qdiscs_cake else (
-    if file == 37 then parts_of_qdiscs_cbq else (
-    if file == 38 then parts_of_qdiscs_cbs else (
-    if file == 39 then parts_of_qdiscs_choke else (
-    if file == 40 then parts_of_qdiscs_codel else (
-    if file == 41 then parts_of_qdiscs_drr else (
-    if file == 42 then parts_of_qdiscs_dsmark else (
-    if file == 43 then parts_of_qdiscs_etf else (
-    if file == 44 then parts_of_qdiscs_ets else (
-    if file == 45 then parts_of_qdiscs_fifo else (
-    if file == 46 then parts_of_qdiscs_fq else (
-    if file == 47 then parts_of_qdiscs_fq_codel else (
-    if file == 48 then parts_of_qdiscs_fq_pie else (
-    if file == 49 then parts_of_qdiscs_gred else (
-    if file == 50 then parts_of_qdiscs_hfsc else (
-    if file == 51 then parts_of_qdiscs_hhf else (
-    if file == 52 then parts_of_qdiscs_htb else (
-    if file == 53 then parts_of_qdiscs_ingress else (
+    if file == 37 then parts_of_qdiscs_cake_mq else (
+    if file == 38 then parts_of_qdiscs_cbq else (
+    if file == 39 then parts_of_qdiscs_cbs else (
+    if file == 40 then parts_of_qdiscs_choke else (
+    if file == 41 then parts_of_qdiscs_codel else (
+    if file == 42 then parts_of_qdiscs_drr else (
+    if file == 43 then parts_of_qdiscs_dsmark else (
+    if file == 44 then parts_of_qdiscs_dualpi2 else (
+    if file == 45 then parts_of_qdiscs_etf else (
+    if file == 46 then parts_of_qdiscs_ets else (
+    if file == 47 then parts_of_qdiscs_fifo else (
+    if file == 48 then parts_of_qdiscs_fq else (
+    if file == 49 then parts_of_qdiscs_fq_codel else (
+    if file == 50 then parts_of_qdiscs_fq_pie else (
+    if file == 51 then parts_of_qdiscs_gred else (
+    if file == 52 then parts_of_qdiscs_hfsc else (
+    if file == 53 then parts_of_qdiscs_hhf else (
     []))))))))))))))))))
 
 unfoldable pub parts_from_54 : ℕ → List Part
 parts_from_54 file =
-    if file == 54 then parts_of_qdiscs_mqprio else (
-    if file == 55 then parts_of_qdiscs_multiq else (
-    if file == 56 then parts_of_qdiscs_netem else (
-    if file == 57 then parts_of_qdiscs_none else (
-    if file == 58 then parts_of_qdiscs_pie else (
-    if file == 59 then parts_of_qdiscs_plug else (
-    if file == 60 then parts_of_qdiscs_prio else (
-    if file == 61 then parts_of_qdiscs_qfq else (
-    if file == 62 then parts_of_qdiscs_red else (
-    if file == 63 then parts_of_qdiscs_sfb else (
-    if file == 64 then parts_of_qdiscs_sfq else (
-    if file == 65 then parts_of_qdiscs_skbprio else (
-    if file == 66 then parts_of_qdiscs_taprio else (
-    if file == 67 then parts_of_qdiscs_tbf else (
-    if file == 68 then parts_of_shared else (
-    if file == 69 then parts_of_statistics else (
-    []))))))))))))))))
+    if file == 54 then parts_of_qdiscs_htb else (
+    if file == 55 then parts_of_qdiscs_ingress else (
+    if file == 56 then parts_of_qdiscs_mqprio else (
+    if file == 57 then parts_of_qdiscs_multiq else (
+    if file == 58 then parts_of_qdiscs_netem else (
+    if file == 59 then parts_of_qdiscs_none else (
+    if file == 60 then parts_of_qdiscs_pie else (
+    if file == 61 then parts_of_qdiscs_plug else (
+    if file == 62 then parts_of_qdiscs_prio else (
+    if file == 63 then parts_of_qdiscs_qfq else (
+    if file == 64 then parts_of_qdiscs_red else (
+    if file == 65 then parts_of_qdiscs_sfb else (
+    if file == 66 then parts_of_qdiscs_sfq else (
+    if file == 67 then parts_of_qdiscs_skbprio else (
+    if file == 68 then parts_of_qdiscs_taprio else (
+    if file == 69 then parts_of_qdiscs_tbf else (
+    if file == 70 then parts_of_shared else (
+    if file == 71 then parts_of_statistics else (
+    []))))))))))))))))))
 
 unfoldable pub parts_of : ℕ → List Part
 parts_of file =

@@ -29,7 +29,7 @@ pub const TC_LIST: usize = 819;
 pub const ACTION_LIST: usize = 0;
 
 /// All parts are at places below this one.
-pub const PLACES: usize = 1680;
+pub const PLACES: usize = 1728;
 
 // The part at an index; bytes if there is none.
 fn part_in(parts: &'static [Part<'static>], index: usize) -> Part<'static>
@@ -101,23 +101,23 @@ fn parts_from_36(file: usize) -> &'static [Part<'static>]
 {
     match file {
         36 => qdiscs::parts_of_qdiscs_cake(),
-        37 => qdiscs::parts_of_qdiscs_cbq(),
-        38 => qdiscs::parts_of_qdiscs_cbs(),
-        39 => qdiscs::parts_of_qdiscs_choke(),
-        40 => qdiscs::parts_of_qdiscs_codel(),
-        41 => qdiscs::parts_of_qdiscs_drr(),
-        42 => qdiscs::parts_of_qdiscs_dsmark(),
-        43 => qdiscs::parts_of_qdiscs_etf(),
-        44 => qdiscs::parts_of_qdiscs_ets(),
-        45 => qdiscs::parts_of_qdiscs_fifo(),
-        46 => qdiscs::parts_of_qdiscs_fq(),
-        47 => qdiscs::parts_of_qdiscs_fq_codel(),
-        48 => qdiscs::parts_of_qdiscs_fq_pie(),
-        49 => qdiscs::parts_of_qdiscs_gred(),
-        50 => qdiscs::parts_of_qdiscs_hfsc(),
-        51 => qdiscs::parts_of_qdiscs_hhf(),
-        52 => qdiscs::parts_of_qdiscs_htb(),
-        53 => qdiscs::parts_of_qdiscs_ingress(),
+        37 => qdiscs::parts_of_qdiscs_cake_mq(),
+        38 => qdiscs::parts_of_qdiscs_cbq(),
+        39 => qdiscs::parts_of_qdiscs_cbs(),
+        40 => qdiscs::parts_of_qdiscs_choke(),
+        41 => qdiscs::parts_of_qdiscs_codel(),
+        42 => qdiscs::parts_of_qdiscs_drr(),
+        43 => qdiscs::parts_of_qdiscs_dsmark(),
+        44 => qdiscs::parts_of_qdiscs_dualpi2(),
+        45 => qdiscs::parts_of_qdiscs_etf(),
+        46 => qdiscs::parts_of_qdiscs_ets(),
+        47 => qdiscs::parts_of_qdiscs_fifo(),
+        48 => qdiscs::parts_of_qdiscs_fq(),
+        49 => qdiscs::parts_of_qdiscs_fq_codel(),
+        50 => qdiscs::parts_of_qdiscs_fq_pie(),
+        51 => qdiscs::parts_of_qdiscs_gred(),
+        52 => qdiscs::parts_of_qdiscs_hfsc(),
+        53 => qdiscs::parts_of_qdiscs_hhf(),
         _ => &[],
     }
 }
@@ -127,22 +127,24 @@ fn parts_from_54(file: usize) -> &'static [Part<'static>]
     ensures { map part_view result.now ≡ parts_from_54 file }
 {
     match file {
-        54 => qdiscs::parts_of_qdiscs_mqprio(),
-        55 => qdiscs::parts_of_qdiscs_multiq(),
-        56 => qdiscs::parts_of_qdiscs_netem(),
-        57 => qdiscs::parts_of_qdiscs_none(),
-        58 => qdiscs::parts_of_qdiscs_pie(),
-        59 => qdiscs::parts_of_qdiscs_plug(),
-        60 => qdiscs::parts_of_qdiscs_prio(),
-        61 => qdiscs::parts_of_qdiscs_qfq(),
-        62 => qdiscs::parts_of_qdiscs_red(),
-        63 => qdiscs::parts_of_qdiscs_sfb(),
-        64 => qdiscs::parts_of_qdiscs_sfq(),
-        65 => qdiscs::parts_of_qdiscs_skbprio(),
-        66 => qdiscs::parts_of_qdiscs_taprio(),
-        67 => qdiscs::parts_of_qdiscs_tbf(),
-        68 => shared::parts_of_shared(),
-        69 => statistics::parts_of_statistics(),
+        54 => qdiscs::parts_of_qdiscs_htb(),
+        55 => qdiscs::parts_of_qdiscs_ingress(),
+        56 => qdiscs::parts_of_qdiscs_mqprio(),
+        57 => qdiscs::parts_of_qdiscs_multiq(),
+        58 => qdiscs::parts_of_qdiscs_netem(),
+        59 => qdiscs::parts_of_qdiscs_none(),
+        60 => qdiscs::parts_of_qdiscs_pie(),
+        61 => qdiscs::parts_of_qdiscs_plug(),
+        62 => qdiscs::parts_of_qdiscs_prio(),
+        63 => qdiscs::parts_of_qdiscs_qfq(),
+        64 => qdiscs::parts_of_qdiscs_red(),
+        65 => qdiscs::parts_of_qdiscs_sfb(),
+        66 => qdiscs::parts_of_qdiscs_sfq(),
+        67 => qdiscs::parts_of_qdiscs_skbprio(),
+        68 => qdiscs::parts_of_qdiscs_taprio(),
+        69 => qdiscs::parts_of_qdiscs_tbf(),
+        70 => shared::parts_of_shared(),
+        71 => statistics::parts_of_statistics(),
         _ => &[],
     }
 }

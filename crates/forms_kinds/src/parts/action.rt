@@ -33,7 +33,7 @@ static PARTS_OF_ACTION: [Part<'static>; 9] = [
     ]),
     Part::Rows("", &[ // 1, `list action`: the rows of all kinds
         Row { word: 3, name: "Index", form: Form::Number(Number::U32) },
-        Row { word: 4, name: "Stats", form: Form::List(1657) },
+        Row { word: 4, name: "Stats", form: Form::List(1705) },
         Row { word: 5, name: "Pad", form: Form::Flag },
         Row { word: 6, name: "Cookie", form: Form::Hex },
         Row { word: 7, name: "Flags", form: Form::Record(3) },

@@ -14,7 +14,7 @@ static PARTS_OF_ELEMENTS: [Part<'static>; 9] = [
     Part::One(Form::Own(0)), // 507, what an array holds
     Part::One(Form::Number(Number::U64)), // 508, what an array holds
     Part::One(Form::Number(Number::U8)), // 509, what an array holds
-    Part::One(Form::List(866)), // 510, what an array holds
+    Part::One(Form::List(867)), // 510, what an array holds
     Part::One(Form::Number(Number::I32)), // 511, what an array holds
     Part::One(Form::Number(Number::I16)), // 512, what an array holds
 ];

@@ -42,7 +42,7 @@ static PARTS_OF_FILTERS_BPF: [Part<'static>; 2] = [
         Row { word: 2, name: "Police", form: Form::List(336) },
         Row { word: 3, name: "ClassId", form: Form::Handle },
         Row { word: 4, name: "OpsLen", form: Form::Number(Number::U16) },
-        Row { word: 5, name: "Ops", form: Form::Array(1637) },
+        Row { word: 5, name: "Ops", form: Form::Array(1685) },
         Row { word: 6, name: "ProgFd", form: Form::Number(Number::U32) },
         Row { word: 7, name: "ProgName", form: Form::Text },
         Row { word: 8, name: "Flags", form: Form::Number(Number::U32) },

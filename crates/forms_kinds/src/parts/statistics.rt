@@ -8,7 +8,7 @@ use forms_values::{Field, Form, KindRows, Number, Part, Row};
 
 #[rattlefmt::skip]
 static PARTS_OF_STATISTICS: [Part<'static>; 8] = [
-    Part::Fields(&[ // 1656, `struct tc_stats`
+    Part::Fields(&[ // 1704, `struct tc_stats`
         Field { name: "bytes", form: Form::Number(Number::U64) },
         Field { name: "packets", form: Form::Number(Number::U32) },
         Field { name: "drops", form: Form::Number(Number::U32) },
@@ -19,54 +19,56 @@ static PARTS_OF_STATISTICS: [Part<'static>; 8] = [
         Field { name: "backlog", form: Form::Number(Number::U32) },
         Field { name: "padding", form: Form::Pad(4) },
     ]),
-    Part::Kinds(1658, 1659, &[ // 1657, `list stats`
-        KindRows { kind: "cake", rows: 873 },
-        KindRows { kind: "cbq", rows: 897 },
-        KindRows { kind: "choke", rows: 941 },
-        KindRows { kind: "codel", rows: 964 },
-        KindRows { kind: "drr", rows: 988 },
-        KindRows { kind: "fq", rows: 1109 },
-        KindRows { kind: "fq_codel", rows: 1134 },
-        KindRows { kind: "fq_pie", rows: 1156 },
-        KindRows { kind: "hfsc", rows: 1207 },
-        KindRows { kind: "hhf", rows: 1228 },
-        KindRows { kind: "htb", rows: 1254 },
-        KindRows { kind: "pie", rows: 1396 },
-        KindRows { kind: "qfq", rows: 1468 },
-        KindRows { kind: "red", rows: 1494 },
-        KindRows { kind: "sfb", rows: 1517 },
-        KindRows { kind: "sfq", rows: 1543 },
-        KindRows { kind: "taprio", rows: 1593 },
+    Part::Kinds(1706, 1707, &[ // 1705, `list stats`
+        KindRows { kind: "cake", rows: 874 },
+        KindRows { kind: "cbq", rows: 921 },
+        KindRows { kind: "choke", rows: 965 },
+        KindRows { kind: "codel", rows: 988 },
+        KindRows { kind: "drr", rows: 1012 },
+        KindRows { kind: "dualpi2", rows: 1064 },
+        KindRows { kind: "fq", rows: 1157 },
+        KindRows { kind: "fq_codel", rows: 1182 },
+        KindRows { kind: "fq_pie", rows: 1204 },
+        KindRows { kind: "hfsc", rows: 1255 },
+        KindRows { kind: "hhf", rows: 1276 },
+        KindRows { kind: "htb", rows: 1302 },
+        KindRows { kind: "netem", rows: 1405 },
+        KindRows { kind: "pie", rows: 1444 },
+        KindRows { kind: "qfq", rows: 1516 },
+        KindRows { kind: "red", rows: 1542 },
+        KindRows { kind: "sfb", rows: 1565 },
+        KindRows { kind: "sfq", rows: 1591 },
+        KindRows { kind: "taprio", rows: 1641 },
     ]),
-    Part::Rows("", &[ // 1658, `list stats`: the rows of all kinds
-        Row { word: 1, name: "Basic", form: Form::Record(1660) },
-        Row { word: 2, name: "RateEst", form: Form::Record(1662) },
-        Row { word: 3, name: "Queue", form: Form::Record(1661) },
-        Row { word: 5, name: "RateEst64", form: Form::Record(1663) },
+    Part::Rows("", &[ // 1706, `list stats`: the rows of all kinds
+        Row { word: 1, name: "Basic", form: Form::Record(1708) },
+        Row { word: 2, name: "RateEst", form: Form::Record(1710) },
+        Row { word: 3, name: "Queue", form: Form::Record(1709) },
+        Row { word: 5, name: "RateEst64", form: Form::Record(1711) },
         Row { word: 6, name: "Pad", form: Form::Flag },
-        Row { word: 7, name: "BasicHw", form: Form::Record(1660) },
+        Row { word: 7, name: "BasicHw", form: Form::Record(1708) },
         Row { word: 8, name: "Pkt64", form: Form::Number(Number::U64) },
     ]),
-    Part::Rows("", &[ // 1659, `list stats`: the rows of other kinds
+    Part::Rows("", &[ // 1707, `list stats`: the rows of other kinds
         Row { word: 4, name: "App", form: Form::Choice(822) },
     ]),
-    Part::Fields(&[ // 1660, `struct gnet_stats_basic`
+    Part::Fields(&[ // 1708, `struct gnet_stats_basic`
         Field { name: "bytes", form: Form::Number(Number::U64) },
         Field { name: "packets", form: Form::Number(Number::U32) },
         Field { name: "padding", form: Form::Pad(4) },
     ]),
-    Part::Fields(&[ // 1661, `struct gnet_stats_queue`
+    Part::Fields(&[ // 1709, `struct gnet_stats_queue`
         Field { name: "qlen", form: Form::Number(Number::U32) },
         Field { name: "backlog", form: Form::Number(Number::U32) },
         Field { name: "drops", form: Form::Number(Number::U32) },
         Field { name: "requeues", form: Form::Number(Number::U32) },
         Field { name: "overlimits", form: Form::Number(Number::U32) },
     ]),
-    Part::Fields(&[ // 1662, `struct gnet_stats_rate_est`
+    Part::Fields(&[ // 1710, `struct gnet_stats_rate_est`
         Field { name: "bps", form: Form::Number(Number::U32) },
         Field { name: "pps", form: Form::Number(Number::U32) },
     ]),
-    Part::Fields(&[ // 1663, `struct gnet_stats_rate_est64`
+    Part::Fields(&[ // 1711, `struct gnet_stats_rate_est64`
         Field { name: "bps", form: Form::Number(Number::U64) },
         Field { name: "pps", form: Form::Number(Number::U64) },
     ]),

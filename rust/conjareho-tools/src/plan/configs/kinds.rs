@@ -48,9 +48,9 @@ pub(crate) fn rule_of(sort: Sort, kind: &str) -> Rule {
 #[rustfmt::skip]
 fn of_qdisc(kind: &str) -> Rule {
     match kind {
-        "bfifo" | "cake" | "cbs" | "fq" | "hfsc" | "hhf" | "pfifo" | "pfifo_head_drop" | "pie" | "prio" | "rr" |
-            "skbprio" | "tbf" => WHOLE,
-        "codel" => KEEPS,
+        "bfifo" | "cake" | "cake_mq" | "cbs" | "fq" | "hfsc" | "hhf" | "pfifo" | "pfifo_head_drop" | "pie" | "prio" |
+            "rr" | "skbprio" | "tbf" => WHOLE,
+        "codel" | "dualpi2" => KEEPS,
         "fq_codel" => Rule { fixed: &[5], ..KEEPS },
         "netem" => Rule { skipped: 24, ..KEEPS },
         _ => NEVER,
@@ -104,6 +104,6 @@ pub(crate) const LEFT_OUT: &[(&str, &str, u16)] = &[
     ("action", "skbmod", 1), ("action", "skbmod", 6), ("action", "tunnel_key", 1), ("action", "tunnel_key", 8),
     ("action", "vlan", 1), ("action", "vlan", 5), ("filter", "basic", 5), ("filter", "basic", 6),
     ("filter", "flower", 86), ("filter", "matchall", 4), ("filter", "matchall", 5), ("filter", "u32", 9),
-    ("filter", "u32", 12), ("qdisc", "cake", 1), ("qdisc", "htb", 8), ("qdisc", "netem", 9), ("qdisc", "taprio", 6),
-    ("qdisc", "tbf", 8),
+    ("filter", "u32", 12), ("qdisc", "cake", 1), ("qdisc", "cake_mq", 1), ("qdisc", "dualpi2", 16), ("qdisc", "htb", 8),
+    ("qdisc", "netem", 9), ("qdisc", "taprio", 6), ("qdisc", "tbf", 8),
 ];

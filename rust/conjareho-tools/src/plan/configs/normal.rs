@@ -52,7 +52,7 @@ fn normal_list(frame: DefaultNla) -> Result<DefaultNla, AllocError> {
 
 // True for the kinds with options that are normalized.
 fn has_such(kind: &str) -> bool {
-    matches!(kind, "htb" | "u32" | "tbf" | "netem" | "cake" | "taprio")
+    matches!(kind, "htb" | "u32" | "tbf" | "netem" | "cake" | "cake_mq" | "taprio" | "dualpi2")
 }
 
 // The same, and in dumps for the kinds of filters with actions.
@@ -130,9 +130,14 @@ fn is_kept(of_dump: bool, kind: &str, frame: &DefaultNla) -> bool {
 
 // True for an option that only aligns the next one.
 fn is_padding(kind: &str, option: u16) -> bool {
-    kind == "htb" && option == 8
-        || (kind == "tbf" && option == 8
-            || (kind == "netem" && option == 9 || (kind == "cake" && option == 1 || kind == "taprio" && option == 6)))
+    match kind {
+        "htb" | "tbf" => option == 8,
+        "netem" => option == 9,
+        "cake" | "cake_mq" => option == 1,
+        "taprio" => option == 6,
+        "dualpi2" => option == 16,
+        _ => false,
+    }
 }
 
 // The types of the options in which a filter counts.

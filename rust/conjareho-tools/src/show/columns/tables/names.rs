@@ -82,19 +82,19 @@ pub(crate) static NAMES: Table<Name<'static>> = &[
         Name { number: 17, name: "packet", kernel: "AF_PACKET" },
         Name { number: 28, name: "mpls", kernel: "AF_MPLS" },
     ]),
-    (867, &[ // `enum cake_diffserv` for people
+    (868, &[ // `enum cake_diffserv` for people
         Name { number: 0, name: "diffserv3", kernel: "CAKE_DIFFSERV_DIFFSERV3" },
         Name { number: 1, name: "diffserv4", kernel: "CAKE_DIFFSERV_DIFFSERV4" },
         Name { number: 2, name: "diffserv8", kernel: "CAKE_DIFFSERV_DIFFSERV8" },
         Name { number: 3, name: "besteffort", kernel: "CAKE_DIFFSERV_BESTEFFORT" },
         Name { number: 4, name: "precedence", kernel: "CAKE_DIFFSERV_PRECEDENCE" },
     ]),
-    (868, &[ // `enum cake_atm` for people
+    (869, &[ // `enum cake_atm` for people
         Name { number: 0, name: "none", kernel: "CAKE_ATM_NONE" },
         Name { number: 1, name: "atm", kernel: "CAKE_ATM_ATM" },
         Name { number: 2, name: "ptm", kernel: "CAKE_ATM_PTM" },
     ]),
-    (869, &[ // `enum cake_flow` for people
+    (870, &[ // `enum cake_flow` for people
         Name { number: 0, name: "none", kernel: "CAKE_FLOW_NONE" },
         Name { number: 1, name: "src_ip", kernel: "CAKE_FLOW_SRC_IP" },
         Name { number: 2, name: "dst_ip", kernel: "CAKE_FLOW_DST_IP" },
@@ -104,45 +104,62 @@ pub(crate) static NAMES: Table<Name<'static>> = &[
         Name { number: 6, name: "dual_dst", kernel: "CAKE_FLOW_DUAL_DST" },
         Name { number: 7, name: "triple", kernel: "CAKE_FLOW_TRIPLE" },
     ]),
-    (870, &[ // `enum cake_ack` for people
+    (871, &[ // `enum cake_ack` for people
         Name { number: 0, name: "none", kernel: "CAKE_ACK_NONE" },
         Name { number: 1, name: "filter", kernel: "CAKE_ACK_FILTER" },
         Name { number: 2, name: "aggressive", kernel: "CAKE_ACK_AGGRESSIVE" },
     ]),
-    (1106, &[ // the name of each element
+    (1057, &[ // `enum dualpi2_drop_overload` for people
+        Name { number: 0, name: "overflow", kernel: "TC_DUALPI2_DROP_OVERLOAD_OVERFLOW" },
+        Name { number: 1, name: "drop", kernel: "TC_DUALPI2_DROP_OVERLOAD_DROP" },
+    ]),
+    (1058, &[ // `enum dualpi2_drop_early` for people
+        Name { number: 0, name: "drop_dequeue", kernel: "TC_DUALPI2_DROP_EARLY_DROP_DEQUEUE" },
+        Name { number: 1, name: "drop_enqueue", kernel: "TC_DUALPI2_DROP_EARLY_DROP_ENQUEUE" },
+    ]),
+    (1059, &[ // `enum dualpi2_ecn_mask` for people
+        Name { number: 1, name: "l4s_ect", kernel: "TC_DUALPI2_ECN_MASK_L4S_ECT" },
+        Name { number: 2, name: "cla_ect", kernel: "TC_DUALPI2_ECN_MASK_CLA_ECT" },
+        Name { number: 3, name: "any_ect", kernel: "TC_DUALPI2_ECN_MASK_ANY_ECT" },
+    ]),
+    (1060, &[ // `enum dualpi2_split_gso` for people
+        Name { number: 0, name: "no_split_gso", kernel: "TC_DUALPI2_SPLIT_GSO_NO_SPLIT_GSO" },
+        Name { number: 1, name: "split_gso", kernel: "TC_DUALPI2_SPLIT_GSO_SPLIT_GSO" },
+    ]),
+    (1154, &[ // the name of each element
         Name { number: 0, name: "since", kernel: "" },
     ]),
-    (1177, &[ // the name of each element
+    (1225, &[ // the name of each element
         Name { number: 0, name: "queue", kernel: "" },
     ]),
-    (1299, &[ // `enum tc_mqprio_mode` for people
+    (1347, &[ // `enum tc_mqprio_mode` for people
         Name { number: 0, name: "dcb", kernel: "TC_MQPRIO_MODE_DCB" },
         Name { number: 1, name: "channel", kernel: "TC_MQPRIO_MODE_CHANNEL" },
     ]),
-    (1300, &[ // `enum tc_mqprio_shaper` for people
+    (1348, &[ // `enum tc_mqprio_shaper` for people
         Name { number: 0, name: "dcb", kernel: "TC_MQPRIO_SHAPER_DCB" },
         Name { number: 1, name: "bw_rate", kernel: "TC_MQPRIO_SHAPER_BW_RATE" },
     ]),
-    (1417, &[ // `enum tcq_plug` for people
+    (1465, &[ // `enum tcq_plug` for people
         Name { number: 0, name: "buffer", kernel: "TCQ_PLUG_BUFFER" },
         Name { number: 1, name: "release_one", kernel: "TCQ_PLUG_RELEASE_ONE" },
         Name { number: 2, name: "release_indefinite", kernel: "TCQ_PLUG_RELEASE_INDEFINITE" },
         Name { number: 3, name: "limit", kernel: "TCQ_PLUG_LIMIT" },
     ]),
-    (1588, &[ // `enum tc_taprio_cmd` for people
+    (1636, &[ // `enum tc_taprio_cmd` for people
         Name { number: 0, name: "set_gates", kernel: "TC_TAPRIO_CMD_SET_GATES" },
         Name { number: 1, name: "set_and_hold", kernel: "TC_TAPRIO_CMD_SET_AND_HOLD" },
         Name { number: 2, name: "set_and_release", kernel: "TC_TAPRIO_CMD_SET_AND_RELEASE" },
     ]),
-    (1633, &[ // `enum tc_linklayer` for people
+    (1681, &[ // `enum tc_linklayer` for people
         Name { number: 0, name: "unaware", kernel: "TC_LINKLAYER_UNAWARE" },
         Name { number: 1, name: "ethernet", kernel: "TC_LINKLAYER_ETHERNET" },
         Name { number: 2, name: "atm", kernel: "TC_LINKLAYER_ATM" },
     ]),
-    (1637, &[ // the name of each element
+    (1685, &[ // the name of each element
         Name { number: 0, name: "op", kernel: "" },
     ]),
-    (1638, &[ // `enum tc_fp` for people
+    (1686, &[ // `enum tc_fp` for people
         Name { number: 1, name: "express", kernel: "TC_FP_EXPRESS" },
         Name { number: 2, name: "preemptible", kernel: "TC_FP_PREEMPTIBLE" },
     ]),
