@@ -4,6 +4,7 @@ use conjareho::DecodeError;
 use conjareho::kinds::visit::{Group, Mark, Names, Row, Value, Visit};
 use conjareho::kinds::{ActionMessage, Message};
 use serde_json::{Map, Value as Json, json};
+use std::net::{Ipv4Addr, Ipv6Addr};
 
 /// An open group: its sort, its row, and what it holds so far: members, or items.
 struct Open {
@@ -32,18 +33,26 @@ fn number(row: &Row, number: i64, plain: Json) -> Json {
     }
 }
 
+/// An address as `inet_ntop` writes it: `::192.0.2.1`, which Rust writes in hex.
+fn ipv6(address: Ipv6Addr) -> String {
+    match (address.segments(), address.octets()) {
+        ([0, 0, 0, 0, 0, 0, 1.., _], [.., a, b, c, d]) => format!("::{}", Ipv4Addr::new(a, b, c, d)),
+        _ => address.to_string(),
+    }
+}
+
 fn value_of(row: &Row, value: Value<'_>) -> Json {
     match value {
         Value::Flag => true.into(),
         Value::Bool(it) => it.into(),
-        Value::Unsigned(it) => number(row, it.cast_signed(), it.into()),
+        Value::Unsigned(it) => number(row, i64::try_from(it).unwrap_or(i64::MAX), it.into()),
         Value::Signed(it) => number(row, it, it.into()),
         Value::Handle(it) => it.to_string().into(),
         Value::Text(it) => it.into(),
         Value::Bytes(it) => hex(it),
         Value::Mac(it) => it.to_string().into(),
         Value::Ipv4(it) => it.to_string().into(),
-        Value::Ipv6(it) => it.to_string().into(),
+        Value::Ipv6(it) => ipv6(it).into(),
         Value::Raw(it) => json!({ "raw": hex(it) }),
         Value::Unknown(word, it) => json!({ "word": word, "value": hex(it) }),
         it => panic!("{it:?}"),

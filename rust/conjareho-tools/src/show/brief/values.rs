@@ -9,6 +9,7 @@ use crate::show::brief::leaf::{Leaf, Shape, Shown, Value};
 use crate::show::brief::numbers::{put_number, put_signed};
 use crate::show::columns::KindColumns;
 use crate::show::units::{Unit, hex_digit, put_decimal, put_hex, put_verdict};
+use crate::tc_texts::ipv6_text;
 
 /// True if a bit is set.
 pub(crate) fn is_set(bit: u64, n: u64) -> bool {
@@ -173,7 +174,8 @@ pub(crate) fn put_value(out: &mut Vec<u8>, columns: &KindColumns<'_>, leaf: &Lea
         Value::Bytes(bytes) => put_plain_bytes(out, leaf.shown, bytes),
         Value::Mac(it) => put_display(out, it),
         Value::Ipv4(it) => put_display(out, it),
-        Value::Ipv6(it) => put_display(out, it),
+        // As `inet_ntop` writes it, and so JSON and `tc`: `::192.0.2.1`, which Rust writes in hex.
+        Value::Ipv6(it) => out.try_extend(ipv6_text(it.octets()).as_str().as_bytes()),
         Value::Named(name, n) => put_name(out, leaf, name, n),
         Value::Raw(bytes) => put_raw(out, bytes),
         Value::Prefix(n) => put_decimal(out, n),
