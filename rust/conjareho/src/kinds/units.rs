@@ -169,13 +169,18 @@ impl Prob {
     /// A share in percent, rounded as `tc` does.
     #[must_use]
     pub fn percent(percent: f64) -> Self {
-        Prob((percent / 100.0 * f64::from(u32::MAX) + 0.5) as u32)
+        let share = percent / 100.0 * f64::from(u32::MAX);
+        let number = share as u32;
+        let rest = share - f64::from(number);
+        let rounds_up = rest > 0.5 || rest == 0.5 && number % 2 == 1;
+        Prob(number.saturating_add(u32::from(rounds_up)))
     }
 }
 
-/// The quotient, rounded to the nearest number.
+/// The quotient, rounded to the nearest number, halves to the even one.
 fn rounded(number: u128, by: u128) -> u128 {
-    (2 * number + by) / (2 * by)
+    let (quotient, rest) = (number / by, number % by);
+    quotient + u128::from(2 * rest > by || 2 * rest == by && quotient % 2 == 1)
 }
 
 impl FromStr for Prob {

@@ -94,9 +94,11 @@ fn thousandths_of(n: u64) -> u128 {
     (n as u128 * 200_000 + 0xffff_ffff) / 0x1_ffff_fffe
 }
 
-// The share of thousandths of a percent.
+// The share of thousandths of a percent, to the nearest number. A half goes to the even one, as in `tc`.
 fn share_of(p: u128) -> u128 {
-    (p * 0x1_ffff_fffe + 100_000) / 200_000
+    let (number, rest) = (p * 0xffff_ffff / 100_000, p * 0xffff_ffff % 100_000);
+    let rounds_up = rest > 50_000 || rest == 50_000 && number % 2 == 1;
+    number + u128::from(rounds_up)
 }
 
 // Appends a share of 2^32 - 1 in percent; the number if three decimals don't determine it.

@@ -106,9 +106,22 @@ fn one_in(unit: Unit) -> u128 {
     }
 }
 
-// A share of 2^32 - 1, in thousandths of a percent, to the nearest number.
+// A share of 2^32 - 1, in thousandths of a percent, to the nearest number, halves to the even one.
 fn share_in(thousandths: u128) -> Option<u128> {
-    Some(thousandths.checked_mul(0xffff_ffff)?.checked_add(50_000)? / 100_000)
+    let all = thousandths.checked_mul(0xffff_ffff)?;
+    let (number, rest) = (all / 100_000, all % 100_000);
+    let up = if rest == 50_000 { number % 2 } else { u128::from(rest > 50_000) };
+    number.checked_add(up)
+}
+
+// What `tc` 6.1 sends for `loss 10%`, `30%`, `50%` and `70%`: 2^32 - 1 times the share, of which each is a half.
+#[test]
+fn halves_are_even() {
+    for (number, text) in [(429_496_730, "10%"), (1_288_490_188, "30%"), (2_147_483_648, "50%"), (3_006_477_106, "70%")] {
+        let mut out = Vec::new();
+        assert!(put_number(&mut out, Unit::Probability, number).is_ok());
+        assert_eq!(String::from_utf8_lossy(&out), text);
+    }
 }
 
 // The number in a text.
