@@ -36,7 +36,7 @@ fn number(row: &Row, number: i64, plain: Json) -> Json {
 /// An address as `inet_ntop` writes it: `::192.0.2.1`, which Rust writes in hex.
 fn ipv6(address: Ipv6Addr) -> String {
     match (address.segments(), address.octets()) {
-        ([0, 0, 0, 0, 0, 0, 1.., _], [.., a, b, c, d]) => format!("::{}", Ipv4Addr::new(a, b, c, d)),
+        ([0, 0, 0, 0, 0, 0, high, _], [.., a, b, c, d]) if high > 0 => format!("::{}", Ipv4Addr::new(a, b, c, d)),
         _ => address.to_string(),
     }
 }
