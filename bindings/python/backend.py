@@ -30,7 +30,7 @@ def library():
     if not os.path.exists(f"{TOP}/.cargo/config.toml"):
         subprocess.run([f"{TOP}/set-up"], check=True)
     words = ["cargo", "build", "--profile", "library", "--locked", "--quiet"]
-    # The same library from any folder: texts of panics name source files.
+    # Texts of panics name source files, without the folders of this machine.
     flags = f"{os.environ.get('RUSTFLAGS', '')} --remap-path-prefix={TARGET}=target --remap-path-prefix={TOP}=.".strip()
     subprocess.run(words, cwd=f"{TOP}/bindings/plain", check=True, env={**os.environ, "CARGO_TARGET_DIR": TARGET, "RUSTFLAGS": flags})
     return f"{TARGET}/library/libvtc.so"
