@@ -1,5 +1,5 @@
 -- Messages as bytes: the fields of headers, and the attributes after them.
-use Rattle.std.specs.Prelude.{ℕ, ◌+◌, ◌==◌, ◌/◌, ◌%◌, Bool, List, [], ◌∷◌, length, take, drop, Option, Some, None, Ok, Err, nat_le, is_ok, if◌then◌else◌}
+use Rattle.std.specs.Prelude.{ℕ, ◌==◌, ◌/◌, Bool, List, [], ◌∷◌, take, drop, Option, Some, None, Ok, Err, is_ok, if◌then◌else◌}
 use Rattle.std.specs.List.{list_all}
 use Rattle.nla_frames.specs.Fault.{Outcome}
 use Rattle.nla_frames.specs.Frame.{Frame, type_of}
@@ -28,8 +28,15 @@ flags_field message = number_at 2 6 message
 abbrev pub interface_field : List ℕ → ℕ
 interface_field message = number_at 4 20 message
 
+abbrev pub handle_field : List ℕ → ℕ
+handle_field message = number_at 4 24 message
+
 abbrev pub parent_field : List ℕ → ℕ
 parent_field message = number_at 4 28 message
+
+-- of a filter: its priority, and below that its protocol
+abbrev pub priority_field : List ℕ → ℕ
+priority_field message = number_at 4 32 message / 65536
 
 -- ---- what messages are about
 
@@ -41,6 +48,13 @@ sort_of type =
     if type / 4 == 11 then Some Filter else
     if type / 4 == 12 then Some Action else
     if type / 4 == 25 then Some Chain else None
+
+abbrev pub type_of_new : Sort → ℕ
+type_of_new Qdisc = 36
+type_of_new Class = 40
+type_of_new Filter = 44
+type_of_new Action = 48
+type_of_new Chain = 100
 
 -- the bytes before the attributes: 16 of `struct nlmsghdr`, and 4 of `struct tcamsg` or 20 of `struct tcmsg`
 abbrev pub header_size : Sort → ℕ

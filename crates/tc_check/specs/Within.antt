@@ -1,11 +1,11 @@
 -- Requests that are about nothing outside a scope.
-use Rattle.std.specs.Prelude.{ℕ, ◌==◌, ◌&&◌, ◌/◌, ◌%◌, Bool, true, false, List, length, drop, map, take, Option, Some, None, nat_lt, nat_le, not, if◌then◌else◌}
+use Rattle.std.specs.Prelude.{ℕ, ◌==◌, ◌&&◌, ◌%◌, Bool, true, false, List, length, drop, Option, Some, None, nat_lt, nat_le, if◌then◌else◌}
 use Rattle.std.specs.Borrow.{Bor}
 use Rattle.std.specs.List.{list_all}
 use Rattle.nla_frames.specs.Value.{le_value}
 use Rattle.tc_check.specs.declared.scope.Scope.{Scope}
 use Rattle.tc_check.specs.declared.sort.Sort.{Sort}
-use Rattle.tc_check.specs.declared.sort.Sort.TheVariants.{Qdisc, Class, Filter, Action, Chain}
+use Rattle.tc_check.specs.declared.sort.Sort.TheVariants.{Qdisc, Action}
 use Rattle.tc_check.specs.Scope.{has_interface, has_block}
 use Rattle.tc_check.specs.Messages.{length_field, type_field, interface_field, parent_field, sort_of, header_size, is_list, value_in}
 use Rattle.tc_check.specs.Actions.{are_within}

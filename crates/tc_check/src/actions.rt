@@ -46,7 +46,7 @@ fn is_action_within(scope: &Scope<'_>, is_delete: bool, action: &[u8]) -> bool
 }
 
 // The index of an action: in its parameters if it is to be made, or else in an attribute of its own.
-fn index_of(is_delete: bool, kind: &[u8], action: &[u8]) -> Option<u32>
+pub(crate) fn index_of(is_delete: bool, kind: &[u8], action: &[u8]) -> Option<u32>
     ensures { result ≡ actions.index_of is_delete kind.now action.now }
 {
     if is_delete {

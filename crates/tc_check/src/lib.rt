@@ -9,11 +9,15 @@
 #![tactic(auto)]
 
 mod actions;
+mod alike;
 mod attributes;
 mod fields;
+mod listed;
+pub mod named;
 pub mod scope;
 mod sort;
 pub mod within;
 
+pub use named::first_unnamed;
 pub use scope::{ActionName, Scope};
 pub use within::{first_outside, is_within};

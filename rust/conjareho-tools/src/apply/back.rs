@@ -3,6 +3,7 @@
 use super::advice::command_for;
 use super::after::same;
 use super::blocks::{Others, without};
+use super::check::Requests;
 use super::compare::{Key, Objects, objects_of};
 use super::messages::is_read;
 use super::named::named;
@@ -106,7 +107,7 @@ impl Before {
             let now = self.planned(&sending.world.dump(&sending.place.indices())?.messages);
             let steps = plan(&now, &before, |key| wanted.contains_key(key))
                 .map_err(|faults| unplanned(sending.place, &faults))?;
-            match sending.carry_out(&steps) {
+            match sending.carry_out(Requests { now: &now, wanted: &before, requests: &steps }) {
                 Ok(()) => break,
                 Err(stop @ Stop::Refused { .. }) => drop(refused.get_or_insert(stop)),
                 Err(stop) => return Err(stop),

@@ -48,6 +48,7 @@ mod world;
 use after::{check_after, same};
 use arguments::{Arguments, Way};
 use blocks::without;
+use check::Requests;
 use compare::{Held, Key};
 use places::by_place;
 use plan::plan_anew;
@@ -261,7 +262,8 @@ fn carried_out<T: Transport, L: Transport>(
         let model = plan::model(&now, &wanted.messages).ok_or_else(none)?;
         sending.compare_with(model, prepared.before.others.clone());
     }
-    sending.carry_out(&prepared.steps)?;
+    let now = &prepared.before.dumps;
+    sending.carry_out(Requests { now, wanted: &wanted.messages, requests: &prepared.steps })?;
     said.extend(sending.compared().map(|count| format!("compared after each of {count} requests")));
     let after = match reached(way, prepared, sending) {
         Err(stop @ Stop::Differs(_)) if way != Way::Beside => {
@@ -321,5 +323,5 @@ fn made_anew<T: Transport, L: Transport>(
     let warning = |what| format!("Linux {} took a change and didn't make it, so this is made anew: {what}", release());
     said.extend(unmade.into_iter().map(warning));
     let steps = plan_anew(&now, &wanted.messages).map_err(|faults| Stop::Unplanned(wanted.said_of(&faults)))?;
-    sending.carry_out(&steps)
+    sending.carry_out(Requests { now: &now, wanted: &wanted.messages, requests: &steps })
 }

@@ -1,7 +1,7 @@
 //! Requests as they are sent, one after the other.
 
 use super::blocks::{Others, without};
-use super::check::Scope;
+use super::check::{Requests, Scope, check_named};
 use super::messages::{deletes, is_plain_chain, kind_of, nested, over, replaces, type_of};
 use super::named::named;
 use super::progress::Progress;
@@ -65,11 +65,13 @@ impl<'w, 's, T: Transport, L: Transport> Sending<'w, 's, T, L> {
         }
     }
 
-    /// Sends the requests of a plan. What is to be deleted and isn't there is deleted; the kernel makes chains by itself.
-    pub(crate) fn carry_out(&mut self, steps: &[Vec<u8>]) -> Result<(), Stop> {
+    /// Sends the requests of a plan, if all are as they are to be. What is to be deleted and isn't there is deleted; the kernel makes chains by itself.
+    pub(crate) fn carry_out(&mut self, asked: Requests<'_>) -> Result<(), Stop> {
         let no_memory = || Stop::Unplanned(vec!["out of memory".to_string()]);
-        let steps: Vec<Vec<u8>> = steps.iter().map(|step| nested(step)).collect::<Option<_>>().ok_or_else(no_memory)?;
+        let steps: Vec<Vec<u8>> =
+            asked.requests.iter().map(|step| nested(step)).collect::<Option<_>>().ok_or_else(no_memory)?;
         self.scope.check(self.place, &steps)?;
+        check_named(self.place, Requests { requests: &steps, ..asked })?;
         // While somebody was asked whether it is to stay, others may have changed something.
         self.look()?;
         self.is_carried_out = false;
@@ -171,7 +173,7 @@ impl<'w, 's, T: Transport, L: Transport> Sending<'w, 's, T, L> {
                 && self.is_below_taprio(request)?
             {
                 let over = over(request);
-                self.scope.check(self.place, &[&over])?;
+                self.scope.check(self.place, std::slice::from_ref(&over))?;
                 answer = self.world.kernel.request(&over);
             }
             let refusal = match answer {

@@ -1,6 +1,7 @@
 //! What new network namespaces are for: a command that makes what is wanted, and a plan that is tried.
 
 use super::arguments::Arguments;
+use super::check::Requests;
 use super::check_after;
 use super::command;
 use super::links::Ran;
@@ -143,7 +144,7 @@ fn tried(now: &[Vec<u8>], wanted: &Wanted) -> Result<usize, String> {
     sending.scope.add_actions_of(now);
     sending.scope.add_actions_of(&wanted.messages);
     sending
-        .carry_out(now)
+        .carry_out(Requests { now: &[], wanted: &[], requests: now })
         .map_err(|stop| format!("what is there now can't be made in a new network namespace: {stop}"))?;
     made_there(&mut sending, &own, wanted).map_err(|stop| format!("in a new network namespace: {stop}"))
 }
@@ -155,7 +156,7 @@ fn made_there<T: Transport, L: Transport>(
 ) -> Result<usize, Stop> {
     let there = sending.world.first_dump(own)?.messages;
     let steps = plan(&there, &wanted.messages, |_| false).map_err(|faults| Stop::Unplanned(wanted.said_of(&faults)))?;
-    sending.carry_out(&steps)?;
+    sending.carry_out(Requests { now: &there, wanted: &wanted.messages, requests: &steps })?;
     check_after(&same(sending, &wanted.objects, by_place, |key, _| key.is_action())?, wanted, sending.place)?;
     Ok(steps.len())
 }

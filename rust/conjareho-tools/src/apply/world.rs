@@ -33,8 +33,8 @@ pub(crate) enum Stop {
     Unplanned(Vec<String>),
     /// Nobody said that it is to stay.
     Unconfirmed(String),
-    /// The request that asks for this isn't whole, or is about something that isn't to change.
-    Outside(String),
+    /// The request that asks for this isn't whole, is about something that isn't to change, or deletes or changes what isn't there.
+    NotAccepted(String),
 }
 
 impl From<Fault> for Stop {
@@ -55,7 +55,7 @@ impl fmt::Display for Stop {
             }
             Stop::Moved(how) | Stop::Unconfirmed(how) => f.write_str(how),
             Stop::Unplanned(why) => f.write_str(&why.join("; ")),
-            Stop::Outside(what) => {
+            Stop::NotAccepted(what) => {
                 write!(
                     f,
                     "the request to {what} isn't one for what is asked for, so it isn't sent: please report this, with what -n prints"
