@@ -350,7 +350,9 @@ fn netem() {
         "tc qdisc add dev lo root handle 3: netem rate 40gbit delay 5s",
         NetemQopt { limit, latency: ms(5000), attributes, ..NetemQopt::default() },
     );
-    let model = NetemGemodel { p: share("1%"), r: share("10%"), h: share("30%"), k1: share("0.1%") };
+    // tc takes 1-h, and sends what that leaves of the greatest number.
+    let h = Prob(u32::MAX - share("70%").0);
+    let model = NetemGemodel { p: share("1%"), r: share("10%"), h, k1: share("0.1%") };
     let attributes = NetemAttr::list().with_ecn(1).with_loss(NetemLossAttr::list().with_ge(model));
     add(
         "tc qdisc add dev lo root handle 3: netem loss gemodel 1% 10% 70% 0.1% ecn",

@@ -231,7 +231,7 @@ impl Writer<'_> {
         let lines = kinds.flat_map(|block| block.lines.iter().filter(|line| line.name == by.what).map(move |line| (block, line)));
         let lines: Vec<(&Block, &Line)> = lines.filter(|(_, line)| line.form.is_some()).collect();
         let table = place("by_kind", name);
-        let (mut rows, mut values, mut actions) = (String::new(), BTreeMap::<String, Vec<String>>::new(), String::new());
+        let (mut rows, mut values, mut actions) = (String::new(), BTreeMap::<String, Vec<(String, bool)>>::new(), String::new());
         for (at, (block, line)) in lines.iter().enumerate() {
             let Some(form) = &line.form else { continue };
             let (Type { value, layout, .. }, variant) = (self.form(form, ""), variant(&block.names[0]));
@@ -242,7 +242,8 @@ impl Writer<'_> {
             if let Some(attribute) = self.actions_in(form) {
                 actions += &format!("{variant} {},\n", ident(&attribute));
             }
-            values.entry(value).or_default().push(variant);
+            let is_own = matches!(form, Form::List(list) if list.name == block.names[0]);
+            values.entry(value).or_default().push((variant, is_own));
         }
         let doc = format!("The {} of a kind: {}.", by.what, by.sorts.join(", "));
         let other = format!("{:?} {} {}", by.other, flags_of(&by.form), if matches!(*by.form, Form::Leaf(_)) { "hex" } else { "form" });
@@ -250,8 +251,10 @@ impl Writer<'_> {
         let other_row = format!("[{table}[{}]]", lines.len());
         let mut text = format!("by_kind! {{ {}{name} {other} ({other_form}) {other_row} {{\n{rows}}} }}\n", attributes(&doc, ""));
         text += &self.rows.by_kind(&table, by, &lines.iter().map(|(_, line)| *line).collect::<Vec<_>>());
-        for (value, variants) in values.iter().filter(|(_, variants)| variants.len() == 1) {
-            text += &format!("from! {{ {name} {} ({value}) }}\n", variants[0]);
+        // A list that several kinds have is that of the kind of its name.
+        for (value, variants) in &values {
+            let own = variants.iter().find(|(_, is_own)| *is_own || variants.len() == 1);
+            text += &own.map_or_else(String::new, |(variant, _)| format!("from! {{ {name} {variant} ({value}) }}\n"));
         }
         if !actions.is_empty() {
             text += &format!("actions! {{ {name} {{\n{actions}}} }}\n");

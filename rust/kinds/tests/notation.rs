@@ -99,7 +99,7 @@ fn the_page_lists_every_kind() {
     let page = page(&Path::new(env!("CARGO_MANIFEST_DIR")).join("../../kinds")).expect("a page");
     for row in [
         "| `htb` | qdisc | [`HtbAttr`](crate::kinds::qdiscs::htb::HtbAttr) | [`HtbXstats`](crate::kinds::qdiscs::htb::HtbXstats) |",
-        "| `netem` | qdisc | [`NetemQopt`](crate::kinds::qdiscs::netem::NetemQopt) |  |",
+        "| `netem` | qdisc | [`NetemQopt`](crate::kinds::qdiscs::netem::NetemQopt) | [`NetemXstats`](crate::kinds::qdiscs::netem::NetemXstats) |",
         "| `gact` | action | [`GactAttr`](crate::kinds::actions::gact::GactAttr) |  |",
     ] {
         assert!(page.contains(row), "{row} isn't in\n{page}");

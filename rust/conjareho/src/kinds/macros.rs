@@ -465,7 +465,7 @@ macro_rules! by_kind {
     };
 }
 
-/// The options that a value is of, if only one kind has them.
+/// The options that a value is of: of the one kind that has them, or of the kind of their name.
 macro_rules! from {
     ($name:ident $variant:ident ($value:ty)) => {
         impl From<$value> for $name {
