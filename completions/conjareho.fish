@@ -1,6 +1,6 @@
 # Completion for fish of tcshow, tcmake, tcrewrite, tcsave, tcrestore, tcapply and tcnl. Written by man/generate.
 
-set -l kinds atm basic bfifo blackhole bpf cake cbq cbs cgroup choke clsact codel connmark csum ct ctinfo drr dsmark etf ets flow flower fq fq_codel fq_pie fw gact gate gred hfsc hhf htb ife ingress ipt matchall mirred mpls mq mqprio multiq nat netem noop noqueue pedit pfifo pfifo_fast pfifo_head_drop pie plug police prio qfq red route rr rsvp rsvp6 sample sfb sfq simple skbedit skbmod skbprio taprio tbf tcindex teql0 tunnel_key u32 vlan xt
+set -l kinds atm basic bfifo blackhole bpf cake cake_mq cbq cbs cgroup choke clsact codel connmark csum ct ctinfo drr dsmark dualpi2 etf ets flow flower fq fq_codel fq_pie fw gact gate gred hfsc hhf htb ife ingress ipt matchall mirred mpls mq mqprio multiq nat netem noop noqueue pedit pfifo pfifo_fast pfifo_head_drop pie plug police prio qfq red route rr rsvp rsvp6 sample sfb sfq simple skbedit skbmod skbprio taprio tbf tcindex teql0 tunnel_key u32 vlan xt
 set -l types qdisc tclass tfilter chain action newqdisc delqdisc getqdisc newtclass deltclass gettclass newtfilter deltfilter gettfilter newchain delchain getchain newaction delaction getaction
 
 # fish itself quotes what it inserts: an interface may be called `$(id)`.
