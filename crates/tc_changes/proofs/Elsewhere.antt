@@ -1,11 +1,14 @@
 -- A plan for what is named touches nothing elsewhere, if nothing there needs something that is named.
-use Rattle.std.proofs.Common.{◌≡◌, Bool, true, false, not, cond, ◌&&◌, ◌||◌, List, [], ◌∷◌, ◌++◌, Some, None, refl, sym, ap, subst, ◌∙◌}
+use Rattle.std.proofs.Common.{◌≡◌, Bool, true, false, not, cond, ◌&&◌, ◌||◌, List, [], ◌∷◌, ◌++◌, Some, None, refl, sym, ap, subst, ◌∙◌, append-nil}
 use Rattle.std.specs.Prelude.{filter, is_some}
 use Rattle.std.specs.List.{list_any, list_all, AllByRecursion}
 use Rattle.tc_changes.specs.Model.{Thing, needs, or_else, at_key, among, found, has, ready}
-use Rattle.tc_changes.specs.Requests.{Request, Make, Change, Delete}
-use Rattle.tc_changes.specs.Plans.{fits, key_of, IsAbout, IsUntouched, IsLeftAlone, CanStay, can_stay, NeedsCanStay}
-use Rattle.tc_changes.proofs.Lookups.{and_left, and_right, or_left, or_right, not_true, by_cases, or_else_none, found-append, found-filter, in_all}
+use Rattle.tc_changes.specs.Requests.{Request, Make, Change, Delete, holds, settled}
+use Rattle.tc_changes.specs.Plans.{fits, key_of, IsAbout, IsUntouched, IsLeftAlone, StayTogether}
+use Rattle.tc_changes.proofs.Lookups.{and_left, and_right, or_left, or_right, not_true, by_cases, or_else_none, found-append, found-filter}
+use Rattle.tc_changes.proofs.Lookups.{all_by, all_each, any_at, any_one, any_found, at_found, is_false, refuted}
+use Rattle.tc_changes.proofs.Going.{is_there}
+use Rattle.tc_changes.proofs.Fronts.{needs_in}
 use Rattle.tc_changes.proofs.Wholes.{passed, passed_has, ready-append, ready_one, and_both}
 use Rattle.tc_changes.proofs.Keeps.{all_found}
 
@@ -72,53 +75,70 @@ module _ {K C : Type 0} (eq : K → K → Bool) (sound : (a b : K) → eq a b �
       ∙ and_both (ready eq [] want) _ wanted
       (ready_others [] (passed [] want) state order free (λ k off. passed_has eq [] want k ∙ ap is_some (none_found want all k off)))
 
-  -- ---- all that they need can stay
+  -- ---- they can stay
 
-  named_none : (ns : List K) (n : K) → list_any test ns ≡ false → among eq ns n ≡ true → test n ≡ false
-  named_none [] n none is = absurd (cc is)
-  named_none (m ∷ ns) n none is =
-      by_cases (test n ≡ false) (eq n m) (λ here. ap test (sound n m here) ∙ or_left (test m) _ none)
-      (λ there. named_none ns n (or_right (test m) _ none) (sym (ap (λ b. b || among eq ns n) there) ∙ is))
+  -- to each weak object that doesn't pass the test one refers that doesn't
+  abbrev pub AreHeld : (K → Bool) → List (Thing K C) → Type 0
+  AreHeld weak state = AllByRecursion (λ o. test o.key ≡ false → weak o.key ≡ true
+      → list_any (λ h. holds eq o.key h && not (test h.key)) state ≡ true) state
 
-  module _ (state want : List (Thing K C)) (order : ready eq [] state ≡ true) (all : AreNamed want) where
-    abbrev Stays : K → Type 0
-    Stays k = CanStay eq (fits alike takes) state (want ++ others state) k
+  module _ (weak : K → Bool) (state want : List (Thing K C)) (order : ready eq [] state ≡ true) (is_set : settled eq weak state [] state ≡ true)
+      (all : AreNamed want) (free : AreFree state) (are_held : AreHeld weak state) where
+    abbrev elsewhere : K → Bool
+    elsewhere k = not (test k) && has eq state k
 
-    abbrev NeedsStay : Thing K C → Type 0
-    NeedsStay o = NeedsCanStay eq (fits alike takes) state (want ++ others state) o
+    here : AllByRecursion (λ o. found eq state o.key ≡ Some o) state
+    here = all_found eq sound same alike takes alike_is [] state state refl order
 
-    one_stays : (o : Thing K C) → found eq state o.key ≡ Some o → test o.key ≡ false → NeedsStay o → Stays o.key
-    one_stays o here off needed =
-        can_stay o.key o o here (found_other state want all o.key off ∙ here) (ap (λ b. b || takes o o) (alike_same o)) needed
+    needs_elsewhere : (k : K) (o : Thing K C) → found eq state k ≡ Some o → test k ≡ false → (n : K) → among eq (needs o) n ≡ true → elsewhere n ≡ true
+    needs_elsewhere k o at off n need =
+        let in_front = at_found eq sound (λ o. among eq (passed [] state) o.key ≡ true → (n : K) → among eq (needs o) n ≡ true
+        → among eq (passed [] state) n ≡ true) state k o
+        (needs_in eq sound same weak state state [] (append-nil state) order is_set) at in
+        let is_free = at_found eq sound (λ o. test o.key ≡ false → list_any test (needs o) ≡ false) state k o free at in
+        and_both (not (test n)) _
+        (ap not (is_false (test n) (λ on. refuted (list_any test (needs o)) (any_at eq sound same test (needs o) n need on)
+        (is_free.0 (ap test (sym is_free.1) ∙ off)))))
+        (sym (passed_has eq [] state n)
+        ∙ in_front.0 (passed_has eq [] state o.key ∙ ap (has eq state) (sym in_front.1) ∙ ap is_some at) n need)
 
-    needs_stay : (before : List K) (rest : List (Thing K C)) → ready eq before rest ≡ true → AllByRecursion (λ o. found eq state o.key ≡ Some o) rest
-        → AreFree rest → ((k : K) → test k ≡ false → among eq before k ≡ true → Stays k)
-        → AllByRecursion (λ o. test o.key ≡ false → NeedsStay o) rest
-    needs_stay before [] is here free earlier = tt
-    needs_stay before (o ∷ rest) is here free earlier =
-        let first = and_left (not (among eq before o.key) && list_all (among eq before) (needs o)) (ready eq (o.key ∷ before) rest) is in
-        let more = and_right (not (among eq before o.key) && list_all (among eq before) (needs o)) (ready eq (o.key ∷ before) rest) is in
-        let needed = and_right (not (among eq before o.key)) _ first in
-        let own : test o.key ≡ false → NeedsStay o =
-        (λ off n is_needed. earlier n (named_none (needs o) n (free.0 off) is_needed) (in_all eq sound same before (needs o) n needed is_needed)) in (
-          own,
-          needs_stay (o.key ∷ before) rest more here.1 free.1 (λ k off there.
-              by_cases (Stays k) (eq k o.key)
-              (λ is_o. subst Stays (sym (sound k o.key is_o)) (one_stays o here.0 (sym (ap test (sound k o.key is_o)) ∙ off)
-              (own (sym (ap test (sound k o.key is_o)) ∙ off))))
-              (λ other. earlier k off (sym (ap (λ b. b || among eq before k) other) ∙ there))),
+    held_elsewhere : (k : K) (o : Thing K C) → found eq state k ≡ Some o → test k ≡ false → weak k ≡ true
+        → (h : Thing K C) × (found eq state h.key ≡ Some h) × (holds eq k h ≡ true) × (elsewhere h.key ≡ true)
+    held_elsewhere k o at off w =
+        let is_held = at_found eq sound (λ o. test o.key ≡ false → weak o.key ≡ true → list_any (λ h. holds eq o.key h && not (test h.key)) state
+        ≡ true) state k o are_held at in
+        let h = any_one (λ h. holds eq o.key h && not (test h.key)) (λ h. found eq state h.key ≡ Some h) state here
+        (is_held.0 (ap test (sym is_held.1) ∙ off) (ap weak (sym is_held.1) ∙ w)) in (
+          h.0,
+          h.2,
+          ap (λ x. holds eq x h.0) is_held.1 ∙ and_left (holds eq o.key h.0) _ h.1,
+          and_both (not (test h.0.key)) _ (and_right (holds eq o.key h.0) _ h.1) (ap is_some h.2),
+        )
+
+    together : StayTogether eq weak (fits alike takes) state (want ++ others state) elsewhere
+    together k is =
+        let off = not_true (test k) (and_left (not (test k)) _ is) in
+        let o = is_there (found eq state k) (and_right (not (test k)) _ is) in (
+          o.0,
+          o.0,
+          o.1,
+          found_other state want all k off ∙ o.1,
+          ap (λ b. b || takes o.0 o.0) (alike_same o.0),
+          all_each eq sound same elsewhere (needs o.0) (needs_elsewhere k o.0 o.1 off),
+          (λ w.
+              let h = held_elsewhere k o.0 o.1 off w in
+              any_found eq sound (λ p. holds eq k p && elsewhere p.key) state h.0.key h.0 h.1 (and_both (holds eq k h.0) _ h.2 h.3)),
         )
 
     -- ---- so no request is about one of them
 
-    module _ (steps : List (Request K C)) (alone : IsLeftAlone eq (fits alike takes) state (want ++ others state) steps) where
-      untouched : (rest : List (Thing K C)) → AllByRecursion (λ o. found eq state o.key ≡ Some o) rest
-          → AllByRecursion (λ o. test o.key ≡ false → NeedsStay o) rest → AllByRecursion (λ o. test o.key ≡ false → IsUntouched eq o.key steps) rest
-      untouched [] here stay = tt
-      untouched (o ∷ rest) here stay = (
-        λ off. alone o here.0 (found_other state want all o.key off ∙ here.0) (stay.0 off),
-        untouched rest here.1 stay.1,
-      )
+    module _ (steps : List (Request K C)) (alone : IsLeftAlone eq weak (fits alike takes) state (want ++ others state) steps) where
+      untouched : AllByRecursion (λ o. test o.key ≡ false → IsUntouched eq o.key steps) state
+      untouched = all_by (λ o. found eq state o.key ≡ Some o) (λ o. test o.key ≡ false → IsUntouched eq o.key steps)
+          (λ o at off. alone o at (found_other state want all o.key off ∙ at) (
+            (λ n need. (elsewhere, together, needs_elsewhere o.key o at off n need)),
+            (λ w. let h = held_elsewhere o.key o at off w in (h.0, h.1, h.2, (elsewhere, together, h.3))),
+          )) state here
 
       of_key : (rest : List (Thing K C)) → AllByRecursion (λ o. test o.key ≡ false → IsUntouched eq o.key steps) rest → (k : K) → test k ≡ false
           → has eq rest k ≡ true → IsUntouched eq k steps
@@ -129,10 +149,10 @@ module _ {K C : Type 0} (eq : K → K → Bool) (sound : (a b : K) → eq a b �
           (λ there. of_key rest none.1 k off
           (sym (ap (λ b. is_some (or_else (found eq rest k) (cond b (Some o) None))) there ∙ ap is_some (or_else_none (found eq rest k))) ∙ is))
 
-      is_there : (r : Request K C) → IsAbout eq state (want ++ others state) r → test (key_of r) ≡ false → has eq state (key_of r) ≡ true
-      is_there (Delete k) about off = about
-      is_there (Make o) about off = ap is_some (sym (found_other state want all o.key off) ∙ about)
-      is_there (Change o) about off = about.1
+      has_about : (r : Request K C) → IsAbout eq state (want ++ others state) r → test (key_of r) ≡ false → has eq state (key_of r) ≡ true
+      has_about (Delete k) about off = about
+      has_about (Make o) about off = ap is_some (sym (found_other state want all o.key off) ∙ about)
+      has_about (Change o) about off = about.1
 
       within : (rs : List (Request K C)) → AllByRecursion (IsAbout eq state (want ++ others state)) rs
           → ((k : K) → test k ≡ false → has eq state k ≡ true → list_any (λ r. eq k (key_of r)) rs ≡ false) → list_all (λ r. test (key_of r)) rs ≡ true
@@ -140,11 +160,8 @@ module _ {K C : Type 0} (eq : K → K → Bool) (sound : (a b : K) → eq a b �
       within (r ∷ rs) about none =
           and_both (test (key_of r)) _
           (by_cases (test (key_of r) ≡ true) (test (key_of r)) (λ on. on)
-          (λ off. absurd (cc (sym (or_left (eq (key_of r) (key_of r)) _ (none (key_of r) off (is_there r about.0 off))) ∙ same (key_of r)))))
+          (λ off. absurd (cc (sym (or_left (eq (key_of r) (key_of r)) _ (none (key_of r) off (has_about r about.0 off))) ∙ same (key_of r)))))
           (within rs about.1 (λ k off there. or_right (eq k (key_of r)) _ (none k off there)))
 
-      pub steps_within : AreFree state → AllByRecursion (IsAbout eq state (want ++ others state)) steps → list_all (λ r. test (key_of r)) steps ≡ true
-      steps_within free about =
-          let here = all_found eq sound same alike takes alike_is alike_same [] state state refl order in
-          within steps about
-          (of_key state (untouched state here (needs_stay [] state order here free (λ k off is. absurd (cc is)))))
+      pub steps_within : AllByRecursion (IsAbout eq state (want ++ others state)) steps → list_all (λ r. test (key_of r)) steps ≡ true
+      steps_within about = within steps about (of_key state untouched)

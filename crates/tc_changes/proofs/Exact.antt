@@ -1,13 +1,13 @@
 -- Each request of a plan is about an object of either state, and no two do the same.
-use Rattle.std.proofs.Common.{◌≡◌, Bool, true, false, cond, ◌&&◌, List, [], ◌∷◌, ◌++◌, Option, Some, None, map, refl, ap, ◌∙◌}
+use Rattle.std.proofs.Common.{◌≡◌, Bool, true, false, cond, List, [], ◌∷◌, ◌++◌, Option, Some, None, map, refl, sym, ap, ◌∙◌}
 use Rattle.std.specs.Prelude.{is_some}
 use Rattle.std.specs.List.{list_all, AllByRecursion, IsDistinct}
 use Rattle.tc_changes.specs.Model.{Thing, found, has, is_next, ready}
 use Rattle.tc_changes.specs.Requests.{Request, Make, Change, Delete}
-use Rattle.tc_changes.specs.Plans.{fits, key_of, is_repeated, IsAbout, IsConfined}
-use Rattle.tc_changes.specs.Planned.{keys_of, remover, remover_of, add, goes, kept, asked, request_of, makes, planned}
-use Rattle.tc_changes.proofs.Lookups.{and_left, and_right, all_append, all_by, differ}
-use Rattle.tc_changes.proofs.Unrelated.{pick, all_kept, ready_rest}
+use Rattle.tc_changes.specs.Plans.{key_of, is_repeated, IsAbout, IsConfined}
+use Rattle.tc_changes.specs.Planned.{remover, remover_of, add, is_along, kept, asked, request_of, makes, planned}
+use Rattle.tc_changes.proofs.Lookups.{and_right, all_append, all_by, all_passes, passes_all, differ, found-filter}
+use Rattle.tc_changes.proofs.Unrelated.{pick, ready_rest}
 use Rattle.tc_changes.proofs.Makes.{found_in}
 use Rattle.tc_changes.proofs.Keeps.{all_found}
 
@@ -26,40 +26,37 @@ all_map f P (x ∷ xs) all = (all.0, all_map f P xs all.1)
 module _ {K C : Type 0} (eq : K → K → Bool) (sound : (a b : K) → eq a b ≡ true → a ≡ b) (same : (a : K) → eq a a ≡ true)
     (alike takes : Thing K C → Thing K C → Bool) (alike_is : (a b : Thing K C) → alike a b ≡ true → a ≡ b)
     (alike_same : (a : Thing K C) → alike a a ≡ true) where
-  abbrev fit : Thing K C → Thing K C → Bool
-  fit = fits alike takes
-
   -- what comes after an object in order has another key
   rest_distinct : (before : List K) (o : Thing K C) (rest : List (Thing K C)) → ready eq before (o ∷ rest) ≡ true
       → AllByRecursion (λ p. eq o.key p.key ≡ false) rest
   rest_distinct before o rest is = ready_rest eq sound same before [] o rest is
 
-  module _ (want : List (Thing K C)) where
+  module _ (weak gone : K → Bool) where
     -- what is true for the keys of objects is true for those that are asked for
     all_asked : (P : K → Type 0) (removed : List (K × K)) (state : List (Thing K C)) → AllByRecursion (λ o. P o.key) state
-        → AllByRecursion P (asked eq fit want removed state)
+        → AllByRecursion P (asked eq weak gone removed state)
     all_asked P removed [] all = tt
     all_asked P removed (o ∷ state) all =
-        pick (AllByRecursion P) (goes eq fit want (keys_of removed) o) _ _
-        (λ away. all_append P (asked eq fit want (add eq removed o) state) (cond (is_some (remover_of eq (remover eq removed) o)) [] (o.key ∷ []))
-        (all_asked P (add eq removed o) state all.1)
-        (pick (AllByRecursion P) (is_some (remover_of eq (remover eq removed) o)) [] (o.key ∷ []) (λ _. tt) (λ _. (all.0, tt))))
+        pick (AllByRecursion P) (gone o.key) _ _
+        (λ away. all_append P (asked eq weak gone (add eq weak removed o) state) (cond (is_along eq weak gone o (remover_of eq weak (remover eq removed) o)) [] (o.key ∷ []))
+        (all_asked P (add eq weak removed o) state all.1)
+        (pick (AllByRecursion P) (is_along eq weak gone o (remover_of eq weak (remover eq removed) o)) [] (o.key ∷ []) (λ _. tt) (λ _. (all.0, tt))))
         (λ stays. all_asked P removed state all.1)
 
     -- no key is asked for twice
     once_asked : (before : List K) (removed : List (K × K)) (state : List (Thing K C)) → ready eq before state ≡ true
-        → IsDistinct eq (asked eq fit want removed state)
+        → IsDistinct eq (asked eq weak gone removed state)
     unfolding IsDistinct
     once_asked before removed [] is = tt
     once_asked before removed (o ∷ state) is =
         let rest = and_right (is_next eq before o) _ is in
-        pick (IsDistinct eq) (goes eq fit want (keys_of removed) o) _ _
-        (λ away. pick (λ l. IsDistinct eq (asked eq fit want (add eq removed o) state ++ l)) (is_some (remover_of eq (remover eq removed) o)) [] (o.key ∷ [])
-        (λ _. distinct_append eq (asked eq fit want (add eq removed o) state) [] (once_asked (o.key ∷ before) (add eq removed o) state rest) tt
-        (all_asked (λ k. AllByRecursion (λ y. eq k y ≡ false) []) (add eq removed o) state (all_by (λ p. eq o.key p.key
+        pick (IsDistinct eq) (gone o.key) _ _
+        (λ away. pick (λ l. IsDistinct eq (asked eq weak gone (add eq weak removed o) state ++ l)) (is_along eq weak gone o (remover_of eq weak (remover eq removed) o)) [] (o.key ∷ [])
+        (λ _. distinct_append eq (asked eq weak gone (add eq weak removed o) state) [] (once_asked (o.key ∷ before) (add eq weak removed o) state rest) tt
+        (all_asked (λ k. AllByRecursion (λ y. eq k y ≡ false) []) (add eq weak removed o) state (all_by (λ p. eq o.key p.key
         ≡ false) (λ p. Unit {0}) (λ p _. tt) state (rest_distinct before o state is))))
-        (λ _. distinct_append eq (asked eq fit want (add eq removed o) state) (o.key ∷ []) (once_asked (o.key ∷ before) (add eq removed o) state rest) (tt, tt)
-        (all_asked (λ k. AllByRecursion (λ y. eq k y ≡ false) (o.key ∷ [])) (add eq removed o) state
+        (λ _. distinct_append eq (asked eq weak gone (add eq weak removed o) state) (o.key ∷ []) (once_asked (o.key ∷ before) (add eq weak removed o) state rest) (tt, tt)
+        (all_asked (λ k. AllByRecursion (λ y. eq k y ≡ false) (o.key ∷ [])) (add eq weak removed o) state
         (all_by (λ p. eq o.key p.key
         ≡ false) (λ p. AllByRecursion (λ y. eq p.key y ≡ false) (o.key ∷ [])) (λ p other.
         (differ eq sound same o.key p.key other, tt)) state (rest_distinct before o state is)))))
@@ -109,32 +106,32 @@ module _ {K C : Type 0} (eq : K → K → Bool) (sound : (a b : K) → eq a b �
                 tt,
               ))
 
-  module _ (state want : List (Thing K C)) (order : ready eq [] state ≡ true) (wanted : ready eq [] want ≡ true) where
+  module _ (weak gone : K → Bool) (state want : List (Thing K C)) (order : ready eq [] state ≡ true) (wanted : ready eq [] want ≡ true) where
     abbrev stay : List (Thing K C)
-    stay = kept eq fit want [] state
+    stay = kept eq weak gone state
 
     abbrev keys : List K
-    keys = asked eq fit want [] state
+    keys = asked eq weak gone [] state
 
     -- what stays was there
     was_there : (k : K) (o : Thing K C) → found eq stay k ≡ Some o → has eq state k ≡ true
-    was_there k o there =
-        let here = found_in eq (λ p. found eq state p.key ≡ Some p) stay k o
-        (all_kept eq sound same fit want (λ p. found eq state p.key
-        ≡ Some p) [] state (all_found eq sound same alike takes alike_is alike_same [] state state refl order)) there in
-        ap (has eq state) (sound k o.key here.1) ∙ ap is_some here.0
+    was_there k o there = by_gone (gone k) (sym (found-filter eq sound gone state k) ∙ there)
+      where
+        by_gone : (b : Bool) → cond b None (found eq state k) ≡ Some o → has eq state k ≡ true
+        by_gone true at = absurd (cc at)
+        by_gone false at = ap is_some at
 
-    pub plan_about : AllByRecursion (IsAbout eq state want) (planned eq alike takes state want)
+    pub plan_about : AllByRecursion (IsAbout eq state want) (planned eq alike weak gone state want)
     plan_about =
         all_append (IsAbout eq state want) (map Delete keys) (makes eq alike stay want)
         (all_map Delete (IsAbout eq state want) keys
-        (all_asked want (λ k. has eq state k ≡ true) [] state
+        (all_asked weak gone (λ k. has eq state k ≡ true) [] state
         (all_by (λ o. found eq state o.key ≡ Some o) (λ o. has eq state o.key
-        ≡ true) (λ o is. ap is_some is) state (all_found eq sound same alike takes alike_is alike_same [] state state refl order))))
-        (all_makes want stay (IsAbout eq state want) want
+        ≡ true) (λ o is. ap is_some is) state (all_found eq sound same alike takes alike_is [] state state refl order))))
+        (all_makes weak gone stay (IsAbout eq state want) want
         (all_by (λ w. found eq want w.key ≡ Some w) (λ w. (found eq want w.key ≡ Some w)
         × ((o : Thing K C) → found eq stay w.key ≡ Some o → (found eq want w.key ≡ Some w) × (has eq state w.key ≡ true)))
-        (λ w is. (is, λ o there. (is, was_there w.key o there))) want (all_found eq sound same alike takes alike_is alike_same [] want want refl wanted)))
+        (λ w is. (is, λ o there. (is, was_there w.key o there))) want (all_found eq sound same alike takes alike_is [] want want refl wanted)))
 
     -- deletes differ as their keys do
     distinct_deletes : (ks : List K) → IsDistinct eq ks → IsDistinct (is_repeated {C = C} eq) (map Delete ks)
@@ -144,24 +141,15 @@ module _ {K C : Type 0} (eq : K → K → Bool) (sound : (a b : K) → eq a b �
 
     no_delete : (ks : List K) → AllByRecursion (λ r. AllByRecursion (λ s. is_repeated eq r s ≡ false) (makes eq alike stay want)) (map Delete ks)
     no_delete [] = tt
-    no_delete (k ∷ ks) = (all_makes want stay (λ s. is_repeated eq (Delete k) s ≡ false) want (none want), no_delete ks)
+    no_delete (k ∷ ks) = (all_makes weak gone stay (λ s. is_repeated eq (Delete k) s ≡ false) want (none want), no_delete ks)
       where
         none : (rest : List (Thing K C)) → AllByRecursion (λ w. (false ≡ false) × ((o : Thing K C) → found eq stay w.key ≡ Some o → false ≡ false)) rest
         none [] = tt
         none (w ∷ rest) = ((refl, λ o _. refl), none rest)
 
-    pub plan_once : IsDistinct (is_repeated eq) (planned eq alike takes state want)
-    plan_once = distinct_append (is_repeated eq) (map Delete keys) (makes eq alike stay want) (distinct_deletes keys (once_asked want [] [] state order))
-        (once_makes want stay [] want wanted) (no_delete keys)
-
--- tests that each passes
-all_passes : {X : Type 0} (p : X → Bool) (xs : List X) → list_all p xs ≡ true → AllByRecursion (λ x. p x ≡ true) xs
-all_passes p [] is = tt
-all_passes p (x ∷ xs) is = (and_left (p x) _ is, all_passes p xs (and_right (p x) _ is))
-
-passes_all : {X : Type 0} (p : X → Bool) (xs : List X) → AllByRecursion (λ x. p x ≡ true) xs → list_all p xs ≡ true
-passes_all p [] all = refl
-passes_all p (x ∷ xs) all = ap (λ b. b && list_all p xs) all.0 ∙ passes_all p xs all.1
+    pub plan_once : IsDistinct (is_repeated eq) (planned eq alike weak gone state want)
+    plan_once = distinct_append (is_repeated eq) (map Delete keys) (makes eq alike stay want) (distinct_deletes keys (once_asked weak gone [] [] state order))
+        (once_makes weak gone stay [] want wanted) (no_delete keys)
 
 some_of : {X : Type 0} (q : Option X) → is_some q ≡ true → (x : X) × (q ≡ Some x)
 some_of (Some x) is = (x, refl)

@@ -3,8 +3,6 @@ pub mod Unrelated
 pub mod Runs
 pub mod Wholes
 pub mod Makes
-pub mod Cascades
-pub mod Removals
 pub mod Keeps
 pub mod Exact
 pub mod Certain
@@ -18,3 +16,8 @@ pub mod Named
 pub mod Elsewhere
 pub mod Placed
 pub mod Least
+pub mod Going
+pub mod Fronts
+pub mod Drops
+pub mod Leading
+pub mod Losses

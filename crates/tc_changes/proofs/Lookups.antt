@@ -1,5 +1,5 @@
 -- What is found by a key.
-use Rattle.std.proofs.Common.{◌≡◌, Bool, true, false, not, cond, ◌&&◌, ◌||◌, List, [], ◌∷◌, ◌++◌, Option, Some, None, refl, sym, ap, ◌∙◌}
+use Rattle.std.proofs.Common.{◌≡◌, Bool, true, false, not, cond, ◌&&◌, ◌||◌, List, [], ◌∷◌, ◌++◌, Option, Some, None, refl, sym, ap, subst, ◌∙◌, ◌⊎◌, inl, inr}
 use Rattle.std.specs.Prelude.{filter, is_some}
 use Rattle.std.specs.List.{list_any, list_all, AllByRecursion}
 use Rattle.tc_changes.specs.Model.{Thing, or_else, at_key, among, found, has}
@@ -55,6 +55,10 @@ module _ {X : Type 0} (P : X → Type 0) where
   pub all_append : (xs ys : List X) → AllByRecursion P xs → AllByRecursion P ys → AllByRecursion P (xs ++ ys)
   all_append [] ys here there = there
   all_append (x ∷ xs) ys here there = (here.0, all_append xs ys here.1 there)
+
+pub all_right : {X : Type 0} (P : X → Type 0) (xs ys : List X) → AllByRecursion P (xs ++ ys) → AllByRecursion P ys
+all_right P [] ys all = all
+all_right P (x ∷ xs) ys all = all_right P xs ys all.1
 
 pub all_by : {X : Type 0} (P Q : X → Type 0) → ((x : X) → P x → Q x) → (xs : List X) → AllByRecursion P xs → AllByRecursion Q xs
 all_by P Q turn [] all = tt
@@ -169,3 +173,113 @@ module _ {K C : Type 0} (eq : K → K → Bool) (sound : (a b : K) → eq a b �
       (λ here. ap (eq k) (sym (sound j x.key here)))
       (λ here. ap (λ y. eq y x.key) (sound k j here))
       (found-without j s k)
+
+pub or_either : (a b : Bool) → (a || b) ≡ true → (a ≡ true) ⊎ (b ≡ true)
+or_either true b is = inl refl
+or_either false b is = inr is
+
+pub either : {A B : Type 0} (P : Type 0) → (A → P) → (B → P) → A ⊎ B → P
+either P here there (inl a) = here a
+either P here there (inr b) = there b
+
+pub and_two : (a b : Bool) → a ≡ true → b ≡ true → (a && b) ≡ true
+and_two true b here there = there
+and_two false b here there = absurd (cc here)
+
+pub or_second : (a b : Bool) → b ≡ true → (a || b) ≡ true
+or_second true b is = refl
+or_second false b is = is
+
+pub or_first : (a b : Bool) → a ≡ true → (a || b) ≡ true
+or_first true b is = refl
+or_first false b is = absurd (cc is)
+
+pub and_none : (a b : Bool) → (a ≡ true → b ≡ false) → (a && b) ≡ false
+and_none true b is = is refl
+and_none false b is = refl
+
+pub bool_same : (b c : Bool) → (b ≡ true → c ≡ true) → (c ≡ true → b ≡ true) → b ≡ c
+bool_same true c one two = sym (one refl)
+bool_same false true one two = two refl
+bool_same false false one two = refl
+
+-- not both
+pub refuted : {P : Type 0} (b : Bool) → b ≡ true → b ≡ false → P
+refuted true is off = absurd (cc off)
+refuted false is off = absurd (cc is)
+
+-- what isn't true is false
+pub is_false : (b : Bool) → (b ≡ true → ⊥) → b ≡ false
+is_false true no_ = absurd (no_ refl)
+is_false false no_ = refl
+
+module _ {X : Type 0} (p : X → Bool) where
+  pub any_none : (xs : List X) → list_any p xs ≡ false → AllByRecursion (λ x. p x ≡ false) xs
+  any_none [] is = tt
+  any_none (x ∷ xs) is = (or_left (p x) _ is, any_none xs (or_right (p x) _ is))
+
+  pub all_passes : (xs : List X) → list_all p xs ≡ true → AllByRecursion (λ x. p x ≡ true) xs
+  all_passes [] is = tt
+  all_passes (x ∷ xs) is = (and_left (p x) _ is, all_passes xs (and_right (p x) _ is))
+
+  pub passes_all : (xs : List X) → AllByRecursion (λ x. p x ≡ true) xs → list_all p xs ≡ true
+  passes_all [] all = refl
+  passes_all (x ∷ xs) all = and_two (p x) _ all.0 (passes_all xs all.1)
+
+  -- one of some elements, of all of which something is true, passes a test
+  pub any_one : (P : X → Type 0) (xs : List X) → AllByRecursion P xs → list_any p xs ≡ true → (x : X) × (p x ≡ true) × P x
+  any_one P [] all is = absurd (cc is)
+  any_one P (x ∷ xs) all is =
+      by_cases ((x : X) × (p x ≡ true) × P x) (p x) (λ on. (x, on, all.0))
+      (λ off. any_one P xs all.1 (sym (ap (λ b. b || list_any p xs) off) ∙ is))
+
+module _ {K : Type 0} (eq : K → K → Bool) (sound : (a b : K) → eq a b ≡ true → a ≡ b) (same : (a : K) → eq a a ≡ true) where
+  pub any_at : (p : K → Bool) (ns : List K) (n : K) → among eq ns n ≡ true → p n ≡ true → list_any p ns ≡ true
+  any_at p [] n there is = absurd (cc there)
+  any_at p (m ∷ ns) n there is =
+      by_cases (list_any p (m ∷ ns) ≡ true) (eq n m)
+      (λ here. or_first (p m) _ (ap p (sym (sound n m here)) ∙ is))
+      (λ other. or_second (p m) _ (any_at p ns n (sym (ap (λ b. b || among eq ns n) other) ∙ there) is))
+
+  pub any_find : (p : K → Bool) (ns : List K) → list_any p ns ≡ true → (n : K) × (among eq ns n ≡ true) × (p n ≡ true)
+  any_find p [] is = absurd (cc is)
+  any_find p (m ∷ ns) is =
+      by_cases ((n : K) × (among eq (m ∷ ns) n ≡ true) × (p n ≡ true)) (p m)
+      (λ here. (m, or_first (eq m m) _ (same m), here))
+      (λ other.
+      let rest = any_find p ns (sym (ap (λ b. b || list_any p ns) other) ∙ is) in
+      (rest.0, or_second (eq rest.0 m) _ rest.1, rest.2))
+
+  pub all_at : (p : K → Bool) (ns : List K) (n : K) → list_all p ns ≡ true → among eq ns n ≡ true → p n ≡ true
+  all_at p [] n all there = absurd (cc there)
+  all_at p (m ∷ ns) n all there =
+      by_cases (p n ≡ true) (eq n m) (λ here. ap p (sound n m here) ∙ and_left (p m) _ all)
+      (λ other. all_at p ns n (and_right (p m) _ all) (sym (ap (λ b. b || among eq ns n) other) ∙ there))
+
+  pub all_each : (p : K → Bool) (ns : List K) → ((n : K) → among eq ns n ≡ true → p n ≡ true) → list_all p ns ≡ true
+  all_each p [] all = refl
+  all_each p (m ∷ ns) all =
+      and_two (p m) _ (all m (or_first (eq m m) _ (same m))) (all_each p ns (λ n there. all n (or_second (eq n m) _ there)))
+
+  pub none_each : (p : K → Bool) (ns : List K) → ((n : K) → among eq ns n ≡ true → p n ≡ false) → list_any p ns ≡ false
+  none_each p [] all = refl
+  none_each p (m ∷ ns) all =
+      ap (λ b. b || list_any p ns) (all m (or_first (eq m m) _ (same m))) ∙ none_each p ns (λ n there. all n (or_second (eq n m) _ there))
+
+or_found : {X : Type 0} (a : Option X) (b : Bool) (x o : X) → or_else a (cond b (Some x) None) ≡ Some o → (a ≡ Some o) ⊎ (b ≡ true) × (x ≡ o)
+or_found (Some y) b x o is = inl is
+or_found None true x o is = inr (refl, cc is)
+or_found None false x o is = absurd (cc is)
+
+module _ {K C : Type 0} (eq : K → K → Bool) (sound : (a b : K) → eq a b ≡ true → a ≡ b) where
+  -- what is true for all objects is true for the one that is found, and that has the key
+  pub at_found : (P : Thing K C → Type 0) (s : List (Thing K C)) (k : K) (o : Thing K C) → AllByRecursion P s → found eq s k ≡ Some o → P o × (k ≡ o.key)
+  at_found P [] k o all is = absurd (cc is)
+  at_found P (x ∷ s) k o all is =
+      either (P o × (k ≡ o.key)) (λ deeper. at_found P s k o all.1 deeper)
+      (λ here. (subst P here.1 all.0, sound k x.key here.0 ∙ ap (λ y. y.key) here.1)) (or_found (found eq s k) (eq k x.key) x o is)
+
+  pub any_found : (p : Thing K C → Bool) (s : List (Thing K C)) (k : K) (o : Thing K C) → found eq s k ≡ Some o → p o ≡ true → list_any p s ≡ true
+  any_found p s k o is on =
+      by_cases (list_any p s ≡ true) (list_any p s) (λ yes_. yes_)
+      (λ no_. refuted (p o) on (at_found (λ x. p x ≡ false) s k o (any_none p s no_) is).0)

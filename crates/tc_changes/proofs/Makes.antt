@@ -2,14 +2,15 @@
 use Rattle.std.proofs.Common.{◌≡◌, Bool, true, false, not, cond, ◌&&◌, ◌||◌, List, [], ◌∷◌, ◌++◌, Option, Some, None, refl, sym, ap, subst, ◌∙◌}
 use Rattle.std.proofs.Common.{append_assoc, append-nil, ◌⊎◌, inl, inr, ⊎_elim}
 use Rattle.std.specs.Prelude.{is_some}
-use Rattle.std.specs.List.{list_all, AllByRecursion}
+use Rattle.std.specs.List.{list_any, list_all, AllByRecursion}
 use Rattle.tc_changes.specs.Model.{Thing, needs, or_else, at_key, among, found, has, ready, Same, IsWhole}
 use Rattle.tc_changes.specs.Requests.{Request, Make, Change, can_become, without}
 use Rattle.tc_changes.specs.Plans.{fits}
 use Rattle.tc_changes.specs.Planned.{goes, stays_by, kept, request_of, makes}
-use Rattle.tc_changes.proofs.Lookups.{and_left, and_right, or_left, by_cases, found-append, found-push, found-without}
+use Rattle.tc_changes.proofs.Lookups.{and_left, and_right, or_left, or_right, not_true, all_by, by_cases, found-append, found-push, found-without}
 use Rattle.tc_changes.proofs.Wholes.{all_weaker, ready-append, kept_ready, whole_done}
 use Rattle.tc_changes.proofs.Unrelated.{pick, Unrelated, unrelated_front, ready_rest}
+use Rattle.tc_changes.proofs.Drops.{all_filtered}
 use Rattle.tc_changes.proofs.Runs.{taken, sent, run, run_first, Wholly}
 
 some_or_else : {X : Type 0} (a b : Option X) → is_some a ≡ true → is_some (or_else a b) ≡ true
@@ -73,18 +74,8 @@ module _ {K C : Type 0} (eq : K → K → Bool) (sound : (a b : K) → eq a b �
       ∙ ap (λ o. or_else (or_else o (at_key eq w w.key)) (found eq front w.key)) (not_found eq w.key rest (ready_rest eq sound same [] front w rest is))
       ∙ ap (λ b. or_else (cond b (Some w) None) (found eq front w.key)) (same w.key)
 
-  -- what stays can stay
-  pub kept_fits : (want : List (Thing K C)) (keys : List K) (state : List (Thing K C))
-      → AllByRecursion (λ o. stays_by eq fit o (found eq want o.key) ≡ true) (kept eq fit want keys state)
-  kept_fits want keys [] = tt
-  kept_fits want keys (o ∷ state) =
-      pick (AllByRecursion (λ o. stays_by eq fit o (found eq want o.key) ≡ true)) (goes eq fit want keys o) (kept eq fit want (o.key ∷ keys) state)
-      (o ∷ kept eq fit want keys state)
-      (λ away. kept_fits want (o.key ∷ keys) state)
-      (λ stay. (not_false _ (or_left _ _ stay), kept_fits want keys state))
-
   module _ (stay want : List (Thing K C)) (stay_order : ready eq [] stay ≡ true)
-      (stays : AllByRecursion (λ o. stays_by eq fit o (found eq want o.key) ≡ true) stay) where
+      (stays : AllByRecursion (λ o. stays_by fit o (found eq want o.key) ≡ true) stay) where
     -- what requests lead to
     abbrev pub Leads : List (Thing K C) → List (Request K C) → Type 0
     Leads state rs = (after : List (Thing K C)) × (run eq takes state rs ≡ Some after) × Same eq after (stay ++ want) × Wholly eq state rs
@@ -135,10 +126,10 @@ module _ {K C : Type 0} (eq : K → K → Bool) (sound : (a b : K) → eq a b �
 
         change_lead : (o : Thing K C) → found eq stay w.key ≡ Some o → alike o w ≡ false → Leads state (Change w ∷ rs)
         change_lead o there other =
-            let at = found_in eq (λ p. stays_by eq fit p (found eq want p.key) ≡ true) stay w.key o stays there in
+            let at = found_in eq (λ p. stays_by fit p (found eq want p.key) ≡ true) stay w.key o stays there in
             let wanted : found eq want o.key ≡ Some w = ap (found eq want) (sym (sound w.key o.key at.1)) ∙ ap (λ l. found eq l w.key) (sym all)
             ∙ found_self done w rest order in
-            let can : takes o w ≡ true = sym (ap (λ b. b || takes o w) other) ∙ sym (ap (stays_by eq fit o) wanted) ∙ at.0 in
+            let can : takes o w ≡ true = sym (ap (λ b. b || takes o w) other) ∙ sym (ap (stays_by fit o) wanted) ∙ at.0 in
             let become : can_become eq takes (found eq state w.key) w ≡ true = ap (λ q. can_become eq takes q w) (now ∙ there) ∙ can in
             lead_first state (Change w) rs whole_now (ap (λ b. b && list_all (has eq state) (needs w)) become ∙ has_needs)
             (next (without eq w.key state ++ w ∷ []) (λ k. found-push eq (without eq w.key state) w k
@@ -173,20 +164,31 @@ module _ {K C : Type 0} (eq : K → K → Bool) (sound : (a b : K) → eq a b �
         wanted (Some x) there b is = refl
         wanted None there None is = refl
         wanted None there (Some o) is =
-            let at = found_in eq (λ p. stays_by eq fit p (found eq want p.key) ≡ true) stay k o stays is in
-            absurd (cc (sym (ap (stays_by eq fit o) (ap (found eq want) (sym (sound k o.key at.1)) ∙ there)) ∙ at.0))
+            let at = found_in eq (λ p. stays_by fit p (found eq want p.key) ≡ true) stay k o stays is in
+            absurd (cc (sym (ap (stays_by fit o) (ap (found eq want) (sym (sound k o.key at.1)) ∙ there)) ∙ at.0))
 
-  module _ (state want : List (Thing K C)) (order : ready eq [] state ≡ true) (wanted : ready eq [] want ≡ true) where
+  module _ (weak gone : K → Bool) (state want : List (Thing K C)) (order : ready eq [] state ≡ true) (wanted : ready eq [] want ≡ true)
+      (lost : AllByRecursion (λ o. gone o.key ≡ goes eq weak fit state want gone o) state) where
     abbrev pub staying : List (Thing K C)
-    staying = kept eq fit want [] state
+    staying = kept eq weak gone state
 
-    pub stays : AllByRecursion (λ o. stays_by eq fit o (found eq want o.key) ≡ true) staying
-    stays = kept_fits want [] state
+    -- what stays can stay
+    pub stays : AllByRecursion (λ o. stays_by fit o (found eq want o.key) ≡ true) staying
+    stays = all_filtered (λ o. stays_by fit o (found eq want o.key) ≡ true) (λ o. not (gone o.key)) state
+        (all_by (λ o. gone o.key ≡ goes eq weak fit state want gone o) (λ o. not (gone o.key) ≡ true → stays_by fit o (found eq want o.key) ≡ true)
+        (λ o is off. not_false (stays_by fit o (found eq want o.key)) (or_left _ _ (sym is ∙ not_true (gone o.key) off))) state lost)
+
+    -- what stays needs nothing that goes
+    pub free : AllByRecursion (λ o. gone o.key ≡ false → list_any gone (needs o) ≡ false) state
+    free = all_by (λ o. gone o.key ≡ goes eq weak fit state want gone o) (λ o. gone o.key ≡ false → list_any gone (needs o) ≡ false)
+        (λ o is off. or_left (list_any gone (needs o)) _ (or_right (not (stays_by fit o (found eq want o.key))) _ (sym is ∙ off))) state lost
+
+    pub stay_order : ready eq [] staying ≡ true
+    stay_order = kept_ready eq sound same gone [] [] state order free (λ k t. t) (λ k t _. t)
 
     -- what is made and changed leads from what stays
-    pub leads : Leads staying want (kept_ready eq sound same fit want [] [] [] state order (λ k t. t) (λ k t u. t)) stays staying (makes eq alike staying want)
-    leads = made staying want (kept_ready eq sound same fit want [] [] [] state order (λ k t. t) (λ k t u. t)) stays [] want staying refl wanted
-        (λ k. ap (λ l. found eq l k) (sym (append-nil staying)))
+    pub leads : Leads staying want stay_order stays staying (makes eq alike staying want)
+    leads = made staying want stay_order stays [] want staying refl wanted (λ k. ap (λ l. found eq l k) (sym (append-nil staying)))
 
     pub leads_same : Same eq leads.0 want
-    leads_same k = leads.2 k ∙ stay_wanted staying want (kept_ready eq sound same fit want [] [] [] state order (λ k t. t) (λ k t u. t)) stays k
+    leads_same k = leads.2 k ∙ stay_wanted staying want stay_order stays k

@@ -9,8 +9,10 @@ use Rattle.std.proofs.lemmas.List.Elements.{recursion_from_All}
 use Rattle.std.proofs.lemmas.List.Folds.{list_any-append}
 use Rattle.tc_changes.specs.Model.{among, ready}
 use Rattle.tc_changes.specs.Objects.{KernelThing, thing, things, same_key, alike, request, IfSteps, IsSetOf}
-use Rattle.tc_changes.specs.Plans.{fits, IsExact, IsAbout, IsLeftAlone}
-use Rattle.tc_changes.specs.Scope.{scope_of, scopes, is_named, completed, AreFree, IsWithin}
+use Rattle.tc_changes.specs.Plans.{IsExact, IsAbout, IsLeftAlone}
+use Rattle.tc_changes.specs.Promises.{suits}
+use Rattle.tc_changes.specs.Requests.{settled, keeping}
+use Rattle.tc_changes.specs.Scope.{scope_of, scopes, is_named, completed, AreFree, AreHeld, IsWithin}
 use Rattle.tc_changes.specs.declared.key.Key.{Key}
 use Rattle.tc_changes.specs.declared.object.Object.{Object}
 use Rattle.tc_changes.specs.declared.step.Plan.{Plan}
@@ -92,11 +94,12 @@ module _ (takes : KernelThing → KernelThing → Bool) (keys : List Key) (state
       (wanted_named keys want) free
 
   -- the steps of a plan are where something is named
-  pub plan_is_within : {A : Type 0} (plan : Plan A) → IfSteps plan (λ steps. IsExact same_key state (completed (scopes keys want) state want) steps)
-      → IfSteps plan (λ steps. IsLeftAlone same_key (fits alike takes) state (completed (scopes keys want) state want) steps)
+  pub plan_is_within : {A : Type 0} (weak : Key → Bool) → settled same_key weak state [] state ≡ true → AreHeld weak (scopes keys want) state
+      → (plan : Plan A) → IfSteps plan (λ steps. IsExact same_key state (completed (scopes keys want) state want) steps)
+      → IfSteps plan (λ steps. IsLeftAlone same_key weak (suits weak takes) state (completed (scopes keys want) state want) steps)
       → IfSteps plan (IsWithin (scopes keys want))
-  plan_is_within (Steps steps) exact alone =
-      steps_within same_key key_is key_same alike takes alike_is alike_same (is_named (scopes keys want)) state want order
-      (wanted_named keys want) (map request steps.items) alone free
+  plan_is_within weak is_set are_held (Steps steps) exact alone =
+      steps_within same_key key_is key_same alike (keeping same_key weak takes) alike_is alike_same (is_named (scopes keys want)) weak state want order is_set
+      (wanted_named keys want) free are_held (map request steps.items) alone
       (recursion_from_All (IsAbout same_key state (completed (scopes keys want) state want)) (map request steps.items) exact.0)
-  plan_is_within (Refused keys_) exact alone = tt
+  plan_is_within weak is_set are_held (Refused keys_) exact alone = tt

@@ -1,14 +1,14 @@
 -- Nothing is made or changed before the change of what it needs.
-use Rattle.std.proofs.Common.{◌≡◌, Bool, true, false, ◌||◌, List, [], ◌∷◌, ◌++◌, Option, Some, None, map, refl, ap, ◌∙◌}
+use Rattle.std.proofs.Common.{◌≡◌, Bool, true, false, not, ◌||◌, List, [], ◌∷◌, ◌++◌, Option, Some, None, map, refl, ap, ◌∙◌}
 use Rattle.std.specs.List.{list_any, AllByRecursion}
 use Rattle.std.proofs.lemmas.List.Folds.{list_any-append}
-use Rattle.tc_changes.specs.Model.{Thing, needs, among, found, ready}
+use Rattle.tc_changes.specs.Model.{Thing, needs, among, found, is_next, ready}
 use Rattle.tc_changes.specs.Requests.{Request, Change, Delete}
-use Rattle.tc_changes.specs.Plans.{fits, changes, IsPlaced}
+use Rattle.tc_changes.specs.Plans.{changes, IsPlaced}
 use Rattle.tc_changes.specs.Planned.{asked, kept, request_of, makes, planned}
-use Rattle.tc_changes.proofs.Lookups.{all_by}
-use Rattle.tc_changes.proofs.Unrelated.{pick, Unrelated}
-use Rattle.tc_changes.proofs.Cascades.{AreUnrelated, are_unrelated}
+use Rattle.tc_changes.proofs.Lookups.{and_left, and_right, or_right, all_by, none_among}
+use Rattle.tc_changes.proofs.Unrelated.{pick}
+use Rattle.tc_changes.proofs.Fronts.{rest_fresh}
 
 module _ {K C : Type 0} (eq : K → K → Bool) (sound : (a b : K) → eq a b ≡ true → a ≡ b) (same : (a : K) → eq a a ≡ true)
     (alike : Thing K C → Thing K C → Bool) where
@@ -24,12 +24,17 @@ module _ {K C : Type 0} (eq : K → K → Bool) (sound : (a b : K) → eq a b �
       one None = refl
       one (Some o) = pick (λ l. list_any (changes eq ns) l ≡ false) (alike o q) [] (Change q ∷ []) (λ _. refl) (λ _. ap (λ b. b || false) all.0)
 
-  placed_makes : (stay rest : List (Thing K C)) → AreUnrelated eq sound same rest → IsPlaced eq (makes eq alike stay rest)
-  placed_makes stay [] all = tt
-  placed_makes stay (w ∷ rest) all = one (placed_makes stay rest all.2) (found eq stay w.key)
+  placed_makes : (stay : List (Thing K C)) (before : List K) (rest : List (Thing K C)) → ready eq before rest ≡ true → IsPlaced eq (makes eq alike stay rest)
+  placed_makes stay before [] is = tt
+  placed_makes stay before (w ∷ rest) is =
+      one (placed_makes stay (w.key ∷ before) rest (and_right (is_next eq before w) _ is)) (found eq stay w.key)
     where
       free : list_any (changes eq (needs w)) (makes eq alike stay rest) ≡ false
-      free = no_change stay (needs w) rest (all_by (λ q. Unrelated eq sound same q.key w) (λ q. among eq (needs w) q.key ≡ false) (λ q a. a.1) rest all.1)
+      free = no_change stay (needs w) rest
+          (all_by (λ q. among eq (w.key ∷ before) q.key ≡ false) (λ q. among eq (needs w) q.key ≡ false)
+          (λ q fresh. none_among eq sound same before q.key (needs w) (or_right (eq q.key w.key) _ fresh)
+          (and_right (not (among eq before w.key)) _ (and_left (is_next eq before w) _ is))) rest
+          (rest_fresh eq sound same (w.key ∷ before) rest (and_right (is_next eq before w) _ is)))
 
       one : IsPlaced eq (makes eq alike stay rest) → (f : Option (Thing K C)) → IsPlaced eq (request_of eq alike w f ++ makes eq alike stay rest)
       one more None = (free, more)
@@ -39,9 +44,8 @@ module _ {K C : Type 0} (eq : K → K → Bool) (sound : (a b : K) → eq a b �
   placed_deletes [] rs is = is
   placed_deletes (k ∷ keys) rs is = placed_deletes keys rs is
 
-  pub plan_placed : (takes : Thing K C → Thing K C → Bool) (state want : List (Thing K C)) → ready eq [] want ≡ true
-      → IsPlaced eq (planned eq alike takes state want)
-  plan_placed takes state want wanted =
-      let stay = kept eq (fits alike takes) want [] state in
-      placed_deletes (asked eq (fits alike takes) want [] state) (makes eq alike stay want)
-      (placed_makes stay want (are_unrelated eq sound same [] want wanted).1)
+  pub plan_placed : (weak gone : K → Bool) (state want : List (Thing K C)) → ready eq [] want ≡ true
+      → IsPlaced eq (planned eq alike weak gone state want)
+  plan_placed weak gone state want wanted =
+      let stay = kept eq weak gone state in
+      placed_deletes (asked eq weak gone [] state) (makes eq alike stay want) (placed_makes stay [] want wanted)

@@ -2,7 +2,6 @@
 use Rattle.std.proofs.Common.{◌≡◌, Bool, true, false, not, cond, ◌&&◌, ◌||◌, List, [], ◌∷◌, ◌++◌, refl, sym, ap, ◌∙◌}
 use Rattle.std.specs.List.{list_all, AllByRecursion}
 use Rattle.tc_changes.specs.Model.{Thing, needs, among, ready}
-use Rattle.tc_changes.specs.Planned.{goes, kept}
 use Rattle.tc_changes.proofs.Lookups.{and_left, and_right, or_left, or_right, or_true, not_true, by_cases, none_among}
 
 pub pick : {X : Type 0} (P : X → Type 0) (b : Bool) (x y : X) → (b ≡ true → P x) → (b ≡ false → P y) → P (cond b x y)
@@ -48,13 +47,3 @@ module _ {K C : Type 0} (eq : K → K → Bool) (sound : (a b : K) → eq a b �
       (and_right (not (among eq before o.key) && list_all (among eq before) (needs o)) _ is)
   ready_rest before (p ∷ front) o rest is = ready_rest (p.key ∷ before) front o rest
       (and_right (not (among eq before p.key) && list_all (among eq before) (needs p)) _ is)
-
-  module _ (fits : Thing K C → Thing K C → Bool) (want : List (Thing K C)) where
-    -- what holds of objects holds of those that stay
-    pub all_kept : (P : Thing K C → Type 0) (keys : List K) (state : List (Thing K C)) → AllByRecursion P state
-        → AllByRecursion P (kept eq fits want keys state)
-    all_kept P keys [] all = tt
-    all_kept P keys (o ∷ state) all =
-        pick (AllByRecursion P) (goes eq fits want keys o) (kept eq fits want (o.key ∷ keys) state) (o ∷ kept eq fits want keys state)
-        (λ there. all_kept P (o.key ∷ keys) state all.1)
-        (λ there. (all.0, all_kept P keys state all.1))

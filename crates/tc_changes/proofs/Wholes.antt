@@ -1,11 +1,9 @@
 -- States that a cut leaves are whole.
 use Rattle.std.proofs.Common.{◌≡◌, Bool, true, false, not, cond, ◌&&◌, ◌||◌, List, [], ◌∷◌, ◌++◌, Option, Some, None, refl, sym, ap, ◌∙◌}
 use Rattle.std.specs.Prelude.{is_some, filter}
-use Rattle.std.specs.List.{list_any, list_all}
+use Rattle.std.specs.List.{list_any, list_all, AllByRecursion}
 use Rattle.tc_changes.specs.Model.{Thing, needs, or_else, among, found, has, ready, Same, IsWhole}
-use Rattle.tc_changes.specs.Planned.{goes, kept}
 use Rattle.tc_changes.proofs.Lookups.{and_left, and_right, or_left, or_right, or_true, not_true, by_cases, found-append, found-filter}
-use Rattle.tc_changes.proofs.Unrelated.{pick}
 
 pub all_weaker : {K : Type 0} (p q : K → Bool) → ((k : K) → p k ≡ true → q k ≡ true) → (ks : List K) → list_all p ks ≡ true → list_all q ks ≡ true
 all_weaker p q turn [] all = refl
@@ -76,41 +74,48 @@ module _ {K C : Type 0} (eq : K → K → Bool) where
   ready_one before o rest fresh all more =
       and_both _ _ (and_both _ _ (ap not fresh) all) more
 
+module _ {K : Type 0} (eq : K → K → Bool) where
+  pub free_needs : (before left ns : List K) (gone : K → Bool) → ((k : K) → among eq before k ≡ true → gone k ≡ false → among eq left k ≡ true)
+      → list_all (among eq before) ns ≡ true → list_any gone ns ≡ false → list_all (among eq left) ns ≡ true
+  free_needs before left [] gone turn all none = refl
+  free_needs before left (n ∷ ns) gone turn all none =
+      and_both (among eq left n) (list_all (among eq left) ns) (turn n (and_left _ _ all) (or_left _ _ none))
+      (free_needs before left ns gone turn (and_right (among eq before n) _ all) (or_right (gone n) _ none))
+
 module _ {K C : Type 0} (eq : K → K → Bool) (sound : (a b : K) → eq a b ≡ true → a ≡ b) (same : (a : K) → eq a a ≡ true) where
   -- an order is whole
   pub whole_ready : (state : List (Thing K C)) → ready eq [] state ≡ true → IsWhole eq state
   whole_ready state is = (state, is, λ k. refl)
 
-  module _ (fits : Thing K C → Thing K C → Bool) (want : List (Thing K C)) where
-    pub free_needs : (before left keys ns : List K) → ((k : K) → among eq before k ≡ true → among eq keys k ≡ false → among eq left k ≡ true)
-        → list_all (among eq before) ns ≡ true → list_any (among eq keys) ns ≡ false → list_all (among eq left) ns ≡ true
-    free_needs before left keys [] turn all none = refl
-    free_needs before left keys (n ∷ ns) turn all none =
-        and_both (among eq left n) (list_all (among eq left) ns) (turn n (and_left _ _ all) (or_left _ _ none))
-        (free_needs before left keys ns turn (and_right (among eq before n) _ all) (or_right (among eq keys n) _ none))
-
-    -- what stays of an order is an order, also without the keys that go
-    pub kept_ready : (before left keys : List K) (state : List (Thing K C)) → ready eq before state ≡ true
-        → ((k : K) → among eq left k ≡ true → among eq before k ≡ true)
-        → ((k : K) → among eq before k ≡ true → among eq keys k ≡ false → among eq left k ≡ true)
-        → ready eq left (kept eq fits want keys state) ≡ true
-    kept_ready before left keys [] is back turn = refl
-    kept_ready before left keys (o ∷ state) is back turn =
-        let first = and_left (not (among eq before o.key) && list_all (among eq before) (needs o)) (ready eq (o.key ∷ before) state) is in
-        let rest = and_right (not (among eq before o.key) && list_all (among eq before) (needs o)) (ready eq (o.key ∷ before) state) is in
-        let fresh = not_true (among eq before o.key) (and_left _ _ first) in
-        let all = and_right (not (among eq before o.key)) _ first in
-        pick (λ s. ready eq left s ≡ true) (goes eq fits want keys o) (kept eq fits want (o.key ∷ keys) state) (o ∷ kept eq fits want keys state)
-        (λ away. kept_ready (o.key ∷ before) left (o.key ∷ keys) state rest
-        (λ k there. ap (λ b. eq k o.key || b) (back k there) ∙ or_true (eq k o.key))
-        (λ k there free.
-        turn k (ap (λ b. b || among eq before k) (sym (or_left (eq k o.key) _ free)) ∙ there) (or_right (eq k o.key) _ free)))
-        (λ stay. ready_one eq left o (kept eq fits want keys state)
-        (fresh_by (among eq left o.key) (among eq before o.key) (back o.key) fresh)
-        (free_needs before left keys (needs o) turn all (or_right _ _ stay))
-        (kept_ready (o.key ∷ before) (o.key ∷ left) keys state rest
-        (λ k there. or_cases (eq k o.key) (among eq left k) (among eq before k) (back k) there)
-        (λ k there free. or_cases (eq k o.key) (among eq before k) (among eq left k) (λ b. turn k b free) there)))
+  -- what stays of an order is an order, also without the keys that go
+  pub kept_ready : (gone : K → Bool) (before left : List K) (state : List (Thing K C)) → ready eq before state ≡ true
+      → AllByRecursion (λ o. gone o.key ≡ false → list_any gone (needs o) ≡ false) state
+      → ((k : K) → among eq left k ≡ true → among eq before k ≡ true)
+      → ((k : K) → among eq before k ≡ true → gone k ≡ false → among eq left k ≡ true)
+      → ready eq left (filter (λ o. not (gone o.key)) state) ≡ true
+  kept_ready gone before left [] is free back turn = refl
+  kept_ready gone before left (o ∷ state) is free back turn =
+      let first = and_left (not (among eq before o.key) && list_all (among eq before) (needs o)) (ready eq (o.key ∷ before) state) is in
+      let rest = and_right (not (among eq before o.key) && list_all (among eq before) (needs o)) (ready eq (o.key ∷ before) state) is in
+      let fresh = not_true (among eq before o.key) (and_left _ _ first) in
+      let all = and_right (not (among eq before o.key)) _ first in
+      by_cases (ready eq left (filter (λ p. not (gone p.key)) (o ∷ state)) ≡ true) (gone o.key)
+      (λ away. ap (λ b. ready eq left (cond (not b) (o ∷ filter (λ p. not (gone p.key)) state) (filter (λ p. not (gone p.key)) state))) away
+      ∙ kept_ready gone (o.key ∷ before) left state rest free.1
+      (λ k there. ap (λ b. eq k o.key || b) (back k there) ∙ or_true (eq k o.key))
+      (λ k there out. or_cut (eq k o.key) (among eq before k) (among eq left k)
+      (λ is_o. sym out ∙ ap gone (sound k o.key is_o) ∙ away) (λ in_before. turn k in_before out) there))
+      (λ stay. ap (λ b. ready eq left (cond (not b) (o ∷ filter (λ p. not (gone p.key)) state) (filter (λ p. not (gone p.key)) state))) stay
+      ∙ ready_one eq left o (filter (λ p. not (gone p.key)) state)
+      (fresh_by (among eq left o.key) (among eq before o.key) (back o.key) fresh)
+      (free_needs eq before left (needs o) gone turn all (free.0 stay))
+      (kept_ready gone (o.key ∷ before) (o.key ∷ left) state rest free.1
+      (λ k there. or_cases (eq k o.key) (among eq left k) (among eq before k) (back k) there)
+      (λ k there out. or_cases (eq k o.key) (among eq before k) (among eq left k) (λ b. turn k b out) there)))
+    where
+      or_cut : (a b c : Bool) → (a ≡ true → false ≡ true) → (b ≡ true → c ≡ true) → (a || b) ≡ true → c ≡ true
+      or_cut true b c no_ turn is = absurd (cc (no_ refl))
+      or_cut false b c no_ turn is = turn is
 
   module _ (done : List (Thing K C)) where
     -- objects but for those that are done

@@ -14,6 +14,11 @@ pub record Thing (K C : Type 0) : Type 0 where
 abbrev pub needs : {K C : Type 0} → Thing K C → List K
 needs o = o.under ++ o.refers
 
+-- the keys that these objects are under
+abbrev pub unders : {K C : Type 0} → List (Thing K C) → List K
+unders [] = []
+unders (o ∷ state) = o.under ++ unders state
+
 -- a key is one of these
 abbrev pub among : {K : Type 0} → (K → K → Bool) → List K → K → Bool
 among eq keys k = list_any (eq k) keys

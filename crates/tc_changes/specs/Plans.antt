@@ -1,8 +1,8 @@
 -- What a plan promises: what it touches, what it leaves alone, and why there is none.
-use Rattle.std.specs.Prelude.{◌≡◌, ⊤, Bool, true, false, cond, ◌||◌, List, [], ◌∷◌, Some, All}
+use Rattle.std.specs.Prelude.{◌≡◌, ⊤, Bool, true, false, cond, ◌||◌, List, [], ◌∷◌, ◌++◌, Some, All, filter, not, ◌&&◌, ◌⊎◌}
 use Rattle.std.specs.List.{list_any, list_all, flat_map, IsDistinct}
 use Rattle.tc_changes.specs.Model.{Thing, needs, among, found, has}
-use Rattle.tc_changes.specs.Requests.{Request, Make, Change, Delete, Goes}
+use Rattle.tc_changes.specs.Requests.{Request, Make, Change, Delete, holds, Goes}
 
 -- an object is as wanted, or can be changed into what is wanted
 abbrev pub fits : {X : Type 0} → (X → X → Bool) → (X → X → Bool) → X → X → Bool
@@ -70,32 +70,48 @@ module _ {K C : Type 0} (eq : K → K → Bool) where
   abbrev pub IsDeleted : List (Request K C) → K → Type 0
   IsDeleted requests k = list_any (deletes eq k) requests ≡ true
 
-  -- an object needs something that goes with another delete than that of a key
+module _ {K C : Type 0} (eq : K → K → Bool) (weak : K → Bool) where
+  -- no request deletes what is weak
+  abbrev pub IsGone : List (Request K C) → Type 0
+  IsGone requests = (k : K) → weak k ≡ true → list_any (deletes eq k) requests ≡ false
+
+  -- all that a delete of an object waits for: what it needs, but for the weak ones to which it only refers
+  abbrev pub bound : Thing K C → List K
+  bound o = o.under ++ filter (λ k. not (weak k)) o.refers
+
+  -- an object needs something that doesn't go with the delete of a key alone, but with another one's, or with a weak object
   abbrev pub NeedsOther : List (Thing K C) → List (Request K C) → K → Thing K C → Type 0
-  NeedsOther state requests j o = (n : K) × (i : K) × (among eq (needs o) n ≡ true) × IsDeleted requests i × (eq i j ≡ false) × Goes eq state i n
+  NeedsOther state requests j o = (n : K) × (i : K) × (among eq (bound o) n ≡ true) × (IsDeleted eq requests i ⊎ (weak i ≡ true))
+      × (eq i j ≡ false) × Goes eq weak state (i ∷ []) n
 
   -- no delete is sent of an object that goes with another one, unless it needs something that goes with a third
   abbrev pub IsLeast : List (Thing K C) → List (Request K C) → Type 0
-  IsLeast state requests = (j k : K) → IsDeleted requests j → IsDeleted requests k → eq j k ≡ false → Goes eq state j k
+  IsLeast state requests = (j k : K) → IsDeleted eq requests j → IsDeleted eq requests k → eq j k ≡ false → Goes eq weak state (j ∷ []) k
       → (o : Thing K C) × (found eq state k ≡ Some o) × NeedsOther state requests j o
 
-module _ {K C : Type 0} (eq : K → K → Bool) (fit : Thing K C → Thing K C → Bool) (state want : List (Thing K C)) where
-  -- an object can stay: it is as wanted or can be changed into that, and all that it needs can stay too
-  pub data CanStay : K → Type 0 where
-    can_stay : (k : K) (o w : Thing K C) → found eq state k ≡ Some o → found eq want k ≡ Some w → fit o w ≡ true
-        → ((n : K) → among eq (needs o) n ≡ true → CanStay n) → CanStay k
+module _ {K C : Type 0} (eq : K → K → Bool) (weak : K → Bool) (fit : Thing K C → Thing K C → Bool) (state want : List (Thing K C)) where
+  -- a test passes objects that can stay together: each is as wanted or can be changed into that, all that it needs can stay, and so can one that
+  -- refers to it, if it is weak
+  abbrev pub StayTogether : (K → Bool) → Type 0
+  StayTogether stay = (k : K) → stay k ≡ true → (o w : Thing K C) × (found eq state k ≡ Some o) × (found eq want k ≡ Some w) × (fit o w ≡ true)
+      × (list_all stay (needs o) ≡ true) × (weak k ≡ true → list_any (λ h. holds eq k h && stay h.key) state ≡ true)
 
-  abbrev pub NeedsCanStay : Thing K C → Type 0
-  NeedsCanStay o = (n : K) → among eq (needs o) n ≡ true → CanStay n
+  abbrev pub CanStay : K → Type 0
+  CanStay k = (stay : K → Bool) × StayTogether stay × (stay k ≡ true)
 
-  -- an object that is equal in both states isn't touched, if all that it needs can stay
+  -- an object stays if it is as wanted: all that it needs can stay, and so can one that refers to it, if it is weak
+  abbrev pub Stays : Thing K C → Type 0
+  Stays o = ((n : K) → among eq (needs o) n ≡ true → CanStay n)
+      × (weak o.key ≡ true → (h : Thing K C) × (found eq state h.key ≡ Some h) × (holds eq o.key h ≡ true) × CanStay h.key)
+
+  -- an object that is equal in both states isn't touched, if it stays
   abbrev pub IsLeftAlone : List (Request K C) → Type 0
-  IsLeftAlone requests = (o : Thing K C) → found eq state o.key ≡ Some o → found eq want o.key ≡ Some o → NeedsCanStay o → IsUntouched eq o.key requests
+  IsLeftAlone requests = (o : Thing K C) → found eq state o.key ≡ Some o → found eq want o.key ≡ Some o → Stays o → IsUntouched eq o.key requests
 
   -- what can stay isn't deleted
   abbrev pub IsSpared : List (Request K C) → Type 0
   IsSpared requests = (k : K) → CanStay k → list_any (deletes eq k) requests ≡ false
 
-  -- what is wanted of a key can't be made, and isn't there already, or can't stay because of something that it needs
+  -- what is wanted of a key can't be made, and isn't there already, or doesn't stay
   abbrev pub IsBarred : (Thing K C → Bool) → K → Type 0
-  IsBarred can k = (o : Thing K C) × (found eq want k ≡ Some o) × (can o ≡ false) × (found eq state k ≡ Some o → NeedsCanStay o → ⊥)
+  IsBarred can k = (o : Thing K C) × (found eq want k ≡ Some o) × (can o ≡ false) × (found eq state k ≡ Some o → Stays o → ⊥)

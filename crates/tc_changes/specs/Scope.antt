@@ -1,11 +1,11 @@
 -- Plans for a part of a state: the interfaces, blocks and actions that are named. All else stays as it is.
-use Rattle.std.specs.Prelude.{◌≡◌, ℕ, ℤ, negsuc, Bool, true, false, not, List, map, filter, ◌++◌, if◌then◌else◌}
+use Rattle.std.specs.Prelude.{◌≡◌, ℕ, ℤ, negsuc, Bool, true, false, not, List, map, filter, ◌++◌, ◌&&◌, if◌then◌else◌}
 use Rattle.std.specs.List.{list_all, list_any, AllByRecursion}
 use Rattle.std.specs.Ordering.{int_eq}
 use Rattle.tc_changes.specs.Model.{among, needs}
 use Rattle.tc_changes.specs.Objects.{KernelThing, same_key}
 use Rattle.tc_changes.specs.Plans.{key_of}
-use Rattle.tc_changes.specs.Requests.{Request}
+use Rattle.tc_changes.specs.Requests.{Request, holds}
 use Rattle.tc_changes.specs.declared.key.Key.{Key}
 use Rattle.tc_changes.specs.declared.key.Key.TheVariants.{Place, Class, Block, Chain, Priority, Filter, Action}
 
@@ -33,6 +33,11 @@ is_named named k = among same_key named (scope_of k)
 -- no object elsewhere needs one where something is named
 abbrev pub AreFree : List Key → List KernelThing → Type 0
 AreFree named state = AllByRecursion (λ o. is_named named o.key ≡ false → list_any (is_named named) (needs o) ≡ false) state
+
+-- to each weak object elsewhere one elsewhere refers
+abbrev pub AreHeld : (Key → Bool) → List Key → List KernelThing → Type 0
+AreHeld weak named state = AllByRecursion (λ o. is_named named o.key ≡ false → weak o.key ≡ true
+    → list_any (λ h. holds same_key o.key h && not (is_named named h.key)) state ≡ true) state
 
 -- what is wanted where something is named, and all else as it is
 abbrev pub completed : List Key → List KernelThing → List KernelThing → List KernelThing

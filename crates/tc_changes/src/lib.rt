@@ -9,6 +9,7 @@
 //! ```
 #![tactic(auto)]
 
+mod gone;
 pub mod key;
 mod keys;
 pub mod laws;
@@ -22,6 +23,7 @@ mod removed;
 pub mod rules;
 pub mod scope;
 pub mod step;
+mod weak;
 
 pub use key::Key;
 pub use object::Object;

@@ -16,6 +16,10 @@ pub enum PlanError {
     /// The same of the wanted state.
     Wanted(Key),
 
+    /// The weak objects of the present state aren't as a plan needs them. The first object that is weak and that needs one, or to which none refers; or
+    /// that refers to a weak one under which an object before it is.
+    Weak(Key),
+
     /// An object elsewhere lacks one that it needs, or would have to be made again.
     Elsewhere(Key),
 

@@ -1,14 +1,16 @@
 //! Plans.
 
-ghost use Rattle.std.specs.Prelude.{◌≡◌, ◌≢◌, [], ◌++◌, map, true, IfErr, IfOk, List, reverse, option_to_list, All};
+ghost use Rattle.std.specs.Prelude.{◌≡◌, ◌≢◌, [], ◌++◌, map, true, Bool, IfErr, IfOk, List, reverse, option_to_list, All};
 ghost use Rattle.tc_changes.specs.Model.{ready, Same};
-ghost use Rattle.tc_changes.specs.Requests.{Delete, Leads, LeavesWhole};
-ghost use Rattle.tc_changes.specs.Plans.{fits, IsExact, IsConfined, IsLeftAlone, IsSpared, IsLeast, IsPlaced, IsBarred, barred_keys, barred_by};
-ghost use Rattle.tc_changes.specs.Planned.{makes, planned};
-ghost use Rattle.tc_changes.specs.Promises.{IsUnready};
+ghost use Rattle.tc_changes.specs.Requests.{Delete, Leads, LeavesWhole, keeping, settled};
+ghost use Rattle.tc_changes.specs.Plans.{IsExact, IsConfined, IsLeftAlone, IsSpared, IsGone, IsLeast, IsPlaced, IsBarred, barred_keys, barred_by};
+ghost use Rattle.tc_changes.specs.Planned.{makes, planned, IsLost};
+ghost use Rattle.tc_changes.specs.Promises.{IsUnready, suits};
+ghost use Rattle.tc_changes.specs.declared.key.Key.{Key as KeyModel};
 ghost use Rattle.tc_changes.specs.declared.plan_error.PlanError.TheVariants.{OutOfMemory};
 ghost use Rattle.tc_changes.specs.Objects.{things, same_key, alike, request, IsIndexOf, KernelThing, IfSteps, IfRefused, IsNothing, IsRefused};
 
+use crate::gone::gone_of;
 use crate::key::Key;
 use crate::object::Object;
 use crate::order::stuck;
@@ -17,6 +19,7 @@ use crate::places::{Index, index_of, look_up};
 use crate::plan_error::PlanError;
 use crate::rules::Rules;
 use crate::step::{Plan, Step};
+use crate::weak::loose;
 use std::alloc::{AllocError, Allocator};
 
 /// The steps that lead from the present state to the wanted one. In both, each object comes after all that it needs
@@ -24,9 +27,12 @@ use std::alloc::{AllocError, Allocator};
 /// made, from above. A step that isn't sent any more leaves a state from which a plan leads on, or back. There are no steps if
 /// an object can't be made that is wanted and isn't there, or has to be made again.
 ///
+/// An object of the present state can be *weak* (`Rules::is_weak`): it goes with the last one that refers to it, and no request deletes it. It needs nothing,
+/// another refers to it, and what is under it comes after all that refer to it.
+///
 /// # Errors
 ///
-/// `PlanError::State` or `PlanError::Wanted` with the key of the first object that isn't in order, and
+/// `PlanError::State` or `PlanError::Wanted` with the key of the first object that isn't in order, `PlanError::Weak` if the weak objects aren't so, and
 /// `PlanError::OutOfMemory`.
 pub fn plan<A: Allocator + Copy, R: Rules<A>>(
     alloc: A,
@@ -35,7 +41,7 @@ pub fn plan<A: Allocator + Copy, R: Rules<A>>(
     want: Vec<Object<A>, A>,
 ) -> Result<Plan<A>, PlanError>
     ensures reaches { IfOk result (λ plan. IfSteps plan (λ requests.
-        Leads same_key (R.takes rules.now) (things state.now) requests (things want.items))) }
+        Leads same_key (R.weak rules.now) (keeping same_key (R.weak rules.now) (R.takes rules.now)) (things state.now) requests (things want.items))) }
     ensures exact { IfOk result (λ plan. IfSteps plan (λ requests.
         IsExact same_key (things state.now) (things want.items) requests)) }
     ensures confined { IfOk result (λ plan. IfSteps plan (λ requests.
@@ -43,29 +49,36 @@ pub fn plan<A: Allocator + Copy, R: Rules<A>>(
     ensures idle { IfOk result (λ plan.
         Same same_key (things state.now) (things want.items) → IsNothing plan) }
     ensures keeps { IfOk result (λ plan. IfSteps plan (λ requests.
-        IsLeftAlone same_key (fits alike (R.takes rules.now)) (things state.now) (things want.items) requests)) }
+        IsLeftAlone same_key (R.weak rules.now) (suits (R.weak rules.now) (R.takes rules.now)) (things state.now) (things want.items) requests)) }
     ensures spares { IfOk result (λ plan. IfSteps plan (λ requests.
-        IsSpared same_key (fits alike (R.takes rules.now)) (things state.now) (things want.items) requests)) }
+        IsSpared same_key (R.weak rules.now) (suits (R.weak rules.now) (R.takes rules.now)) (things state.now) (things want.items) requests)) }
+    ensures gone { IfOk result (λ plan. IfSteps plan (λ requests.
+        IsGone same_key (R.weak rules.now) requests)) }
     ensures least { IfOk result (λ plan. IfSteps plan (λ requests.
-        IsLeast same_key (things state.now) requests)) }
+        IsLeast same_key (R.weak rules.now) (things state.now) requests)) }
     ensures placed { IfOk result (λ plan. IfSteps plan (λ requests.
         IsPlaced same_key requests)) }
     ensures resumes { IfOk result (λ plan. IfSteps plan (λ requests.
-        LeavesWhole same_key (R.takes rules.now) (things state.now) requests)) }
+        LeavesWhole same_key (R.weak rules.now) (keeping same_key (R.weak rules.now) (R.takes rules.now)) (things state.now) requests)) }
     ensures sends { IfOk result (λ plan. IfSteps plan (λ requests.
         barred_keys (R.can_make rules.now) requests ≡ [])) }
     ensures refuses { IfOk result (λ plan. IfRefused plan (λ keys. (keys ≢ [])
-        × All (IsBarred same_key (fits alike (R.takes rules.now)) (things state.now) (things want.items) (R.can_make rules.now)) keys)) }
+        × All (IsBarred same_key (R.weak rules.now) (suits (R.weak rules.now) (R.takes rules.now)) (things state.now) (things want.items) (R.can_make rules.now)) keys)) }
     ensures returns { IfOk result (λ plan.
         All (λ o. R.can_make rules.now o ≡ true) (things want.items) → IsRefused plan → ⊥) }
     // It is an error if one of the states isn't in order, or if memory runs out.
-    ensures unready { IfErr result (IsUnready (things state.now) (things want.items)) }
-    ensures possible { ready same_key [] (things state.now) ≡ true → ready same_key [] (things want.items) ≡ true
+    ensures unready { IfErr result (IsUnready (R.weak rules.now) (things state.now) (things want.items)) }
+    ensures possible { ready same_key [] (things state.now) ≡ true → settled same_key (R.weak rules.now) (things state.now) [] (things state.now) ≡ true
+        → ready same_key [] (things want.items) ≡ true
         → IfErr result (λ e. e ≡ OutOfMemory) }
 {
     let early = stuck(alloc, state)?;
     if let Some(key) = early {
         return Err(PlanError::State(key));
+    }
+    let weak = loose(alloc, rules, state)?;
+    if let Some(key) = weak {
+        return Err(PlanError::Weak(key));
     }
     let late = stuck(alloc, &want)?;
     if let Some(key) = late {
@@ -83,9 +96,10 @@ pub(crate) fn plan_in_order<A: Allocator + Copy, R: Rules<A>>(
     want: Vec<Object<A>, A>,
 ) -> Result<Plan<A>, AllocError>
     requires state_ready { ready same_key [] (things state.now) ≡ true }
+    requires state_settled { settled same_key (R.weak rules.now) (things state.now) [] (things state.now) ≡ true }
     requires want_ready { ready same_key [] (things want.items) ≡ true }
     ensures reaches { IfOk result (λ plan. IfSteps plan (λ requests.
-        Leads same_key (R.takes rules.now) (things state.now) requests (things want.items))) }
+        Leads same_key (R.weak rules.now) (keeping same_key (R.weak rules.now) (R.takes rules.now)) (things state.now) requests (things want.items))) }
     ensures exact { IfOk result (λ plan. IfSteps plan (λ requests.
         IsExact same_key (things state.now) (things want.items) requests)) }
     ensures confined { IfOk result (λ plan. IfSteps plan (λ requests.
@@ -93,19 +107,21 @@ pub(crate) fn plan_in_order<A: Allocator + Copy, R: Rules<A>>(
     ensures idle { IfOk result (λ plan.
         Same same_key (things state.now) (things want.items) → IsNothing plan) }
     ensures keeps { IfOk result (λ plan. IfSteps plan (λ requests.
-        IsLeftAlone same_key (fits alike (R.takes rules.now)) (things state.now) (things want.items) requests)) }
+        IsLeftAlone same_key (R.weak rules.now) (suits (R.weak rules.now) (R.takes rules.now)) (things state.now) (things want.items) requests)) }
     ensures spares { IfOk result (λ plan. IfSteps plan (λ requests.
-        IsSpared same_key (fits alike (R.takes rules.now)) (things state.now) (things want.items) requests)) }
+        IsSpared same_key (R.weak rules.now) (suits (R.weak rules.now) (R.takes rules.now)) (things state.now) (things want.items) requests)) }
+    ensures gone { IfOk result (λ plan. IfSteps plan (λ requests.
+        IsGone same_key (R.weak rules.now) requests)) }
     ensures least { IfOk result (λ plan. IfSteps plan (λ requests.
-        IsLeast same_key (things state.now) requests)) }
+        IsLeast same_key (R.weak rules.now) (things state.now) requests)) }
     ensures placed { IfOk result (λ plan. IfSteps plan (λ requests.
         IsPlaced same_key requests)) }
     ensures resumes { IfOk result (λ plan. IfSteps plan (λ requests.
-        LeavesWhole same_key (R.takes rules.now) (things state.now) requests)) }
+        LeavesWhole same_key (R.weak rules.now) (keeping same_key (R.weak rules.now) (R.takes rules.now)) (things state.now) requests)) }
     ensures sends { IfOk result (λ plan. IfSteps plan (λ requests.
         barred_keys (R.can_make rules.now) requests ≡ [])) }
     ensures refuses { IfOk result (λ plan. IfRefused plan (λ keys. (keys ≢ [])
-        × All (IsBarred same_key (fits alike (R.takes rules.now)) (things state.now) (things want.items) (R.can_make rules.now)) keys)) }
+        × All (IsBarred same_key (R.weak rules.now) (suits (R.weak rules.now) (R.takes rules.now)) (things state.now) (things want.items) (R.can_make rules.now)) keys)) }
     ensures returns { IfOk result (λ plan.
         All (λ o. R.can_make rules.now o ≡ true) (things want.items) → IsRefused plan → ⊥) }
 {
@@ -157,11 +173,14 @@ fn steps_of<A: Allocator + Copy, R: Rules<A>>(
     state: &[Object<A>],
     want: Vec<Object<A>, A>,
 ) -> Result<Vec<Step<A>, A>, AllocError>
-    ensures { IfOk result (λ steps. map request steps.items
-        ≡ planned same_key alike (R.takes rules.now) (things state.now) (things want.items)) }
+    requires state_ready { ready same_key [] (things state.now) ≡ true }
+    ensures { IfOk result (λ steps. (gone : KeyModel → Bool)
+        × IsLost same_key (R.weak rules.now) (suits (R.weak rules.now) (R.takes rules.now)) (things state.now) (things want.items) gone
+        × (map request steps.items ≡ planned same_key alike (R.weak rules.now) gone (things state.now) (things want.items))) }
 {
     let wanted = index_of(alloc, &want)?;
-    let Parts { gone, kept } = parted(alloc, rules, state, &want, &wanted)?;
+    let going = gone_of(alloc, rules, state, &want, &wanted)?;
+    let Parts { gone, kept } = parted(alloc, rules, state, &going)?;
     let deletes = deletes(alloc, gone)?;
     let steps = with_makes(deletes, state, &kept, want)?;
     Ok(steps)

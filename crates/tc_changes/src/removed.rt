@@ -1,13 +1,13 @@
 //! Keys that go, each with the key whose delete removes it.
 
-ghost use Rattle.std.specs.Prelude.{◌≡◌, is_some};
-ghost use Rattle.std.specs.List.{list_any};
+ghost use Rattle.std.specs.Prelude.{◌≡◌};
 ghost use Rattle.std.specs.HashMap as hash;
-ghost use Rattle.tc_changes.specs.Planned.{first_by, is_all_by, remover_of};
+ghost use Rattle.tc_changes.specs.Planned.{first_by, is_all_by, is_all_but, remover_of};
 ghost use Rattle.tc_changes.specs.Objects.{thing, same_key};
 
 use crate::key::Key;
 use crate::object::Object;
+use crate::rules::Rules;
 use std::alloc::Allocator;
 use std::collections::HashMap;
 use std::hash::{BuildHasherDefault, FoldHasher};
@@ -15,20 +15,19 @@ use std::hash::{BuildHasherDefault, FoldHasher};
 // The key whose delete removes each key that goes.
 pub(crate) type Removed<A> = HashMap<Key, Key, BuildHasherDefault<FoldHasher>, A>;
 
-// True if one of these keys goes.
-pub(crate) fn any_goes<A: Allocator>(removed: &Removed<A>, keys: &[Key]) -> bool
-    ensures { result ≡ list_any (λ key. is_some (hash.get same_key removed.now key)) keys.now }
-{
-    keys.iter().any(|key| removed.contains_key(key))
-}
-
-// The one delete that removes all that an object needs and that goes, if the object is under some of that.
-pub(crate) fn remover_of<A: Allocator>(removed: &Removed<A>, object: &Object<A>) -> Option<Key>
-    ensures { result ≡ remover_of same_key (hash.get same_key removed.now) (thing object.now) }
+// The one delete that removes all that an object needs and that goes, but for the weak objects to which it refers, if it is under some of that.
+pub(crate) fn remover_of<A: Allocator, R: Rules<A>>(
+    rules: &R,
+    removed: &Removed<A>,
+    object: &Object<A>,
+) -> Option<Key>
+    ensures { result ≡ remover_of same_key (R.weak rules.now) (hash.get same_key removed.now) (thing object.now) }
 {
     match first_remover(removed, &object.under) {
         Some(first) => {
-            if all_with(removed, &object.under, first) && all_with(removed, &object.refers, first) {
+            if all_with(removed, &object.under, first)
+                && all_but(rules, removed, &object.refers, first)
+            {
                 Some(first)
             } else {
                 None
@@ -56,4 +55,16 @@ fn all_with<A: Allocator>(removed: &Removed<A>, keys: &[Key], by: Key) -> bool
 {
     keys.iter()
         .all(|key| by == removed.get(key).copied().unwrap_or(by))
+}
+
+// The same of those of them that aren't weak.
+fn all_but<A: Allocator, R: Rules<A>>(
+    rules: &R,
+    removed: &Removed<A>,
+    keys: &[Key],
+    by: Key,
+) -> bool
+    ensures { result ≡ is_all_but same_key (R.weak rules.now) (hash.get same_key removed.now) by keys.now }
+{
+    keys.iter().all(|key| rules.is_weak(key) || by == removed.get(key).copied().unwrap_or(by))
 }

@@ -5,8 +5,9 @@ ghost use Rattle.std.specs.List.{list_all};
 ghost use Rattle.tc_changes.specs.Model.{ready};
 ghost use Rattle.tc_changes.specs.Objects.{thing, things, request, same_key, IfSteps, IsSetOf};
 ghost use Rattle.tc_changes.specs.Plans as plans;
+ghost use Rattle.tc_changes.specs.Requests.{settled};
 ghost use Rattle.tc_changes.specs.Promises.{IsPlan, IsUnreadyNow};
-ghost use Rattle.tc_changes.specs.Scope.{around, scope_of, scopes, is_named, completed, AreFree, IsWithin};
+ghost use Rattle.tc_changes.specs.Scope.{around, scope_of, scopes, is_named, completed, AreFree, AreHeld, IsWithin};
 ghost use Rattle.tc_changes.specs.declared.key.Key.{Key as KeyModel};
 ghost use Rattle.tc_changes.specs.declared.plan_error.PlanError.TheVariants.{OutOfMemory};
 
@@ -18,6 +19,7 @@ use crate::plan_error::PlanError;
 use crate::planned::plan_in_order;
 use crate::rules::Rules;
 use crate::step::{Plan, Step};
+use crate::weak::loose;
 use std::alloc::{AllocError, Allocator};
 use std::collections::HashSet;
 
@@ -27,7 +29,7 @@ use std::collections::HashSet;
 ///
 /// # Errors
 ///
-/// `PlanError::State` if the present state isn't in order, `PlanError::Elsewhere` if what is wanted isn't in order together
+/// `PlanError::State` if the present state isn't in order, `PlanError::Weak` if its weak objects aren't as `plan` needs them, `PlanError::Elsewhere` if what is wanted isn't in order together
 /// with all that stays, and `PlanError::OutOfMemory`.
 pub fn plan_within<A: Allocator + Copy, R: Rules<A>>(
     alloc: A,
@@ -37,20 +39,26 @@ pub fn plan_within<A: Allocator + Copy, R: Rules<A>>(
     want: Vec<Object<A>, A>,
 ) -> Result<Plan<A>, PlanError>
     // They are a plan to what is wanted there, and all else as it is, with all that `plan` promises.
-    ensures planned { IfOk result (λ plan. IsPlan (R.takes rules.now) (R.can_make rules.now) (things state.now)
+    ensures planned { IfOk result (λ plan. IsPlan (R.weak rules.now) (R.takes rules.now) (R.can_make rules.now) (things state.now)
         (completed (scopes keys.now (things want.items)) (things state.now) (things want.items)) plan) }
     // Each is about an object there.
     ensures within { IfOk result (λ plan. IfSteps plan (IsWithin (scopes keys.now (things want.items)))) }
     // The present state isn't in order.
-    ensures unready { IfErr result (IsUnreadyNow (things state.now)) }
-    // There is a plan, unless memory runs out, if both states are in order, and no object elsewhere needs one that is named.
-    ensures possible { ready same_key [] (things state.now) ≡ true → ready same_key [] (things want.items) ≡ true
+    ensures unready { IfErr result (IsUnreadyNow (R.weak rules.now) (things state.now)) }
+    // There is a plan, unless memory runs out, if both states are in order, no object elsewhere needs one that is named, and each weak one there is held there.
+    ensures possible { ready same_key [] (things state.now) ≡ true → settled same_key (R.weak rules.now) (things state.now) [] (things state.now) ≡ true
+        → ready same_key [] (things want.items) ≡ true
+        → AreHeld (R.weak rules.now) (scopes keys.now (things want.items)) (things state.now)
         → AreFree (scopes keys.now (things want.items)) (things state.now)
         → IfErr result (λ e. e ≡ OutOfMemory) }
 {
     let early = stuck(alloc, state)?;
     if let Some(key) = early {
         return Err(PlanError::State(key));
+    }
+    let weak = loose(alloc, rules, state)?;
+    if let Some(key) = weak {
+        return Err(PlanError::Weak(key));
     }
     let named = named_by(alloc, keys, &want)?;
     let all = completed(alloc, &named, state, want)?;

@@ -1,6 +1,7 @@
 //! Plans of small states.
 
 ghost use Rattle.std.specs.Prelude.{true, false, not, nat_eq, slice_index};
+ghost use Rattle.tc_changes.specs.Objects.{same_key};
 
 use std::alloc::{AllocError, Global};
 use tc_changes::{Key, Object, Plan, PlanError, Rules, Step, is_ready, plan};
@@ -12,12 +13,18 @@ impl Rules<Global> for Anything {
 
     ghost can_make = { λ self object. true };
 
+    ghost weak = { λ self key. false };
+
     fn takes(&self, _old: &Object<Global>, _new: &Object<Global>) -> bool {
         true
     }
 
     fn can_make(&self, _object: &Object<Global>) -> bool {
         true
+    }
+
+    fn is_weak(&self, _key: &Key) -> bool {
+        false
     }
 }
 
@@ -28,12 +35,44 @@ impl Rules<Global> for Nothing {
 
     ghost can_make = { λ self object. not (nat_eq (slice_index object.config 0) 9) };
 
+    ghost weak = { λ self key. false };
+
     fn takes(&self, _old: &Object<Global>, _new: &Object<Global>) -> bool {
         false
     }
 
     fn can_make(&self, object: &Object<Global>) -> bool {
         object.config.first().copied().unwrap_or(0) != 9
+    }
+
+    fn is_weak(&self, _key: &Key) -> bool {
+        false
+    }
+}
+
+// An object that only others hold.
+#[derive(Drop)]
+struct OnlyHeld {
+    key: Key,
+}
+
+impl Rules<Global> for OnlyHeld {
+    ghost takes = { λ self old new. false };
+
+    ghost can_make = { λ self object. true };
+
+    ghost weak = { λ self key. same_key self.key key };
+
+    fn takes(&self, _old: &Object<Global>, _new: &Object<Global>) -> bool {
+        false
+    }
+
+    fn can_make(&self, _object: &Object<Global>) -> bool {
+        true
+    }
+
+    fn is_weak(&self, key: &Key) -> bool {
+        self.key == *key
     }
 }
 
@@ -106,6 +145,7 @@ fn unready(alloc: Global, error: &PlanError) -> Result<String, AllocError> {
     match error {
         PlanError::State(key) => format!(in alloc; "now {}", number_of(key)),
         PlanError::Wanted(key) => format!(in alloc; "want {}", number_of(key)),
+        PlanError::Weak(key) => format!(in alloc; "weak {}", number_of(key)),
         PlanError::Elsewhere(key) => format!(in alloc; "elsewhere {}", number_of(key)),
         PlanError::OutOfMemory => Err(AllocError),
     }
@@ -159,6 +199,18 @@ fn plans(rt: HostRuntime) -> Result<(), AllocError> {
     assert_eq!(rt; text.as_str(), "-1+1+2+3+5+6");
     let text = shown(alloc, &Nothing, &now, Vec::new(alloc))?;
     assert_eq!(rt; text.as_str(), "-5-4-1");
+    // an action that only a filter holds goes with it, and comes back if it is wanted
+    let held = OnlyHeld { key: key_at(4) };
+    let text = shown(alloc, &held, &now, state(alloc, &[0, 0, 0, 0, 0, 0])?)?;
+    assert_eq!(rt; text.as_str(), "");
+    let text = shown(alloc, &held, &now, state(alloc, &[0, 0, 0, 0, 1, 0])?)?;
+    assert_eq!(rt; text.as_str(), "-5+4+5");
+    let text = shown(alloc, &held, &now, Vec::new(alloc))?;
+    assert_eq!(rt; text.as_str(), "-1");
+    let mut unheld = Vec::new(alloc);
+    unheld.push(object(alloc, 4, &[], &[], 0)?)?;
+    let text = shown(alloc, &held, &unheld, Vec::new(alloc))?;
+    assert_eq!(rt; text.as_str(), "weak 4");
     // what can't be made: 9
     let text = shown(alloc, &Nothing, &now, state(alloc, &[0, 9, 0, 9, 0, 0])?)?;
     assert_eq!(rt; text.as_str(), "!2!4");

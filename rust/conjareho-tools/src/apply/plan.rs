@@ -108,6 +108,10 @@ impl Rules for NoChanges {
     fn can_make(&self, object: &tc_changes::Object) -> bool {
         KindRules.can_make(object)
     }
+
+    fn is_weak(&self, key: &tc_changes::Key) -> bool {
+        KindRules.is_weak(key)
+    }
 }
 
 fn plan_by(rules: &impl Rules, now: &[Vec<u8>], wanted: &[Vec<u8>], may_go: impl Fn(&Key) -> bool) -> Plan {

@@ -1,23 +1,23 @@
-use Rattle.std.proofs.Common.{◌≡◌, Bool, ◌++◌, [], map, reverse, ap, subst, ◌∙◌}
+use Rattle.std.proofs.Common.{Bool, ◌++◌, map, ap, subst, ◌∙◌}
+use Rattle.std.specs.HashSet as bag
 use Rattle.tc_changes.specs.Requests.{Delete}
-use Rattle.tc_changes.specs.Plans.{fits}
-use Rattle.tc_changes.specs.Planned.{asked, kept, makes}
-use Rattle.tc_changes.specs.Objects.{KernelThing, things, same_key, alike, IsIndexOf}
+use Rattle.tc_changes.specs.Planned.{kept, makes, IsLost}
+use Rattle.tc_changes.specs.Promises.{suits}
+use Rattle.tc_changes.specs.Objects.{things, same_key, alike}
+use Rattle.tc_changes.specs.declared.key.Key.{Key}
 use Rattle.tc_changes.proofs.planned.steps_of.Goals as goal
 
 pub returns : goal.returns
 returns g c =
     let state = things c.args.state.now in
     let want = things c.args.want.items in
-    let fit : KernelThing → KernelThing → Bool = fits alike (g.R.Rules.takes c.args.rules.now) in
-    let index : IsIndexOf want c.in_ok-wanted.wanted want = subst
-    (λ l. IsIndexOf (things l) c.in_ok-wanted.wanted (things l)) c.deref.ensures.value c.in_ok-wanted.ensures in
-    let away : reverse c.in_ok-gone.field-0.gone.items ≡ asked same_key fit want [] state =
-    subst (λ l. IsIndexOf (things l) c.in_ok-wanted.wanted (things l) → reverse c.in_ok-gone.field-0.gone.items ≡ asked same_key fit (things l) [] state)
-    c.deref-2.ensures.value c.in_ok-gone.ensures.gone index in
-    let stay : IsIndexOf state c.in_ok-gone.field-0.kept (kept same_key fit want [] state) =
-    subst (λ l. IsIndexOf (things l) c.in_ok-wanted.wanted (things l) → IsIndexOf state c.in_ok-gone.field-0.kept (kept same_key fit (things l) [] state))
-    c.deref-2.ensures.value c.in_ok-gone.ensures.kept index in
-    c.in_ok-steps.ensures (kept same_key fit want [] state) stay
-    ∙ ap (λ l. l ++ makes same_key alike (kept same_key fit want [] state) want)
-    (c.in_ok-deletes.ensures ∙ ap (map Delete) away)
+    let weak : Key → Bool = g.R.Rules.weak c.args.rules.now in
+    let gone : Key → Bool = bag.contains same_key c.in_ok-going.going in
+    let is : IsLost same_key weak (suits weak (g.R.Rules.takes c.args.rules.now)) state want gone =
+    subst (λ l. IsLost same_key weak (suits weak (g.R.Rules.takes c.args.rules.now)) state (things l) gone) c.deref-2.ensures.value c.in_ok-going.ensures in (
+      gone,
+      is,
+      c.in_ok-steps.ensures (kept same_key weak gone state) c.in_ok-gone.ensures.kept
+          ∙ ap (λ l. l ++ makes same_key alike (kept same_key weak gone state) want)
+          (c.in_ok-deletes.ensures ∙ ap (map Delete) c.in_ok-gone.ensures.gone),
+    )

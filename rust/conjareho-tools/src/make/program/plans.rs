@@ -192,7 +192,7 @@ fn requests_to<R: Rules>(
     match plan_between(rules, keys, now, want) {
         Ok(planned) => Ok(line_requests(planned, was, is, remarks)?),
         Err(PlanError::OutOfMemory) => Err(AllocError),
-        Err(PlanError::State(key)) => {
+        Err(PlanError::State(key) | PlanError::Weak(key)) => {
             complain(Source::Now, number_of(&key, was), &PlanComplaint::Unready(Label(key)), remarks);
             Ok(Vec::new())
         }

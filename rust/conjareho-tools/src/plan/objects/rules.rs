@@ -18,6 +18,11 @@ impl Rules for KindRules {
         let making = read(&object.config).making;
         making == MADE || making == CHANGED
     }
+
+    /// No object is known as one that only others hold.
+    fn is_weak(&self, _key: &Key) -> bool {
+        false
+    }
 }
 
 // True if a change leads from one configuration to another.
